@@ -1,0 +1,10 @@
+pub mod Points
+pub mod Items
+pub mod Leaves
+pub mod Steps
+pub mod Lacking
+pub mod Absence
+pub mod Growth
+pub mod Equality
+pub mod Freshness
+pub mod Examples

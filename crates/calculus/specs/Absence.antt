@@ -1,0 +1,41 @@
+-- Absence: a private free name that no term of the process holds.
+use Rattle.std.specs.Prelude.{ℕ, List, Bool, false, not, ◌&&◌, ◌||◌, nat_eq, IsTrue}
+use Rattle.std.specs.Option.{option_map_or}
+use Rattle.trees.specs.Tree.{some_leaf}
+use Rattle.calculus.specs.Syntax.{Name, Free, Made, Term, Process, Nil, Output, New, Declared, Protocol, Query, Secret}
+use Rattle.calculus.specs.Points.{numbered}
+
+-- whether the leaf is the free name of that number
+abbrev pub is_free : ℕ → Name → Bool
+is_free i (Free n) = nat_eq n i
+is_free i (Made p) = false
+
+-- whether a leaf that passes the test stands in a term of the process
+abbrev pub some_name : (Name → Bool) → Process → Bool
+some_name test Nil = false
+some_name test (Output channel message next) = some_leaf test channel || some_leaf test message || some_name test next
+some_name test (New word next) = some_name test next
+
+-- whether the term holds the free name of that number
+abbrev pub term_holds : ℕ → Term → Bool
+term_holds i term = some_leaf (is_free i) term
+
+-- whether a term of the process holds it
+abbrev pub process_holds : ℕ → Process → Bool
+process_holds i process = some_name (is_free i) process
+
+-- whether the number is that of a private one of the declared free names
+abbrev pub is_private : List Declared → ℕ → Bool
+is_private frees i = option_map_or (λ d. not d.public) (numbered frees i) false
+
+-- whether the leaf is a private free name that no term of the main process holds
+abbrev pub is_absent_name : Protocol → Name → Bool
+is_absent_name P (Free i) = is_private P.frees i && not (process_holds i P.main)
+is_absent_name P (Made p) = false
+
+-- whether the query asks for a message with a private free name that no term of the main process holds
+abbrev pub is_absent : Protocol → Query → Bool
+is_absent P (Secret message) = some_leaf (is_absent_name P) message
+
+abbrev pub IsAbsent : Protocol → Query → Type 0
+IsAbsent P q = IsTrue (is_absent P q)

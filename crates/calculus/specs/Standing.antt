@@ -1,0 +1,32 @@
+-- Which names stand in the values of a configuration.
+use Rattle.std.specs.Prelude.{◌≡◌, ℕ, Bool, false, nat_le}
+use Rattle.std.specs.List.{AllByRecursion}
+use Rattle.trees.specs.Tree.{some_leaf}
+use Rattle.calculus.specs.Values.{Atom, FreeName, MadeName, AttackerName, Value, Environment}
+use Rattle.calculus.specs.Runs.{Thread, At, Ended, Configuration}
+
+-- no name in the value passes the test
+abbrev pub Lacks : (Atom → Bool) → Value → Type 0
+Lacks test v = some_leaf test v ≡ false
+
+abbrev pub EnvironmentLacks : (Atom → Bool) → Environment → Type 0
+EnvironmentLacks test environment = AllByRecursion (λ b. Lacks test b.value) environment
+
+abbrev pub ThreadLacks : (Atom → Bool) → Thread → Type 0
+ThreadLacks test (At point environment) = EnvironmentLacks test environment
+ThreadLacks test Ended = Unit {0}
+
+-- no name in what is known or bound passes the test
+pub record IsLacking (test : Atom → Bool) (c : Configuration) : Type 0 where
+  pub known : AllByRecursion (Lacks test) c.known
+  pub threads : AllByRecursion (ThreadLacks test) c.threads
+
+-- whether a made name has that number or a later one; a free name has none
+abbrev pub is_numbered_from : ℕ → Atom → Bool
+is_numbered_from n (FreeName number) = false
+is_numbered_from n (MadeName point number) = nat_le n number
+is_numbered_from n (AttackerName number) = nat_le n number
+
+-- the name that is made next stands nowhere yet
+abbrev pub NextIsNew : Configuration → Type 0
+NextIsNew c = IsLacking (is_numbered_from c.next) c

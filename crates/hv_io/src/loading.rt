@@ -1,0 +1,54 @@
+//! Bytes that are loaded by name.
+ghost use Rattle.std.specs.Prelude.{◌≡◌, ◌≤◌, ℕ, List, IfOk, IfErr, vec_len};
+ghost use Rattle.hv_io.specs.Faults.{IsFaultCounted};
+ghost use Rattle.hv_io.specs.Files.{HoldsFirst};
+
+use std::alloc::AllocError;
+use thiserror::Error;
+
+/// Why nothing was loaded.
+#[derive(Debug, Drop, Error)]
+pub enum LoadError {
+    /// The outside failed, or it has nothing of that name.
+    #[error("the load failed")]
+    Failed,
+    /// There was no memory for the bytes.
+    #[error("no memory for the bytes")]
+    Memory(AllocError),
+}
+
+impl From<AllocError> for LoadError {
+    ghost use Rattle.std.specs.Prelude.{◌≡◌};
+    ghost use Rattle.hv_io.specs.declared.loading.LoadError.TheVariants.{Memory};
+
+    ghost from_gives = { λ missing error. error ≡ Memory missing };
+
+    fn from(missing: AllocError) -> LoadError {
+        LoadError::Memory(missing)
+    }
+}
+
+/// Something that holds bytes under names, as a file system does.
+pub trait Files {
+    ghost use Rattle.std.specs.Prelude.{ℕ, List, Option};
+
+    /// The bytes that a name holds, where the object tells them. A name is its bytes in UTF-8.
+    ghost held: { Self → List ℕ → Option (List ℕ) };
+
+    /// How many faults have been counted for a name.
+    ghost faults: { Self → List ℕ → ℕ };
+
+    /// The first bytes that `name` holds: `most` of them, or all where there are fewer.
+    ///
+    /// # Errors
+    ///
+    /// [`LoadError::Failed`] comes only with a fault that is counted for this name. After either error the same
+    /// bytes are held as before.
+    fn load(&mut self, name: &str, most: usize) -> Result<Vec<u8>, LoadError>
+        ensures held_stays { (any : List ℕ) → held self.new any ≡ held self.old any }
+        ensures faults_rise { (any : List ℕ) → faults self.old any ≤ faults self.new any }
+
+        ensures first { IfOk result (λ bytes. HoldsFirst most (held self.old name.now) bytes.items) }
+        ensures within { IfOk result (λ bytes. vec_len bytes ≤ most) }
+        ensures failed { result ≡ Err LoadError.Failed → IsFaultCounted (faults self.old name.now) (faults self.new name.now) };
+}

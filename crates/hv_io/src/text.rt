@@ -1,0 +1,34 @@
+//! Numbers and places in a text.
+ghost use Rattle.std.specs.Prelude.{◌≡◌, ◌≤◌, IfOk, length};
+ghost use Rattle.std.specs.Fmt.{decimal as decimal_of};
+ghost use Rattle.hv_io.specs.Decimal.{IsDecimal};
+ghost use Rattle.hv_io.specs.Place.{line_at, column_at};
+
+use std::alloc::{AllocError, Global};
+
+/// The decimal digits of `number`, without leading zero.
+pub fn decimal(alloc: Global, number: u64) -> Result<Vec<u8>, AllocError>
+    ensures printed { IfOk result (λ digits. digits.items ≡ decimal_of number) }
+    ensures spelled { IfOk result (λ digits. IsDecimal number digits.items) }
+{
+    Ok(format!(in alloc; "{number}")?.into_bytes())
+}
+
+/// The line and the column of the byte at `at`, both counted from 1 in bytes.
+pub fn place(bytes: &[u8], at: usize) -> (u64, u64)
+    requires { at ≤ length bytes.now }
+    ensures line { result.0 ≡ line_at bytes.now at }
+    ensures column { result.1 ≡ column_at bytes.now at }
+{
+    let mut line = 1;
+    let mut column = 1;
+    for byte in &bytes[..at] {
+        if *byte == b'\n' {
+            line += 1;
+            column = 1;
+        } else {
+            column += 1;
+        }
+    }
+    (line, column)
+}

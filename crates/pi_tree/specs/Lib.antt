@@ -1,0 +1,4 @@
+pub mod Names
+pub mod Terms
+pub mod Queries
+pub mod Protocols

@@ -1,0 +1,7 @@
+-- What contracts see of a protocol.
+use Rattle.calculus.specs.Syntax as calculus
+use Rattle.pi_tree.specs.declared.protocols.Protocol.{Protocol}
+use Rattle.pi_tree.specs.Terms.{process_of}
+
+abbrev pub protocol_of : Protocol → calculus.Protocol
+protocol_of P = record { frees = P.frees; queries = P.queries; main = process_of P.main }

@@ -1,0 +1,45 @@
+//! Declared names and the words that spell them.
+
+ghost use Rattle.std.specs.Prelude.{◌≡◌};
+
+use std::marker::Model;
+
+/// The bytes of an identifier.
+#[derive(Debug, Drop)]
+pub struct Word {
+    pub items: Vec<u8>,
+}
+
+impl Model for Word {
+    ghost use Rattle.std.specs.Prelude.{ℕ, List};
+
+    ghost Value = { List ℕ };
+
+    ghost view = { λ a. a.items.items };
+}
+
+/// A declared name: of a free name the arity is 0, and it is no data constructor.
+#[derive(Debug, Drop)]
+pub struct Declared {
+    pub word: Word,
+    pub arity: u32,
+    pub public: bool,
+    pub is_data: bool,
+}
+
+/// Declared names in order; they are numbered from 1.
+#[derive(Debug, Drop)]
+pub struct Declarations {
+    pub items: Vec<Declared>,
+}
+
+impl Model for Declarations {
+    ghost use Rattle.std.specs.Prelude.{List, map};
+    ghost use Rattle.calculus.specs.Syntax as calculus;
+
+    ghost Value = { List calculus.Declared };
+
+    ghost use Rattle.pi_tree.specs.Names.{declared_of};
+
+    ghost view = { λ a. map declared_of a.items.items };
+}

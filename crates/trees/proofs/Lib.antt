@@ -1,0 +1,5 @@
+pub mod Substitution
+pub mod Measures
+pub mod Occurrence
+pub mod Rows
+pub mod Equality

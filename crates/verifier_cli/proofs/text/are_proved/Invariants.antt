@@ -1,0 +1,10 @@
+-- Each answer so far is that the query is proved.
+use Rattle.std.proofs.Common.{◌≡◌, map, drop}
+use Rattle.std.specs.List.{list_all}
+use Rattle.verifier_cli.specs.Seen.{verdict_of}
+use Rattle.verifier_cli.specs.Text.{is_proved}
+use Rattle.verifier_cli.proofs.text.are_proved.Given as goal
+
+abbrev pub invariant-loop-verdict : goal.invariant-loop-verdict
+invariant-loop-verdict l =
+    list_all is_proved (map verdict_of (drop l.verdict-index l.verdict-items)) ≡ list_all is_proved (map verdict_of l.verdict-items)

@@ -1,0 +1,21 @@
+-- What contracts see of an outcome.
+use Rattle.verifier_cli.specs.declared.outcome.Fault.{Fault}
+use Rattle.verifier_cli.specs.declared.outcome.Fault.TheVariants.{Unexpected}
+use Rattle.verifier_cli.specs.declared.outcome.Refusal.{Refusal}
+use Rattle.verifier_cli.specs.declared.outcome.Refusal.TheVariants.{Protocol}
+use Rattle.verifier_cli.specs.declared.outcome.Outcome.{Outcome}
+use Rattle.verifier_cli.specs.declared.outcome.Outcome.TheVariants.{Usage, Verified, Refused, ReadFault, Memory}
+use Rattle.verifier_cli.specs.Outcome as own
+
+abbrev pub fault_of : Fault → own.Fault
+fault_of Unexpected = own.Unexpected
+
+abbrev pub refusal_of : Refusal → own.Refusal
+refusal_of (Protocol row column fault) = own.Protocol row column (fault_of fault)
+
+abbrev pub outcome_of : Outcome → own.Outcome
+outcome_of Usage = own.Usage
+outcome_of (Verified verdicts) = own.Verified verdicts
+outcome_of (Refused refusal) = own.Refused (refusal_of refusal)
+outcome_of ReadFault = own.ReadFault
+outcome_of Memory = own.Memory

@@ -1,0 +1,14 @@
+//! The verifier: from words and files to an answer to each query, its text and the program's status.
+//!
+//! [`top`] is the one call that the program makes; its clauses say what the answers mean.
+#![tactic(auto)]
+
+mod call;
+mod outcome;
+mod reading;
+mod text;
+mod verify;
+
+pub use crate::call::top;
+pub use crate::outcome::{Answer, Fault, Outcome, Refusal, Verdict, Verdicts};
+pub use crate::text::{outcome_text, status};

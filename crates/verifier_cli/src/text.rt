@@ -1,0 +1,136 @@
+//! The text of an outcome, and the status that the program ends with.
+
+ghost use Rattle.std.specs.Prelude.{◌≡◌, IfOk, IfSome, IsSome};
+ghost use Rattle.std.specs.List.{list_all};
+ghost use Rattle.std.specs.String.{string_bytes};
+ghost use Rattle.verifier_cli.specs.SeenOutcome.{outcome_of, refusal_of, fault_of};
+ghost use Rattle.verifier_cli.specs.Outcome as own;
+ghost use Rattle.verifier_cli.specs.Text.{line, outcome_bytes, status_of, refusal_text, verdict_lines, is_proved};
+
+use crate::outcome::{Fault, Outcome, Refusal, Verdict, Verdicts};
+use pi_tree::Protocol;
+use std::alloc::{AllocError, Global};
+use std::fmt;
+use std::fmt::Write;
+
+/// What is written for words that are no command.
+pub(crate) const USAGE: &[u8] =
+    b"usage: verify FILE [--budget N] | check FILE REPORT | list FILE QUERY | replay FILE RUN | ring N\n";
+
+/// What is written where a file could not be read.
+pub(crate) const READ_FAULT: &[u8] = b"read fault\n";
+
+/// What is written where there was no memory.
+pub(crate) const WANT_OF_MEMORY: &[u8] = b"want of memory\n";
+
+impl fmt::Display for Verdict {
+    ghost use Rattle.std.specs.Prelude.{Some};
+    ghost use Rattle.verifier_cli.specs.Seen.{verdict_of};
+    ghost use Rattle.verifier_cli.specs.Text.{verdict_text};
+
+    ghost output = { λ v. Some (verdict_text (verdict_of v)) };
+
+    fn fmt<W: fmt::Write>(&self, f: &mut fmt::Formatter<W>) -> fmt::Result {
+        match self {
+            Verdict::Proved => f.write_str("proved"),
+            Verdict::Occurs => f.write_str("unknown occurs"),
+        }
+    }
+}
+
+impl fmt::Display for Fault {
+    ghost use Rattle.std.specs.Prelude.{Some};
+    ghost use Rattle.verifier_cli.specs.SeenOutcome.{fault_of};
+    ghost use Rattle.verifier_cli.specs.Text.{fault_text};
+
+    ghost output = { λ f. Some (fault_text (fault_of f)) };
+
+    fn fmt<W: fmt::Write>(&self, f: &mut fmt::Formatter<W>) -> fmt::Result {
+        match self {
+            Fault::Unexpected => f.write_str("4 Unexpected"),
+        }
+    }
+}
+
+/// The text of the answers to a protocol's queries, a line for each.
+fn verdicts_text(alloc: Global, verdicts: &Verdicts) -> Result<String, AllocError>
+    ensures { IfOk result (λ text. string_bytes text ≡ verdict_lines 1 verdicts.now) }
+{
+    let mut text = String::new(alloc);
+    for (place, verdict) in verdicts.items.iter().enumerate() {
+        let number = place as u64 + 1;
+        writeln!(text, "query {number} {verdict}")?;
+    }
+    Ok(text)
+}
+
+/// The line that refuses a protocol at a place.
+fn protocol_refusal(
+    alloc: Global,
+    row: u64,
+    column: u64,
+    fault: Fault,
+) -> Result<String, AllocError>
+    ensures { IfOk result (λ text. string_bytes text ≡ line (refusal_text (own.Protocol row column (fault_of fault)))) }
+{
+    let mut text = String::new(alloc);
+    write!(text, "refused {row}:{column}")?;
+    writeln!(text, " {fault}")?;
+    Ok(text)
+}
+
+/// The text of a refusal, one line.
+fn refusal_line(alloc: Global, refusal: Refusal) -> Result<String, AllocError>
+    ensures { IfOk result (λ text. string_bytes text ≡ line (refusal_text (refusal_of refusal))) }
+{
+    match refusal {
+        Refusal::Protocol {
+            line,
+            column,
+            fault,
+        } => protocol_refusal(alloc, line, column, fault),
+    }
+}
+
+/// All that a call writes whose outcome is this, each line ended by LF. An outcome that prints a clause would want its
+/// protocol; none does yet.
+pub fn outcome_text(
+    alloc: Global,
+    _protocol: Option<&Protocol>,
+    outcome: &Outcome,
+) -> Result<Vec<u8>, AllocError>
+    ensures { IfOk result (λ text. text.items ≡ outcome_bytes (outcome_of outcome.now)) }
+{
+    match outcome {
+        Outcome::Usage => USAGE.to_vec(alloc),
+        Outcome::Verified(verdicts) => Ok(verdicts_text(alloc, verdicts)?.into_bytes()),
+        Outcome::Refused(refusal) => Ok(refusal_line(alloc, *refusal)?.into_bytes()),
+        Outcome::ReadFault => READ_FAULT.to_vec(alloc),
+        Outcome::Memory => WANT_OF_MEMORY.to_vec(alloc),
+    }
+}
+
+/// Whether each answer is that its query is proved.
+fn are_proved(verdicts: &Verdicts) -> bool
+    ensures { result ≡ list_all is_proved verdicts.now }
+{
+    for verdict in &verdicts.items {
+        if !verdict.is_proved() {
+            return false;
+        }
+    }
+    true
+}
+
+/// The status that the program ends with where the outcome's text was written.
+pub fn status(outcome: &Outcome) -> u8
+    ensures { result ≡ status_of (outcome_of outcome.now) }
+{
+    match outcome {
+        Outcome::Usage => 2,
+        Outcome::Verified(verdicts) => { if are_proved(verdicts) { 0 } else { 1 } }
+        Outcome::Refused(_) => 3,
+        Outcome::ReadFault => 5,
+        Outcome::Memory => 7,
+    }
+}
