@@ -1,0 +1,197 @@
+-- Words that `clap` takes make a request.
+use Rattle.std.proofs.Common.{◌≡◌, ◌∙◌, ◌&&◌, ◌||◌, ℕ, Bool, true, false, not, cond, List, [], ◌∷◌, Option, Some, None, refl, sym, ap, subst, is_some, codes, arith, length}
+use Rattle.std.specs.Prelude.{◌^◌, ◌-◌, ◌↔◌, IsSome, IsTrue, option_and_then, option_map, slice_get, unwrap_or}
+use Rattle.std.specs.List.{find}
+use Rattle.std.specs.Option.{option_map_or}
+use Rattle.std.specs.Str.{bytes_eq}
+use Rattle.clap.specs.ValueTests.{is_unsigned_in}
+use Rattle.clap.specs.Kinds.{check_kinds, range_kinds, value_kinds}
+use Rattle.clap.specs.Takes.{is_given}
+use Rattle.clap.specs.Simple.{App, Shape, argument_words, built, entered, filled, help_rule, names_of, rows_at, subcommand_of, with_index}
+use Rattle.clap.specs.Walk.{Row, Rule, Text, finished, first_of, has_row, nothing_held, one_of, rows_after, settled, walk, walk_from, with_default}
+use Rattle.clap.specs.Faults.{check_fault, defaults_fault, entered_fault, fault_of, level_fault, settle_fault, values_fault, walk_fault}
+use Rattle.clap.specs.declared.builder.value_parser.ValueParser.TheVariants.{Unsigned}
+use Rattle.clap.specs.declared.error.kind.ErrorKind.TheVariants.{DisplayHelp, ValueValidation}
+use Rattle.clap.specs.declared.parser.matches.ValueSource.TheVariants.{CommandLine}
+use Rattle.std.proofs.lemmas.Slice.Eq.{bytes_eq-Decides}
+use Rattle.clap.proofs.SimpleLemmas.{is_nil}
+use Rattle.clap.proofs.ValueTestLemmas.{Accepts-accepts, accepts-Accepts}
+use Rattle.command_words.specs.Commands.{budget_rule, name_rule, program_app}
+use Rattle.command_words.specs.Request.{Replay, Verify, asked, is_taken, number_of, replay_in, request_of, request_seen, verify_in}
+use Rattle.command_words.specs.declared.Request.{Request as Request'}
+use Rattle.command_words.proofs.Rows.{default_good, default_there, first_there, given_there, good, is_number_id, kept_rows, row_from, number_there, one_keeps}
+use Rattle.command_words.proofs.Stopping.{StopsElsewhere, walk_stops}
+use Rattle.command_words.proofs.Walking.{AllFit, Fits, level_good, neither}
+
+-- ---- the arguments, as `clap` fills them in
+
+abbrev name_at : ℕ → Text → Rule
+name_at i id = with_index i (filled (name_rule id))
+
+abbrev budget : Rule
+budget = filled budget_rule
+
+abbrev help : Rule
+help = filled help_rule
+
+either_way : (b x : Bool) → b ≡ false → (true && (not b || x)) ≡ true
+either_way true x e = cc
+either_way false x e = refl
+
+name_fits : (i : ℕ) (id : Text) → is_number_id id ≡ false → Fits good (name_at i id)
+name_fits i id free = record {
+  keeps = one_keeps (name_at i id) (λ v e. either_way (is_number_id id) _ free);
+  default_keeps = λ rows g. kept_rows (has_row id rows) rows g;
+}
+
+-- a number in the budget's range is one that 64 bits hold
+pub small_number : (v : Text) → is_unsigned_in 0 1000000 v ≡ true → is_unsigned_in 0 (2 ^ 64 - 1) v ≡ true
+small_number v e =
+    let h = accepts-Accepts false (Unsigned 0 1000000) v e in
+    Accepts-accepts false (Unsigned 0 (2 ^ 64 - 1)) v (h.0, h.1, omega arith, omega (arith, h.3))
+
+accepted : (b : Bool) → cond b [] (ValueValidation ∷ []) ≡ [] → b ≡ true
+accepted true e = refl
+accepted false e = cc
+
+budget_passes : (v : Text) → values_fault budget (v ∷ []) ≡ [] → good (row_from budget CommandLine v) ≡ true
+budget_passes v e =
+    let parts = neither (value_kinds false (Unsigned 0 1000000) v) [] e in
+    rw (small_number v (accepted (is_unsigned_in 0 1000000 v) parts.0)) refl
+
+budget_fits : Fits good budget
+budget_fits = record {
+  keeps = one_keeps budget budget_passes;
+  default_keeps = λ rows g. default_good budget (codes "10000") rows refl g;
+}
+
+help_fits : Fits good help
+help_fits = record {
+  keeps = λ values rows e g.
+      let parts = neither (range_kinds 0 0 (length values)) _ e in
+      let bad : DisplayHelp ∷ [] ≡ [] = parts.1 in cc;
+  default_keeps = λ rows g. kept_rows (has_row (codes "help") rows) rows g;
+}
+
+-- ---- the commands, as `clap` builds them
+
+abbrev program : App
+program = built program_app
+
+abbrev verify : Shape
+verify = unwrap_or (slice_get program.subs 0) program.top
+
+abbrev replay : Shape
+replay = unwrap_or (slice_get program.subs 1) program.top
+
+verify_fits : AllFit good verify.rules
+verify_fits = (name_fits 1 (codes "file") refl, (budget_fits, (help_fits, tt)))
+
+replay_fits : AllFit good replay.rules
+replay_fits = (name_fits 1 (codes "file") refl, (name_fits 2 (codes "run") refl, (help_fits, tt)))
+
+-- what is required was given
+one_given : (a : Bool) → check_kinds false false (not a || false) ≡ [] → a ≡ true
+one_given true e = refl
+one_given false e = cc
+
+both_given : (a b : Bool) → check_kinds false false (not a || (not b || false)) ≡ [] → (a ≡ true) × (b ≡ true)
+both_given true true e = (refl, refl)
+both_given true false e = cc
+both_given false b e = cc
+
+some_both : {X Y Z : Type 0} (f : X → Y → Z) (x : Option X) (y : Option Y) → is_some x ≡ true → is_some y ≡ true
+    → is_some (option_and_then (λ a. option_map (f a) y) x) ≡ true
+some_both f (Some a) (Some b) e g = refl
+some_both f (Some a) None e g = cc
+some_both f None y e g = cc
+
+still_there : (b : Bool) (rows : List Row) (p : Row → Bool) → is_some (find p rows) ≡ true → is_some (find p (cond b rows rows)) ≡ true
+still_there true rows p e = e
+still_there false rows p e = e
+
+verify_some : (words : List Text) → level_fault verify [] nothing_held words false [] ≡ [] → is_some (verify_in (rows_after verify.rules [] words)) ≡ true
+verify_some words e =
+    let level = level_good good verify refl verify_fits [] words false [] e in
+    let rows = rows_after verify.rules [] words in
+    let before = with_default (settled verify.rules (walk verify.rules [] nothing_held words).held).rows (name_at 1 (codes "file")) in
+    let file = given_there _ (one_given (is_given (codes "file") rows) level.1) in
+    let number = still_there (has_row (codes "help") (with_default before budget)) (with_default before budget) (λ r. bytes_eq r.id (codes "budget")) (default_there budget (codes "10000") before) in
+    some_both Verify (first_of (codes "file") rows) (option_and_then number_of (one_of (codes "budget") rows))
+    (first_there rows (codes "file") level.0 file) (number_there rows (codes "budget") refl level.0 number)
+
+replay_some : (words : List Text) → level_fault replay [] nothing_held words false [] ≡ [] → is_some (replay_in (rows_after replay.rules [] words)) ≡ true
+replay_some words e =
+    let level = level_good good replay refl replay_fits [] words false [] e in
+    let rows = rows_after replay.rules [] words in
+    let given = both_given (is_given (codes "file") rows) (is_given (codes "run") rows) level.1 in
+    some_both Replay (first_of (codes "file") rows) (first_of (codes "run") rows)
+    (first_there rows (codes "file") level.0 (given_there _ given.0)) (first_there rows (codes "run") level.0 (given_there _ given.1))
+
+-- ---- the program
+
+-- the subcommand at which a parse stopped, by the tests of its name
+abbrev met : Bool → Bool → Bool → Option Shape
+met is_verify is_replay is_help =
+    cond (is_verify || false) (Some verify) (cond (is_replay || false) (Some replay) (cond (is_help || false) (slice_get program.subs 2) None))
+
+-- a command is wanted
+command_met : (b : Bool) (rows : List Row) → check_fault program.top rows b ≡ [] → b ≡ true
+command_met true rows e = refl
+command_met false rows e = cc
+
+command_some : (is_verify is_replay is_help : Bool) (words : List Text) → is_help ≡ false
+    → option_map_or (λ s. level_fault s [] nothing_held words false []) (met is_verify is_replay is_help) [] ≡ []
+    → is_some (option_map (λ s. rows_at s words) (met is_verify is_replay is_help)) ≡ true
+    → is_some (asked (option_map (λ s. rows_at s words) (met is_verify is_replay is_help))) ≡ true
+command_some true r h words no_help e there = verify_some words e
+command_some false true h words no_help e there = replay_some words e
+command_some false false true words no_help e there = cc
+command_some false false false words no_help e there = cc
+
+stopped_some : (stop : Option (Text × List Text)) → StopsElsewhere stop → entered_fault program stop ≡ [] → is_some (entered program stop) ≡ true
+    → is_some (asked (entered program stop)) ≡ true
+stopped_some None elsewhere e there = cc
+stopped_some (Some p) elsewhere e there =
+    command_some (bytes_eq (codes "verify") p.0) (bytes_eq (codes "replay") p.0) (bytes_eq (codes "help") p.0) p.1 (other p.0 elsewhere) e there
+  where
+    other : (name : Text) → bytes_eq name (codes "help") ≡ false → bytes_eq (codes "help") name ≡ false
+    other name not_help = go (bytes_eq (codes "help") name) refl
+      where
+        go : (b : Bool) → bytes_eq (codes "help") name ≡ b → b ≡ false
+        go false is = refl
+        go true is =
+            let same : codes "help" ≡ name = (bytes_eq-Decides (codes "help") name).0 is in
+            let bad : bytes_eq (codes "help") (codes "help") ≡ false = subst (λ x. bytes_eq x (codes "help") ≡ false) (sym same) not_help in
+            cc
+
+-- words at which no step of the parse has a fault make a request
+pub taken_asks : (words : List Text) → fault_of program_app words ≡ [] → is_some (asked (subcommand_of program_app words)) ≡ true
+taken_asks words e =
+    let given = argument_words program_app words in
+    let end = walk program.top.rules (names_of program) nothing_held given in
+    let from_walk = neither (walk_fault program.top (names_of program) (walk_from nothing_held) given) _ e in
+    let from_below = neither (entered_fault program end.stopped) _ from_walk.1 in
+    let from_settle = neither (settle_fault program.top.rules false end.held) _ from_below.1 in
+    let from_defaults = neither (defaults_fault (settled program.top.rules end.held).rows program.top.rules) _ from_settle.1 in
+    let there = command_met (is_some (entered program end.stopped)) (finished program.top.rules end.held) from_defaults.1 in
+    stopped_some end.stopped (walk_stops program.top refl (names_of program) (walk_from nothing_held) given from_walk.0 tt) from_below.0 there
+
+-- a choice is made where its test holds
+chosen : {X : Type 0} (b : Bool) (x : Option X) → (IsTrue b → IsSome x) → IsTrue b ↔ IsSome (cond b x None)
+chosen true x h = (λ t. h t, λ some. refl)
+chosen false x h = (λ t. cc, λ some. some)
+
+pub taken_is : (words : List Text) → IsTrue (is_taken words) ↔ IsSome (request_of words)
+taken_is words = chosen (is_taken words) (asked (subcommand_of program_app words)) (λ t. taken_asks words (is_nil _ t))
+
+some_mapped : {X Y : Type 0} (f : X → Y) (o : Option X) → is_some (option_map f o) ≡ is_some o
+some_mapped f None = refl
+some_mapped f (Some x) = refl
+
+-- an answer that stands for the request of the words is there where the words are taken
+pub taken_answer : (r : Option Request') (words : List Text) → option_map request_seen r ≡ request_of words → IsSome r ↔ IsTrue (is_taken words)
+taken_answer r words e = (
+  λ some. (taken_is words).1 (sym (ap is_some e) ∙ (some_mapped request_seen r ∙ some)),
+  λ taken. sym (some_mapped request_seen r) ∙ (ap is_some e ∙ (taken_is words).0 taken),
+)

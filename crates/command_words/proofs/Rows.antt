@@ -1,0 +1,174 @@
+-- What the rows hold of the program's arguments, after a parse that has no fault.
+use Rattle.std.proofs.Common.{◌≡◌, ◌∙◌, ◌&&◌, ◌||◌, ◌==◌, ℕ, Bool, true, false, not, cond, List, [], ◌∷◌, ◌++◌, length, Option, Some, None, refl, sym, ap, ap₂, subst, is_some, codes, append-nil, eqb-true, arith}
+use Rattle.std.specs.Prelude.{option_and_then, slice_get}
+use Rattle.std.specs.List.{find, list_all}
+use Rattle.std.specs.Option.{option_map_or}
+use Rattle.std.specs.Str.{bytes_eq}
+use Rattle.std.proofs.lemmas.List.Folds.{list_all-append}
+use Rattle.std.proofs.lemmas.Slice.Eq.{bytes_eq-Decides}
+use Rattle.clap.specs.Facts.{explicit_source}
+use Rattle.clap.specs.Kinds.{range_kinds}
+use Rattle.clap.specs.Walk.{Row, Rule, Text, at_row, first_of, has_row, more_values, one_of, reading_by, row_text, used, with_default, without}
+use Rattle.clap.specs.Faults.{use_fault, values_fault}
+use Rattle.clap.specs.declared.builder.action.ArgAction.TheVariants.{Set}
+use Rattle.clap.specs.declared.error.kind.ErrorKind.TheVariants.{ArgumentConflict, InvalidValue, WrongNumberOfValues}
+use Rattle.clap.specs.declared.parser.matches.ValueSource.{ValueSource}
+use Rattle.clap.specs.declared.parser.matches.ValueSource.TheVariants.{CommandLine, DefaultValue}
+use Rattle.clap.proofs.WalkLemmas.{both}
+use Rattle.command_words.specs.Request.{number_of}
+use Rattle.command_words.proofs.Walking.{neither}
+
+-- the argument's values are read as numbers
+abbrev pub is_number_id : Text → Bool
+is_number_id id = bytes_eq id (codes "budget")
+
+-- the row has a value, which is a number where one is wanted
+abbrev pub good : Row → Bool
+good r = is_some (slice_get r.values 0) && (not (is_number_id r.id) || is_some (option_and_then number_of (row_text r)))
+
+-- ---- where an id has no row yet, its row joins at the end
+
+at_none : (id : Text) (change : Row → List Row) (missing rows : List Row) → has_row id rows ≡ false → at_row id change missing rows ≡ rows ++ missing
+at_none id change missing [] none = refl
+at_none id change missing (r ∷ rs) none = go (bytes_eq r.id id) (at_none id change missing rs) none
+  where
+    go : (b : Bool) → (has_row id rs ≡ false → at_row id change missing rs ≡ rs ++ missing) → (b || has_row id rs) ≡ false
+        → cond b (change r ++ rs) (r ∷ at_row id change missing rs) ≡ r ∷ (rs ++ missing)
+    go true rest absent = cc
+    go false rest absent = ap (λ xs. r ∷ xs) (rest absent)
+
+joined : (a : Row) (rows : List Row) → list_all good rows ≡ true → good a ≡ true → list_all good (rows ++ a ∷ []) ≡ true
+joined a rows all one = list_all-append good rows (a ∷ []) ∙ ap₂ (λ x y. x && (y && true)) all one
+
+-- a new row, for an id that has none
+abbrev pub row_from : Rule → ValueSource → Text → Row
+row_from a source v = record {
+  id = a.id;
+  values = v ∷ [];
+  count = None;
+  source = Some source;
+  reading = reading_by a;
+}
+
+-- ---- an argument of one value in each use, which may be used once
+
+abbrev pub one_value : Rule → Rule
+one_value a = record a { action = Some Set; range = Some (record { start_inclusive = 1; end_inclusive = 1 }) }
+
+one_count : (n : ℕ) → range_kinds 1 1 n ≡ [] → n ≡ 1
+one_count n e = go (n == 0) (1 == n) refl e
+  where
+    go : (a b : Bool) → (1 == n) ≡ b → cond a (InvalidValue ∷ []) (cond b [] (WrongNumberOfValues ∷ [])) ≡ [] → n ≡ 1
+    go true b is none = cc
+    go false false is none = cc
+    go false true is none = sym (eqb-true 1 n is)
+
+not_yet : (b : Bool) → cond (b && not false) (ArgumentConflict ∷ []) [] ≡ [] → b ≡ false
+not_yet true e = cc
+not_yet false e = refl
+
+module _ (a : Rule) (passes : (v : Text) → values_fault (one_value a) (v ∷ []) ≡ [] → good (row_from (one_value a) CommandLine v) ≡ true) where
+  pub one_keeps : (values : List Text) (rows : List Row) → use_fault false (one_value a) values rows ≡ [] → list_all good rows ≡ true
+      → list_all good (used (one_value a) values rows) ≡ true
+  one_keeps [] rows e g = cc
+  one_keeps (v ∷ []) rows e g =
+      let parts = neither (cond (has_row a.id rows && not false) (ArgumentConflict ∷ []) []) _ e in
+      let none : has_row a.id rows ≡ false = not_yet _ parts.0 in
+      let kept : without a.id rows ≡ rows = at_none a.id (λ _. []) [] rows none ∙ append-nil rows in
+      let new = row_from (one_value a) CommandLine v in
+      let is : used (one_value a) (v ∷ []) rows ≡ rows ++ new ∷ [] =
+      ap (at_row a.id (more_values CommandLine (v ∷ [])) (new ∷ [])) kept ∙ at_none a.id (more_values CommandLine (v ∷ [])) (new ∷ []) rows none in
+      subst (λ xs. list_all good xs ≡ true) (sym is) (joined new rows g (passes v parts.1))
+  one_keeps (v ∷ w ∷ vs) rows e g =
+      let parts = neither (range_kinds 1 1 (length (v ∷ w ∷ vs))) _ e in
+      let count : length (v ∷ w ∷ vs) ≡ 1 = one_count _ parts.0 in
+      absurd (omega arith)
+
+-- with no default, its rows stay
+pub kept_rows : (b : Bool) (rows : List Row) → list_all good rows ≡ true → list_all good (cond b rows rows) ≡ true
+kept_rows true rows g = g
+kept_rows false rows g = g
+
+-- ---- what is read of the rows of an id
+
+-- the row of an id, where there is one
+found_good : (rows : List Row) (id : Text) → list_all good rows ≡ true → is_some (find (λ r. bytes_eq r.id id) rows) ≡ true
+    → (r : Row) × (find (λ r. bytes_eq r.id id) rows ≡ Some r) × (r.id ≡ id) × (good r ≡ true)
+found_good [] id g there = cc
+found_good (x ∷ xs) id g there =
+    let parts = both (good x) _ g in
+    go (bytes_eq x.id id) refl parts.0 (found_good xs id parts.1) there
+  where
+    go : (b : Bool) → bytes_eq x.id id ≡ b → good x ≡ true
+        → (is_some (find (λ r. bytes_eq r.id id) xs) ≡ true → (r : Row) × (find (λ r. bytes_eq r.id id) xs ≡ Some r) × (r.id ≡ id) × (good r ≡ true))
+        → is_some (cond b (Some x) (find (λ r. bytes_eq r.id id) xs)) ≡ true
+        → (r : Row) × (cond b (Some x) (find (λ r. bytes_eq r.id id) xs) ≡ Some r) × (r.id ≡ id) × (good r ≡ true)
+    go true is one rest here = (x, refl, (bytes_eq-Decides x.id id).0 is, one)
+    go false is one rest here = rest here
+
+-- its first value is there
+pub first_there : (rows : List Row) (id : Text) → list_all good rows ≡ true → is_some (find (λ r. bytes_eq r.id id) rows) ≡ true
+    → is_some (first_of id rows) ≡ true
+first_there rows id g there =
+    let row = found_good rows id g there in
+    ap (λ o. is_some (option_and_then (λ (r : Row). slice_get r.values 0) o)) row.1 ∙ (both (is_some (slice_get row.0.values 0)) _ row.3).0
+
+-- and is a number, where one is wanted
+pub number_there : (rows : List Row) (id : Text) → is_number_id id ≡ true → list_all good rows ≡ true → is_some (find (λ r. bytes_eq r.id id) rows) ≡ true
+    → is_some (option_and_then number_of (one_of id rows)) ≡ true
+number_there rows id wanted g there =
+    let row = found_good rows id g there in
+    let is : is_number_id row.0.id ≡ true = ap is_number_id row.2 ∙ wanted in
+    let parts = both (is_some (slice_get row.0.values 0)) _ row.3 in
+    ap (λ o. is_some (option_and_then number_of (option_and_then row_text o))) row.1 ∙ wanted_passes _ _ is parts.1
+  where
+    wanted_passes : (a b : Bool) → a ≡ true → (not a || b) ≡ true → b ≡ true
+    wanted_passes true b is e = e
+    wanted_passes false b is e = cc
+
+-- what was given in the words has a row
+pub given_there : (o : Option Row) → option_map_or (λ r. explicit_source r.source) o false ≡ true → is_some o ≡ true
+given_there None e = e
+given_there (Some r) e = refl
+
+same_text : (t : Text) → bytes_eq t t ≡ true
+same_text t = (bytes_eq-Decides t t).1 refl
+
+-- an argument with a default has a row
+pub default_there : (a : Rule) (v : Text) (rows : List Row) → is_some (find (λ r. bytes_eq r.id a.id) (with_default rows (record a { defaults = v ∷ [] }))) ≡ true
+default_there a v rows = go (has_row a.id rows) refl
+  where
+    already : (xs : List Row) → has_row a.id xs ≡ true → is_some (find (λ r. bytes_eq r.id a.id) xs) ≡ true
+    already [] e = e
+    already (x ∷ xs) e = more (bytes_eq x.id a.id) (already xs) e
+      where
+        more : (b : Bool) → (has_row a.id xs ≡ true → is_some (find (λ r. bytes_eq r.id a.id) xs) ≡ true) → (b || has_row a.id xs) ≡ true
+            → is_some (cond b (Some x) (find (λ r. bytes_eq r.id a.id) xs)) ≡ true
+        more true rest here = refl
+        more false rest here = rest here
+
+    last : (x : Row) (xs : List Row) → bytes_eq x.id a.id ≡ true → is_some (find (λ r. bytes_eq r.id a.id) (xs ++ x ∷ [])) ≡ true
+    last x [] e = rw e refl
+    last x (y ∷ ys) e = more (bytes_eq y.id a.id) (last x ys e)
+      where
+        more : (b : Bool) → is_some (find (λ r. bytes_eq r.id a.id) (ys ++ x ∷ [])) ≡ true → is_some (cond b (Some y) (find (λ r. bytes_eq r.id a.id) (ys ++ x ∷ []))) ≡ true
+        more true rest = refl
+        more false rest = rest
+
+    go : (b : Bool) → has_row a.id rows ≡ b
+        → is_some (find (λ r. bytes_eq r.id a.id) (cond b rows (at_row a.id (more_values DefaultValue (v ∷ [])) (row_from a DefaultValue v ∷ []) rows))) ≡ true
+    go true is = already rows is
+    go false is = subst (λ xs. is_some (find (λ r. bytes_eq r.id a.id) xs) ≡ true)
+        (sym (at_none a.id (more_values DefaultValue (v ∷ [])) (row_from a DefaultValue v ∷ []) rows is))
+        (last (row_from a DefaultValue v) rows (same_text a.id))
+
+-- a default that is good keeps the rows good
+pub default_good : (a : Rule) (v : Text) (rows : List Row) → good (row_from a DefaultValue v) ≡ true → list_all good rows ≡ true
+    → list_all good (with_default rows (record a { defaults = v ∷ [] })) ≡ true
+default_good a v rows one g = go (has_row a.id rows) refl
+  where
+    go : (b : Bool) → has_row a.id rows ≡ b
+        → list_all good (cond b rows (at_row a.id (more_values DefaultValue (v ∷ [])) (row_from a DefaultValue v ∷ []) rows)) ≡ true
+    go true is = g
+    go false is = subst (λ xs. list_all good xs ≡ true)
+        (sym (at_none a.id (more_values DefaultValue (v ∷ [])) (row_from a DefaultValue v ∷ []) rows is)) (joined (row_from a DefaultValue v) rows g one)

@@ -1,0 +1,35 @@
+-- The program's commands as plain data: what `clap` reads of them.
+use Rattle.std.specs.Prelude.{[], ◌∷◌, Some, true, codes}
+use Rattle.clap.specs.Words.{App, Rule, Shape, Text, new_app, new_rule, with_rule, with_subcommand}
+use Rattle.clap.specs.declared.builder.value_parser.ValueParser.TheVariants.{Unsigned}
+
+-- a file's name, which has to be given: a positional argument, read back by its id
+abbrev pub name_rule : Text → Rule
+name_rule id = record (new_rule id) { required = true }
+
+-- `--budget N`: a number from 0 to 1,000,000, and 10,000 where it is left out
+abbrev pub budget_rule : Rule
+budget_rule = record (new_rule (codes "budget")) {
+  long = Some (codes "budget");
+  parser = Some (Unsigned 0 1000000);
+  defaults = codes "10000" ∷ [];
+}
+
+-- `verify FILE [--budget N]`
+abbrev pub verify_shape : Shape
+verify_shape =
+    let named = with_rule (new_app (codes "verify")) (name_rule (codes "file")) in
+    (with_rule named budget_rule).top
+
+-- `replay FILE RUN`
+abbrev pub replay_shape : Shape
+replay_shape =
+    let named = with_rule (new_app (codes "replay")) (name_rule (codes "file")) in
+    (with_rule named (name_rule (codes "run"))).top
+
+-- the program, one of whose commands has to be given
+abbrev pub program_app : App
+program_app =
+    let bare = new_app (codes "hv") in
+    let program = record bare { top = record bare.top { subcommand_required = true } } in
+    with_subcommand (with_subcommand program verify_shape) replay_shape

@@ -1,0 +1,65 @@
+//! The program's commands, as `clap` reads them.
+ghost use Rattle.std.specs.Prelude.{◌≡◌, IfOk, false};
+ghost use Rattle.clap.specs.Words.{app_of, rule_of, shape_of};
+ghost use Rattle.clap.specs.declared.builder.command.Command.TheViews.{out-Command as fields_of};
+ghost use Rattle.command_words.specs.Commands.{name_rule, program_app, replay_shape, verify_shape};
+
+use clap::builder::ValueParser;
+use clap::{Arg, Command};
+use std::alloc::{AllocError, Global};
+
+pub const VERIFY: &str = "verify";
+
+pub const REPLAY: &str = "replay";
+
+pub const FILE: &str = "file";
+
+pub const BUDGET: &str = "budget";
+
+pub const RUN: &str = "run";
+
+const MOST_BUDGET: u64 = 1_000_000;
+
+const DEFAULT_BUDGET: &str = "10000";
+
+/// The program: one of its commands has to be given.
+pub fn program<'a>(alloc: Global) -> Result<Command<'a>, AllocError>
+    ensures { IfOk result (λ c. app_of c ≡ program_app) }
+{
+    Command::new(alloc, "hv")
+        .subcommand_required(true)
+        .subcommand(verify(alloc)?)?
+        .subcommand(replay(alloc)?)
+}
+
+/// `verify FILE [--budget N]`
+fn verify<'a>(alloc: Global) -> Result<Command<'a>, AllocError>
+    ensures shape { IfOk result (λ c. shape_of c ≡ verify_shape) }
+    ensures local { IfOk result (λ c. (fields_of c).has_globals ≡ false) }
+{
+    let budget = Arg::new(alloc, BUDGET)
+        .long(BUDGET)
+        .value_parser(ValueParser::unsigned(0, MOST_BUDGET))
+        .default_value(DEFAULT_BUDGET);
+    Command::new(alloc, VERIFY)
+        .arg(required_name(alloc, FILE))?
+        .arg(budget)
+}
+
+/// `replay FILE RUN`
+fn replay<'a>(alloc: Global) -> Result<Command<'a>, AllocError>
+    ensures shape { IfOk result (λ c. shape_of c ≡ replay_shape) }
+    ensures local { IfOk result (λ c. (fields_of c).has_globals ≡ false) }
+{
+    Command::new(alloc, REPLAY)
+        .arg(required_name(alloc, FILE))?
+        .arg(required_name(alloc, RUN))
+}
+
+// A file's name, which the command wants.
+fn required_name<'a>(alloc: Global, id: &'a str) -> Arg<'a>
+    ensures rule { rule_of result ≡ name_rule id.entry.now }
+    ensures local { result.global ≡ false }
+{
+    Arg::new(alloc, id).required(true)
+}

@@ -1,0 +1,54 @@
+//! What follows from the definitions of the words, as contracts of functions that do nothing.
+ghost use Rattle.std.specs.Prelude.{◌≡◌, ◌≢◌, ◌↔◌, ◌∷◌, ◌++◌, [], ℕ, List, None, Some, true};
+ghost use Rattle.std.specs.Prelude.{false, IsSome, IsTrue, codes, slice_index};
+ghost use Rattle.std.specs.Str.Parse.{digits_value, without_leading_plus};
+ghost use Rattle.clap.specs.ValueTests.{is_unsigned_in};
+ghost use Rattle.command_words.specs.Request.{Replay, Verify, is_taken, request_of};
+
+/// The words that `clap` takes are those that make a request.
+pub fn taken_words()
+    ensures { (words : List (List ℕ)) → IsTrue (is_taken words) ↔ IsSome (request_of words) }
+{}
+
+/// A word that does not begin with a dash (45) is a name. With no option the budget is 10,000.
+pub fn names_without_dashes()
+    ensures verify { (program file : List ℕ) → slice_index file 0 ≢ 45
+        → request_of (program ∷ codes "verify" ∷ file ∷ []) ≡ Some (Verify file 10000) }
+    ensures replay { (program file run : List ℕ) → slice_index file 0 ≢ 45
+        → slice_index run 0 ≢ 45
+        → request_of (program ∷ codes "replay" ∷ file ∷ run ∷ []) ≡ Some (Replay file run) }
+{}
+
+/// After `--` each word is a name, whatever it is.
+pub fn names_after_dashes()
+    ensures verify { (program file : List ℕ) →
+        request_of (program ∷ codes "verify" ∷ codes "--" ∷ file ∷ [])
+        ≡ Some (Verify file 10000) }
+    ensures replay { (program file run : List ℕ) →
+        request_of (program ∷ codes "replay" ∷ codes "--" ∷ file ∷ run ∷ [])
+        ≡ Some (Replay file run) }
+{}
+
+/// `--budget=` takes a number from 0 to 1,000,000, and nothing else.
+pub fn budgets()
+    ensures taken { (program file number : List ℕ) → slice_index file 0 ≢ 45
+        → is_unsigned_in 0 1000000 number ≡ true
+        → request_of (program ∷ codes "verify" ∷ file ∷ (codes "--budget=" ++ number) ∷ [])
+        ≡ Some (Verify file (digits_value 10 (without_leading_plus number))) }
+    ensures refused { (program file number : List ℕ) → slice_index file 0 ≢ 45
+        → is_unsigned_in 0 1000000 number ≡ false
+        → request_of (program ∷ codes "verify" ∷ file ∷ (codes "--budget=" ++ number) ∷ [])
+        ≡ None }
+{}
+
+/// A request for help or for the version is refused, whatever follows it.
+pub fn help_refused()
+    ensures word { (program : List ℕ) (rest : List (List ℕ)) →
+        request_of (program ∷ codes "help" ∷ rest) ≡ None }
+    ensures long { (program : List ℕ) (rest : List (List ℕ)) →
+        request_of (program ∷ codes "--help" ∷ rest) ≡ None }
+    ensures short { (program : List ℕ) (rest : List (List ℕ)) →
+        request_of (program ∷ codes "-h" ∷ rest) ≡ None }
+    ensures version { (program : List ℕ) (rest : List (List ℕ)) →
+        request_of (program ∷ codes "--version" ∷ rest) ≡ None }
+{}

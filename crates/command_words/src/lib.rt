@@ -1,0 +1,88 @@
+//! The words of the program's command line, as the request that they make.
+//!
+//! The words are read by `clap`, by the commands of `commands`, which `specs/Commands.antt` has as
+//! plain data. `specs/Request.antt` says what request words make, by what `clap` defines of its
+//! parse: the faults that it finds in the words and the matches that it makes of them. The module
+//! `laws` has what follows from these definitions.
+#![tactic(auto)]
+
+ghost use Rattle.std.specs.Prelude.{◌≡◌, ◌↔◌, IfOk, IsSome, IsTrue, map, option_map};
+ghost use Rattle.std.specs.Prelude.{string_bytes};
+ghost use Rattle.clap.specs.Words.{found_of, rows_of, subcommand_rows_of};
+ghost use Rattle.command_words.specs.Request.{asked, is_taken, replay_in, request_of};
+ghost use Rattle.command_words.specs.Request.{request_seen, verify_in};
+
+mod commands;
+pub mod laws;
+#[cfg(test)]
+mod tests;
+
+use clap::ArgMatches;
+use clap::error::ErrorKind;
+use std::alloc::{AllocError, Global};
+
+/// What the words of a command line ask the program to do. The names are those of the words.
+#[derive(Clone, Copy, Debug, PartialEq, Eq)]
+pub enum Request<'a> {
+    /// `verify FILE [--budget N]`: verify each query of the protocol in `file`.
+    Verify {
+        /// The name of the protocol's file.
+        file: &'a str,
+        /// How many clauses the saturation may keep for each query, from 0 to 1,000,000.
+        budget: u64,
+    },
+    /// `replay FILE RUN`: replay a run of the protocol in `file`.
+    Replay {
+        /// The name of the protocol's file.
+        file: &'a str,
+        /// The name of the file that spells the run.
+        run: &'a str,
+    },
+}
+
+/// Reads the words of a command line, of which the first is the program's name, as `clap` does.
+/// `None` is for words that `clap` refuses, requests for help among them.
+pub fn read_words<'a>(alloc: Global, words: &'a [String]) -> Result<Option<Request<'a>>, AllocError>
+    ensures request { IfOk result (λ r. option_map request_seen r
+        ≡ request_of (map string_bytes words.now)) }
+    ensures taken { IfOk result (λ r. IsSome r
+        ↔ IsTrue (is_taken (map string_bytes words.now))) }
+{
+    let commands = commands::program(alloc)?;
+    match commands.try_get_matches_from(words) {
+        Ok(matches) => Ok(requested(&matches)),
+        Err(error) => match error.kind() {
+            ErrorKind::OutOfMemory => Err(AllocError),
+            _ => Ok(None),
+        },
+    }
+}
+
+// The request in the matches of the program's words.
+fn requested<'a>(matches: &ArgMatches<'a>) -> Option<Request<'a>>
+    ensures { option_map request_seen result ≡ asked (subcommand_rows_of matches.now) }
+{
+    match matches.subcommand()? {
+        (commands::VERIFY, given) => verify_requested(given),
+        (commands::REPLAY, given) => replay_requested(given),
+        _ => None,
+    }
+}
+
+fn verify_requested<'a>(given: &ArgMatches<'a>) -> Option<Request<'a>>
+    ensures { option_map request_seen result ≡ verify_in (rows_of (found_of given.now)) }
+{
+    Some(Request::Verify {
+        file: given.get_str(commands::FILE)?,
+        budget: given.get_one(commands::BUDGET)?,
+    })
+}
+
+fn replay_requested<'a>(given: &ArgMatches<'a>) -> Option<Request<'a>>
+    ensures { option_map request_seen result ≡ replay_in (rows_of (found_of given.now)) }
+{
+    Some(Request::Replay {
+        file: given.get_str(commands::FILE)?,
+        run: given.get_str(commands::RUN)?,
+    })
+}
