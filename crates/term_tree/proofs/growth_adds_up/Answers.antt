@@ -1,0 +1,8 @@
+use Rattle.term_tree.proofs.BankLaws.{Grows_refl, Grows_trans}
+use Rattle.term_tree.proofs.growth_adds_up.Goals as goal
+
+pub returns-clause-none : goal.returns-clause-none
+returns-clause-none c = Grows_refl
+
+pub returns-clause-twice : goal.returns-clause-twice
+returns-clause-twice c = Grows_trans

@@ -1,0 +1,126 @@
+//! The plain bank: a list of entries, each over entries before it.
+
+ghost use Rattle.std.specs.Prelude.{◌≡◌, ◌≤◌, ◌<◌, ◌+◌, List, [], ◌∷◌, ◌++◌, length, take, map, IfOk, OnErr};
+
+use crate::bank::{Bank, Id, Mark, Node, SIZE_LIMIT, Sym};
+use std::alloc::{AllocError, Global};
+use std::marker::Model;
+
+/// What stands at a place of the bank: a variable, or a symbol over earlier places.
+#[derive(Drop, Debug)]
+pub enum Shape {
+    Var(u32),
+    App(Sym, Vec<Id>),
+}
+
+/// A place of the bank: its shape, and the size of its tree as it is told.
+#[derive(Drop, Debug)]
+pub struct Entry {
+    pub size: u64,
+    pub shape: Shape,
+}
+
+/// The plain bank, where each call of `var` or `app` makes one more tree.
+#[derive(Drop, Debug)]
+pub struct TreeBank {
+    entries: Vec<Entry>,
+    alloc: Global,
+}
+
+impl Model for TreeBank {
+    ghost use Rattle.std.specs.Prelude.{List, []};
+    ghost use Rattle.terms.specs.Term.{Term, coded_terms};
+
+    ghost Value = { List Term };
+
+    ghost coded = { coded_terms };
+
+    ghost use Rattle.term_tree.specs.TreeBank.{built, IsWell};
+
+    ghost view = { λ b. built [] b.entries.items };
+
+    ghost invariant = { λ b. IsWell [] b.entries.items };
+}
+
+impl TreeBank {
+    ghost use Rattle.std.specs.Prelude.{◌≡◌, ◌+◌, [], ◌∷◌, ◌++◌, length, map, IfOk, OnErr};
+    ghost use Rattle.trees.specs.Tree.{size as size_of, trees, sizes};
+    ghost use Rattle.term_tree.specs.Bank.{tree_at, AreKnown, capped};
+    ghost use Rattle.term_tree.specs.TreeBank.{tree_of, HasArgs};
+
+    /// An empty bank. Takes no memory.
+    pub fn new(alloc: Global) -> Self
+        ensures { result ≡ [] }
+    {
+        TreeBank {
+            entries: Vec::new(alloc),
+            alloc,
+        }
+    }
+
+    /// One more entry, at the end.
+    fn add(&mut self, size: u64, shape: Shape) -> Result<Id, AllocError>
+        requires args { HasArgs self.old shape }
+        requires sized { size ≡ capped (size_of (tree_of self.old shape)) }
+        ensures ok { IfOk result (λ id. (id.index ≡ length self.old) × (self.new ≡ self.old ++ tree_of self.old shape ∷ [])) }
+        ensures err { OnErr result (self.new ≡ self.old) }
+    {
+        let id = Id {
+            index: self.entries.len(),
+        };
+        self.entries.push(Entry { size, shape })?;
+        Ok(id)
+    }
+
+    /// The size of a symbol over the arguments, as it is told.
+    fn size_over(&self, args: &[Id]) -> u64
+        requires { AreKnown self.now args.now }
+        ensures { result ≡ capped (1 + sizes (trees (map (tree_at self.now) args.now))) }
+    {
+        let mut total = 1u64;
+        for arg in args {
+            total = total.saturating_add(self.size(*arg)).min(SIZE_LIMIT);
+        }
+        total
+    }
+}
+
+impl Bank for TreeBank {
+    ghost use Rattle.std.specs.Prelude.{List};
+    ghost use Rattle.terms.specs.Term.{Term};
+    ghost use Rattle.trees.specs.Tree.{Leaf, node, size};
+    ghost use Rattle.term_tree.specs.Bank.{symbol_of, tree_at, AreKnown, Names, Grows, IsNodeOf, capped};
+
+    ghost trees = { λ b. b };
+
+    fn var(&mut self, number: u32) -> Result<Id, AllocError> {
+        self.add(1, Shape::Var(number))
+    }
+
+    fn app(&mut self, symbol: Sym, args: &[Id]) -> Result<Id, AllocError> {
+        let size = self.size_over(args);
+        let copied = args.to_vec(self.alloc)?;
+        self.add(size, Shape::App(symbol, copied))
+    }
+
+    fn node(&self, id: Id) -> Node<'_> {
+        match &self.entries[id.index].shape {
+            Shape::Var(number) => Node::Var(*number),
+            Shape::App(symbol, args) => Node::App(*symbol, args),
+        }
+    }
+
+    fn size(&self, id: Id) -> u64 {
+        self.entries[id.index].size
+    }
+
+    fn mark(&self) -> Mark {
+        Mark {
+            len: self.entries.len(),
+        }
+    }
+
+    fn back(&mut self, to: Mark) {
+        self.entries.truncate(to.len);
+    }
+}

@@ -1,0 +1,12 @@
+use Rattle.terms.proofs.Resolve.{resolved-solves, resolved-factor, resolved-unbound}
+use Rattle.terms.proofs.Loops.{NeverLeadsBack-sound}
+use Rattle.terms.proofs.bindings_stand_for_a_solution.Goals as goal
+
+pub returns-clause-solves : goal.returns-clause-solves
+returns-clause-solves c = λ bs ready. resolved-solves bs (NeverLeadsBack-sound bs ready)
+
+pub returns-clause-most : goal.returns-clause-most
+returns-clause-most c = λ bs s h. (s, resolved-factor s bs h)
+
+pub returns-clause-unbound : goal.returns-clause-unbound
+returns-clause-unbound c = resolved-unbound

@@ -1,0 +1,4 @@
+pub mod Term
+pub mod Unifier
+pub mod Binding
+pub mod Rank

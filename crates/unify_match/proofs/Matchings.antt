@@ -1,0 +1,174 @@
+-- The steps of matching, and of comparing two terms.
+use Rattle.std.proofs.Common.{◌≡◌, ℕ, ◌+◌, ◌≤◌, ◌<◌, Bool, true, false, ◌||◌, cond, nat_eq, is_some, Some, None, List, [], ◌∷◌, ◌++◌, length, map, drop, get_or, refl, sym, ap, ◌∙◌, arith, eqb-true, append_assoc}
+use Rattle.trees.specs.Tree.{Leaf, node}
+use Rattle.terms.specs.Term.{Sym, Term, Subst, has_var}
+use Rattle.terms.specs.Binding.{Agrees, replaced_once}
+use Rattle.terms.specs.Rank.{height}
+use Rattle.terms.proofs.Matches.{Agrees-at, replaced-agrees}
+use Rattle.term_tree.specs.Bank.{tree_at, AreKnown}
+use Rattle.term_tree.specs.declared.bank.Id.{Id}
+use Rattle.unify_match.specs.declared.bound.Bound.{Bound}
+use Rattle.unify_match.specs.Trail.{id_of, Extends}
+use Rattle.unify_match.specs.Seen.{seen, AreBindings}
+use Rattle.unify_match.specs.Outcome.{Matched, NoMatch}
+use Rattle.unify_match.specs.Progress.{HasMatches}
+use Rattle.unify_match.proofs.SeenLemmas.{bound_to-seen, bound_to-seen_none}
+use Rattle.unify_match.proofs.Walking.{heights_of, height-at, known-at, ids_at, ids_past}
+use Rattle.unify_match.proofs.Pairs.{AreOne, under, Remains, remains_begins, remains_next, remains_fails, remains_ends, node_one, one_node, bind-application}
+
+-- the height where each variable counts one
+abbrev pub levels : Term → ℕ
+levels t = height (λ x. 1) t
+
+-- whether a variable that is bound once more is bound
+pub is_bound : (pairs : List Bound) (b : Bound) (x : ℕ) → is_some (id_of (b ∷ pairs) x) ≡ (is_some (id_of pairs x) || nat_eq x b.var)
+is_bound pairs b x = go (nat_eq x b.var) refl (is_some (id_of pairs x)) refl where
+  go : (c : Bool) → nat_eq x b.var ≡ c → (d : Bool) → is_some (id_of pairs x) ≡ d → is_some (cond (nat_eq x b.var) (Some b.id) (id_of pairs x)) ≡ (is_some (id_of pairs x) || nat_eq x b.var)
+  go true p true q = rw p (rw q refl)
+  go true p false q = rw p (rw q refl)
+  go false p true q = rw p (rw q refl)
+  go false p false q = rw p (rw q refl)
+
+pub matches_bind : (all : List Term) (pairs : List Bound) (b : Bound) → HasMatches all pairs (b ∷ pairs) (Leaf b.var) (tree_at all b.id)
+matches_bind all pairs b = record { exactly = is_bound pairs b; only = λ s. (λ h. (h.1, h.0), λ h. (h.1, h.0)) }
+
+-- a variable that is bound already, to the special term
+pub matches_bound : (all : List Term) (pairs : List Bound) (x : ℕ) (id special : Id) → id_of pairs x ≡ Some id → tree_at all id ≡ tree_at all special → HasMatches all pairs pairs (Leaf x) (tree_at all special)
+matches_bound all pairs x id special e same = record {
+  exactly = λ y. at y (nat_eq y x) refl (is_some (id_of pairs y)) refl;
+  only = λ s. (λ h. (h, Agrees-at s (seen all pairs) x (tree_at all id) h (bound_to-seen all pairs x id e) ∙ same), λ h. h.0);
+} where
+  at : (y : ℕ) (c : Bool) → nat_eq y x ≡ c → (d : Bool) → is_some (id_of pairs y) ≡ d → is_some (id_of pairs y) ≡ (is_some (id_of pairs y) || nat_eq y x)
+  at y c p true q = rw q refl
+  at y true p false q = let is : is_some (id_of pairs y) ≡ true = ap (λ v. is_some (id_of pairs v)) (eqb-true y x p) ∙ ap is_some e in cc
+  at y false p false q = rw q (rw p refl)
+
+-- and to another term
+pub matches_other : (all : List Term) (pairs : List Bound) (x : ℕ) (id special : Id) → id_of pairs x ≡ Some id → (tree_at all id ≡ tree_at all special → ⊥) → NoMatch all pairs (Leaf x) (tree_at all special)
+matches_other all pairs x id special e differ s agrees is = differ (sym (Agrees-at s (seen all pairs) x (tree_at all id) agrees (bound_to-seen all pairs x id e)) ∙ is)
+
+pub AreBindings-bind : (all : List Term) (pairs : List Bound) (b : Bound) → AreBindings all pairs → b.id.index < length all → id_of pairs b.var ≡ None → AreBindings all (b ∷ pairs)
+AreBindings-bind all pairs b were known unbound = record { known = (known, were.known); once = (bound_to-seen_none all pairs b.var unbound, were.once) }
+
+-- whether a variable stands in one of the ids' trees
+abbrev pub some_stands : ℕ → List Term → List Id → Bool
+some_stands x all [] = false
+some_stands x all (id ∷ ids) = has_var x (tree_at all id) || some_stands x all ids
+
+pub some_stands-node : (x : ℕ) (all : List Term) (f : Sym) (ids : List Id) → has_var x (node f (map (tree_at all) ids)) ≡ some_stands x all ids
+some_stands-node x all f [] = refl
+some_stands-node x all f (id ∷ ids) = ap (λ b. has_var x (tree_at all id) || b) (some_stands-node x all f ids)
+
+-- how far the two lists of arguments have come
+pub record IsMatching (all : List Term) (old now : List Bound) (general : Id) (xs ys : List Id) (i : ℕ) : Type 0 where
+  pub bindings : AreBindings all now
+  pub extends : Extends old now
+  pub lefts : AreKnown all (drop i xs)
+  pub rights : AreKnown all (drop i ys)
+  pub lower : heights_of (λ x. 1) all (drop i xs) < levels (tree_at all general)
+  pub bound : (x : ℕ) → (is_some (id_of now x) || some_stands x all (drop i xs)) ≡ (is_some (id_of old x) || some_stands x all xs)
+  pub remains : Remains (λ s. Agrees s (seen all now)) (λ s. Agrees s (seen all old)) (λ s. under s all) (λ s. tree_at all) xs ys i
+
+pub matching_begins : (all : List Term) (old : List Bound) (general : Id) (xs ys : List Id) → AreBindings all old → AreKnown all xs → AreKnown all ys → heights_of (λ x. 1) all xs < levels (tree_at all general) → IsMatching all old old general xs ys 0
+matching_begins all old general xs ys bindings lefts rights lower = record {
+  bindings = bindings;
+  extends = ([], refl);
+  lefts = lefts;
+  rights = rights;
+  lower = lower;
+  bound = λ x. refl;
+  remains = remains_begins (λ s. under s all) (λ s. tree_at all) (λ s. Agrees s (seen all old)) xs ys;
+}
+
+or_assoc : (a b c : Bool) → ((a || b) || c) ≡ (a || (b || c))
+or_assoc true b c = refl
+or_assoc false b c = refl
+
+or_none : (a : Bool) → (a || false) ≡ a
+or_none true = refl
+or_none false = refl
+
+pub Extends-trans : (a b c : List Bound) → Extends a b → Extends b c → Extends a c
+Extends-trans a b c (first, e) (later, f) = (later ++ first, f ∙ (ap (λ l. later ++ l) e ∙ sym (append_assoc later first a)))
+
+pub matching_on : (all : List Term) (old now next : List Bound) (general : Id) (xs ys : List Id) (i : ℕ) (d : Id) → IsMatching all old now general xs ys i → i < length xs → i < length ys
+    → AreBindings all next → Extends now next → HasMatches all now next (tree_at all (get_or xs i d)) (tree_at all (get_or ys i d)) → IsMatching all old next general xs ys (i + 1)
+matching_on all old now next general xs ys i d was in_xs in_ys bindings extends step = record {
+  bindings = bindings;
+  extends = Extends-trans old now next was.extends extends;
+  lefts = (known-at all xs i d in_xs was.lefts).1;
+  rights = (known-at all ys i d in_ys was.rights).1;
+  lower = let at = height-at (λ x. 1) all xs i d in_xs in let less = at.1 in let lower = was.lower in omega arith;
+  bound = λ x. ap (λ b. b || some_stands x all (drop (i + 1) xs)) (step.exactly x)
+      ∙ (or_assoc (is_some (id_of now x)) (has_var x (tree_at all (get_or xs i d))) (some_stands x all (drop (i + 1) xs))
+      ∙ (ap (λ l. is_some (id_of now x) || some_stands x all l) (sym (ids_at xs i d in_xs)) ∙ was.bound x));
+  remains = remains_next (λ s. under s all) (λ s. tree_at all) (λ s. Agrees s (seen all next)) (λ s. Agrees s (seen all now)) (λ s. Agrees s (seen all old)) xs ys i d in_xs in_ys step.only was.remains;
+}
+
+-- two applications
+pub match_applications_fail : (all : List Term) (old : List Bound) (a b : Id) (f g : Sym) (xs ys : List Id) → tree_at all a ≡ node f (map (tree_at all) xs) → tree_at all b ≡ node g (map (tree_at all) ys)
+    → ((s : Subst) → Agrees s (seen all old) → (f ≡ g) × AreOne (under s all) (tree_at all) xs ys × (length xs ≡ length ys) → ⊥) → NoMatch all old (tree_at all a) (tree_at all b)
+match_applications_fail all old a b f g xs ys is_a is_b never s agrees e = never s agrees (node_one (under s all) (tree_at all) f g xs ys (sym (bind-application s all a f xs is_a) ∙ (e ∙ is_b)))
+
+pub matching_fails : (all : List Term) (old now : List Bound) (general a b : Id) (f g : Sym) (xs ys : List Id) (i : ℕ) (d : Id)
+    → tree_at all a ≡ node f (map (tree_at all) xs) → tree_at all b ≡ node g (map (tree_at all) ys) → IsMatching all old now general xs ys i → i < length xs → i < length ys
+    → NoMatch all now (tree_at all (get_or xs i d)) (tree_at all (get_or ys i d)) → NoMatch all old (tree_at all a) (tree_at all b)
+matching_fails all old now general a b f g xs ys i d is_a is_b was in_xs in_ys never =
+    match_applications_fail all old a b f g xs ys is_a is_b (λ s agrees parts. remains_fails (λ r. under r all) (λ r. tree_at all) (λ r. Agrees r (seen all now)) (λ r. Agrees r (seen all old)) xs ys i d in_xs in_ys never was.remains s agrees parts.1)
+
+pub matching_ends : (all : List Term) (old now : List Bound) (general a b : Id) (f g : Sym) (xs ys : List Id) (i : ℕ)
+    → tree_at all a ≡ node f (map (tree_at all) xs) → tree_at all b ≡ node g (map (tree_at all) ys) → f ≡ g → length xs ≡ length ys → IsMatching all old now general xs ys i → length xs ≤ i
+    → HasMatches all old now (tree_at all a) (tree_at all b)
+matching_ends all old now general a b f g xs ys i is_a is_b same even was past = record {
+  exactly = λ x.
+      let rest : some_stands x all (drop i xs) ≡ false = ap (some_stands x all) (ids_past xs i past) in
+      sym (or_none (is_some (id_of now x))) ∙ (ap (λ b. is_some (id_of now x) || b) (sym rest) ∙ (was.bound x
+      ∙ ap (λ b. is_some (id_of old x) || b) (sym (some_stands-node x all f xs) ∙ ap (has_var x) (sym is_a))));
+  only = λ s.
+      let ends = remains_ends (λ r. under r all) (λ r. tree_at all) (λ r. Agrees r (seen all now)) (λ r. Agrees r (seen all old)) xs ys i past (omega arith) was.remains s in (
+        λ agrees. let both = ends.0 agrees in (both.0, bind-application s all a f xs is_a ∙ (one_node (under s all) (tree_at all) f xs ys both.1 ∙ (ap (λ h. node h (map (tree_at all) ys)) same ∙ sym is_b))),
+        λ both. ends.1 (both.0, (node_one (under s all) (tree_at all) f g xs ys (sym (bind-application s all a f xs is_a) ∙ (both.1 ∙ is_b))).1),
+      );
+}
+
+-- what the public answer says more
+pub matched : (all : List Term) (old new : List Bound) (general special : Term) → AreBindings all new → Extends old new → HasMatches all old new general special → Matched all old new general special
+matched all old new general special bindings extends h = record {
+  extends = extends;
+  exactly = h.exactly;
+  only = h.only;
+  is_match = ((h.only (replaced_once (seen all new))).0 (replaced-agrees (seen all new) bindings.once)).1;
+}
+
+-- how far the comparison of two lists of arguments has come
+pub record IsComparing (all : List Term) (left : Id) (xs ys : List Id) (i : ℕ) : Type 0 where
+  pub lefts : AreKnown all (drop i xs)
+  pub rights : AreKnown all (drop i ys)
+  pub lower : heights_of (λ x. 1) all (drop i xs) < levels (tree_at all left)
+  pub remains : Remains (λ s. Unit {0}) (λ s. Unit {0}) (λ s. tree_at all) (λ s. tree_at all) xs ys i
+
+pub comparing_begins : (all : List Term) (left : Id) (xs ys : List Id) → AreKnown all xs → AreKnown all ys → heights_of (λ x. 1) all xs < levels (tree_at all left) → IsComparing all left xs ys 0
+comparing_begins all left xs ys lefts rights lower = record { lefts = lefts; rights = rights; lower = lower; remains = remains_begins (λ s. tree_at all) (λ s. tree_at all) (λ s. Unit {0}) xs ys }
+
+pub comparing_on : (all : List Term) (left : Id) (xs ys : List Id) (i : ℕ) (d : Id) → IsComparing all left xs ys i → i < length xs → i < length ys → tree_at all (get_or xs i d) ≡ tree_at all (get_or ys i d) → IsComparing all left xs ys (i + 1)
+comparing_on all left xs ys i d was in_xs in_ys same = record {
+  lefts = (known-at all xs i d in_xs was.lefts).1;
+  rights = (known-at all ys i d in_ys was.rights).1;
+  lower = let at = height-at (λ x. 1) all xs i d in_xs in let less = at.1 in let lower = was.lower in omega arith;
+  remains = remains_next (λ s. tree_at all) (λ s. tree_at all) (λ s. Unit {0}) (λ s. Unit {0}) (λ s. Unit {0}) xs ys i d in_xs in_ys (λ s. (λ h. (tt, same), λ h. tt)) was.remains;
+}
+
+pub comparing_fails : (all : List Term) (left a b : Id) (f g : Sym) (xs ys : List Id) (i : ℕ) (d : Id) → tree_at all a ≡ node f (map (tree_at all) xs) → tree_at all b ≡ node g (map (tree_at all) ys)
+    → IsComparing all left xs ys i → i < length xs → i < length ys → (tree_at all (get_or xs i d) ≡ tree_at all (get_or ys i d) → ⊥) → tree_at all a ≡ tree_at all b → ⊥
+comparing_fails all left a b f g xs ys i d is_a is_b was in_xs in_ys differ e =
+    remains_fails (λ s. tree_at all) (λ s. tree_at all) (λ s. Unit {0}) (λ s. Unit {0}) xs ys i d in_xs in_ys (λ s h. differ) was.remains Leaf tt (node_one (tree_at all) (tree_at all) f g xs ys (sym is_a ∙ (e ∙ is_b))).1
+
+pub comparing_ends : (all : List Term) (left a b : Id) (f g : Sym) (xs ys : List Id) (i : ℕ) → tree_at all a ≡ node f (map (tree_at all) xs) → tree_at all b ≡ node g (map (tree_at all) ys) → f ≡ g → length xs ≡ length ys
+    → IsComparing all left xs ys i → length xs ≤ i → tree_at all a ≡ tree_at all b
+comparing_ends all left a b f g xs ys i is_a is_b same even was past =
+    let one = ((remains_ends (λ s. tree_at all) (λ s. tree_at all) (λ s. Unit {0}) (λ s. Unit {0}) xs ys i past (omega arith) was.remains Leaf).0 tt).1 in
+    is_a ∙ (one_node (tree_at all) (tree_at all) f xs ys one ∙ (ap (λ h. node h (map (tree_at all) ys)) same ∙ sym is_b))
+
+-- symbols or lengths that differ
+pub roots_differ : (all : List Term) (a b : Id) (f g : Sym) (xs ys : List Id) → tree_at all a ≡ node f (map (tree_at all) xs) → tree_at all b ≡ node g (map (tree_at all) ys) → tree_at all a ≡ tree_at all b → (f ≡ g) × (length xs ≡ length ys)
+roots_differ all a b f g xs ys is_a is_b e = let parts = node_one (tree_at all) (tree_at all) f g xs ys (sym is_a ∙ (e ∙ is_b)) in (parts.0, parts.2)

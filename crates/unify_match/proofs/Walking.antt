@@ -1,0 +1,132 @@
+-- Following the bindings of variables.
+use Rattle.std.proofs.Common.{◌≡◌, ℕ, ◌+◌, ◌≤◌, ◌<◌, max, Bool, true, false, ◌||◌, Some, None, List, [], ◌∷◌, map, drop, length, get_or, nat_eq, cond, eqb-true, drop-cons, drop_of_length-le, add-one, subst, refl, sym, ap, ◌∙◌, arith}
+use Rattle.trees.specs.Tree.{Leaf, node, bind}
+use Rattle.terms.specs.Term.{Sym, Term, Subst, has_var}
+use Rattle.terms.specs.Binding.{Solves, resolved}
+use Rattle.terms.specs.Rank.{height, ranks}
+use Rattle.terms.proofs.Resolve.{Solves-at, resolved-unbound}
+use Rattle.terms.proofs.Ranks.{ranks-fall}
+use Rattle.std.specs.HashSet.{HashSet, contains}
+use Rattle.std.specs.declared.hash.BuildHasherDefault.{BuildHasherDefault}
+use Rattle.std.specs.declared.hash.FoldHasher.{FoldHasher}
+use Rattle.term_tree.specs.Bank.{tree_at, AreKnown}
+use Rattle.term_tree.specs.declared.bank.Id.{Id}
+use Rattle.unify_match.specs.declared.bound.Bound.{Bound}
+use Rattle.unify_match.specs.Trail.{id_of}
+use Rattle.unify_match.specs.Seen.{seen, IsReady, IsWalked}
+use Rattle.unify_match.specs.Memo.{AreClear}
+use Rattle.unify_match.proofs.SeenLemmas.{bound_to-seen, bound_to-seen_none, AreInBank-at, IsReady-sound, IsReady-solves}
+
+-- `at` is on the way from `from`
+pub record IsOnTheWay (all : List Term) (pairs : List Bound) (from at : Id) : Type 0 where
+  pub known : at.index < length all
+  pub same : (s : Subst) → Solves s (seen all pairs) → bind s (tree_at all at) ≡ bind s (tree_at all from)
+  pub lower : height (ranks (seen all pairs)) (tree_at all at) ≤ height (ranks (seen all pairs)) (tree_at all from)
+
+pub way_begins : (all : List Term) (pairs : List Bound) (id : Id) → id.index < length all → IsOnTheWay all pairs id id
+way_begins all pairs id known = record { known = known; same = λ s h. refl; lower = omega arith }
+
+-- the id that a variable on the way is bound to is lower
+pub way_falls : (all : List Term) (pairs : List Bound) (at next : Id) (x : ℕ) → IsReady all pairs → tree_at all at ≡ Leaf x → id_of pairs x ≡ Some next
+    → height (ranks (seen all pairs)) (tree_at all next) < height (ranks (seen all pairs)) (tree_at all at)
+way_falls all pairs at next x ready is e =
+    let falls = ranks-fall (seen all pairs) (IsReady-sound all pairs ready) x (tree_at all next) (bound_to-seen all pairs x next e) in
+    omega (arith, falls, ap (height (ranks (seen all pairs))) is)
+
+-- and on the way too
+pub way_goes_on : (all : List Term) (pairs : List Bound) (from at next : Id) (x : ℕ) → IsReady all pairs → IsOnTheWay all pairs from at → tree_at all at ≡ Leaf x → id_of pairs x ≡ Some next
+    → IsOnTheWay all pairs from next
+way_goes_on all pairs from at next x ready way is e = record {
+  known = AreInBank-at all pairs x next ready.known e;
+  same = λ s h. sym (Solves-at s (seen all pairs) x (tree_at all next) h (bound_to-seen all pairs x next e)) ∙ (sym (ap (bind s) is) ∙ way.same s h);
+  lower = let falls = way_falls all pairs at next x ready is e in let lower = way.lower in omega arith;
+}
+
+-- where the way ends
+pub way_ends : (all : List Term) (pairs : List Bound) (from at : Id) → IsOnTheWay all pairs from at → ((x : ℕ) → tree_at all at ≡ Leaf x → id_of pairs x ≡ None) → IsWalked all pairs from at
+way_ends all pairs from at way unbound = record { known = way.known; same = way.same; lower = way.lower; unbound = unbound }
+
+-- both ends stand for one term
+pub walked-resolved : (all : List Term) (pairs : List Bound) (from to : Id) → IsReady all pairs → IsWalked all pairs from to → bind (resolved (seen all pairs)) (tree_at all to) ≡ bind (resolved (seen all pairs)) (tree_at all from)
+walked-resolved all pairs from to ready walked = walked.same (resolved (seen all pairs)) (IsReady-solves all pairs ready)
+
+-- whether a variable stands in what one of the ids' trees is under s
+abbrev pub some_has : Subst → ℕ → List Term → List Id → Bool
+some_has s x all [] = false
+some_has s x all (id ∷ ids) = has_var x (bind s (tree_at all id)) || some_has s x all ids
+
+-- the height of the highest of the ids' trees
+abbrev pub heights_of : (ℕ → ℕ) → List Term → List Id → ℕ
+heights_of h all [] = 0
+heights_of h all (id ∷ ids) = max (height h (tree_at all id)) (heights_of h all ids)
+
+pub some_has-node : (s : Subst) (x : ℕ) (all : List Term) (f : Sym) (ids : List Id) → has_var x (bind s (node f (map (tree_at all) ids))) ≡ some_has s x all ids
+some_has-node s x all f [] = refl
+some_has-node s x all f (id ∷ ids) = ap (λ b. has_var x (bind s (tree_at all id)) || b) (some_has-node s x all f ids)
+
+pub heights_of-node : (h : ℕ → ℕ) (all : List Term) (f : Sym) (ids : List Id) → height h (node f (map (tree_at all) ids)) ≡ 1 + heights_of h all ids
+heights_of-node h all f [] = refl
+heights_of-node h all f (id ∷ ids) = let others = heights_of-node h all f ids in omega arith
+
+-- the rest of a list of ids after the one at i
+pub some_has-at : (s : Subst) (x : ℕ) (all : List Term) (ids : List Id) (i : ℕ) (id : Id) → drop i ids ≡ id ∷ drop (i + 1) ids → some_has s x all (drop i ids) ≡ (has_var x (bind s (tree_at all id)) || some_has s x all (drop (i + 1) ids))
+some_has-at s x all ids i id e = ap (some_has s x all) e
+
+-- what is left of a list of ids from the one at i on
+pub ids_at : (ids : List Id) (i : ℕ) (d : Id) → i < length ids → drop i ids ≡ get_or ids i d ∷ drop (i + 1) ids
+ids_at ids i d h = drop-cons ids i d h ∙ ap (λ n. get_or ids i d ∷ drop n ids) (sym (add-one i))
+
+-- nothing is left past the end
+pub ids_past : (ids : List Id) (i : ℕ) → length ids ≤ i → drop i ids ≡ []
+ids_past ids i h = drop_of_length-le ids h
+
+pub walked-has : (all : List Term) (pairs : List Bound) (from to : Id) (x : ℕ) → IsReady all pairs → IsWalked all pairs from to
+    → has_var x (bind (resolved (seen all pairs)) (tree_at all to)) ≡ has_var x (bind (resolved (seen all pairs)) (tree_at all from))
+walked-has all pairs from to x ready walked = ap (has_var x) (walked-resolved all pairs from to ready walked)
+
+-- an application has what its arguments have
+pub has-args : (s : Subst) (x : ℕ) (all : List Term) (end : Id) (f : Sym) (ids : List Id) → tree_at all end ≡ node f (map (tree_at all) ids) → has_var x (bind s (tree_at all end)) ≡ some_has s x all ids
+has-args s x all end f ids is = ap (λ t. has_var x (bind s t)) is ∙ some_has-node s x all f ids
+
+-- and is higher than they are
+pub args-lower : (h : ℕ → ℕ) (all : List Term) (end : Id) (f : Sym) (ids : List Id) → tree_at all end ≡ node f (map (tree_at all) ids) → heights_of h all ids < height h (tree_at all end)
+args-lower h all end f ids is = omega (arith, ap (height h) is, heights_of-node h all f ids)
+
+-- the height of the id at i is within that of the rest
+pub height-at : (h : ℕ → ℕ) (all : List Term) (ids : List Id) (i : ℕ) (d : Id) → i < length ids → (height h (tree_at all (get_or ids i d)) ≤ heights_of h all (drop i ids)) × (heights_of h all (drop (i + 1) ids) ≤ heights_of h all (drop i ids))
+height-at h all ids i d less = let e = ap (heights_of h all) (ids_at ids i d less) in (omega arith, omega arith)
+
+pub known-at : (all : List Term) (ids : List Id) (i : ℕ) (d : Id) → i < length ids → AreKnown all (drop i ids) → ((get_or ids i d).index < length all) × AreKnown all (drop (i + 1) ids)
+known-at all ids i d less known = let both = subst (λ (l : List Id). AreKnown all l) (ids_at ids i d less) known in (both.0, both.1)
+
+-- a set with one more number
+pub AreClear-insert : (all : List Term) (pairs : List Bound) (x : ℕ) (old new : HashSet ℕ (BuildHasherDefault FoldHasher)) (id : Id) → AreClear all pairs x old
+    → has_var x (bind (resolved (seen all pairs)) (tree_at all id)) ≡ false → ((q : ℕ) → contains nat_eq new q ≡ cond (nat_eq id.index q) true (contains nat_eq old q)) → AreClear all pairs x new
+AreClear-insert all pairs x old new id were absent updates k in_new = go (nat_eq id.index k) refl where
+  go : (b : Bool) → nat_eq id.index k ≡ b → has_var x (bind (resolved (seen all pairs)) (tree_at all record { index = k })) ≡ false
+  go true same = let here : id.index ≡ k = eqb-true id.index k same in subst (λ (n : ℕ). has_var x (bind (resolved (seen all pairs)) (tree_at all record { index = n })) ≡ false) here absent
+  go false other = were k (sym (updates k ∙ ap (λ b. cond b true (contains nat_eq old k)) other) ∙ in_new)
+
+-- an end that is an unbound variable has itself alone
+pub walked-variable : (all : List Term) (pairs : List Bound) (from to : Id) (y : ℕ) → IsWalked all pairs from to → tree_at all to ≡ Leaf y → bind (resolved (seen all pairs)) (tree_at all to) ≡ Leaf y
+walked-variable all pairs from to y walked is = ap (bind (resolved (seen all pairs))) is ∙ resolved-unbound (seen all pairs) y (bound_to-seen_none all pairs y (walked.unbound y is))
+
+pub has-variable : (all : List Term) (pairs : List Bound) (from to : Id) (x y : ℕ) → IsReady all pairs → IsWalked all pairs from to → tree_at all to ≡ Leaf y → nat_eq x y ≡ has_var x (bind (resolved (seen all pairs)) (tree_at all from))
+has-variable all pairs from to x y ready walked is = sym (ap (has_var x) (walked-variable all pairs from to y walked is)) ∙ walked-has all pairs from to x ready walked
+
+-- found in the argument at i
+pub has-found : (all : List Term) (pairs : List Bound) (from to : Id) (x : ℕ) (f : Sym) (ids : List Id) (i : ℕ) (d : Id) → IsReady all pairs → IsWalked all pairs from to → tree_at all to ≡ node f (map (tree_at all) ids)
+    → some_has (resolved (seen all pairs)) x all (drop i ids) ≡ some_has (resolved (seen all pairs)) x all ids → i < length ids → has_var x (bind (resolved (seen all pairs)) (tree_at all (get_or ids i d))) ≡ true
+    → true ≡ has_var x (bind (resolved (seen all pairs)) (tree_at all from))
+has-found all pairs from to x f ids i d ready walked is rest less here =
+    let s = resolved (seen all pairs) in
+    let found : some_has s x all (drop i ids) ≡ true = ap (some_has s x all) (ids_at ids i d less) ∙ ap (λ b. b || some_has s x all (drop (i + 1) ids)) here in
+    sym (sym (walked-has all pairs from to x ready walked) ∙ (has-args s x all to f ids is ∙ (sym rest ∙ found)))
+
+-- found in no argument
+pub has-none : (all : List Term) (pairs : List Bound) (to : Id) (x : ℕ) (f : Sym) (ids : List Id) (i : ℕ) → tree_at all to ≡ node f (map (tree_at all) ids)
+    → some_has (resolved (seen all pairs)) x all (drop i ids) ≡ some_has (resolved (seen all pairs)) x all ids → length ids ≤ i
+    → has_var x (bind (resolved (seen all pairs)) (tree_at all to)) ≡ false
+has-none all pairs to x f ids i is rest past =
+    let s = resolved (seen all pairs) in
+    has-args s x all to f ids is ∙ (sym rest ∙ ap (some_has s x all) (ids_past ids i past))

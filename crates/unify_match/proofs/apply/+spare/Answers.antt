@@ -1,0 +1,23 @@
+use Rattle.std.proofs.Common.{◌-◌, arith}
+use Rattle.terms.specs.Rank.{ranks}
+use Rattle.term_tree.specs.Bank.{symbol_of}
+use Rattle.unify_match.specs.Seen.{seen}
+use Rattle.unify_match.proofs.Walking.{height-at, known-at}
+use Rattle.unify_match.proofs.Applying.{counting_begins, counted_variable}
+use Rattle.unify_match.proofs.apply.+spare.Goals as goal
+
+pub each-init : goal.each-init
+each-init g t c =
+    counting_begins (g.B.Bank.trees c.args.bank.now) c.args.binds.now.pairs c.args.id c.walk-end.result c.args.most (symbol_of c.in-App.field-0) c.in-App.args.now (c.args.most - 1)
+    c.requires.ready c.walk-end.ensures c.in-App.ensures.0 c.in-App.ensures.1 (omega arith)
+
+pub spare-requires : goal.spare-requires
+spare-requires g t c κs within =
+    let all = g.B.Bank.trees c.args.bank.now in
+    let at = height-at (ranks (seen all c.args.binds.now.pairs)) all c.in-App.args.now c.each.arg-index record { index = 0 } c.each-test.true in
+    let known = known-at all c.in-App.args.now c.each.arg-index record { index = 0 } c.each-test.true c.each.invariant.known in
+    (omega (arith, c.decreases, at.0, c.each.invariant.lower), (within, (known.0, c.requires.ready)))
+
+pub returns-in-Var : goal.returns-in-Var
+returns-in-Var g t c =
+    counted_variable (g.B.Bank.trees c.args.bank.now) c.args.binds.now.pairs c.args.id c.walk-end.result c.args.most (c.args.most - 1) _ c.requires.ready c.walk-end.ensures c.in-Var.ensures (omega arith)

@@ -1,0 +1,86 @@
+use Rattle.std.proofs.Common.{◌<◌, ◌∙◌, List, [], ◌∷◌, sym, ap, refl, subst, arith, length}
+use Rattle.std.proofs.lemmas.Bool.{MatchBool-at_true, MatchBool-at_false, false≢true}
+use Rattle.terms.specs.Term.{Term}
+use Rattle.term_tree.specs.Bank.{tree_at, symbol_of}
+use Rattle.unify_match.specs.declared.bound.Bound.{Bound}
+use Rattle.unify_match.specs.Seen.{AreBindings}
+use Rattle.unify_match.specs.Outcome.{NoMatch}
+use Rattle.unify_match.specs.Progress.{HasMatches}
+use Rattle.unify_match.proofs.SeenLemmas.{AreInBank-at}
+use Rattle.unify_match.proofs.Walking.{args-lower, height-at, known-at}
+use Rattle.unify_match.proofs.Matchings.{matches_bound, matches_other, AreBindings-bind, matching_begins, matching_on, matching_fails, matching_ends, match_applications_fail, Extends-trans}
+use Rattle.unify_match.proofs.matching.+match_from.Goals as goal
+
+pub same_term-requires-clause-left_known : goal.same_term-requires-clause-left_known
+same_term-requires-clause-left_known g t c = AreInBank-at (g.B.Bank.trees c.args.bank.now) c.args.binds.now.pairs c.in-Var.x c.in-Some.bound c.requires.bindings.known (sym c.in-Some.ensures)
+
+pub returns-then-not-same_term-clause-outcome : goal.returns-then-not-same_term-clause-outcome
+returns-then-not-same_term-clause-outcome g t c =
+    let all = g.B.Bank.trees c.args.bank.now in
+    subst (λ (u : Term). NoMatch all c.args.binds.now.pairs u (tree_at all c.args.special)) (sym c.in-Var.ensures)
+    (matches_other all c.args.binds.now.pairs c.in-Var.x c.in-Some.bound c.args.special (sym c.in-Some.ensures) (λ same. false≢true (c.if-not-same_term.ensures.1 same)))
+
+pub returns-else-not-same_term-clause-outcome : goal.returns-else-not-same_term-clause-outcome
+returns-else-not-same_term-clause-outcome g t c =
+    let all = g.B.Bank.trees c.args.bank.now in
+    subst (λ (u : Term). HasMatches all c.args.binds.now.pairs c.args.binds.now.pairs u (tree_at all c.args.special)) (sym c.in-Var.ensures)
+    (matches_bound all c.args.binds.now.pairs c.in-Var.x c.in-Some.bound c.args.special (sym c.in-Some.ensures) (c.if-not-same_term.ensures.0 refl))
+
+pub returns-in_ok-reserve-in-None-clause-bindings : goal.returns-in_ok-reserve-in-None-clause-bindings
+returns-in_ok-reserve-in-None-clause-bindings g t c =
+    let all = g.B.Bank.trees c.args.bank.now in
+    let pairs = c.bind.ensures.pairs ∙ ap (λ (bs : List Bound). record { var = c.in-Var.x; id = c.args.special } ∷ bs) c.in_ok-reserve-in-None.ensures.pairs in
+    subst (λ (bs : List Bound). AreBindings all bs) (sym pairs)
+    (AreBindings-bind all c.args.binds.now.pairs record { var = c.in-Var.x; id = c.args.special } c.requires.bindings c.requires.special_known (sym c.in-None.ensures))
+
+pub returns-in_ok-reserve-in-None-clause-extends : goal.returns-in_ok-reserve-in-None-clause-extends
+returns-in_ok-reserve-in-None-clause-extends g t c =
+    (record { var = c.in-Var.x; id = c.args.special } ∷ [], c.bind.ensures.pairs ∙ ap (λ (bs : List Bound). record { var = c.in-Var.x; id = c.args.special } ∷ bs) c.in_ok-reserve-in-None.ensures.pairs)
+
+pub returns-then-xs-ys-clause-outcome : goal.returns-then-xs-ys-clause-outcome
+returns-then-xs-ys-clause-outcome g t c =
+    match_applications_fail (g.B.Bank.trees c.args.bank.now) c.args.binds.now.pairs c.args.general c.args.special (symbol_of c.in-App.f) (symbol_of c.in-App-node.g) c.in-App.xs.now c.in-App-node.ys.now c.in-App.ensures.0 c.in-App-node.ensures.0
+    (λ s agrees parts. absurd (omega (arith, parts.2, c.if-xs-ys.true)))
+
+pub each-init : goal.each-init
+each-init g t c =
+    matching_begins (g.B.Bank.trees c.args.bank.now) c.args.binds.now.pairs c.args.general c.in-App.xs.now c.in-App-node.ys.now c.requires.bindings c.in-App.ensures.1 c.in-App-node.ensures.1
+    (args-lower (λ x. 1) (g.B.Bank.trees c.args.bank.now) c.args.general (symbol_of c.in-App.f) c.in-App.xs.now c.in-App.ensures.0)
+
+pub match_from-requires : goal.match_from-requires
+match_from-requires g t c κs within =
+    let all = g.B.Bank.trees c.args.bank.now in
+    let was = c.each.invariant in
+    let even : c.each.i < length c.in-App-node.ys.now = omega (arith, c.each-test.true, c.if-xs-ys.false) in
+    let left = known-at all c.in-App.xs.now c.each.i record { index = 0 } c.each-test.true was.lefts in
+    let right = known-at all c.in-App-node.ys.now c.each.i record { index = 0 } even was.rights in
+    let at = height-at (λ x. 1) all c.in-App.xs.now c.each.i record { index = 0 } c.each-test.true in
+    (omega (arith, c.decreases, at.0, was.lower), (within, (left.0, (right.0, was.bindings))))
+
+pub returns-in_err-match_from-in-App-node-clause-extends : goal.returns-in_err-match_from-in-App-node-clause-extends
+returns-in_err-match_from-in-App-node-clause-extends g t c = Extends-trans c.args.binds.now.pairs c.each.binds.pairs c.match_from.new.binds.pairs c.each.invariant.extends c.match_from.ensures.extends
+
+pub returns-then-not-branch-clause-extends : goal.returns-then-not-branch-clause-extends
+returns-then-not-branch-clause-extends g t c = Extends-trans c.args.binds.now.pairs c.each.binds.pairs c.match_from.new.binds.pairs c.each.invariant.extends c.match_from.ensures.extends
+
+pub returns-then-not-branch-clause-outcome : goal.returns-then-not-branch-clause-outcome
+returns-then-not-branch-clause-outcome g t c =
+    let all = g.B.Bank.trees c.args.bank.now in
+    let even : c.each.i < length c.in-App-node.ys.now = omega (arith, c.each-test.true, c.if-xs-ys.false) in
+    let never = MatchBool-at_false _ _ c.if-not-branch.true c.in_ok-match_from-in-App-node.ensures.outcome in
+    matching_fails all c.args.binds.now.pairs c.each.binds.pairs c.args.general c.args.general c.args.special (symbol_of c.in-App.f) (symbol_of c.in-App-node.g) c.in-App.xs.now c.in-App-node.ys.now c.each.i record { index = 0 }
+    c.in-App.ensures.0 c.in-App-node.ensures.0 c.each.invariant c.each-test.true even never
+
+pub each-preserved : goal.each-preserved
+each-preserved g t c =
+    let all = g.B.Bank.trees c.args.bank.now in
+    let even : c.each.i < length c.in-App-node.ys.now = omega (arith, c.each-test.true, c.if-xs-ys.false) in
+    let made_one = MatchBool-at_true _ _ c.if-not-branch.false c.in_ok-match_from-in-App-node.ensures.outcome in
+    matching_on all c.args.binds.now.pairs c.each.binds.pairs c.match_from.new.binds.pairs c.args.general c.in-App.xs.now c.in-App-node.ys.now c.each.i record { index = 0 } c.each.invariant c.each-test.true even
+    c.match_from.ensures.bindings c.match_from.ensures.extends made_one
+
+pub returns-after-each-clause-outcome : goal.returns-after-each-clause-outcome
+returns-after-each-clause-outcome g t c =
+    let all = g.B.Bank.trees c.args.bank.now in
+    matching_ends all c.args.binds.now.pairs c.each.binds.pairs c.args.general c.args.general c.args.special (symbol_of c.in-App.f) (symbol_of c.in-App-node.g) c.in-App.xs.now c.in-App-node.ys.now c.each.i
+    c.in-App.ensures.0 c.in-App-node.ensures.0 (ap symbol_of (c.if-not-is_same.ensures.0 refl)) (omega (arith, c.if-xs-ys.false)) c.each.invariant c.each-test.false

@@ -1,0 +1,9 @@
+use Rattle.std.proofs.lemmas.Bool.{MatchBool-at_true}
+use Rattle.unify_match.proofs.Unifying.{unified}
+use Rattle.term_tree.specs.Bank.{tree_at}
+use Rattle.unify_match.proofs.unification.unify.Goals as goal
+
+pub returns-in-Ok-true-clause-outcome : goal.returns-in-Ok-true-clause-outcome
+returns-in-Ok-true-clause-outcome g c =
+    let all = g.B.Bank.trees c.args.bank.now in
+    unified all c.args.binds.now.pairs c.unify_from.new.binds.pairs (tree_at all c.args.left) (tree_at all c.args.right) c.unify_from.ensures.ready c.unify_from.ensures.grown (MatchBool-at_true _ _ c.in-Ok-true.field-0-test c.in-Ok-true.ensures.outcome)

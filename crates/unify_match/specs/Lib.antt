@@ -1,0 +1,6 @@
+pub mod Trail
+pub mod Table
+pub mod Seen
+pub mod Outcome
+pub mod Memo
+pub mod Progress

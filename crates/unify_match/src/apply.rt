@@ -1,0 +1,87 @@
+//! Applying bindings to a term: the symbols are counted before anything is built.
+
+ghost use Rattle.std.specs.Prelude.{◌≡◌, ◌+◌, ◌<◌, ◌≤◌, length, IfOk, OnErr, MatchOption};
+ghost use Rattle.trees.specs.Tree.{bind, size};
+ghost use Rattle.terms.specs.Binding.{resolved};
+ghost use Rattle.term_tree.specs.Bank.{tree_at, Grows, Names};
+ghost use Rattle.unify_match.specs.Seen.{seen, IsReady};
+
+use crate::binds::Binds;
+use crate::walk::walk;
+use std::alloc::AllocError;
+use term_tree::{Bank, Id, Node};
+
+/// How many of `most` symbols are left after those of what a term stands for; `None` where they do not
+/// suffice. Takes no memory.
+#[tactic(auto, using(crate::proofs::Applying::some_symbol))]
+fn spare<B: Bank>(bank: &B, binds: &Binds, id: Id, most: u64) -> Option<u64>
+    requires known { id.index < length (B.trees bank.now) }
+    requires ready { IsReady (B.trees bank.now) binds.now.pairs }
+    ensures { let symbols = size (bind (resolved (seen (B.trees bank.now) binds.now.pairs)) (tree_at (B.trees bank.now) id)) in MatchOption result (most < symbols) (λ left. left + symbols ≡ most) }
+{
+    if most == 0 {
+        return None;
+    }
+    let end = walk(bank, binds, id);
+    match bank.node(end) {
+        Node::Var(_) => Some(most - 1),
+        Node::App(_, args) => {
+            let mut left = most - 1;
+            'each: for arg in args {
+                left = spare(bank, binds, *arg, left)?;
+            }
+            Some(left)
+        }
+    }
+}
+
+/// Builds what a term stands for.
+fn build<B: Bank>(bank: &mut B, binds: &Binds, id: Id) -> Result<Id, AllocError>
+    requires known { id.index < length (B.trees bank.old) }
+    requires ready { IsReady (B.trees bank.old) binds.now.pairs }
+    ensures grows { Grows (B.trees bank.old) (B.trees bank.new) }
+    ensures names { IfOk result (λ built. Names (B.trees bank.new) built (bind (resolved (seen (B.trees bank.old) binds.now.pairs)) (tree_at (B.trees bank.old) id))) }
+{
+    let end = walk(bank, binds, id);
+    match bank.node(end) {
+        Node::Var(_) => Ok(end),
+        Node::App(symbol, parts) => {
+            let args = parts.to_vec(binds.allocator())?;
+            let mut built = Vec::new(binds.allocator());
+            'each: for arg in &args {
+                let next = build(bank, binds, *arg)?;
+                built.push(next)?;
+            }
+            bank.app(symbol, &built)
+        }
+    }
+}
+
+/// The term that a term stands for under the bindings, or `None` where it has more than `most` symbols.
+/// The symbols are counted before anything is built.
+///
+/// `Err` comes only for want of memory; then, and on `None`, the bank is as before.
+pub fn apply_bound<B: Bank>(
+    bank: &mut B,
+    id: Id,
+    binds: &Binds,
+    most: u64,
+) -> Result<Option<Id>, AllocError>
+    requires known { id.index < length (B.trees bank.old) }
+    requires ready { IsReady (B.trees bank.old) binds.now.pairs }
+    ensures grows { Grows (B.trees bank.old) (B.trees bank.new) }
+    ensures outcome { let term = bind (resolved (seen (B.trees bank.old) binds.now.pairs)) (tree_at (B.trees bank.old) id) in IfOk result (λ found. MatchOption found ((most < size term) × (B.trees bank.new ≡ B.trees bank.old)) (λ built. (size term ≤ most) × Names (B.trees bank.new) built term)) }
+    ensures err { OnErr result (B.trees bank.new ≡ B.trees bank.old) }
+{
+    if spare(bank, binds, id, most).is_none() {
+        return Ok(None);
+    }
+    let mark = bank.mark();
+    match build(bank, binds, id) {
+        Ok(built) => Ok(Some(built)),
+        Err(error) => {
+            bank.back(mark);
+            Err(error)
+        }
+    }
+}

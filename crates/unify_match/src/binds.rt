@@ -1,0 +1,117 @@
+//! Bindings as a finite map with a trail, which can be taken back to an earlier level.
+
+ghost use Rattle.std.specs.Prelude.{◌≡◌, ◌+◌, ◌-◌, ◌<◌, ◌≤◌, List, [], ◌∷◌, None, length, drop, OnOk, IfOk};
+ghost use Rattle.terms.specs.Term.{Term};
+ghost use Rattle.unify_match.specs.Trail.{id_of};
+ghost use Rattle.unify_match.specs.Seen.{IsReady, AreBindings};
+
+use crate::bound::Bound;
+use std::alloc::{AllocError, Global};
+use std::collections::HashMap;
+use std::marker::Model;
+use term_tree::Id;
+
+/// Bindings of variables to terms of a bank: a finite map, and the order in which it came about.
+#[derive(Drop)]
+pub struct Binds {
+    trail: Vec<Bound>,
+    table: HashMap<u32, Id>,
+    alloc: Global,
+}
+
+impl Model for Binds {
+    ghost use Rattle.std.specs.Prelude.{◌-◌, min, reverse, vec_len, vec_capacity};
+    ghost use Rattle.std.specs.HashMap.{spare};
+    ghost use Rattle.unify_match.specs.Trail.{Trail, coded_trail};
+
+    ghost Value = { Trail };
+
+    ghost coded = { coded_trail };
+
+    ghost use Rattle.unify_match.specs.Table.{IsTableOf};
+
+    ghost view = { λ b. record { pairs = reverse b.trail.items; room = min (vec_capacity b.trail - vec_len b.trail) (spare b.table) } };
+
+    ghost invariant = { λ b. IsTableOf (reverse b.trail.items) b.table };
+}
+
+impl Binds {
+    /// No bindings. Takes no memory.
+    pub fn new(alloc: Global) -> Self
+        ensures none { result.pairs ≡ [] }
+
+        // They are ready for unification and for matching over any bank.
+        ensures ready { (all : List Term) → IsReady all result.pairs }
+        ensures bindings { (all : List Term) → AreBindings all result.pairs }
+    {
+        let trail = Vec::new(alloc);
+        let table = HashMap::new(alloc);
+        Binds {
+            trail,
+            table,
+            alloc,
+        }
+    }
+
+    /// The allocator of the bindings.
+    pub fn allocator(&self) -> Global {
+        self.alloc
+    }
+
+    /// Makes room for `n` more bindings.
+    pub fn reserve(&mut self, n: usize) -> Result<(), AllocError>
+        ensures pairs { self.new.pairs ≡ self.old.pairs }
+        ensures ok { OnOk result (n ≤ self.new.room) }
+        ensures room { self.old.room ≤ self.new.room }
+    {
+        self.trail.reserve(n)?;
+        self.table.reserve(n)
+    }
+
+    /// Binds a variable. Takes no memory, but one place of the room.
+    pub fn bind(&mut self, var: u32, id: Id)
+        requires unbound { id_of self.old.pairs var ≡ None }
+        requires room { 0 < self.old.room }
+        ensures pairs { self.new.pairs ≡ record { var = var; id = id } ∷ self.old.pairs }
+        ensures room { self.old.room ≤ self.new.room + 1 }
+    {
+        let _ = self.trail.push(Bound { var, id });
+        let _ = self.table.insert(var, id);
+    }
+
+    /// The term that a variable is bound to. Takes no memory.
+    pub fn look(&self, var: u32) -> Option<Id>
+        ensures { result ≡ id_of self.now.pairs var }
+    {
+        self.table.get(&var).copied()
+    }
+
+    /// How many variables are bound. Takes no memory.
+    pub fn level(&self) -> usize
+        ensures { result ≡ length self.now.pairs }
+    {
+        self.trail.len()
+    }
+
+    /// Takes back all bindings but the first `level`. Takes no memory, and takes no room away.
+    pub fn undo(&mut self, level: usize)
+        requires { level ≤ length self.old.pairs }
+        ensures pairs { self.new.pairs ≡ drop (length self.old.pairs - level) self.old.pairs }
+        ensures room { self.old.room ≤ self.new.room }
+    {
+        while self.level() > level {
+            self.take_back();
+        }
+    }
+
+    /// Takes the newest binding back.
+    fn take_back(&mut self)
+        requires { 0 < length self.old.pairs }
+        ensures pairs { self.new.pairs ≡ drop 1 self.old.pairs }
+        ensures room { self.old.room ≤ self.new.room }
+    {
+        if let Some(bound) = self.trail.pop() {
+            let _ = self.table.remove(&bound.var);
+        }
+    }
+}

@@ -1,0 +1,125 @@
+//! Matching: a general term is made the special one, whose variables stand for themselves.
+
+ghost use Rattle.std.specs.Prelude.{◌≡◌, ◌<◌, ◌↔◌, IsTrue, false, length, IfOk, OnErr, MatchBool};
+ghost use Rattle.term_tree.specs.Bank.{tree_at};
+ghost use Rattle.unify_match.specs.Trail.{Extends};
+ghost use Rattle.unify_match.specs.Seen.{AreBindings};
+ghost use Rattle.unify_match.specs.Progress.{HasMatches};
+ghost use Rattle.unify_match.specs.Outcome.{Matched, NoMatch};
+
+use crate::binds::Binds;
+use crate::symbol::is_same;
+use std::alloc::AllocError;
+use term_tree::{Bank, Id, Node};
+
+/// Whether two terms are the same tree. Takes no memory.
+#[inline(never)]
+pub fn same_term<B: Bank>(bank: &B, left: Id, right: Id) -> bool
+    requires left_known { left.index < length (B.trees bank.now) }
+    requires right_known { right.index < length (B.trees bank.now) }
+    ensures { IsTrue result ↔ (tree_at (B.trees bank.now) left ≡ tree_at (B.trees bank.now) right) }
+{
+    match bank.node(left) {
+        Node::Var(x) => match bank.node(right) {
+            Node::Var(y) => x == y,
+            Node::App(_, _) => false,
+        },
+        Node::App(f, xs) => match bank.node(right) {
+            Node::Var(_) => false,
+            Node::App(g, ys) => {
+                if !is_same(f, g) {
+                    return false;
+                }
+                if xs.len() != ys.len() {
+                    return false;
+                }
+                'each: for (i, x) in xs.iter().enumerate() {
+                    if !same_term(bank, *x, ys[i]) {
+                        return false;
+                    }
+                }
+                true
+            }
+        },
+    }
+}
+
+/// Extends the bindings until the general term is the special one.
+fn match_from<B: Bank>(
+    bank: &B,
+    binds: &mut Binds,
+    general: Id,
+    special: Id,
+) -> Result<bool, AllocError>
+    requires general_known { general.index < length (B.trees bank.now) }
+    requires special_known { special.index < length (B.trees bank.now) }
+    requires bindings { AreBindings (B.trees bank.now) binds.old.pairs }
+    ensures bindings { AreBindings (B.trees bank.now) binds.new.pairs }
+    ensures extends { Extends binds.old.pairs binds.new.pairs }
+    ensures outcome { IfOk result (λ yes. MatchBool yes (HasMatches (B.trees bank.now) binds.old.pairs binds.new.pairs (tree_at (B.trees bank.now) general) (tree_at (B.trees bank.now) special)) (NoMatch (B.trees bank.now) binds.old.pairs (tree_at (B.trees bank.now) general) (tree_at (B.trees bank.now) special))) }
+{
+    match bank.node(general) {
+        Node::Var(x) => match binds.look(x) {
+            Some(bound) => {
+                if !same_term(bank, bound, special) {
+                    return Ok(false);
+                }
+                Ok(true)
+            }
+            None => {
+                binds.reserve(1)?;
+                binds.bind(x, special);
+                Ok(true)
+            }
+        },
+        Node::App(f, xs) => match bank.node(special) {
+            Node::Var(_) => Ok(false),
+            Node::App(g, ys) => {
+                if !is_same(f, g) {
+                    return Ok(false);
+                }
+                if xs.len() != ys.len() {
+                    return Ok(false);
+                }
+                'each: for (i, x) in xs.iter().enumerate() {
+                    if !match_from(bank, binds, *x, ys[i])? {
+                        return Ok(false);
+                    }
+                }
+                Ok(true)
+            }
+        },
+    }
+}
+
+/// Extends the bindings to a match of a general term onto a special one under them, or tells that there
+/// is none. The variables of the special term stand for themselves: none of them is bound.
+///
+/// `Err` comes only for want of memory. On `Ok(false)` and `Err` the bindings are as before.
+pub fn match_onto<B: Bank>(
+    bank: &B,
+    general: Id,
+    special: Id,
+    binds: &mut Binds,
+) -> Result<bool, AllocError>
+    requires general_known { general.index < length (B.trees bank.now) }
+    requires special_known { special.index < length (B.trees bank.now) }
+    requires bindings { AreBindings (B.trees bank.now) binds.old.pairs }
+    ensures bindings { AreBindings (B.trees bank.now) binds.new.pairs }
+    ensures outcome { IfOk result (λ yes. MatchBool yes (Matched (B.trees bank.now) binds.old.pairs binds.new.pairs (tree_at (B.trees bank.now) general) (tree_at (B.trees bank.now) special)) (NoMatch (B.trees bank.now) binds.old.pairs (tree_at (B.trees bank.now) general) (tree_at (B.trees bank.now) special))) }
+    ensures no_match { IfOk result (λ yes. yes ≡ false → binds.new.pairs ≡ binds.old.pairs) }
+    ensures err { OnErr result (binds.new.pairs ≡ binds.old.pairs) }
+{
+    let level = binds.level();
+    match match_from(bank, binds, general, special) {
+        Ok(true) => Ok(true),
+        Ok(false) => {
+            binds.undo(level);
+            Ok(false)
+        }
+        Err(error) => {
+            binds.undo(level);
+            Err(error)
+        }
+    }
+}

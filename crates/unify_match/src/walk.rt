@@ -1,0 +1,67 @@
+//! Following bindings: from a term to where its variable leads, and looking for a variable.
+
+ghost use Rattle.std.specs.Prelude.{◌≡◌, ◌<◌, ◌↔◌, IsTrue, IfOk, OnOk, None, length};
+ghost use Rattle.trees.specs.Tree.{bind};
+ghost use Rattle.terms.specs.Term.{has_var};
+ghost use Rattle.terms.specs.Binding.{resolved};
+ghost use Rattle.term_tree.specs.Bank.{tree_at};
+ghost use Rattle.unify_match.specs.Trail.{id_of};
+ghost use Rattle.unify_match.specs.Seen.{seen, IsReady, IsWalked};
+ghost use Rattle.unify_match.specs.Memo.{AreClear};
+
+use crate::binds::Binds;
+use std::alloc::AllocError;
+use std::collections::HashSet;
+use term_tree::{Bank, Id, Node};
+
+/// Where the bindings of variables lead from a term: to an application or an unbound variable.
+#[inline(never)]
+pub fn walk<B: Bank>(bank: &B, binds: &Binds, id: Id) -> Id
+    requires known { id.index < length (B.trees bank.now) }
+    requires ready { IsReady (B.trees bank.now) binds.now.pairs }
+    ensures { IsWalked (B.trees bank.now) binds.now.pairs id result }
+{
+    let mut at = id;
+    'chain: loop {
+        match bank.node(at) {
+            Node::Var(number) => match binds.look(number) {
+                Some(next) => at = next,
+                None => return at,
+            },
+            Node::App(_, _) => return at,
+        }
+    }
+}
+
+/// Whether a variable stands in what a term stands for. `clear` remembers where it does not, so that each
+/// term is looked at once.
+pub fn occurs<B: Bank>(
+    bank: &B,
+    binds: &Binds,
+    clear: &mut HashSet<usize>,
+    number: u32,
+    id: Id,
+) -> Result<bool, AllocError>
+    requires known { id.index < length (B.trees bank.now) }
+    requires ready { IsReady (B.trees bank.now) binds.now.pairs }
+    requires clear { AreClear (B.trees bank.now) binds.now.pairs number clear.old }
+    ensures clear { AreClear (B.trees bank.now) binds.now.pairs number clear.new }
+    ensures found { IfOk result (λ found. found ≡ has_var number (bind (resolved (seen (B.trees bank.now) binds.now.pairs)) (tree_at (B.trees bank.now) id))) }
+{
+    let end = walk(bank, binds, id);
+    match bank.node(end) {
+        Node::Var(found) => Ok(number == found),
+        Node::App(_, args) => {
+            if clear.contains(&end.index) {
+                return Ok(false);
+            }
+            'args: for arg in args {
+                if occurs(bank, binds, clear, number, *arg)? {
+                    return Ok(true);
+                }
+            }
+            clear.insert(end.index)?;
+            Ok(false)
+        }
+    }
+}
