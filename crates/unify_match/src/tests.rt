@@ -211,6 +211,30 @@ fn symbols_are_counted_first(rt: HostRuntime) -> Result<(), Fail> {
     assert!(rt; unify(&bank, variable, pair, &mut binds)?);
     assert!(rt; is_known(&bank, term));
     assert!(rt; apply_bound(&mut bank, term, &binds, 6)?.is_none());
+    assert!(rt; is_known(&bank, term));
+    let made = apply_bound(&mut bank, term, &binds, 7)?.ok_or("the term of seven symbols")?;
+    assert!(rt; is_known(&bank, made));
+    assert!(rt; is_known(&bank, wanted));
+    assert_eq!(rt; bank.size(made), 7);
+    let mut none = Binds::new(alloc);
+    assert!(rt; match_onto(&bank, made, wanted, &mut none)?);
+    assert_eq!(rt; none.level(), 0);
+    Ok(())
+}
+
+#[test]
+fn variables_of_the_special_side_stay_unbound(rt: HostRuntime) -> Result<(), Fail> {
+    let alloc = rt.alloc();
+    let mut bank = TreeBank::new(alloc);
+    let mut binds = Binds::new(alloc);
+    let variable = bank.var(1)?;
+    let general = parsed(alloc, &mut bank, b"0F")?.ok_or("the general term")?;
+    let special = over_one(&mut bank, u32::from(b'F'), variable)?.ok_or("the special term")?;
+    assert!(rt; is_known(&bank, general));
+    assert!(rt; is_known(&bank, special));
+    assert!(rt; match_onto(&bank, general, special, &mut binds)?);
+    assert_eq!(rt; binds.look(0), Some(variable));
+    assert_eq!(rt; binds.look(1), None);
     Ok(())
 }
 
@@ -280,8 +304,8 @@ fn deep_terms_fit_the_stack(rt: HostRuntime) -> Result<(), Fail> {
     let mut binds = Binds::new(rt.alloc());
     let variable = bank.var(0)?;
     let name = bank.app(Sym::Free(1), &[])?;
-    let left = deep(&mut bank, variable, 2000)?.ok_or("the left")?;
-    let right = deep(&mut bank, name, 2000)?.ok_or("the right")?;
+    let left = deep(&mut bank, variable, 16_384)?.ok_or("the left")?;
+    let right = deep(&mut bank, name, 16_384)?.ok_or("the right")?;
     assert!(rt; is_known(&bank, left));
     assert!(rt; is_known(&bank, right));
     assert!(rt; unify(&bank, left, right, &mut binds)?);
