@@ -6,9 +6,9 @@ use Rattle.std.specs.List.{AllByRecursion, cons_option, enumerate_from}
 use Rattle.trees.specs.Tree.{Leaf, some_leaf}
 use Rattle.trees.proofs.Occurrence.{some_leaf-bind}
 use Rattle.trees.proofs.Equality.{and_true}
-use Rattle.calculus.specs.Syntax.{Name, Free, Made, Declared, Protocol, Query, Secret}
+use Rattle.calculus.specs.Syntax.{Name, Free, Declared, Protocol, Query, Secret}
 use Rattle.calculus.specs.Values.{Atom, FreeName, MadeName, AttackerName, value_of_name, value_of}
-use Rattle.calculus.specs.Runs.{Step, public_name, start, run}
+use Rattle.calculus.specs.Runs.{Configuration, Step, Fresh, Make, public_name, start, run}
 use Rattle.calculus.specs.Secrecy.{Holds}
 use Rattle.calculus.specs.Absence.{is_free, process_holds, is_private, is_absent_name, IsAbsent}
 use Rattle.calculus.proofs.Items.{each-contains, if_some-is}
@@ -16,7 +16,7 @@ use Rattle.calculus.proofs.Leaves.{leaf_found}
 use Rattle.calculus.proofs.Steps.{steps_keep}
 use Rattle.calculus.proofs.Points.{is_private-add-one}
 use Rattle.calculus.specs.Standing.{Lacks, IsLacking}
-use Rattle.calculus.proofs.Lacking.{step_lacks}
+use Rattle.calculus.proofs.Lacking.{MakesNone, step_lacks}
 
 -- whether a name in a value is the free name of that number
 abbrev is_free_atom : ℕ → Atom → Bool
@@ -53,6 +53,7 @@ start_lacks : (P : Protocol) (i : ℕ) → is_private P.frees i ≡ true → IsL
 start_lacks P i private = record {
   known = public_names_lack i 1 P.frees (λ index d at public. private_is_not_public P.frees i index d private at public);
   threads = (tt, tt);
+  events = tt;
 }
 
 -- no number of a private name is 0
@@ -60,11 +61,17 @@ private_number : (frees : List Declared) (i : ℕ) → is_private frees i ≡ tr
 private_number frees zero h = cc
 private_number frees (suc i) h = eqb-zero-suc i
 
+-- no step makes a free name
+makes_no_free : (i : ℕ) (c : Configuration) (step : Step) → MakesNone (is_free_atom i) c step
+makes_no_free i c Fresh = refl
+makes_no_free i c (Make j) = λ q. refl
+makes_no_free i c step = tt
+
 -- each run's values lack a private free name that the process lacks
 pub run_lacks : (P : Protocol) (i : ℕ) → is_private P.frees i ≡ true → process_holds i P.main ≡ false → (steps : List Step) → IfSome (run P steps) (IsLacking (is_free_atom i))
 run_lacks P i private absent steps =
     steps_keep P (IsLacking (is_free_atom i))
-    (λ c step h. step_lacks (is_free_atom i) (is_free i) (λ n k. k) (private_number P.frees i private) P absent c step (λ q. refl) refl h)
+    (λ c step h. step_lacks (is_free_atom i) (is_free i) (λ n k. k) (private_number P.frees i private) P absent c step (makes_no_free i c step) h)
     steps (start P) (start_lacks P i private)
 
 not_true : (b : Bool) → not b ≡ true → b ≡ false
@@ -80,10 +87,11 @@ absent_is_secret P (Secret message) h steps c is known =
     let found = leaf_found (is_absent_name P) message h in go found.0 found.1 found.2
   where
     go : (x : Name) → is_absent_name P x ≡ true → ((q : Name → Bool) → q x ≡ true → some_leaf q message ≡ true) → ⊥
-    go (Made q) absent stands = cc
     go (Free i) absent stands =
         let parts = and_true (is_private P.frees i) (not (process_holds i P.main)) absent in
         let lacking = if_some-is (IsLacking (is_free_atom i)) (run P steps) c (run_lacks P i parts.0 (not_true (process_holds i P.main) parts.1) steps) is in
         let without : some_leaf (is_free_atom i) (value_of [] message) ≡ false = each-contains (Lacks (is_free_atom i)) c.known (value_of [] message) lacking.known known in
         let with_it : some_leaf (λ x. some_leaf (is_free_atom i) (value_of_name [] x)) message ≡ true = stands (λ x. some_leaf (is_free_atom i) (value_of_name [] x)) (nat_eq-refl i) in
         let same = some_leaf-bind (is_free_atom i) (value_of_name []) message in cc
+    go x absent stands = cc
+absent_is_secret P q h steps c is known = cc

@@ -5,17 +5,17 @@ use Rattle.trees.proofs.Equality.{and_true, same_tree-sound, same_tree-refl}
 use Rattle.calculus.specs.Syntax.{Symbol, Constructor, Tuple}
 use Rattle.calculus.specs.Values.{Atom, FreeName, MadeName, AttackerName, Value, same_symbol, same_atom, same_value}
 
-same_symbol-sound : (f g : Symbol) → same_symbol f g ≡ true → f ≡ g
+pub same_symbol-sound : (f g : Symbol) → same_symbol f g ≡ true → f ≡ g
 same_symbol-sound (Constructor m) (Constructor n) h = ap Constructor (eqb-true m n h)
 same_symbol-sound (Constructor m) Tuple h = cc
 same_symbol-sound Tuple (Constructor n) h = cc
 same_symbol-sound Tuple Tuple h = refl
 
-same_symbol-refl : (f : Symbol) → same_symbol f f ≡ true
+pub same_symbol-refl : (f : Symbol) → same_symbol f f ≡ true
 same_symbol-refl (Constructor m) = eq-eqb m m refl
 same_symbol-refl Tuple = refl
 
-same_atom-sound : (x y : Atom) → same_atom x y ≡ true → x ≡ y
+pub same_atom-sound : (x y : Atom) → same_atom x y ≡ true → x ≡ y
 same_atom-sound (FreeName m) (FreeName n) h = ap FreeName (eqb-true m n h)
 same_atom-sound (FreeName m) (MadeName q n) h = cc
 same_atom-sound (FreeName m) (AttackerName n) h = cc
@@ -28,7 +28,7 @@ same_atom-sound (AttackerName m) (FreeName n) h = cc
 same_atom-sound (AttackerName m) (MadeName q n) h = cc
 same_atom-sound (AttackerName m) (AttackerName n) h = ap AttackerName (eqb-true m n h)
 
-same_atom-refl : (x : Atom) → same_atom x x ≡ true
+pub same_atom-refl : (x : Atom) → same_atom x x ≡ true
 same_atom-refl (FreeName m) = eq-eqb m m refl
 same_atom-refl (MadeName p m) = let a = eq-eqb p p refl in let b = eq-eqb m m refl in cc
 same_atom-refl (AttackerName m) = eq-eqb m m refl

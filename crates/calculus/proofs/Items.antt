@@ -1,7 +1,7 @@
 -- Facts about each item of a list, and about the value of an option.
 use Rattle.std.proofs.Common.{◌≡◌, ℕ, zero, suc, ◌<◌, Bool, true, false, cond, List, [], ◌∷◌, ◌++◌, length, get_or, slice_get, slice_set, Option, None, Some, option_and_then, option_map, Contains, IfSome, unwrap_or, subst, refl, arith}
 use Rattle.std.specs.List.{AllByRecursion}
-use Rattle.std.specs.Option.{option_or}
+use Rattle.calculus.specs.Points.{numbered, replaced}
 
 module _ {A : Type 0} (P : A → Type 0) where
   pub each-append : (xs ys : List A) → AllByRecursion P xs → AllByRecursion P ys → AllByRecursion P (xs ++ ys)
@@ -31,9 +31,9 @@ module _ {A : Type 0} (P : A → Type 0) where
   if_some-is None x h is = cc
   if_some-is (Some y) x h is = let e : y ≡ x = cc in subst P e h
 
-  pub if_some-or : (o p : Option A) → IfSome o P → IfSome p P → IfSome (option_or o p) P
-  if_some-or None p h k = k
-  if_some-or (Some x) p h k = h
+  pub if_some-choice : (b : Bool) (o p : Option A) → IfSome o P → IfSome p P → IfSome (cond b o p) P
+  if_some-choice true o p h k = h
+  if_some-choice false o p h k = k
 
   pub if_some-cond : (b : Bool) (x : A) → P x → IfSome (cond b (Some x) None) P
   if_some-cond true x h = h
@@ -50,3 +50,20 @@ if_some-then P f (Some x) h = h x refl
 pub if_some-map : {A B : Type 0} (P : B → Type 0) (f : A → B) (o : Option A) → ((x : A) → o ≡ Some x → P (f x)) → IfSome (option_map f o) P
 if_some-map P f None h = tt
 if_some-map P f (Some x) h = h x refl
+
+pub if_some-of : {A : Type 0} (P : A → Type 0) (o : Option A) → ((x : A) → o ≡ Some x → P x) → IfSome o P
+if_some-of P None h = tt
+if_some-of P (Some x) h = h x refl
+
+pub each-weaker : {A : Type 0} (P Q : A → Type 0) → ((x : A) → P x → Q x) → (xs : List A) → AllByRecursion P xs → AllByRecursion Q xs
+each-weaker P Q weaker [] h = tt
+each-weaker P Q weaker (x ∷ xs) h = (weaker x h.0, each-weaker P Q weaker xs h.1)
+
+-- items by their number
+pub each-numbered : {A : Type 0} (P : A → Type 0) (xs : List A) (n : ℕ) → AllByRecursion P xs → IfSome (numbered xs n) P
+each-numbered P xs zero h = tt
+each-numbered P xs (suc k) h = each-slice_get P xs k h
+
+pub each-replaced : {A : Type 0} (P : A → Type 0) (xs : List A) (n : ℕ) (x : A) → P x → AllByRecursion P xs → AllByRecursion P (replaced xs n x)
+each-replaced P xs zero x here h = h
+each-replaced P xs (suc k) x here h = each-slice_set P xs k x here h

@@ -46,3 +46,16 @@ mutual
         | inl here ↦ (let found = leaf_found p t here in (found.0, found.1, λ q k. or_left (some_leaf q t) (some_leaves q ts) (found.2 q k)))
         | inr there ↦ (let found = leaf_found_among p ts there in (found.0, found.1, λ q k. or_right (some_leaf q t) (some_leaves q ts) (found.2 q k)))
       ]
+
+-- a test that no leaf that stands in the tree passes finds none
+mutual
+  pub some_leaf-stands : {L S : Type 0} (p : L → Bool) (t : Tree L S) → ((x : L) → StandsIn x t → p x ≡ false) → some_leaf p t ≡ false
+  some_leaf-stands p (Leaf x) h = h x (λ q k. k)
+  some_leaf-stands p (Node f args) h = some_leaves-stands p args h
+
+  pub some_leaves-stands : {L S : Type 0} (p : L → Bool) (ts : Trees L S) → ((x : L) → StandsAmong x ts → p x ≡ false) → some_leaves p ts ≡ false
+  some_leaves-stands p none h = refl
+  some_leaves-stands p (more t ts) h =
+      or_false-both (some_leaf p t) (some_leaves p ts)
+      (some_leaf-stands p t (λ x stands. h x (λ q k. or_left (some_leaf q t) (some_leaves q ts) (stands q k))))
+      (some_leaves-stands p ts (λ x stands. h x (λ q k. or_right (some_leaf q t) (some_leaves q ts) (stands q k))))

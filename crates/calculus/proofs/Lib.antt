@@ -2,9 +2,13 @@ pub mod Points
 pub mod Items
 pub mod Leaves
 pub mod Steps
+pub mod Equality
 pub mod Lacking
 pub mod Absence
 pub mod Growth
-pub mod Equality
 pub mod Freshness
 pub mod Examples
+pub mod Rules
+pub mod Closure
+pub mod Patterns
+pub mod Refusals

@@ -1,8 +1,10 @@
 pub mod Syntax
 pub mod Points
 pub mod Values
+pub mod Matching
 pub mod Runs
 pub mod Secrecy
 pub mod Absence
 pub mod Standing
 pub mod Codes
+pub mod Refusals

@@ -1,4 +1,14 @@
 pub mod Names
 pub mod Terms
+pub mod TermDepths
+pub mod Patterns
+pub mod PatternDepths
+pub mod Events
+pub mod Processes
+pub mod Rules
 pub mod Queries
 pub mod Protocols
+pub mod Values
+pub mod ValueDepths
+pub mod Accessors
+pub mod Walks

@@ -1,7 +1,14 @@
 -- What contracts see of a protocol.
 use Rattle.calculus.specs.Syntax as calculus
 use Rattle.pi_tree.specs.declared.protocols.Protocol.{Protocol}
-use Rattle.pi_tree.specs.Terms.{process_of}
+use Rattle.pi_tree.specs.Processes.{process_of}
 
 abbrev pub protocol_of : Protocol → calculus.Protocol
-protocol_of P = record { frees = P.frees; queries = P.queries; main = process_of P.main }
+protocol_of P = record {
+  frees = P.frees;
+  constructors = P.ctors;
+  destructors = P.dtors;
+  events = P.events;
+  queries = P.queries;
+  main = process_of P.main;
+}

@@ -1,15 +1,12 @@
--- What contracts see of terms and processes.
-use Rattle.trees.specs.Tree.{Leaf}
+-- What contracts see of terms.
+use Rattle.trees.specs.Tree.{Leaf, Node, trees}
 use Rattle.calculus.specs.Syntax as calculus
 use Rattle.pi_tree.specs.declared.syntax.Term.{Term}
-use Rattle.pi_tree.specs.declared.syntax.Term.TheVariants.{Free, Made}
-use Rattle.pi_tree.specs.declared.syntax.Process.{Process, Nil, Output', New'}
+use Rattle.pi_tree.specs.declared.syntax.Term.TheVariants.{Var, Free, Made, App, Tuple}
 
 abbrev pub term_of : Term → calculus.Term
+term_of (Var i) = Leaf (calculus.Variable i)
 term_of (Free n) = Leaf (calculus.Free n)
 term_of (Made p) = Leaf (calculus.Made p)
-
-abbrev pub process_of : Process → calculus.Process
-process_of Nil = calculus.Nil
-process_of (Output' channel message p next) = calculus.Output (term_of channel) (term_of message) (process_of next)
-process_of (New' word p next) = calculus.New word (process_of next)
+term_of (App f arguments) = Node (calculus.Constructor f) (trees arguments)
+term_of (Tuple parts) = Node calculus.Tuple (trees parts)

@@ -1,7 +1,8 @@
 //! Declared names and the words that spell them.
 
-ghost use Rattle.std.specs.Prelude.{◌≡◌};
+ghost use Rattle.std.specs.Prelude.{◌≡◌, IfOk};
 
+use std::alloc::{AllocError, Global};
 use std::marker::Model;
 
 /// The bytes of an identifier.
@@ -42,4 +43,44 @@ impl Model for Declarations {
     ghost use Rattle.pi_tree.specs.Names.{declared_of};
 
     ghost view = { λ a. map declared_of a.items.items };
+}
+
+impl Word {
+    /// A copy, byte by byte.
+    pub fn copy(&self, alloc: Global) -> Result<Word, AllocError>
+        ensures { IfOk result (λ copied. copied ≡ self.now) }
+    {
+        let mut items = Vec::new(alloc);
+        for byte in &self.items {
+            items.push(*byte)?;
+        }
+        Ok(Word { items })
+    }
+}
+
+impl Declared {
+    /// A copy, its word copied.
+    pub fn copy(&self, alloc: Global) -> Result<Declared, AllocError>
+        ensures { IfOk result (λ copied. copied ≡ self.now) }
+    {
+        Ok(Declared {
+            word: self.word.copy(alloc)?,
+            arity: self.arity,
+            public: self.public,
+            is_data: self.is_data,
+        })
+    }
+}
+
+impl Declarations {
+    /// A copy, item by item.
+    pub fn copy(&self, alloc: Global) -> Result<Declarations, AllocError>
+        ensures { IfOk result (λ copied. copied ≡ self.now) }
+    {
+        let mut items = Vec::new(alloc);
+        for declared in &self.items {
+            items.push(declared.copy(alloc)?)?;
+        }
+        Ok(Declarations { items })
+    }
 }

@@ -1,19 +1,49 @@
 //! Queries and protocols.
 
-ghost use Rattle.std.specs.Prelude.{◌≡◌, ◌↔◌, IsTrue};
-ghost use Rattle.calculus.specs.Absence.{is_private, IsAbsent};
+ghost use Rattle.std.specs.Prelude.{◌≡◌, ◌↔◌, IsTrue, IfOk};
+ghost use Rattle.trees.specs.Tree.{some_leaf, some_leaves, trees};
+ghost use Rattle.calculus.specs.Absence.{is_private, is_absent_name, IsAbsent};
+ghost use Rattle.pi_tree.specs.Terms.{term_of};
 ghost use Rattle.pi_tree.specs.Queries.{query_of};
 ghost use Rattle.pi_tree.specs.Protocols.{protocol_of};
 
+use crate::destructors::Dtors;
 use crate::names::Declarations;
-use crate::syntax::{Process, Term};
+use crate::syntax::{Atom, Atoms, Process, Term, Terms};
+use std::alloc::{AllocError, Global};
 use std::marker::Model;
 
+/// The alternatives of a correspondence in order, each of them some events.
+#[derive(Debug, Drop)]
+pub struct Alternatives {
+    pub items: Vec<Atoms>,
+}
+
+impl Model for Alternatives {
+    ghost use Rattle.std.specs.Prelude.{List, map};
+    ghost use Rattle.calculus.specs.Syntax as calculus;
+    ghost use Rattle.calculus.specs.Codes.{coded_alternatives};
+
+    ghost Value = { List (List calculus.EventTerm) };
+
+    ghost coded = { coded_alternatives };
+
+    ghost view = { λ a. a.items.items };
+}
+
 /// What is asked of a protocol.
-#[derive(Clone, Copy, Debug, PartialEq, Eq)]
+#[derive(Debug, Drop)]
 pub enum Query {
     /// Does the attacker never get to know the message?
     Secret(Term),
+    /// Does the attacker never get to know a name that the restriction at that point made?
+    SecretNew(u32),
+    /// Is each event that is an instance of the left one preceded by all events of one of the
+    /// alternatives?
+    Corr {
+        left: Atom,
+        alternatives: Alternatives,
+    },
 }
 
 /// Queries in order; they are numbered from 1.
@@ -25,21 +55,24 @@ pub struct Queries {
 impl Model for Queries {
     ghost use Rattle.std.specs.Prelude.{List, map};
     ghost use Rattle.calculus.specs.Syntax as calculus;
-    ghost use Rattle.calculus.specs.Codes.{coded_query_list};
+    ghost use Rattle.calculus.specs.Codes.{coded_queries};
 
     ghost Value = { List calculus.Query };
 
-    ghost coded = { coded_query_list };
+    ghost coded = { coded_queries };
 
     ghost use Rattle.pi_tree.specs.Queries.{query_of};
 
     ghost view = { λ a. map query_of a.items.items };
 }
 
-/// A protocol: its free names, its queries and its main process.
+/// A protocol: its declarations, its queries and its main process.
 #[derive(Debug, Drop)]
 pub struct Protocol {
     pub frees: Declarations,
+    pub ctors: Declarations,
+    pub dtors: Dtors,
+    pub events: Declarations,
     pub queries: Queries,
     pub main: Process,
 }
@@ -58,15 +91,99 @@ fn is_private_free(frees: &Declarations, number: u32) -> bool
     }
 }
 
-/// Whether the query asks for a private free name that no term of the main process holds: then no
-/// run violates it.
+/// Whether the term holds a private free name that no term of the main process holds.
+#[cycle(absent)]
+fn holds_absent(term: &Term, protocol: &Protocol) -> bool
+    ensures { result ≡ some_leaf (is_absent_name (protocol_of protocol.now)) (term_of term.now) }
+{
+    match term {
+        Term::Var(_) | Term::Made(_) => false,
+        Term::Free(number) => {
+            is_private_free(&protocol.frees, *number) && !protocol.main.holds_free(*number)
+        }
+        Term::App(_, arguments) => hold_absent(arguments, protocol),
+        Term::Tuple(parts) => hold_absent(parts, protocol),
+    }
+}
+
+/// Whether one of the terms does.
+#[cycle(absent)]
+fn hold_absent(terms: &Terms, protocol: &Protocol) -> bool
+    ensures { result ≡ some_leaves (is_absent_name (protocol_of protocol.now)) (trees terms.now) }
+{
+    for term in &terms.items {
+        if holds_absent(term, protocol) {
+            return true;
+        }
+    }
+    false
+}
+
+/// Whether the query asks for a message with a private free name that no term of the main process
+/// holds: then no run violates it.
 pub fn is_absent(protocol: &Protocol, query: &Query) -> bool
     ensures { IsTrue result ↔ IsAbsent (protocol_of protocol.now) (query_of query.now) }
 {
     match query {
-        Query::Secret(Term::Free(number)) => {
-            is_private_free(&protocol.frees, *number) && !protocol.main.holds_free(*number)
+        Query::Secret(message) => holds_absent(message, protocol),
+        Query::SecretNew(_) | Query::Corr { .. } => false,
+    }
+}
+
+impl Alternatives {
+    /// A copy, item by item.
+    pub fn copy(&self, alloc: Global) -> Result<Alternatives, AllocError>
+        ensures { IfOk result (λ copied. copied ≡ self.now) }
+    {
+        let mut items = Vec::new(alloc);
+        for atoms in &self.items {
+            items.push(atoms.copy(alloc)?)?;
         }
-        Query::Secret(Term::Made(_)) => false,
+        Ok(Alternatives { items })
+    }
+}
+
+impl Query {
+    /// A copy, its terms copied.
+    pub fn copy(&self, alloc: Global) -> Result<Query, AllocError>
+        ensures { IfOk result (λ copied. copied ≡ self.now) }
+    {
+        match self {
+            Query::Secret(message) => Ok(Query::Secret(message.copy(alloc)?)),
+            Query::SecretNew(point) => Ok(Query::SecretNew(*point)),
+            Query::Corr { left, alternatives } => Ok(Query::Corr {
+                left: left.copy(alloc)?,
+                alternatives: alternatives.copy(alloc)?,
+            }),
+        }
+    }
+}
+
+impl Queries {
+    /// A copy, item by item.
+    pub fn copy(&self, alloc: Global) -> Result<Queries, AllocError>
+        ensures { IfOk result (λ copied. copied ≡ self.now) }
+    {
+        let mut items = Vec::new(alloc);
+        for query in &self.items {
+            items.push(query.copy(alloc)?)?;
+        }
+        Ok(Queries { items })
+    }
+}
+
+impl Protocol {
+    /// A copy, all its parts copied.
+    pub fn copy(&self, alloc: Global) -> Result<Protocol, AllocError>
+        ensures { IfOk result (λ copied. protocol_of copied ≡ protocol_of self.now) }
+    {
+        Ok(Protocol {
+            frees: self.frees.copy(alloc)?,
+            ctors: self.ctors.copy(alloc)?,
+            dtors: self.dtors.copy(alloc)?,
+            events: self.events.copy(alloc)?,
+            queries: self.queries.copy(alloc)?,
+            main: self.main.copy(alloc)?,
+        })
     }
 }

@@ -1,17 +1,135 @@
-//! Terms and processes (Blanchet 2016, section 2.1, untyped).
+//! Terms, patterns, expressions, events and processes (Blanchet 2016, section 2.1, untyped).
 
-ghost use Rattle.std.specs.Prelude.{◌≡◌};
-ghost use Rattle.calculus.specs.Absence.{term_holds, process_holds};
-ghost use Rattle.pi_tree.specs.Terms.{term_of, process_of};
+ghost use Rattle.std.specs.Prelude.{◌≡◌, IfOk};
+ghost use Rattle.trees.specs.Tree.{some_leaf, some_leaves, trees};
+ghost use Rattle.calculus.specs.Absence.{term_holds, some_term, some_pattern, some_hole, some_expression, process_holds, is_free};
+ghost use Rattle.pi_tree.specs.Terms.{term_of};
+ghost use Rattle.pi_tree.specs.Patterns.{pattern_of, expression_of};
+ghost use Rattle.pi_tree.specs.Events.{event_of};
+ghost use Rattle.pi_tree.specs.Processes.{process_of};
 
 use crate::names::Word;
+use std::alloc::{AllocError, Global};
+use std::marker::Model;
 
-/// A term. Free names are numbered from 1 in order of declaration; a name that a restriction makes has
-/// the number of the restriction's point.
-#[derive(Clone, Copy, Debug, PartialEq, Eq)]
+/// A term. A variable has its number among those that are bound, in pre-order from 1, and in a rule or
+/// an event of a query that of its first occurrence. Free names and constructors are numbered from 1 in
+/// order of declaration; a name that a restriction makes has the number of the restriction's point.
+#[cycle(term)]
+#[derive(Debug, Drop)]
 pub enum Term {
+    Var(u32),
     Free(u32),
     Made(u32),
+    /// A constructor and its arguments.
+    App(u32, Terms),
+    /// A tuple and its parts.
+    Tuple(Terms),
+}
+
+/// Terms in order.
+#[cycle(term)]
+#[derive(Debug, Drop)]
+pub struct Terms {
+    pub items: Vec<Term>,
+}
+
+impl Model for Terms {
+    ghost use Rattle.std.specs.Prelude.{List, map};
+    ghost use Rattle.trees.specs.Tree.{depths, trees};
+    ghost use Rattle.calculus.specs.Syntax as calculus;
+    ghost use Rattle.calculus.specs.Codes.{coded_terms};
+
+    ghost Value = { List calculus.Term };
+
+    ghost coded = { coded_terms };
+
+    ghost use Rattle.pi_tree.specs.Terms.{term_of};
+
+    ghost view = { λ a. map term_of a.items.items };
+
+    ghost size = { λ ts. depths (trees ts) };
+
+    ghost use Rattle.pi_tree.specs.TermDepths.{terms_fall};
+
+    ghost size_decreases = { λ a h. terms_fall a.items.items };
+}
+
+/// A pattern.
+#[cycle(pattern)]
+#[derive(Debug, Drop)]
+pub enum Pat {
+    /// Binds the variable of that number.
+    Bind(u32),
+    /// Takes what is equal to the term.
+    Equal(Term),
+    /// A data constructor and its arguments.
+    App(u32, Pats),
+    /// A tuple and its parts.
+    Tuple(Pats),
+}
+
+/// Patterns in order.
+#[cycle(pattern)]
+#[derive(Debug, Drop)]
+pub struct Pats {
+    pub items: Vec<Pat>,
+}
+
+impl Model for Pats {
+    ghost use Rattle.std.specs.Prelude.{List, map};
+    ghost use Rattle.trees.specs.Tree.{depths, trees};
+    ghost use Rattle.calculus.specs.Syntax as calculus;
+    ghost use Rattle.calculus.specs.Codes.{coded_patterns};
+
+    ghost Value = { List calculus.Pattern };
+
+    ghost coded = { coded_patterns };
+
+    ghost use Rattle.pi_tree.specs.Patterns.{pattern_of};
+
+    ghost view = { λ a. map pattern_of a.items.items };
+
+    ghost size = { λ ts. depths (trees ts) };
+
+    ghost use Rattle.pi_tree.specs.PatternDepths.{patterns_fall};
+
+    ghost size_decreases = { λ a h. patterns_fall a.items.items };
+}
+
+/// What a `let` evaluates.
+#[derive(Debug, Drop)]
+pub enum Expr {
+    Term(Term),
+    /// A destructor, numbered from 1, and its arguments.
+    Call(u32, Terms),
+}
+
+/// An event, numbered from 1, and its arguments.
+#[derive(Debug, Drop)]
+pub struct Atom {
+    pub event: u32,
+    pub args: Terms,
+}
+
+/// Events in order.
+#[derive(Debug, Drop)]
+pub struct Atoms {
+    pub items: Vec<Atom>,
+}
+
+impl Model for Atoms {
+    ghost use Rattle.std.specs.Prelude.{List, map};
+    ghost use Rattle.calculus.specs.Syntax as calculus;
+    ghost use Rattle.calculus.specs.Codes.{coded_events};
+
+    ghost Value = { List calculus.EventTerm };
+
+    ghost coded = { coded_events };
+
+    ghost use Rattle.pi_tree.specs.Events.{event_of};
+
+    ghost view = { λ a. map event_of a.items.items };
 }
 
 /// A process. Its nodes are its points, numbered from 1 in pre-order, each `Nil` among them.
@@ -21,18 +139,89 @@ pub enum Process {
     Nil,
     /// Sends a message, the second term, on a channel, the first, and goes on.
     Output(Term, Term, Box<Process>),
+    /// Receives on a channel what matches the pattern, and goes on.
+    Input(Term, Pat, Box<Process>),
+    /// Two processes in parallel.
+    Par(Box<Process>, Box<Process>),
+    /// As many copies as are wanted.
+    Copies(Box<Process>),
     /// Makes a name, spelled as the word says, and goes on.
     New(Word, Box<Process>),
+    /// Goes on as the first process with a value of the expression that matches the pattern, and as the
+    /// second where there is none.
+    Let(Pat, Expr, Box<Process>, Box<Process>),
+    /// Performs an event, and goes on.
+    Event(Atom, Box<Process>),
 }
 
 impl Term {
     /// Whether the term holds the free name of that number.
-    pub fn holds_free(self, number: u32) -> bool
-        ensures { result ≡ term_holds number (term_of self) }
+    #[cycle(term_holds)]
+    pub fn holds_free(&self, number: u32) -> bool
+        ensures { result ≡ some_leaf (is_free number) (term_of self.now) }
     {
         match self {
-            Term::Free(free) => free == number,
-            Term::Made(_) => false,
+            Term::Var(_) | Term::Made(_) => false,
+            Term::Free(free) => *free == number,
+            Term::App(_, arguments) => arguments.hold_free(number),
+            Term::Tuple(parts) => parts.hold_free(number),
+        }
+    }
+}
+
+impl Terms {
+    /// Whether one of the terms holds the free name of that number.
+    #[cycle(term_holds)]
+    pub fn hold_free(&self, number: u32) -> bool
+        ensures { result ≡ some_leaves (is_free number) (trees self.now) }
+    {
+        for term in &self.items {
+            if term.holds_free(number) {
+                return true;
+            }
+        }
+        false
+    }
+}
+
+impl Pat {
+    /// Whether a term of the pattern holds the free name of that number.
+    #[cycle(pattern_holds)]
+    pub fn holds_free(&self, number: u32) -> bool
+        ensures { result ≡ some_leaf (some_hole (is_free number)) (pattern_of self.now) }
+    {
+        match self {
+            Pat::Bind(_) => false,
+            Pat::Equal(term) => term.holds_free(number),
+            Pat::App(_, arguments) => arguments.hold_free(number),
+            Pat::Tuple(parts) => parts.hold_free(number),
+        }
+    }
+}
+
+impl Pats {
+    /// Whether a term of one of the patterns holds the free name of that number.
+    #[cycle(pattern_holds)]
+    pub fn hold_free(&self, number: u32) -> bool
+        ensures { result ≡ some_leaves (some_hole (is_free number)) (trees self.now) }
+    {
+        for pattern in &self.items {
+            if pattern.holds_free(number) {
+                return true;
+            }
+        }
+        false
+    }
+}
+
+impl Expr {
+    /// Whether a term of the expression holds the free name of that number.
+    pub fn holds_free(&self, number: u32) -> bool
+        ensures { result ≡ some_expression (is_free number) (expression_of self.now) }
+    {
+        match self {
+            Expr::Term(term) => term.holds_free(number),
+            Expr::Call(_, arguments) => arguments.hold_free(number),
         }
     }
 }
@@ -47,7 +236,163 @@ impl Process {
             Process::Output(channel, message, next) => {
                 channel.holds_free(number) || message.holds_free(number) || next.holds_free(number)
             }
+            Process::Input(channel, pattern, next) => {
+                channel.holds_free(number) || pattern.holds_free(number) || next.holds_free(number)
+            }
+            Process::Par(left, right) => left.holds_free(number) || right.holds_free(number),
+            Process::Copies(copied) => copied.holds_free(number),
             Process::New(_, next) => next.holds_free(number),
+            Process::Let(pattern, expression, next, otherwise) => {
+                pattern.holds_free(number)
+                    || expression.holds_free(number)
+                    || next.holds_free(number)
+                    || otherwise.holds_free(number)
+            }
+            Process::Event(atom, next) => atom.args.hold_free(number) || next.holds_free(number),
+        }
+    }
+}
+
+impl Term {
+    /// A copy, its arguments copied.
+    #[cycle(term_copy)]
+    pub fn copy(&self, alloc: Global) -> Result<Term, AllocError>
+        ensures { IfOk result (λ copied. copied ≡ self.now) }
+    {
+        match self {
+            Term::Var(number) => Ok(Term::Var(*number)),
+            Term::Free(number) => Ok(Term::Free(*number)),
+            Term::Made(point) => Ok(Term::Made(*point)),
+            Term::App(constructor, arguments) => {
+                Ok(Term::App(*constructor, arguments.copy(alloc)?))
+            }
+            Term::Tuple(parts) => Ok(Term::Tuple(parts.copy(alloc)?)),
+        }
+    }
+}
+
+impl Terms {
+    /// A copy, item by item.
+    #[cycle(term_copy)]
+    pub fn copy(&self, alloc: Global) -> Result<Terms, AllocError>
+        ensures { IfOk result (λ copied. copied ≡ self.now) }
+    {
+        let mut items = Vec::new(alloc);
+        for term in &self.items {
+            items.push(term.copy(alloc)?)?;
+        }
+        Ok(Terms { items })
+    }
+}
+
+impl Pat {
+    /// A copy, its arguments copied.
+    #[cycle(pattern_copy)]
+    pub fn copy(&self, alloc: Global) -> Result<Pat, AllocError>
+        ensures { IfOk result (λ copied. copied ≡ self.now) }
+    {
+        match self {
+            Pat::Bind(number) => Ok(Pat::Bind(*number)),
+            Pat::Equal(term) => Ok(Pat::Equal(term.copy(alloc)?)),
+            Pat::App(constructor, arguments) => {
+                Ok(Pat::App(*constructor, arguments.copy(alloc)?))
+            }
+            Pat::Tuple(parts) => Ok(Pat::Tuple(parts.copy(alloc)?)),
+        }
+    }
+}
+
+impl Pats {
+    /// A copy, item by item.
+    #[cycle(pattern_copy)]
+    pub fn copy(&self, alloc: Global) -> Result<Pats, AllocError>
+        ensures { IfOk result (λ copied. copied ≡ self.now) }
+    {
+        let mut items = Vec::new(alloc);
+        for pattern in &self.items {
+            items.push(pattern.copy(alloc)?)?;
+        }
+        Ok(Pats { items })
+    }
+}
+
+impl Expr {
+    /// A copy, its terms copied.
+    pub fn copy(&self, alloc: Global) -> Result<Expr, AllocError>
+        ensures { IfOk result (λ copied. copied ≡ self.now) }
+    {
+        match self {
+            Expr::Term(term) => Ok(Expr::Term(term.copy(alloc)?)),
+            Expr::Call(destructor, arguments) => {
+                Ok(Expr::Call(*destructor, arguments.copy(alloc)?))
+            }
+        }
+    }
+}
+
+impl Atom {
+    /// A copy, its arguments copied.
+    pub fn copy(&self, alloc: Global) -> Result<Atom, AllocError>
+        ensures { IfOk result (λ copied. copied ≡ self.now) }
+    {
+        Ok(Atom {
+            event: self.event,
+            args: self.args.copy(alloc)?,
+        })
+    }
+}
+
+impl Atoms {
+    /// A copy, item by item.
+    pub fn copy(&self, alloc: Global) -> Result<Atoms, AllocError>
+        ensures { IfOk result (λ copied. copied ≡ self.now) }
+    {
+        let mut items = Vec::new(alloc);
+        for atom in &self.items {
+            items.push(atom.copy(alloc)?)?;
+        }
+        Ok(Atoms { items })
+    }
+}
+
+impl Process {
+    /// A copy, all its nodes copied.
+    pub fn copy(&self, alloc: Global) -> Result<Process, AllocError>
+        ensures { IfOk result (λ copied. process_of copied ≡ process_of self.now) }
+    {
+        match self {
+            Process::Nil => Ok(Process::Nil),
+            Process::Output(channel, message, next) => Ok(Process::Output(
+                channel.copy(alloc)?,
+                message.copy(alloc)?,
+                Box::new(alloc, next.copy(alloc)?)?,
+            )),
+            Process::Input(channel, pattern, next) => Ok(Process::Input(
+                channel.copy(alloc)?,
+                pattern.copy(alloc)?,
+                Box::new(alloc, next.copy(alloc)?)?,
+            )),
+            Process::Par(left, right) => Ok(Process::Par(
+                Box::new(alloc, left.copy(alloc)?)?,
+                Box::new(alloc, right.copy(alloc)?)?,
+            )),
+            Process::Copies(copied) => {
+                Ok(Process::Copies(Box::new(alloc, copied.copy(alloc)?)?))
+            }
+            Process::New(word, next) => Ok(Process::New(
+                word.copy(alloc)?,
+                Box::new(alloc, next.copy(alloc)?)?,
+            )),
+            Process::Let(pattern, expression, next, otherwise) => Ok(Process::Let(
+                pattern.copy(alloc)?,
+                expression.copy(alloc)?,
+                Box::new(alloc, next.copy(alloc)?)?,
+                Box::new(alloc, otherwise.copy(alloc)?)?,
+            )),
+            Process::Event(atom, next) => Ok(Process::Event(
+                atom.copy(alloc)?,
+                Box::new(alloc, next.copy(alloc)?)?,
+            )),
         }
     }
 }

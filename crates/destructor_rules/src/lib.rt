@@ -1,0 +1,13 @@
+//! Rules of destructors on values (Blanchet 2016, section 2.1).
+#![tactic(auto)]
+
+mod bindings;
+pub mod equality;
+mod instances;
+pub mod rules;
+
+pub use crate::equality::{are_same, is_same};
+pub use crate::rules::rule_value;
+
+#[cfg(test)]
+mod tests;

@@ -1,0 +1,18 @@
+-- What contracts see of patterns and expressions.
+use Rattle.trees.specs.Tree.{Leaf, Node, trees}
+use Rattle.calculus.specs.Syntax as calculus
+use Rattle.pi_tree.specs.declared.syntax.Pat.{Pat}
+use Rattle.pi_tree.specs.declared.syntax.Pat.TheVariants.{Bind, Equal, App, Tuple}
+use Rattle.pi_tree.specs.declared.syntax.Expr.{Expr}
+use Rattle.pi_tree.specs.declared.syntax.Expr.TheVariants.{Term, Call}
+use Rattle.pi_tree.specs.Terms.{term_of}
+
+abbrev pub pattern_of : Pat → calculus.Pattern
+pattern_of (Bind i) = Leaf (calculus.Bind i)
+pattern_of (Equal term) = Leaf (calculus.Equal (term_of term))
+pattern_of (App f arguments) = Node (calculus.Constructor f) (trees arguments)
+pattern_of (Tuple parts) = Node calculus.Tuple (trees parts)
+
+abbrev pub expression_of : Expr → calculus.Expression
+expression_of (Term term) = calculus.Plain (term_of term)
+expression_of (Call d arguments) = calculus.Call d arguments
