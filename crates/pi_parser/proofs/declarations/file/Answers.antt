@@ -1,0 +1,14 @@
+-- One more declaration.
+use Rattle.std.proofs.Common.{rules, ◌≡◌, false, [], ◌∷◌, ◌++◌}
+use Rattle.protocol_grammar.specs.declared.class.Class.TheVariants as w
+use Rattle.protocol_grammar.specs.Classes.{words, same}
+use Rattle.pi_parser.specs.Files.{declaration_of}
+use Rattle.pi_parser.proofs.Files.{declared_continues}
+use Rattle.pi_parser.proofs.declarations.file.Goals as goal
+
+pub declarations-preserved : goal.declarations-preserved
+declarations-preserved c =
+    let items : c.push.new.self.items ≡ c.declarations.declarations.items ++ (c.in_ok-next.next ∷ []) = search rules in
+    let test : same w.Process (words c.args.classes.now c.declarations.at).class ≡ false = search rules in
+    declared_continues declaration_of c.args.classes.now c.declarations.declarations.items c.in_ok-next.next c.push.new.self.items c.declarations.at c.in_ok-next.end
+    items c.declarations.invariant test c.in_ok-next.ensures.read c.in_ok-next.ensures.within.0 c.in_ok-next.ensures.within.1

@@ -1,0 +1,23 @@
+-- One more name.
+use Rattle.std.proofs.Common.{rules, ◌≡◌, ◌<◌, ◌+◌, true, [], ◌∷◌, ◌++◌, length}
+use Rattle.protocol_grammar.specs.declared.class.Class.TheVariants as w
+use Rattle.protocol_grammar.specs.Classes.{words, same}
+use Rattle.protocol_grammar.specs.Reading.{Found, name_at}
+use Rattle.pi_parser.proofs.Lists.{going_starts, going_on}
+use Rattle.pi_parser.proofs.declarations.names.Goals as goal
+
+pub names-init : goal.names-init
+names-init c =
+    let items : c.args.at ∷ c.new-others.result.items ≡ c.args.at ∷ [] = search rules in
+    let read : name_at (words c.args.classes.now) c.args.at ≡ Found c.args.at c.in_ok-behind.behind = search rules in
+    going_starts w.Comma name_at c.args.classes.now c.args.at c.in_ok-behind.behind c.args.at (c.args.at ∷ c.new-others.result.items) items read
+    c.in_ok-behind.ensures.within.0 c.in_ok-behind.ensures.within.1
+
+pub names-preserved : goal.names-preserved
+names-preserved c =
+    let items : c.args.at ∷ c.push.new.self.items ≡ (c.args.at ∷ c.names.others.items) ++ ((c.names.behind + 1) ∷ []) = search rules in
+    let test : same w.Comma (words c.args.classes.now c.names.behind).class ≡ true = search rules in
+    let near : c.names.behind < length c.args.classes.now = search rules in
+    let read : name_at (words c.args.classes.now) (c.names.behind + 1) ≡ Found (c.names.behind + 1) c.in_ok-end.end = search rules in
+    going_on w.Comma name_at c.args.classes.now c.args.at c.names.behind c.in_ok-end.end (c.args.at ∷ c.names.others.items) (c.names.behind + 1)
+    (c.args.at ∷ c.push.new.self.items) items c.names.invariant test near read c.in_ok-end.ensures.within.0 c.in_ok-end.ensures.within.1

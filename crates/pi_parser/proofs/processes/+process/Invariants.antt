@@ -1,0 +1,35 @@
+use Rattle.std.proofs.Common.{◌+◌, ◌*◌}
+use Rattle.pi_parser.proofs.processes.+process.Given as goal
+
+abbrev pub decreases-happens : goal.decreases-happens
+decreases-happens l = 3 * l.left + 2
+
+abbrev pub decreases-if_then : goal.decreases-if_then
+decreases-if_then l = 3 * l.left + 2
+
+abbrev pub decreases-inner : goal.decreases-inner
+decreases-inner l = 3 * l.left + 2
+
+abbrev pub decreases-input : goal.decreases-input
+decreases-input l = 3 * l.left + 2
+
+abbrev pub decreases-let_in : goal.decreases-let_in
+decreases-let_in l = 3 * l.left + 2
+
+abbrev pub decreases-new : goal.decreases-new
+decreases-new l = 3 * l.left + 2
+
+abbrev pub decreases-next : goal.decreases-next
+decreases-next l = 3 * l.left + 1
+
+abbrev pub decreases-output : goal.decreases-output
+decreases-output l = 3 * l.left + 2
+
+abbrev pub decreases-process : goal.decreases-process
+decreases-process l = 3 * l.left
+
+abbrev pub decreases-replicated : goal.decreases-replicated
+decreases-replicated l = 3 * l.left + 2
+
+abbrev pub decreases-unit : goal.decreases-unit
+decreases-unit l = 3 * l.left

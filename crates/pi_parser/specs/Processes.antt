@@ -1,0 +1,31 @@
+-- What contracts see of a sketched process.
+use Rattle.protocol_grammar.specs.Sketch as own
+use Rattle.pi_parser.specs.declared.sketch.ProcessSketch.{ProcessSketch}
+use Rattle.pi_parser.specs.declared.sketch.ProcessSketch.TheVariants.{Alone, Beside'}
+use Rattle.pi_parser.specs.declared.sketch.UnitSketch.{UnitSketch}
+use Rattle.pi_parser.specs.declared.sketch.UnitSketch.TheVariants.{Zero, Macro, Inner', Replicated', New, Output, Input, Happens, Let', If'}
+use Rattle.pi_parser.specs.declared.sketch.NextSketch.{NextSketch}
+use Rattle.pi_parser.specs.declared.sketch.NextSketch.TheVariants.{Omitted, Given'}
+use Rattle.pi_parser.specs.Terms.{term_of, atom_of}
+use Rattle.pi_parser.specs.Patterns.{pattern_of}
+
+abbrev mutual
+  pub process_of : ProcessSketch → own.ProcessSketch
+  process_of (Alone u) = own.Process (unit_of u) own.alone
+  process_of (Beside' u q p) = own.Process (unit_of u) (own.beside (process_of p))
+
+  pub unit_of : UnitSketch → own.UnitSketch
+  unit_of (Zero n) = own.Zero n
+  unit_of (Macro n) = own.Macro n
+  unit_of (Inner' n q p) = own.Inner n (process_of p)
+  unit_of (Replicated' n q u) = own.Replicated n (unit_of u)
+  unit_of (New n x k) = own.New n x (next_of k)
+  unit_of (Output n c m k) = own.Output n (term_of c) (term_of m) (next_of k)
+  unit_of (Input n c p k) = own.Input n (term_of c) (pattern_of p) (next_of k)
+  unit_of (Happens n a k) = own.Happens n (atom_of a) (next_of k)
+  unit_of (Let' n p t q u k) = own.Let n (pattern_of p) (term_of t) (unit_of u) (next_of k)
+  unit_of (If' n t v q u k) = own.If n (term_of t) (term_of v) (unit_of u) (next_of k)
+
+  pub next_of : NextSketch → own.NextSketch
+  next_of Omitted = own.omitted
+  next_of (Given' q u) = own.given (unit_of u)

@@ -1,0 +1,215 @@
+//! What the grammar makes of a file: one variant for each alternative that it has, with the number of its first token
+//! and its parts in source order. Identifiers and numbers are the numbers of their tokens, from 0.
+
+use std::marker::Model;
+
+/// A term.
+#[cycle(term)]
+#[derive(Debug, Drop)]
+pub enum TermSketch {
+    /// `name(arguments)`, or `name` alone where there are no arguments.
+    Named(usize, TermsSketch),
+    /// `(parts)`: a term in parentheses, or a tuple.
+    Grouped(usize, TermsSketch),
+}
+
+/// Terms in a row.
+#[cycle(term)]
+#[derive(Debug, Drop)]
+pub struct TermsSketch {
+    pub items: Vec<TermSketch>,
+}
+
+impl Model for TermsSketch {
+    ghost use Rattle.std.specs.Prelude.{List, map};
+    ghost use Rattle.protocol_grammar.specs.Sketch as own;
+    ghost use Rattle.pi_parser.specs.Codes.{terms_depth, coded_term_sketches};
+
+    ghost Value = { List own.TermSketch };
+
+    ghost coded = { coded_term_sketches };
+
+    ghost use Rattle.pi_parser.specs.Terms.{term_of};
+
+    ghost view = { λ a. map term_of a.items.items };
+
+    ghost size = { λ ts. terms_depth (own.terms_sketch ts) };
+
+    ghost use Rattle.pi_parser.specs.TermDepths.{terms_fall};
+
+    ghost size_decreases = { λ a h. terms_fall a.items.items };
+}
+
+/// A pattern.
+#[cycle(pattern)]
+#[derive(Debug, Drop)]
+pub enum PatternSketch {
+    /// `name(arguments)`, or `name` alone where there are no arguments.
+    Named(usize, PatternsSketch),
+    /// `= term`.
+    Equal(usize, TermSketch),
+    /// `(parts)`: a pattern in parentheses, or a tuple.
+    Grouped(usize, PatternsSketch),
+}
+
+/// Patterns in a row.
+#[cycle(pattern)]
+#[derive(Debug, Drop)]
+pub struct PatternsSketch {
+    pub items: Vec<PatternSketch>,
+}
+
+impl Model for PatternsSketch {
+    ghost use Rattle.std.specs.Prelude.{List, map};
+    ghost use Rattle.protocol_grammar.specs.Sketch as own;
+    ghost use Rattle.pi_parser.specs.Codes.{patterns_depth, coded_pattern_sketches};
+
+    ghost Value = { List own.PatternSketch };
+
+    ghost coded = { coded_pattern_sketches };
+
+    ghost use Rattle.pi_parser.specs.Patterns.{pattern_of};
+
+    ghost view = { λ a. map pattern_of a.items.items };
+
+    ghost size = { λ ps. patterns_depth (own.patterns_sketch ps) };
+
+    ghost use Rattle.pi_parser.specs.PatternDepths.{patterns_fall};
+
+    ghost size_decreases = { λ a h. patterns_fall a.items.items };
+}
+
+/// An event, `name(arguments)`, or `name` alone where there are no arguments.
+#[derive(Debug, Drop)]
+pub struct AtomSketch {
+    pub first: usize,
+    pub arguments: TermsSketch,
+}
+
+/// A process.
+#[cycle(process)]
+#[derive(Debug, Drop)]
+pub enum ProcessSketch {
+    /// A unit alone.
+    Alone(UnitSketch),
+    /// `unit | process`.
+    Beside(UnitSketch, Box<ProcessSketch>),
+}
+
+/// A unit of a process.
+#[cycle(process)]
+#[derive(Debug, Drop)]
+pub enum UnitSketch {
+    /// `0`.
+    Zero(usize),
+    /// `name`, the use of a macro.
+    Macro(usize),
+    /// `(process)`.
+    Inner(usize, Box<ProcessSketch>),
+    /// `! unit`.
+    Replicated(usize, Box<UnitSketch>),
+    /// `new name`.
+    New(usize, usize, NextSketch),
+    /// `out(channel, message)`.
+    Output(usize, TermSketch, TermSketch, NextSketch),
+    /// `in(channel, pattern)`.
+    Input(usize, TermSketch, PatternSketch, NextSketch),
+    /// `event atom`.
+    Happens(usize, AtomSketch, NextSketch),
+    /// `let pattern = term in unit`, and its else branch.
+    Let(usize, PatternSketch, TermSketch, Box<UnitSketch>, NextSketch),
+    /// `if left = right then unit`, and its else branch.
+    If(usize, TermSketch, TermSketch, Box<UnitSketch>, NextSketch),
+}
+
+/// A continuation, or an else branch.
+#[cycle(process)]
+#[derive(Debug, Drop)]
+pub enum NextSketch {
+    /// Nothing.
+    Omitted,
+    /// `; unit`, or `else unit`.
+    Given(Box<UnitSketch>),
+}
+
+/// One alternative of a query: `event atom`, and further events, each behind `&&`.
+#[derive(Debug, Drop)]
+pub struct AlternativeSketch {
+    pub atom: AtomSketch,
+    pub others: Vec<AtomSketch>,
+}
+
+/// What a query asks.
+#[derive(Debug, Drop)]
+pub enum QuerySketch {
+    /// `attacker(new name)`.
+    AttackerNew(usize, usize),
+    /// `attacker(message)`.
+    Attacker(usize, TermSketch),
+    /// `event atom ==> alternatives`, or `event atom ==> false` where there are none.
+    Correspondence(usize, AtomSketch, Vec<AlternativeSketch>),
+}
+
+/// A rule, `name(arguments) -> result`.
+#[derive(Debug, Drop)]
+pub struct RuleSketch {
+    pub first: usize,
+    pub arguments: TermsSketch,
+    pub result: TermSketch,
+}
+
+/// A declaration.
+#[derive(Debug, Drop)]
+pub enum DeclarationSketch {
+    /// `free name, others.`, after `private` if not public.
+    Free {
+        first: usize,
+        public: bool,
+        name: usize,
+        others: Vec<usize>,
+    },
+    /// `fun name/arity.`, after `private` if not public.
+    Fun {
+        first: usize,
+        public: bool,
+        name: usize,
+        arity: usize,
+    },
+    /// `data name/arity.`
+    Data {
+        first: usize,
+        name: usize,
+        arity: usize,
+    },
+    /// `reduc rule; others.`
+    Reduc {
+        first: usize,
+        rule: RuleSketch,
+        others: Vec<RuleSketch>,
+    },
+    /// `event name/arity.`
+    Event {
+        first: usize,
+        name: usize,
+        arity: usize,
+    },
+    /// `query question.`
+    Query {
+        first: usize,
+        question: QuerySketch,
+    },
+    /// `let name = process.`
+    Definition {
+        first: usize,
+        name: usize,
+        process: ProcessSketch,
+    },
+}
+
+/// A file: its declarations, the number of the word `process`, and the main process.
+#[derive(Debug, Drop)]
+pub struct Sketch {
+    pub declarations: Vec<DeclarationSketch>,
+    pub first: usize,
+    pub main: ProcessSketch,
+}
