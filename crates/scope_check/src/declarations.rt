@@ -1,0 +1,421 @@
+//! Declarations other than queries, in order; of a macro only its name is looked at.
+
+ghost use Rattle.std.specs.Prelude.{◌≡◌, ◌+◌, ◌-◌, ◌≤◌, List, length, map, min, IfOk, OnOk};
+ghost use Rattle.protocol_tokens.specs.Lexed.{Lexed};
+ghost use Rattle.protocol_scope.specs.Names as naming;
+ghost use Rattle.protocol_scope.specs.Declarations as rules;
+ghost use Rattle.protocol_scope.specs.Spells.{texts};
+ghost use Rattle.pi_parser.specs.Files as sketched;
+ghost use Rattle.pi_parser.specs.Processes.{process_of};
+ghost use Rattle.pi_tree.specs.Names.{declared_of};
+ghost use Rattle.pi_tree.specs.Rules.{rule_of, destructor_of};
+ghost use Rattle.scope_check.specs.Answer.{Gives, Turns};
+ghost use Rattle.scope_check.specs.Names.{names_of, scope_of, IsReady};
+
+use crate::leaves::Setting;
+use crate::limits::{MOST_PARTS, MOST_SYMBOLS};
+use crate::names::{Macro, Names, Scope, count_of, is_variable, look, same_text};
+use crate::stop::{Code, Stop};
+use crate::terms::{count_of as count_of_terms, plus, term, terms};
+use crate::text::text;
+use pi_lexer::Tokens;
+use pi_parser::{DeclarationSketch, ProcessSketch, RuleSketch};
+use pi_tree::{Declared, Dtor, MOST_NAMES, Rule, Rules, Word};
+use std::alloc::{AllocError, Global};
+
+/// The word of a token.
+fn word(alloc: Global, scope: &Scope, token: usize) -> Result<Word, AllocError>
+    requires { IsReady scope.now }
+    ensures { IfOk result (λ word. word ≡ (scope_of scope.now).text token) }
+{
+    let items = Vec::from_slice(alloc, text(scope.source, scope.tokens, token))?;
+    Ok(Word { items })
+}
+
+/// A new name: nothing else is declared so, and there is room for one more.
+fn new_name(alloc: Global, scope: &Scope, token: usize) -> Result<Word, Stop>
+    requires { IsReady scope.now }
+    ensures read { Gives (λ word. word) result (rules.new_name (scope_of scope.now) token) }
+    ensures room { OnOk result (naming.count_of (names_of scope.now.names.now) + 1 ≤ 1024) }
+{
+    if look(scope, token).is_some() {
+        return Err(Stop::Fault(Code::Twice, token));
+    }
+    if count_of(scope.names) >= MOST_NAMES {
+        return Err(Stop::Fault(Code::TooMany, token));
+    }
+    Ok(word(alloc, scope, token)?)
+}
+
+/// A new free name or constructor: its name is not a variable's.
+fn new_symbol(alloc: Global, scope: &Scope, token: usize) -> Result<Word, Stop>
+    requires { IsReady scope.now }
+    ensures read { Gives (λ word. word) result (rules.new_symbol (scope_of scope.now) token) }
+    ensures room { OnOk result (naming.count_of (names_of scope.now.names.now) + 1 ≤ 1024) }
+{
+    if look(scope, token).is_none() {
+        if is_variable(text(scope.source, scope.tokens, token)) {
+            return Err(Stop::Fault(Code::Kind, token));
+        }
+    }
+    new_name(alloc, scope, token)
+}
+
+/// The number that the digits spell, or 17 where it is more.
+#[tactic(auto, using(crate::proofs::Steps::decimal_snoc))]
+fn capped_number(digits: &[u8]) -> u32
+    ensures { result ≡ min (naming.decimal digits.now) 17 }
+{
+    let mut number = 0u32;
+    for digit in digits {
+        number = (10 * number + u32::from(digit.saturating_sub(b'0'))).min(17);
+    }
+    number
+}
+
+/// The arity that a number spells.
+fn arity(source: &[u8], tokens: &Tokens, token: usize) -> Result<u32, Stop>
+    requires { Lexed source.now tokens.now }
+    ensures { Gives (λ arity. arity) result (rules.arity (texts source.now tokens.now) token) }
+{
+    let number = capped_number(text(source, tokens, token));
+    if number > 16 {
+        return Err(Stop::Fault(Code::TooMany, token));
+    }
+    Ok(number)
+}
+
+/// A free name.
+fn free_name(alloc: Global, scope: &Scope, public: bool, name: usize) -> Result<Declared, Stop>
+    requires { IsReady scope.now }
+    ensures read { Gives declared_of result (rules.free_name (scope_of scope.now) public name) }
+    ensures room { OnOk result (naming.count_of (names_of scope.now.names.now) + 1 ≤ 1024) }
+{
+    let word = new_symbol(alloc, scope, name)?;
+    Ok(Declared {
+        word,
+        arity: 0,
+        public,
+        is_data: false,
+    })
+}
+
+/// A constructor.
+fn constructor(
+    alloc: Global,
+    scope: &Scope,
+    public: bool,
+    is_data: bool,
+    name: usize,
+    size: usize,
+) -> Result<Declared, Stop>
+    requires { IsReady scope.now }
+    ensures read { Gives declared_of result (rules.constructor (scope_of scope.now) public is_data name size) }
+    ensures room { OnOk result (naming.count_of (names_of scope.now.names.now) + 1 ≤ 1024) }
+{
+    let word = new_symbol(alloc, scope, name)?;
+    let arity = arity(scope.source, scope.tokens, size)?;
+    Ok(Declared {
+        word,
+        arity,
+        public,
+        is_data,
+    })
+}
+
+/// An event.
+fn event(alloc: Global, scope: &Scope, name: usize, size: usize) -> Result<Declared, Stop>
+    requires { IsReady scope.now }
+    ensures read { Gives declared_of result (rules.event (scope_of scope.now) name size) }
+    ensures room { OnOk result (naming.count_of (names_of scope.now.names.now) + 1 ≤ 1024) }
+{
+    let word = new_name(alloc, scope, name)?;
+    let arity = arity(scope.source, scope.tokens, size)?;
+    Ok(Declared {
+        word,
+        arity,
+        public: true,
+        is_data: false,
+    })
+}
+
+/// A rule within its limits.
+fn rule(alloc: Global, scope: &Scope, sketch: &RuleSketch) -> Result<Rule, Stop>
+    requires { IsReady scope.now }
+    ensures { Gives rule_of result (rules.rule (scope_of scope.now) (sketched.rule_of sketch.now)) }
+{
+    let mut variables = Vec::new(alloc);
+    let (left, of_left) = terms(
+        &sketch.arguments,
+        alloc,
+        scope,
+        &Setting::Left,
+        &mut variables,
+    )?;
+    let (right, of_right) = term(
+        &sketch.result,
+        alloc,
+        scope,
+        &Setting::Right,
+        &mut variables,
+    )?;
+    let symbols = plus(plus(1, of_left), of_right);
+    if count_of_terms(&sketch.arguments) > MOST_PARTS || symbols > MOST_SYMBOLS {
+        return Err(Stop::Fault(Code::TooMany, sketch.first));
+    }
+    Ok(Rule { left, right })
+}
+
+/// A further rule, which has the number of arguments and the name of the first.
+fn further_rule(
+    alloc: Global,
+    scope: &Scope,
+    first: &RuleSketch,
+    sketch: &RuleSketch,
+) -> Result<Rule, Stop>
+    requires { IsReady scope.now }
+    ensures { Gives rule_of result (rules.further_rule (scope_of scope.now) (sketched.rule_of first.now) (sketched.rule_of sketch.now)) }
+{
+    if count_of_terms(&sketch.arguments) != count_of_terms(&first.arguments) {
+        return Err(Stop::Fault(Code::Arity, sketch.first));
+    }
+    if !same_text(scope.source, scope.tokens, first.first, sketch.first) {
+        return Err(Stop::Fault(Code::Kind, sketch.first));
+    }
+    rule(alloc, scope, sketch)
+}
+
+/// A destructor, whose declaration begins at this token.
+fn destructor(
+    alloc: Global,
+    scope: &Scope,
+    token: usize,
+    first: &RuleSketch,
+    others: &[RuleSketch],
+) -> Result<Dtor, Stop>
+    requires { IsReady scope.now }
+    ensures read { Gives destructor_of result (rules.destructor (scope_of scope.now) token (sketched.rule_of first.now) (map sketched.rule_of others.now)) }
+    ensures room { OnOk result (naming.count_of (names_of scope.now.names.now) + 1 ≤ 1024) }
+{
+    let word = new_name(alloc, scope, first.first)?;
+    let mut items = Vec::new(alloc);
+    items.push(rule(alloc, scope, first)?)?;
+    for other in others {
+        items.push(further_rule(alloc, scope, first, other)?)?;
+    }
+    if others.len() >= MOST_PARTS {
+        return Err(Stop::Fault(Code::TooMany, token));
+    }
+    Ok(Dtor {
+        word,
+        rules: Rules { items },
+    })
+}
+
+/// Adds a free name.
+fn declare_free(
+    names: &mut Names,
+    alloc: Global,
+    source: &[u8],
+    tokens: &Tokens,
+    public: bool,
+    name: usize,
+) -> Result<(), Stop>
+    requires lexed { Lexed source.now tokens.now }
+    requires few { naming.count_of (names_of names.old) ≤ 1024 }
+    ensures read { Turns (names_of names.new) result (rules.declare_free (texts source.now tokens.now) (names_of names.old) public name) }
+    ensures few { OnOk result (naming.count_of (names_of names.new) ≤ 1024) }
+{
+    let scope = Scope {
+        source,
+        tokens,
+        names: &*names,
+    };
+    let free = free_name(alloc, &scope, public, name)?;
+    names.frees.items.push(free)?;
+    Ok(())
+}
+
+/// Adds free names.
+fn declare_frees(
+    names: &mut Names,
+    alloc: Global,
+    source: &[u8],
+    tokens: &Tokens,
+    public: bool,
+    items: &[usize],
+) -> Result<(), Stop>
+    requires lexed { Lexed source.now tokens.now }
+    requires few { naming.count_of (names_of names.old) ≤ 1024 }
+    ensures read { Turns (names_of names.new) result (rules.declare_frees (texts source.now tokens.now) (names_of names.old) public items.now) }
+    ensures few { OnOk result (naming.count_of (names_of names.new) ≤ 1024) }
+{
+    for name in items {
+        declare_free(names, alloc, source, tokens, public, *name)?;
+    }
+    Ok(())
+}
+
+/// Adds a constructor.
+fn declare_constructor(
+    names: &mut Names,
+    alloc: Global,
+    source: &[u8],
+    tokens: &Tokens,
+    public: bool,
+    is_data: bool,
+    name: usize,
+    size: usize,
+) -> Result<(), Stop>
+    requires lexed { Lexed source.now tokens.now }
+    requires few { naming.count_of (names_of names.old) ≤ 1024 }
+    ensures read { Turns (names_of names.new) result (rules.declare_constructor (texts source.now tokens.now) (names_of names.old) public is_data name size) }
+    ensures few { OnOk result (naming.count_of (names_of names.new) ≤ 1024) }
+{
+    let scope = Scope {
+        source,
+        tokens,
+        names: &*names,
+    };
+    let found = constructor(alloc, &scope, public, is_data, name, size)?;
+    names.ctors.items.push(found)?;
+    Ok(())
+}
+
+/// Adds a destructor.
+fn declare_destructor(
+    names: &mut Names,
+    alloc: Global,
+    source: &[u8],
+    tokens: &Tokens,
+    token: usize,
+    first: &RuleSketch,
+    others: &[RuleSketch],
+) -> Result<(), Stop>
+    requires lexed { Lexed source.now tokens.now }
+    requires few { naming.count_of (names_of names.old) ≤ 1024 }
+    ensures read { Turns (names_of names.new) result (rules.declare_destructor (texts source.now tokens.now) (names_of names.old) token (sketched.rule_of first.now) (map sketched.rule_of others.now)) }
+    ensures few { OnOk result (naming.count_of (names_of names.new) ≤ 1024) }
+{
+    let scope = Scope {
+        source,
+        tokens,
+        names: &*names,
+    };
+    let found = destructor(alloc, &scope, token, first, others)?;
+    names.dtors.items.push(found)?;
+    Ok(())
+}
+
+/// Adds an event.
+fn declare_event(
+    names: &mut Names,
+    alloc: Global,
+    source: &[u8],
+    tokens: &Tokens,
+    name: usize,
+    size: usize,
+) -> Result<(), Stop>
+    requires lexed { Lexed source.now tokens.now }
+    requires few { naming.count_of (names_of names.old) ≤ 1024 }
+    ensures read { Turns (names_of names.new) result (rules.declare_event (texts source.now tokens.now) (names_of names.old) name size) }
+    ensures few { OnOk result (naming.count_of (names_of names.new) ≤ 1024) }
+{
+    let scope = Scope {
+        source,
+        tokens,
+        names: &*names,
+    };
+    let found = event(alloc, &scope, name, size)?;
+    names.events.items.push(found)?;
+    Ok(())
+}
+
+/// Adds a macro.
+fn declare_macro<'a>(
+    names: &mut Names<'a>,
+    alloc: Global,
+    source: &[u8],
+    tokens: &Tokens,
+    name: usize,
+    body: &'a ProcessSketch,
+) -> Result<(), Stop>
+    requires lexed { Lexed source.now tokens.now }
+    requires few { naming.count_of (names_of names.old) ≤ 1024 }
+    ensures read { Turns (names_of names.new) result (rules.declare_macro (texts source.now tokens.now) (names_of names.old) name (process_of body.now)) }
+    ensures few { OnOk result (naming.count_of (names_of names.new) ≤ 1024) }
+{
+    let scope = Scope {
+        source,
+        tokens,
+        names: &*names,
+    };
+    let _word = new_name(alloc, &scope, name)?;
+    names.macros.push(Macro { name, body })?;
+    Ok(())
+}
+
+/// Adds the names of a declaration.
+fn declare<'a>(
+    names: &mut Names<'a>,
+    alloc: Global,
+    source: &[u8],
+    tokens: &Tokens,
+    declaration: &'a DeclarationSketch,
+) -> Result<(), Stop>
+    requires lexed { Lexed source.now tokens.now }
+    requires few { naming.count_of (names_of names.old) ≤ 1024 }
+    ensures read { Turns (names_of names.new) result (rules.declare (texts source.now tokens.now) (names_of names.old) (sketched.declaration_of declaration.now)) }
+    ensures few { OnOk result (naming.count_of (names_of names.new) ≤ 1024) }
+{
+    match declaration {
+        DeclarationSketch::Free {
+            public,
+            name,
+            others,
+            ..
+        } => {
+            declare_free(names, alloc, source, tokens, *public, *name)?;
+            declare_frees(names, alloc, source, tokens, *public, others)
+        }
+        DeclarationSketch::Fun {
+            public,
+            name,
+            arity,
+            ..
+        } => { declare_constructor(names, alloc, source, tokens, *public, false, *name, *arity) }
+        DeclarationSketch::Data { name, arity, .. } => {
+            declare_constructor(names, alloc, source, tokens, true, true, *name, *arity)
+        }
+        DeclarationSketch::Reduc {
+            first,
+            rule,
+            others,
+        } => declare_destructor(names, alloc, source, tokens, *first, rule, others),
+        DeclarationSketch::Event { name, arity, .. } => {
+            declare_event(names, alloc, source, tokens, *name, *arity)
+        }
+        DeclarationSketch::Query { .. } => Ok(()),
+        DeclarationSketch::Definition { name, process, .. } => {
+            declare_macro(names, alloc, source, tokens, *name, process)
+        }
+    }
+}
+
+/// The names of all declarations, in order.
+pub fn declare_all<'a>(
+    alloc: Global,
+    source: &[u8],
+    tokens: &Tokens,
+    declarations: &'a [DeclarationSketch],
+) -> Result<Names<'a>, Stop>
+    requires { Lexed source.now tokens.now }
+    ensures read { Gives names_of result (rules.declare_all (texts source.now tokens.now) naming.no_names (map sketched.declaration_of declarations.now)) }
+    ensures few { IfOk result (λ found. naming.count_of (names_of found) ≤ 1024) }
+{
+    let mut names = Names::new(alloc);
+    for declaration in declarations {
+        declare(&mut names, alloc, source, tokens, declaration)?;
+    }
+    Ok(names)
+}

@@ -1,0 +1,204 @@
+//! Bare identifiers, and the constructors and events that take arguments.
+
+ghost use Rattle.std.specs.Prelude.{◌≡◌, ◌+◌, ◌^◌, ◌<◌, ◌≤◌, length, IfOk, option_map};
+ghost use Rattle.protocol_tokens.specs.Lexed.{Lexed};
+ghost use Rattle.protocol_scope.specs.Names as naming;
+ghost use Rattle.protocol_scope.specs.Terms as rules;
+ghost use Rattle.protocol_scope.specs.Spells.{texts};
+ghost use Rattle.pi_tree.specs.Terms.{term_of};
+ghost use Rattle.scope_check.specs.Answer.{Gives, GivesWith};
+ghost use Rattle.scope_check.specs.Bound.{bound_of};
+ghost use Rattle.scope_check.specs.Names.{scope_of, IsReady, meaning_of};
+ghost use Rattle.scope_check.specs.Terms.{setting_of};
+
+use crate::bound::{Bound, BoundName, bound_as};
+use crate::names::{Meaning, Scope, look, same_text};
+use crate::stop::{Code, Stop};
+use pi_lexer::Tokens;
+use pi_tree::{Term, Terms};
+use std::alloc::{AllocError, Global};
+
+/// Where a term stands: this tells what a bare identifier in it is.
+#[derive(Clone, Copy)]
+pub enum Setting<'a> {
+    /// In a process, where this is bound; in `attacker(..)` nothing is.
+    Process(&'a Bound<'a>),
+    /// On the left of a rule, which binds its variables.
+    Left,
+    /// On the right of a rule.
+    Right,
+    /// In an event of a query.
+    Event,
+}
+
+/// The number in 32 bits. There is no memory for as many variables as would need more.
+pub fn narrow(number: usize) -> Result<u32, AllocError>
+    ensures { IfOk result (λ narrowed. narrowed ≡ number) }
+{
+    match u32::try_from(number) {
+        Ok(narrowed) => Ok(narrowed),
+        Err(_) => Err(AllocError),
+    }
+}
+
+/// A constructor without arguments.
+fn constant(alloc: Global, number: u32) -> Term
+    ensures { term_of result ≡ rules.constant number }
+{
+    Term::App(
+        number,
+        Terms {
+            items: Vec::new(alloc),
+        },
+    )
+}
+
+/// What a declared name is as a bare identifier.
+fn declared_leaf(alloc: Global, token: usize, meaning: Meaning) -> Result<Term, Stop>
+    ensures { Gives term_of result (rules.declared_leaf token (meaning_of meaning)) }
+{
+    match meaning {
+        Meaning::Free(number) => Ok(Term::Free(number)),
+        Meaning::Constructor { number, arity, .. } => {
+            if arity == 0 {
+                Ok(constant(alloc, number))
+            } else {
+                Err(Stop::Fault(Code::Arity, token))
+            }
+        }
+        Meaning::Destructor { .. } | Meaning::Event { .. } | Meaning::Macro => {
+            Err(Stop::Fault(Code::Kind, token))
+        }
+    }
+}
+
+/// The number of the variable that is spelled so, from 1.
+fn variable_of(source: &[u8], tokens: &Tokens, variables: &[usize], token: usize) -> Option<usize>
+    requires { Lexed source.now tokens.now }
+    ensures { result ≡ naming.variable_of (texts source.now tokens.now) variables.now token }
+{
+    for (at, variable) in variables.iter().enumerate() {
+        if same_text(source, tokens, *variable, token) {
+            return Some(at + 1);
+        }
+    }
+    None
+}
+
+/// A variable of a rule or query, new where it stands first.
+fn variable(scope: &Scope, variables: &mut Vec<usize>, token: usize) -> Result<Term, Stop>
+    requires { Lexed scope.now.source.now scope.now.tokens.now }
+    ensures { GivesWith term_of result variables.new.items (rules.variable (scope_of scope.now) variables.old.items token) }
+{
+    match variable_of(scope.source, scope.tokens, variables, token) {
+        Some(number) => Ok(Term::Var(narrow(number)?)),
+        None => {
+            let number = narrow(variables.len() + 1)?;
+            variables.push(token)?;
+            Ok(Term::Var(number))
+        }
+    }
+}
+
+/// A variable on the right of a rule, which stands on its left.
+fn known_variable(scope: &Scope, variables: &[usize], token: usize) -> Result<Term, Stop>
+    requires { Lexed scope.now.source.now scope.now.tokens.now }
+    ensures { GivesWith term_of result variables.now (rules.known_variable (naming.variable_of (texts scope.now.source.now scope.now.tokens.now) variables.now token) variables.now token) }
+{
+    match variable_of(scope.source, scope.tokens, variables, token) {
+        Some(number) => Ok(Term::Var(narrow(number)?)),
+        None => Err(Stop::Fault(Code::LooseVariable, token)),
+    }
+}
+
+/// A bare identifier in a process: what is bound, or else a declared name.
+fn process_leaf(scope: &Scope, alloc: Global, bound: &Bound, token: usize) -> Result<Term, Stop>
+    requires { IsReady scope.now }
+    ensures { Gives term_of result (rules.process_leaf (naming.bound_as (texts scope.now.source.now scope.now.tokens.now) (bound_of bound.now) token) (naming.look (scope_of scope.now) token) token) }
+{
+    match bound_as(bound, scope.source, scope.tokens, token) {
+        Some(BoundName::Variable(number)) => Ok(Term::Var(number)),
+        Some(BoundName::Made(point)) => Ok(Term::Made(point)),
+        None => match look(scope, token) {
+            Some(meaning) => declared_leaf(alloc, token, meaning),
+            None => Err(Stop::Fault(Code::Unknown, token)),
+        },
+    }
+}
+
+/// The constant that a bare identifier in a rule is, if it is one.
+fn constant_of(meaning: Option<Meaning>) -> Option<u32>
+    ensures { result ≡ rules.constant_of (option_map meaning_of meaning) }
+{
+    match meaning {
+        Some(Meaning::Constructor { number, arity, .. }) => {
+            if arity == 0 { Some(number) } else { None }
+        }
+        _ => None,
+    }
+}
+
+/// A bare identifier.
+pub fn leaf(
+    scope: &Scope,
+    alloc: Global,
+    setting: &Setting,
+    variables: &mut Vec<usize>,
+    token: usize,
+) -> Result<Term, Stop>
+    requires { IsReady scope.now }
+    ensures { GivesWith term_of result variables.new.items (rules.leaf (scope_of scope.now) (setting_of setting.now) variables.old.items token) }
+{
+    match setting {
+        Setting::Process(bound) => process_leaf(scope, alloc, bound, token),
+        Setting::Left => match constant_of(look(scope, token)) {
+            Some(number) => Ok(constant(alloc, number)),
+            None => variable(scope, variables, token),
+        },
+        Setting::Right => match constant_of(look(scope, token)) {
+            Some(number) => Ok(constant(alloc, number)),
+            None => known_variable(scope, variables, token),
+        },
+        Setting::Event => match look(scope, token) {
+            Some(meaning) => declared_leaf(alloc, token, meaning),
+            None => variable(scope, variables, token),
+        },
+    }
+}
+
+/// The number, where it takes as many arguments as are there.
+pub fn taking(token: usize, number: u32, arity: usize, given: usize) -> Result<u32, Stop>
+    ensures { Gives (λ n. n) result (rules.taking token number arity given) }
+{
+    if arity == given {
+        Ok(number)
+    } else {
+        Err(Stop::Fault(Code::Arity, token))
+    }
+}
+
+/// The constructor of so many arguments that the token names.
+pub fn constructor(scope: &Scope, token: usize, given: usize) -> Result<u32, Stop>
+    requires { IsReady scope.now }
+    ensures { Gives (λ n. n) result (rules.constructor token given (naming.look (scope_of scope.now) token)) }
+{
+    match look(scope, token) {
+        Some(Meaning::Constructor { number, arity, .. }) => {
+            taking(token, number, arity as usize, given)
+        }
+        Some(_) => Err(Stop::Fault(Code::Kind, token)),
+        None => Err(Stop::Fault(Code::Unknown, token)),
+    }
+}
+
+/// The event of so many arguments that the token names.
+pub fn event_named(scope: &Scope, token: usize, given: usize) -> Result<u32, Stop>
+    requires { IsReady scope.now }
+    ensures { Gives (λ n. n) result (rules.event_named token given (naming.look (scope_of scope.now) token)) }
+{
+    match look(scope, token) {
+        Some(Meaning::Event { number, arity }) => taking(token, number, arity as usize, given),
+        Some(_) => Err(Stop::Fault(Code::Kind, token)),
+        None => Err(Stop::Fault(Code::Unknown, token)),
+    }
+}

@@ -1,0 +1,143 @@
+//! The rules of scope: from the sketch of a file to the protocol that it stands for, or its first fault.
+//!
+//! The rules are defined in the crate `protocol_scope`.
+#![tactic(auto)]
+
+ghost use Rattle.std.specs.Prelude.{◌≤◌, ℕ, IfOk, IfErr};
+ghost use Rattle.calculus.specs.Syntax as own;
+ghost use Rattle.protocol_tokens.specs.Lexed.{Lexed};
+ghost use Rattle.pi_lexer.specs.Answer.{IsMemory};
+ghost use Rattle.protocol_scope.specs.Answers.{Code};
+ghost use Rattle.protocol_scope.specs.Names as naming;
+ghost use Rattle.protocol_scope.specs.Scope.{scope};
+ghost use Rattle.protocol_scope.specs.Spells.{texts, IsSketchOf, IsProtocolOf, Spells, Scoped, Refuses};
+ghost use Rattle.pi_parser.specs.Files.{file_of};
+ghost use Rattle.pi_tree.specs.Processes.{process_of};
+ghost use Rattle.pi_tree.specs.Protocols.{protocol_of};
+ghost use Rattle.scope_check.specs.Answer.{Gives};
+ghost use Rattle.scope_check.specs.Error.{AnswersScope, main_then_queries, IsRefusalOf, GivesProtocol, GivesFault};
+ghost use Rattle.scope_check.specs.Names.{names_of};
+
+use pi_lexer::{LexError, Tokens, lex};
+use pi_parser::Sketch;
+use pi_tree::{Process, Protocol, Queries};
+use protocol_scope::{main_process_points, never_both, one_protocol, one_refusal};
+use std::alloc::{AllocError, Global};
+
+mod bound;
+mod declarations;
+mod error;
+mod leaves;
+mod limits;
+mod names;
+mod patterns;
+mod processes;
+mod queries;
+mod site;
+mod stop;
+mod terms;
+mod text;
+
+use crate::declarations::declare_all;
+pub use crate::error::ScopeError;
+use crate::error::error_at;
+use crate::names::{Names, Scope};
+use crate::processes::main_process;
+use crate::queries::queries;
+use crate::stop::Stop;
+
+/// The main process and the queries of a sketch that declares these names.
+fn main_and_queries(
+    alloc: Global,
+    source: &[u8],
+    tokens: &Tokens,
+    names: &Names,
+    sketch: &Sketch,
+) -> Result<(Process, Queries), Stop>
+    requires lexed { Lexed source.now tokens.now }
+    requires few { naming.count_of (names_of names.now) ≤ 1024 }
+    ensures { Gives (λ x. (process_of x.0, x.1)) result (main_then_queries (texts source.now tokens.now) (names_of names.now) (file_of sketch.now)) }
+{
+    main_process_points();
+    let scope = Scope {
+        source,
+        tokens,
+        names,
+    };
+    let main = main_process(alloc, &scope, &sketch.main)?;
+    let queries = queries(&sketch.declarations, alloc, &scope, &main)?;
+    Ok((main, queries))
+}
+
+/// The protocol of a sketch, or its first fault.
+fn protocol(
+    alloc: Global,
+    source: &[u8],
+    tokens: &Tokens,
+    sketch: &Sketch,
+) -> Result<Protocol, Stop>
+    requires { Lexed source.now tokens.now }
+    ensures { Gives protocol_of result (scope (texts source.now tokens.now) (file_of sketch.now)) }
+{
+    let names = declare_all(alloc, source, tokens, &sketch.declarations)?;
+    let (main, queries) = main_and_queries(alloc, source, tokens, &names, sketch)?;
+    Ok(Protocol {
+        frees: names.frees,
+        ctors: names.ctors,
+        dtors: names.dtors,
+        events: names.events,
+        queries,
+        main,
+    })
+}
+
+/// The protocol of a sketch of these tokens, or its first fault with the place of its token.
+fn check_tokens(
+    alloc: Global,
+    source: &[u8],
+    tokens: &Tokens,
+    sketch: &Sketch,
+) -> Result<Protocol, ScopeError>
+    requires { Lexed source.now tokens.now }
+    ensures { AnswersScope source.now tokens.now (scope (texts source.now tokens.now) (file_of sketch.now)) result }
+{
+    match protocol(alloc, source, tokens, sketch) {
+        Ok(protocol) => Ok(protocol),
+        Err(stop) => Err(error_at(source, tokens, stop)),
+    }
+}
+
+/// The want of memory that an error of the lexer is.
+fn memory_error(error: LexError) -> AllocError
+    requires { IsMemory error }
+{
+    match error {
+        LexError::Memory(error) => error,
+        LexError::BadByte(_) | LexError::OpenComment(_) | LexError::LongNumber(_) => unreachable!(),
+    }
+}
+
+/// The protocol that the sketch of a file stands for, or the first fault by the rules of scope, which are looked at in
+/// the order of the declarations other than queries, the main process with its macros expanded, and the queries.
+///
+/// The sketch is that of these bytes, whose tokens are read once more. Memory is taken for them and for the protocol.
+pub fn check_scope(alloc: Global, source: &[u8], sketch: &Sketch) -> Result<Protocol, ScopeError>
+    requires { IsSketchOf source.now (file_of sketch.now) }
+    ensures read { IfOk result (λ protocol. IsProtocolOf source.now (protocol_of protocol)) }
+    ensures refused { IfErr result (λ error. IsRefusalOf source.now error) }
+
+    // Bytes that spell a protocol give it, and bytes that the rules of scope refuse give that refusal.
+    ensures accepts { (p : own.Protocol) → Spells source.now p → GivesProtocol p result }
+    ensures refuses { (code : Code) (place : ℕ) → Refuses source.now (Scoped code) place → GivesFault code place result }
+{
+    one_protocol();
+    one_refusal();
+    never_both();
+    match lex(alloc, source) {
+        Ok(tokens) => check_tokens(alloc, source, &tokens, sketch),
+        Err(error) => Err(ScopeError::Memory(memory_error(error))),
+    }
+}
+
+#[cfg(test)]
+mod tests;

@@ -1,0 +1,200 @@
+//! Queries, in order.
+
+ghost use Rattle.std.specs.Prelude.{◌≡◌, ℕ, ◌+◌, ◌≤◌, ◌++◌, [], ◌∷◌, List, length, map};
+ghost use Rattle.calculus.specs.Points.{nodes};
+ghost use Rattle.protocol_scope.specs.Queries as rules;
+ghost use Rattle.pi_parser.specs.Terms as sketched;
+ghost use Rattle.pi_parser.specs.Files as files;
+ghost use Rattle.pi_tree.specs.Events.{event_of};
+ghost use Rattle.pi_tree.specs.Processes.{process_of};
+ghost use Rattle.pi_tree.specs.Queries.{query_of};
+ghost use Rattle.scope_check.specs.Answer.{Gives, GivesWith};
+ghost use Rattle.scope_check.specs.Names.{scope_of, IsReady};
+ghost use Rattle.scope_check.specs.Restrictions.{summary};
+
+use crate::bound::Bound;
+use crate::leaves::Setting;
+use crate::limits::{MOST_PARTS, MOST_SYMBOLS};
+use crate::names::Scope;
+use crate::stop::{Code, Stop};
+use crate::terms::{event, process_term};
+use crate::text::text;
+use pi_parser::{AlternativeSketch, AtomSketch, DeclarationSketch, QuerySketch};
+use pi_tree::{Alternatives, Atom, Atoms, MOST_QUERIES, Process, Queries, Query};
+use std::alloc::Global;
+
+/// The restrictions of one name that were seen.
+#[derive(Clone, Copy)]
+pub enum Seen {
+    /// None.
+    Nowhere,
+    /// One, at this point.
+    Once(u32),
+    /// More than one.
+    Often,
+}
+
+/// One restriction more.
+#[tactic(auto, using(crate::proofs::Restrictions::one_more))]
+fn seen_at(seen: Seen, point: u32) -> Seen
+    ensures { (before : List ℕ) → seen ≡ summary before → result ≡ summary (before ++ point ∷ []) }
+{
+    match seen {
+        Seen::Nowhere => Seen::Once(point),
+        Seen::Once(_) | Seen::Often => Seen::Often,
+    }
+}
+
+/// Looks for restrictions of the name in a process that begins at this point, behind those that were seen. Answers
+/// those that are seen by then, and the point behind the process.
+fn look_for(process: &Process, word: &[u8], point: u32, seen: Seen) -> (Seen, u32)
+    requires { point + length (nodes (process_of process.now)) ≤ 4097 }
+    ensures seen { (before : List ℕ) → seen ≡ summary before → result.0 ≡ summary (before ++ rules.points_of word.now point (nodes (process_of process.now))) }
+    ensures behind { result.1 ≡ point + length (nodes (process_of process.now)) }
+{
+    match process {
+        Process::Nil => (seen, point + 1),
+        Process::New(made, rest) => {
+            if made.items.as_slice() == word {
+                look_for(rest, word, point + 1, seen_at(seen, point))
+            } else {
+                look_for(rest, word, point + 1, seen)
+            }
+        }
+        Process::Output(_, _, rest)
+        | Process::Input(_, _, rest)
+        | Process::Copies(rest)
+        | Process::Event(_, rest) => look_for(rest, word, point + 1, seen),
+        Process::Par(left, right) | Process::Let(_, _, left, right) => {
+            let (seen, next) = look_for(left, word, point + 1, seen);
+            look_for(right, word, next, seen)
+        }
+    }
+}
+
+/// A query for the name of the one restriction of this identifier.
+fn attacker_new(scope: &Scope, main: &Process, token: usize) -> Result<Query, Stop>
+    requires ready { IsReady scope.now }
+    requires few { length (nodes (process_of main.now)) ≤ 4096 }
+    ensures { Gives query_of result (rules.only_point token (rules.points_of ((scope_of scope.now).text token) 1 (nodes (process_of main.now)))) }
+{
+    let word = text(scope.source, scope.tokens, token);
+    match look_for(main, word, 1, Seen::Nowhere).0 {
+        Seen::Nowhere => Err(Stop::Fault(Code::Unknown, token)),
+        Seen::Once(point) => Ok(Query::SecretNew(point)),
+        Seen::Often => Err(Stop::Fault(Code::AmbiguousNew, token)),
+    }
+}
+
+/// An event of a query, of at most as many symbols as a term may have.
+fn asked_event(
+    sketch: &AtomSketch,
+    alloc: Global,
+    scope: &Scope,
+    variables: &mut Vec<usize>,
+) -> Result<Atom, Stop>
+    requires { IsReady scope.now }
+    ensures { GivesWith event_of result variables.new.items (rules.asked_event (scope_of scope.now) variables.old.items (sketched.atom_of sketch.now)) }
+{
+    let (read, symbols) = event(sketch, alloc, scope, &Setting::Event, variables)?;
+    if symbols > MOST_SYMBOLS {
+        return Err(Stop::Fault(Code::TooMany, sketch.first));
+    }
+    Ok(read)
+}
+
+/// An alternative. Its first token is the word `event`, right before its first event.
+fn alternative(
+    sketch: &AlternativeSketch,
+    alloc: Global,
+    scope: &Scope,
+    variables: &mut Vec<usize>,
+) -> Result<Atoms, Stop>
+    requires { IsReady scope.now }
+    ensures { GivesWith (λ events. events) result variables.new.items (rules.alternative (scope_of scope.now) variables.old.items (files.alternative_of sketch.now)) }
+{
+    let mut items = Vec::new(alloc);
+    items.push(asked_event(&sketch.atom, alloc, scope, variables)?)?;
+    for atom in &sketch.others {
+        items.push(asked_event(atom, alloc, scope, variables)?)?;
+    }
+    if sketch.others.len() >= MOST_PARTS {
+        return Err(Stop::Fault(Code::TooMany, sketch.atom.first.saturating_sub(1)));
+    }
+    Ok(Atoms { items })
+}
+
+/// Alternatives in a row.
+fn alternatives(
+    sketches: &[AlternativeSketch],
+    alloc: Global,
+    scope: &Scope,
+    variables: &mut Vec<usize>,
+) -> Result<Alternatives, Stop>
+    requires { IsReady scope.now }
+    ensures { GivesWith (λ found. found) result variables.new.items (rules.alternatives (scope_of scope.now) variables.old.items (map files.alternative_of sketches.now)) }
+{
+    let mut items = Vec::new(alloc);
+    for sketch in sketches {
+        items.push(alternative(sketch, alloc, scope, variables)?)?;
+    }
+    Ok(Alternatives { items })
+}
+
+/// What a query asks, in a declaration that begins with this token.
+fn question(
+    sketch: &QuerySketch,
+    alloc: Global,
+    scope: &Scope,
+    main: &Process,
+    token: usize,
+) -> Result<Query, Stop>
+    requires ready { IsReady scope.now }
+    requires few { length (nodes (process_of main.now)) ≤ 4096 }
+    ensures { Gives query_of result (rules.question (scope_of scope.now) (process_of main.now) token (files.question_of sketch.now)) }
+{
+    match sketch {
+        QuerySketch::AttackerNew(_, name) => attacker_new(scope, main, *name),
+        QuerySketch::Attacker(_, message) => {
+            let message = process_term(message, alloc, scope, &Bound::Nothing)?;
+            Ok(Query::Secret(message))
+        }
+        QuerySketch::Correspondence(_, atom, others) => {
+            let mut variables = Vec::new(alloc);
+            let left = asked_event(atom, alloc, scope, &mut variables)?;
+            let alternatives = alternatives(others, alloc, scope, &mut variables)?;
+            if others.len() > MOST_PARTS {
+                return Err(Stop::Fault(Code::TooMany, token));
+            }
+            Ok(Query::Corr { left, alternatives })
+        }
+    }
+}
+
+/// The queries among declarations.
+pub fn queries(
+    declarations: &[DeclarationSketch],
+    alloc: Global,
+    scope: &Scope,
+    main: &Process,
+) -> Result<Queries, Stop>
+    requires ready { IsReady scope.now }
+    requires few { length (nodes (process_of main.now)) ≤ 4096 }
+    ensures { Gives (λ found. found) result (rules.queries (scope_of scope.now) (process_of main.now) 0 (map files.declaration_of declarations.now)) }
+{
+    let mut items = Vec::new(alloc);
+    for declaration in declarations {
+        if let DeclarationSketch::Query {
+            first,
+            question: asked,
+        } = declaration
+        {
+            let read = question(asked, alloc, scope, main, *first)?;
+            if items.len() >= MOST_QUERIES {
+                return Err(Stop::Fault(Code::TooMany, *first));
+            }
+            items.push(read)?;
+        }
+    }
+    Ok(Queries { items })
+}

@@ -1,0 +1,256 @@
+//! Terms, expressions and events, within their limits.
+
+ghost use Rattle.std.specs.Prelude.{◌≡◌, ◌+◌, ◌≤◌, length, map, IfOk};
+ghost use Rattle.trees.specs.Tree.{size, sizes, trees, node};
+ghost use Rattle.calculus.specs.Syntax as calculus;
+ghost use Rattle.protocol_grammar.specs.Sketch.{terms_sketch};
+ghost use Rattle.protocol_scope.specs.Names as naming;
+ghost use Rattle.protocol_scope.specs.Terms as rules;
+ghost use Rattle.pi_parser.specs.Terms as sketched;
+ghost use Rattle.pi_tree.specs.Terms.{term_of};
+ghost use Rattle.pi_tree.specs.Patterns.{expression_of};
+ghost use Rattle.pi_tree.specs.Events.{event_of};
+ghost use Rattle.scope_check.specs.Answer.{Gives, GivesWith};
+ghost use Rattle.scope_check.specs.Bound.{bound_of};
+ghost use Rattle.scope_check.specs.Names.{scope_of, IsReady, meaning_of};
+ghost use Rattle.scope_check.specs.Terms.{setting_of, capped};
+
+use crate::bound::Bound;
+use crate::leaves::{Setting, constructor, event_named, leaf, taking};
+use crate::limits::{MOST_PARTS, MOST_SYMBOLS};
+use crate::names::{Meaning, Scope, look};
+use crate::stop::{Code, Stop};
+use pi_parser::{AtomSketch, TermSketch, TermsSketch};
+use pi_tree::{Atom, Expr, Term, Terms};
+use std::alloc::Global;
+
+/// The sum of two numbers of symbols, as far as it matters.
+pub fn plus(one: u32, other: u32) -> u32
+    requires one { one ≤ 2001 }
+    requires other { other ≤ 2001 }
+    ensures { result ≡ capped (one + other) }
+{
+    (one + other).min(MOST_SYMBOLS + 1)
+}
+
+/// How many terms stand in a row.
+#[tactic(auto, using(crate::proofs::Steps::count_seen))]
+pub fn count_of(sketches: &TermsSketch) -> usize
+    ensures { result ≡ rules.count (terms_sketch sketches.now) }
+{
+    sketches.items.len()
+}
+
+/// A constructor of these arguments, which have so many symbols.
+fn applied(
+    token: usize,
+    constructor: u32,
+    arguments: Terms,
+    symbols: u32,
+) -> Result<(Term, u32), Stop>
+    requires { symbols ≡ capped (sizes (trees arguments)) }
+    ensures read { Gives (λ x. term_of x.0) result (rules.sized token (node (calculus.Constructor constructor) arguments)) }
+    ensures counted { IfOk result (λ x. x.1 ≡ capped (size (term_of x.0))) }
+{
+    let whole = plus(1, symbols);
+    if whole > MOST_SYMBOLS {
+        return Err(Stop::Fault(Code::TooMany, token));
+    }
+    Ok((Term::App(constructor, arguments), whole))
+}
+
+/// A tuple of these parts, which have so many symbols.
+fn tuple(token: usize, parts: Terms, symbols: u32) -> Result<(Term, u32), Stop>
+    requires { symbols ≡ capped (sizes (trees parts)) }
+    ensures read { Gives (λ x. term_of x.0) result (rules.tuple token parts) }
+    ensures counted { IfOk result (λ x. x.1 ≡ capped (size (term_of x.0))) }
+{
+    let whole = plus(1, symbols);
+    if parts.items.len() > MOST_PARTS || whole > MOST_SYMBOLS {
+        return Err(Stop::Fault(Code::TooMany, token));
+    }
+    Ok((Term::Tuple(parts), whole))
+}
+
+/// What stands in parentheses: one term is itself, more are a tuple.
+fn grouped(token: usize, mut parts: Terms, symbols: u32) -> Result<(Term, u32), Stop>
+    requires { symbols ≡ capped (sizes (trees parts)) }
+    ensures read { Gives (λ x. term_of x.0) result (rules.grouped token parts) }
+    ensures counted { IfOk result (λ x. x.1 ≡ capped (size (term_of x.0))) }
+{
+    if parts.items.len() == 1 {
+        if let Some(only) = parts.items.pop() {
+            return Ok((only, symbols));
+        }
+    }
+    tuple(token, parts, symbols)
+}
+
+/// The term of a sketch, and how many symbols it has.
+#[cycle(term)]
+pub fn term(
+    sketch: &TermSketch,
+    alloc: Global,
+    scope: &Scope,
+    setting: &Setting,
+    variables: &mut Vec<usize>,
+) -> Result<(Term, u32), Stop>
+    requires { IsReady scope.now }
+    ensures read { GivesWith (λ x. term_of x.0) result variables.new.items (rules.term (scope_of scope.now) (setting_of setting.now) variables.old.items (sketched.term_of sketch.now)) }
+    ensures counted { IfOk result (λ x. x.1 ≡ capped (size (term_of x.0))) }
+{
+    match sketch {
+        TermSketch::Named(first, arguments) => {
+            let given = count_of(arguments);
+            if given == 0 {
+                return Ok((leaf(scope, alloc, setting, variables, *first)?, 1));
+            }
+            let number = constructor(scope, *first, given)?;
+            let (arguments, symbols) = terms(arguments, alloc, scope, setting, variables)?;
+            applied(*first, number, arguments, symbols)
+        }
+        TermSketch::Grouped(first, parts) => {
+            let (parts, symbols) = terms(parts, alloc, scope, setting, variables)?;
+            grouped(*first, parts, symbols)
+        }
+    }
+}
+
+/// The terms of sketches in a row, and how many symbols they have.
+#[cycle(term)]
+#[tactic(auto, using(crate::proofs::Steps::sizes_seen))]
+pub fn terms(
+    sketches: &TermsSketch,
+    alloc: Global,
+    scope: &Scope,
+    setting: &Setting,
+    variables: &mut Vec<usize>,
+) -> Result<(Terms, u32), Stop>
+    requires { IsReady scope.now }
+    ensures read { GivesWith (λ x. x.0) result variables.new.items (rules.terms (scope_of scope.now) (setting_of setting.now) variables.old.items (terms_sketch sketches.now)) }
+    ensures counted { IfOk result (λ x. x.1 ≡ capped (sizes (trees x.0))) }
+{
+    let mut items = Vec::new(alloc);
+    let mut symbols = 0;
+    for sketch in &sketches.items {
+        let (item, more) = term(sketch, alloc, scope, setting, variables)?;
+        items.push(item)?;
+        symbols = plus(symbols, more);
+    }
+    Ok((Terms { items }, symbols))
+}
+
+/// A term of a process, where this is bound.
+pub fn process_term(
+    sketch: &TermSketch,
+    alloc: Global,
+    scope: &Scope,
+    bound: &Bound,
+) -> Result<Term, Stop>
+    requires { IsReady scope.now }
+    ensures { Gives term_of result (rules.process_term (scope_of scope.now) (bound_of bound.now) (sketched.term_of sketch.now)) }
+{
+    let mut variables = Vec::new(alloc);
+    let (read, _) = term(
+        sketch,
+        alloc,
+        scope,
+        &Setting::Process(bound),
+        &mut variables,
+    )?;
+    Ok(read)
+}
+
+/// A sketch without the parentheses round the whole of it.
+fn bare(sketch: &TermSketch) -> &TermSketch
+    ensures { sketched.term_of result.now ≡ rules.bare (sketched.term_of sketch.now) }
+{
+    match sketch {
+        TermSketch::Named(..) => sketch,
+        TermSketch::Grouped(_, parts) => match parts.items.as_slice() {
+            [only] => bare(only),
+            _ => sketch,
+        },
+    }
+}
+
+/// A destructor of these arguments.
+fn call(
+    sketches: &TermsSketch,
+    alloc: Global,
+    scope: &Scope,
+    bound: &Bound,
+    token: usize,
+    destructor: u32,
+) -> Result<Expr, Stop>
+    requires { IsReady scope.now }
+    ensures { Gives expression_of result (rules.call (scope_of scope.now) (bound_of bound.now) token destructor (terms_sketch sketches.now)) }
+{
+    let mut variables = Vec::new(alloc);
+    let setting = Setting::Process(bound);
+    let (arguments, symbols) = terms(sketches, alloc, scope, &setting, &mut variables)?;
+    if plus(1, symbols) > MOST_SYMBOLS {
+        return Err(Stop::Fault(Code::TooMany, token));
+    }
+    Ok(Expr::Call(destructor, arguments))
+}
+
+/// A term as an expression.
+fn plain(sketch: &TermSketch, alloc: Global, scope: &Scope, bound: &Bound) -> Result<Expr, Stop>
+    requires { IsReady scope.now }
+    ensures { Gives expression_of result (rules.plain (scope_of scope.now) (bound_of bound.now) (sketched.term_of sketch.now)) }
+{
+    Ok(Expr::Term(process_term(sketch, alloc, scope, bound)?))
+}
+
+/// What a `let` evaluates, without the parentheses round it.
+fn expression_of(
+    sketch: &TermSketch,
+    alloc: Global,
+    scope: &Scope,
+    bound: &Bound,
+) -> Result<Expr, Stop>
+    requires { IsReady scope.now }
+    ensures { Gives expression_of result (rules.expression_of (scope_of scope.now) (bound_of bound.now) (sketched.term_of sketch.now)) }
+{
+    if let TermSketch::Named(first, arguments) = sketch {
+        let given = count_of(arguments);
+        if given != 0 {
+            if let Some(Meaning::Destructor { number, arity }) = look(scope, *first) {
+                let destructor = taking(*first, number, arity, given)?;
+                return call(arguments, alloc, scope, bound, *first, destructor);
+            }
+        }
+    }
+    plain(sketch, alloc, scope, bound)
+}
+
+/// What a `let` evaluates: a term, or a destructor of terms.
+pub fn expression(
+    sketch: &TermSketch,
+    alloc: Global,
+    scope: &Scope,
+    bound: &Bound,
+) -> Result<Expr, Stop>
+    requires { IsReady scope.now }
+    ensures { Gives expression_of result (rules.expression (scope_of scope.now) (bound_of bound.now) (sketched.term_of sketch.now)) }
+{
+    expression_of(bare(sketch), alloc, scope, bound)
+}
+
+/// An event, and how many symbols it has with its own.
+pub fn event(
+    sketch: &AtomSketch,
+    alloc: Global,
+    scope: &Scope,
+    setting: &Setting,
+    variables: &mut Vec<usize>,
+) -> Result<(Atom, u32), Stop>
+    requires { IsReady scope.now }
+    ensures read { GivesWith (λ x. event_of x.0) result variables.new.items (rules.event (scope_of scope.now) (setting_of setting.now) variables.old.items (sketched.atom_of sketch.now)) }
+    ensures counted { IfOk result (λ x. x.1 ≡ capped (1 + sizes (trees x.0.args))) }
+{
+    let event = event_named(scope, sketch.first, count_of(&sketch.arguments))?;
+    let (args, symbols) = terms(&sketch.arguments, alloc, scope, setting, variables)?;
+    Ok((Atom { event, args }, plus(1, symbols)))
+}
