@@ -1,5 +1,5 @@
 -- Why unification ends: each binding leaves a variable less to bind, and between bindings the height falls.
-use Rattle.std.proofs.Common.{◌≡◌, ℕ, zero, suc, ◌+◌, ◌*◌, ◌≤◌, ◌<◌, Bool, true, false, cond, nat_eq, is_some, Some, None, List, [], ◌∷◌, ◌++◌, length, slice_get, unwrap_or, refl, sym, ap, ◌∙◌, subst, arith, append_assoc, length-append, zero-add, suc-add, ◌-◌, mul-le-mul_right}
+use Rattle.std.proofs.Common.{◌≡◌, ℕ, zero, suc, ◌+◌, ◌*◌, ◌≤◌, ◌<◌, Bool, true, false, cond, nat_eq, is_some, Some, None, List, [], ◌∷◌, ◌++◌, length, slice_get, unwrap_or, refl, sym, ap, ◌∙◌, subst, arith, length-append, zero-add, suc-add, ◌-◌, mul-le-mul_right}
 use Rattle.std.proofs.Math.Nat.{mul-le-mul_left}
 use Rattle.trees.specs.Tree.{Trees, Leaf, Node, none, more, depth, depths}
 use Rattle.terms.specs.Term.{Sym, Term}
@@ -12,6 +12,7 @@ use Rattle.unify_match.specs.declared.bound.Bound.{Bound}
 use Rattle.unify_match.specs.Trail.{id_of}
 use Rattle.unify_match.specs.Seen.{seen, AreInBank}
 use Rattle.unify_match.specs.Progress.{open_in, opens_in, open_leaves, deepest, ceiling, effort, Grown}
+use Rattle.unify_match.proofs.Trails.{Extends-refl, Extends-trans}
 
 -- one more binding leaves no more open
 open_leaf : (b : Bound) (bs : List Bound) (x : ℕ) → open_in (b ∷ bs) (Leaf x) ≤ open_in bs (Leaf x)
@@ -57,11 +58,11 @@ Grown-bind all bs b var known is unbound = record {
 }
 
 pub Grown-refl : (all : List Term) (bs : List Bound) → Grown all bs bs
-Grown-refl all bs = record { extends = ([], refl); counted = omega arith }
+Grown-refl all bs = record { extends = Extends-refl bs; counted = omega arith }
 
 pub Grown-trans : (all : List Term) (a b c : List Bound) → Grown all a b → Grown all b c → Grown all a c
 Grown-trans all a b c p q = record {
-  extends = (q.extends.0 ++ p.extends.0, q.extends.1 ∙ (ap (λ l. q.extends.0 ++ l) p.extends.1 ∙ sym (append_assoc q.extends.0 p.extends.0 a)));
+  extends = Extends-trans a b c p.extends q.extends;
   counted = omega (arith, p.counted, q.counted);
 }
 

@@ -1,3 +1,4 @@
+pub mod Trails
 pub mod Tables
 pub mod SeenLemmas
 pub mod Walking

@@ -1,5 +1,5 @@
 -- The steps of matching, and of comparing two terms.
-use Rattle.std.proofs.Common.{◌≡◌, ℕ, ◌+◌, ◌≤◌, ◌<◌, Bool, true, false, ◌||◌, cond, nat_eq, is_some, Some, None, List, [], ◌∷◌, ◌++◌, length, map, drop, get_or, refl, sym, ap, ◌∙◌, arith, eqb-true, append_assoc}
+use Rattle.std.proofs.Common.{◌≡◌, ℕ, ◌+◌, ◌≤◌, ◌<◌, Bool, true, false, ◌||◌, cond, nat_eq, is_some, Some, None, List, [], ◌∷◌, length, map, drop, get_or, refl, sym, ap, ◌∙◌, arith, eqb-true}
 use Rattle.trees.specs.Tree.{Leaf, node}
 use Rattle.terms.specs.Term.{Sym, Term, Subst, has_var}
 use Rattle.terms.specs.Binding.{Agrees, replaced_once}
@@ -13,6 +13,7 @@ use Rattle.unify_match.specs.Seen.{seen, AreBindings}
 use Rattle.unify_match.specs.Outcome.{Matched, NoMatch}
 use Rattle.unify_match.specs.Progress.{HasMatches}
 use Rattle.unify_match.proofs.SeenLemmas.{bound_to-seen, bound_to-seen_none}
+use Rattle.unify_match.proofs.Trails.{Extends-refl, Extends-trans}
 use Rattle.unify_match.proofs.Walking.{heights_of, height-at, known-at, ids_at, ids_past}
 use Rattle.unify_match.proofs.Pairs.{AreOne, under, Remains, remains_begins, remains_next, remains_fails, remains_ends, node_one, one_node, bind-application}
 
@@ -72,7 +73,7 @@ pub record IsMatching (all : List Term) (old now : List Bound) (general : Id) (x
 pub matching_begins : (all : List Term) (old : List Bound) (general : Id) (xs ys : List Id) → AreBindings all old → AreKnown all xs → AreKnown all ys → heights_of (λ x. 1) all xs < levels (tree_at all general) → IsMatching all old old general xs ys 0
 matching_begins all old general xs ys bindings lefts rights lower = record {
   bindings = bindings;
-  extends = ([], refl);
+  extends = Extends-refl old;
   lefts = lefts;
   rights = rights;
   lower = lower;
@@ -87,9 +88,6 @@ or_assoc false b c = refl
 or_none : (a : Bool) → (a || false) ≡ a
 or_none true = refl
 or_none false = refl
-
-pub Extends-trans : (a b c : List Bound) → Extends a b → Extends b c → Extends a c
-Extends-trans a b c (first, e) (later, f) = (later ++ first, f ∙ (ap (λ l. later ++ l) e ∙ sym (append_assoc later first a)))
 
 pub matching_on : (all : List Term) (old now next : List Bound) (general : Id) (xs ys : List Id) (i : ℕ) (d : Id) → IsMatching all old now general xs ys i → i < length xs → i < length ys
     → AreBindings all next → Extends now next → HasMatches all now next (tree_at all (get_or xs i d)) (tree_at all (get_or ys i d)) → IsMatching all old next general xs ys (i + 1)

@@ -2,7 +2,7 @@
 use Rattle.std.proofs.Common.{◌≡◌, ℕ, ◌<◌, Bool, true, false, cond, nat_eq, Some, None, List, [], ◌∷◌, length, refl, sym, ap, ◌∙◌, subst, arith, reverse}
 use Rattle.trees.specs.Tree.{bind}
 use Rattle.terms.specs.Term.{Term, has_var}
-use Rattle.terms.specs.Binding.{Binding, bound_to, NeverLeadsBack, Leads, directly, by_way_of, Solves, resolved}
+use Rattle.terms.specs.Binding.{Binding, bound_to, AreDistinct, NeverLeadsBack, Leads, directly, by_way_of, Solves, resolved}
 use Rattle.terms.proofs.Replace.{some_none, some_same}
 use Rattle.terms.proofs.Resolve.{IsSound, resolved-solves}
 use Rattle.terms.proofs.Loops.{NeverLeadsBack-sound, IsSound-never}
@@ -68,6 +68,12 @@ pub IsReady-grows : (old new : List Term) (pairs : List Bound) → Grows old new
 IsReady-grows old new pairs grows ready = record {
   known = AreInBank-grows old new pairs grows ready.known;
   acyclic = subst (λ (bs : List Binding). NeverLeadsBack bs) (sym (seen-grows old new pairs grows ready.known)) ready.acyclic;
+}
+
+pub AreBindings-grows : (old new : List Term) (pairs : List Bound) → Grows old new → AreBindings old pairs → AreBindings new pairs
+AreBindings-grows old new pairs grows were = record {
+  known = AreInBank-grows old new pairs grows were.known;
+  once = subst (λ (bs : List Binding). AreDistinct bs) (sym (seen-grows old new pairs grows were.known)) were.once;
 }
 
 -- no bindings are ready, over any bank

@@ -1,5 +1,5 @@
 -- The steps of unification.
-use Rattle.std.proofs.Common.{◌≡◌, ℕ, ◌+◌, ◌≤◌, ◌<◌, ◌-◌, Bool, true, false, cond, nat_eq, List, [], ◌∷◌, ◌++◌, length, map, drop, get_or, refl, sym, ap, ◌∙◌, subst, arith, eqb-true, length-append, Result, Ok, Err, IfOk, MatchBool}
+use Rattle.std.proofs.Common.{◌≡◌, ℕ, ◌+◌, ◌≤◌, ◌<◌, Bool, true, false, cond, nat_eq, List, [], ◌∷◌, ◌++◌, length, map, drop, get_or, refl, sym, ap, ◌∙◌, subst, arith, eqb-true, Result, Ok, Err, IfOk, MatchBool}
 use Rattle.std.specs.HashSet.{HashSet, contains}
 use Rattle.std.specs.List.{list_any}
 use Rattle.std.specs.declared.hash.BuildHasherDefault.{BuildHasherDefault}
@@ -155,19 +155,6 @@ unified all old new a b ready grown h = record {
   mgu = resolved-most_general (λ r. Solves r (seen all old) × Unifies r a b) (seen all new) (IsReady-sound all new ready) (λ s. ((h s).0, (h s).1));
   solutions = h;
 }
-
--- going back to the level of the beginning gives the bindings of the beginning
-drop-front : (xs ys : List Bound) → drop (length xs) (xs ++ ys) ≡ ys
-drop-front [] ys = refl
-drop-front (x ∷ xs) ys = drop-front xs ys
-
-pub undone : (old new : List Bound) → Extends old new → drop (length new - length old) new ≡ old
-undone old new (more, e) =
-    let count : length new - length old ≡ length more = omega (arith, ap length e, length-append more old) in
-    ap (λ n. drop n new) count ∙ (ap (drop (length more)) e ∙ drop-front more old)
-
-pub level_within : (old new : List Bound) → Extends old new → length old ≤ length new
-level_within old new (more, e) = omega (arith, ap length e, length-append more old)
 
 -- an outcome for a variable and the end of a walk is one for the beginnings
 pub variable_left : {E : Type 0} (all : List Term) (old new : List Bound) (left right a b : Id) (y x : ℕ) (r : Result Bool E) → IsWalked all old left a → IsWalked all old right b → tree_at all a ≡ Leaf y

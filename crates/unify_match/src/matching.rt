@@ -93,7 +93,8 @@ fn match_from<B: Bank>(
 }
 
 /// Extends the bindings to a match of a general term onto a special one under them, or tells that there
-/// is none. The variables of the special term stand for themselves: none of them is bound.
+/// is none. The variables of the special term stand for themselves: none of them is bound. The time grows
+/// with the symbols of the special term, also where the bank shares them.
 ///
 /// `Err` comes only for want of memory. On `Ok(false)` and `Err` the bindings are as before.
 pub fn match_onto<B: Bank>(

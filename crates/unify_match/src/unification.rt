@@ -3,10 +3,12 @@
 //! the number of terms that can be reached.
 
 ghost use Rattle.std.specs.Prelude.{◌≡◌, ◌<◌, false, None, length, IfOk, OnErr, MatchBool};
-ghost use Rattle.trees.specs.Tree.{Leaf};
+ghost use Rattle.trees.specs.Tree.{Leaf, bind};
+ghost use Rattle.terms.specs.Term.{has_var};
+ghost use Rattle.terms.specs.Binding.{resolved};
 ghost use Rattle.term_tree.specs.Bank.{tree_at};
 ghost use Rattle.unify_match.specs.Trail.{id_of};
-ghost use Rattle.unify_match.specs.Seen.{IsReady};
+ghost use Rattle.unify_match.specs.Seen.{seen, IsReady};
 ghost use Rattle.unify_match.specs.Outcome.{Unified, NoUnifier};
 ghost use Rattle.unify_match.specs.Memo.{AreMade};
 ghost use Rattle.unify_match.specs.Progress.{Grown, HasSolutions, IsApart};
@@ -17,6 +19,16 @@ use crate::walk::{occurs, walk};
 use std::alloc::AllocError;
 use std::collections::HashSet;
 use term_tree::{Bank, Id, Node};
+
+/// The occurs check: whether a variable stands in what a term stands for.
+fn stands_in<B: Bank>(bank: &B, binds: &Binds, number: u32, id: Id) -> Result<bool, AllocError>
+    requires known { id.index < length (B.trees bank.now) }
+    requires ready { IsReady (B.trees bank.now) binds.now.pairs }
+    ensures { IfOk result (λ found. found ≡ has_var number (bind (resolved (seen (B.trees bank.now) binds.now.pairs)) (tree_at (B.trees bank.now) id))) }
+{
+    let mut clear = HashSet::new(binds.allocator());
+    occurs(bank, binds, &mut clear, number, id)
+}
 
 /// Binds an unbound variable, whose own id is `var`, to a term, unless it stands in what the term stands for.
 #[inline(never)]
@@ -37,8 +49,7 @@ fn bind_apart<B: Bank>(
     ensures grown { Grown (B.trees bank.now) binds.old.pairs binds.new.pairs }
     ensures outcome { IfOk result (λ yes. MatchBool yes (HasSolutions (B.trees bank.now) binds.old.pairs binds.new.pairs (Leaf number) (tree_at (B.trees bank.now) id)) (NoUnifier (B.trees bank.now) binds.old.pairs (Leaf number) (tree_at (B.trees bank.now) id))) }
 {
-    let mut clear = HashSet::new(binds.allocator());
-    if occurs(bank, binds, &mut clear, number, id)? {
+    if stands_in(bank, binds, number, id)? {
         return Ok(false);
     }
     binds.reserve(1)?;

@@ -8,7 +8,8 @@ use Rattle.unify_match.specs.Outcome.{NoMatch}
 use Rattle.unify_match.specs.Progress.{HasMatches}
 use Rattle.unify_match.proofs.SeenLemmas.{AreInBank-at}
 use Rattle.unify_match.proofs.Walking.{args-lower, height-at, known-at}
-use Rattle.unify_match.proofs.Matchings.{matches_bound, matches_other, AreBindings-bind, matching_begins, matching_on, matching_fails, matching_ends, match_applications_fail, Extends-trans}
+use Rattle.unify_match.proofs.Matchings.{matches_bound, matches_other, AreBindings-bind, matching_begins, matching_on, matching_fails, matching_ends, match_applications_fail}
+use Rattle.unify_match.proofs.Trails.{Extends-trans}
 use Rattle.unify_match.proofs.matching.+match_from.Goals as goal
 
 pub same_term-requires-clause-left_known : goal.same_term-requires-clause-left_known
