@@ -1,5 +1,5 @@
 pub mod Commands
 pub mod Held
-pub mod ReadingSteps
-pub mod Respond
+pub mod Outcomes
+pub mod Refusals
 pub mod Verifying

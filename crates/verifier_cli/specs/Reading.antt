@@ -1,66 +1,67 @@
--- What contracts see of a sketch, and what a step of the reading answers.
-use Rattle.std.specs.Prelude.{◌≡◌, ℕ, List, map, Option, Some, None, Result, Ok, Err}
-use Rattle.calculus.specs.Syntax as calculus
-use Rattle.pi_tree.specs.declared.protocols.Protocol.{Protocol}
-use Rattle.pi_tree.specs.Protocols.{protocol_of}
-use Rattle.protocol_text.specs.Sketch as own
-use Rattle.protocol_text.specs.Spells.{Spells}
-use Rattle.verifier_cli.specs.declared.reading.stop.Stop.{Stop}
-use Rattle.verifier_cli.specs.declared.reading.stop.Stop.TheVariants as stop
-use Rattle.verifier_cli.specs.declared.reading.sketch.TermSketch.{TermSketch}
-use Rattle.verifier_cli.specs.declared.reading.sketch.TermSketch.TheVariants.{Bare}
-use Rattle.verifier_cli.specs.declared.reading.sketch.UnitSketch.{UnitSketch}
-use Rattle.verifier_cli.specs.declared.reading.sketch.UnitSketch.TheVariants.{Zero, Output, New}
-use Rattle.verifier_cli.specs.declared.reading.sketch.NextSketch.{NextSketch}
-use Rattle.verifier_cli.specs.declared.reading.sketch.NextSketch.TheVariants.{Omitted, Given'}
-use Rattle.verifier_cli.specs.declared.reading.sketch.QuerySketch.{QuerySketch}
-use Rattle.verifier_cli.specs.declared.reading.sketch.QuerySketch.TheVariants.{Attacker}
-use Rattle.verifier_cli.specs.declared.reading.sketch.DeclarationSketch.{DeclarationSketch}
-use Rattle.verifier_cli.specs.declared.reading.sketch.DeclarationSketch.TheVariants.{Free, Query}
-use Rattle.verifier_cli.specs.declared.reading.sketch.FileSketch.{FileSketch}
+-- What the reading of a protocol answers.
+use Rattle.std.specs.Prelude.{ℕ, ◌≤◌, List, length, Option}
+use Rattle.pi_lexer.specs.declared.error.LexError.{LexError}
+use Rattle.pi_lexer.specs.declared.error.LexError.TheVariants as lex
+use Rattle.pi_parser.specs.declared.error.ParseError.{ParseError}
+use Rattle.pi_parser.specs.declared.error.ParseError.TheVariants as parse
+use Rattle.scope_check.specs.declared.error.ScopeError.{ScopeError}
+use Rattle.scope_check.specs.declared.error.ScopeError.TheVariants as scope
+use Rattle.protocol_scope.specs.Spells as spells
+use Rattle.protocol_scope.specs.Spells.{Refuses}
+use Rattle.verifier_cli.specs.declared.outcome.ProtocolCode.TheVariants as code
+use Rattle.verifier_cli.specs.declared.reading.Stop.{Stop}
+use Rattle.verifier_cli.specs.declared.reading.Stop.TheVariants as stop
+use Rattle.verifier_cli.specs.declared.loading.Unloaded.{Unloaded}
+use Rattle.verifier_cli.specs.declared.loading.Unloaded.TheVariants as unloaded
+use Rattle.verifier_cli.specs.Outcome.{Protocol, Outcome, Usage, Verified, Refused, ReadFault, Memory}
+use Rattle.verifier_cli.specs.Command.{OfFile, IsRefusalOf}
+use Rattle.verifier_cli.specs.Seen.{refusal_by}
 
-abbrev pub term_of : TermSketch → own.TermSketch
-term_of (Bare n) = own.Bare n
+-- the errors of the lexer, the parser and the rules of scope, with their places
+abbrev pub lex_stop : LexError → Stop
+lex_stop (lex.BadByte place) = stop.Refused code.BadByte place
+lex_stop (lex.OpenComment place) = stop.Refused code.OpenComment place
+lex_stop (lex.LongNumber place) = stop.Refused code.LongNumber place
+lex_stop (lex.Memory e) = stop.Memory
 
-abbrev mutual
-  pub unit_of : UnitSketch → own.UnitSketch
-  unit_of (Zero n) = own.Zero n
-  unit_of (Output n c m k) = own.Output n (term_of c) (term_of m) (next_of k)
-  unit_of (New n x k) = own.New n x (next_of k)
+abbrev pub parse_stop : ParseError → Stop
+parse_stop (parse.Unexpected place) = stop.Refused code.Unexpected place
+parse_stop (parse.TooDeep place) = stop.Refused code.TooDeep place
+parse_stop (parse.Memory e) = stop.Memory
 
-  pub next_of : NextSketch → own.NextSketch
-  next_of Omitted = own.omitted
-  next_of (Given' p u) = own.given (unit_of u)
+abbrev pub scope_stop : ScopeError → Stop
+scope_stop (scope.Unknown place) = stop.Refused code.Unknown place
+scope_stop (scope.Twice place) = stop.Refused code.Twice place
+scope_stop (scope.Arity place) = stop.Refused code.Arity place
+scope_stop (scope.Kind place) = stop.Refused code.Kind place
+scope_stop (scope.LooseVariable place) = stop.Refused code.LooseVariable place
+scope_stop (scope.TooMany place) = stop.Refused code.TooMany place
+scope_stop (scope.AmbiguousNew place) = stop.Refused code.AmbiguousNew place
+scope_stop (scope.Memory e) = stop.Memory
 
-abbrev pub question_of : QuerySketch → own.QuerySketch
-question_of (Attacker n t) = own.Attacker n (term_of t)
+-- the bytes are refused so, at one of them or at their end; want of memory says nothing of them
+abbrev pub IsStopOf : List ℕ → Stop → Type 0
+IsStopOf bytes (stop.Refused why place) = Refuses bytes (refusal_by why) place × (place ≤ length bytes)
+IsStopOf bytes stop.Memory = Unit {0}
 
-abbrev pub declaration_of : DeclarationSketch → own.DeclarationSketch
-declaration_of (Free n public x xs) = own.Free n public x xs.items
-declaration_of (Query n q) = own.Query n (question_of q)
+-- a call that read no protocol in these bytes
+abbrev pub IsNoReading : List ℕ → Outcome → Type 0
+IsNoReading bytes (Refused refusal) = IsRefusalOf bytes refusal
+IsNoReading bytes Memory = Unit {0}
+IsNoReading bytes Usage = ⊥
+IsNoReading bytes (Verified verdicts) = ⊥
+IsNoReading bytes ReadFault = ⊥
 
-abbrev pub declarations_of : List DeclarationSketch → List own.DeclarationSketch
-declarations_of ds = map declaration_of ds
+-- a call whose protocol could not be loaded
+abbrev pub not_loaded : Unloaded → Outcome
+not_loaded unloaded.Failed = ReadFault
+not_loaded unloaded.TooLong = Refused (Protocol 1 1 spells.LongFile)
+not_loaded unloaded.Memory = Memory
 
-abbrev pub file_of : FileSketch → own.FileSketch
-file_of f = record { declarations = declarations_of f.declarations.items; first = f.first; main = unit_of f.main }
-
--- nothing is to be read; want of memory says nothing
-abbrev pub Fails : {Y : Type 0} → Stop → Option Y → Type 0
-Fails stop.Refused read = read ≡ None
-Fails stop.Memory read = Unit {0}
-
--- what was answered, seen by view, is what is to be read, unless memory ran out
-abbrev pub Gives : {X Y : Type 0} → (X → Y) → Result X Stop → Option Y → Type 0
-Gives view (Ok x) read = read ≡ Some (view x)
-Gives view (Err e) read = Fails e read
-
--- the bytes spell no protocol; want of memory says nothing
-abbrev pub IsNoSpelling : List ℕ → Stop → Type 0
-IsNoSpelling bytes stop.Refused = (p : calculus.Protocol) → Spells bytes p → ⊥
-IsNoSpelling bytes stop.Memory = Unit {0}
-
--- the protocol that the bytes spell, unless memory ran out
-abbrev pub AnswersSpelling : List ℕ → Result Protocol Stop → Type 0
-AnswersSpelling bytes (Ok p) = Spells bytes (protocol_of p)
-AnswersSpelling bytes (Err e) = IsNoSpelling bytes e
+-- a call that has no protocol, for want of a file that can be read only where a fault was counted
+abbrev pub IsUnread : Type 0 → Option (List ℕ) → Outcome → Type 0
+IsUnread Counted held ReadFault = Counted
+IsUnread Counted held (Refused refusal) = OfFile held (λ bytes. IsRefusalOf bytes refusal)
+IsUnread Counted held Memory = Unit {0}
+IsUnread Counted held Usage = ⊥
+IsUnread Counted held (Verified verdicts) = ⊥

@@ -1,17 +1,13 @@
 -- What contracts see of an outcome.
-use Rattle.verifier_cli.specs.declared.outcome.Fault.{Fault}
-use Rattle.verifier_cli.specs.declared.outcome.Fault.TheVariants.{Unexpected}
 use Rattle.verifier_cli.specs.declared.outcome.Refusal.{Refusal}
 use Rattle.verifier_cli.specs.declared.outcome.Refusal.TheVariants.{Protocol}
 use Rattle.verifier_cli.specs.declared.outcome.Outcome.{Outcome}
 use Rattle.verifier_cli.specs.declared.outcome.Outcome.TheVariants.{Usage, Verified, Refused, ReadFault, Memory}
+use Rattle.verifier_cli.specs.Seen.{refusal_by}
 use Rattle.verifier_cli.specs.Outcome as own
 
-abbrev pub fault_of : Fault → own.Fault
-fault_of Unexpected = own.Unexpected
-
 abbrev pub refusal_of : Refusal → own.Refusal
-refusal_of (Protocol row column fault) = own.Protocol row column (fault_of fault)
+refusal_of (Protocol row column code) = own.Protocol row column (refusal_by code)
 
 abbrev pub outcome_of : Outcome → own.Outcome
 outcome_of Usage = own.Usage

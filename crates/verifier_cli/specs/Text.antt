@@ -1,8 +1,12 @@
 -- The text that a call of the program writes, and the status that it ends with.
-use Rattle.std.specs.Prelude.{◌≡◌, ℕ, ◌⊎◌, ◌+◌, List, [], ◌∷◌, ◌++◌, codes, Bool, true, false, if◌then◌else◌}
+use Rattle.std.specs.Prelude.{ℕ, ◌+◌, List, [], ◌∷◌, ◌++◌, codes, Bool, true, false, if◌then◌else◌}
 use Rattle.std.specs.Fmt.{decimal}
 use Rattle.std.specs.List.{list_all}
-use Rattle.verifier_cli.specs.Outcome.{Verdict, Proved, Occurs, Fault, Unexpected, Refusal, Protocol, Outcome, Usage, Verified, Refused, ReadFault, Memory}
+use Rattle.protocol_tokens.specs.Piece as lexical
+use Rattle.protocol_scope.specs.Answers as scope
+use Rattle.protocol_scope.specs.Spells as spells
+use Rattle.protocol_scope.specs.Spells.{Lexical, Scoped}
+use Rattle.verifier_cli.specs.Outcome.{Verdict, Proved, Occurs, Refusal, Protocol, Outcome, Usage, Verified, Refused, ReadFault, Memory}
 
 -- a text with its line's end
 abbrev pub line : List ℕ → List ℕ
@@ -19,13 +23,25 @@ verdict_lines number [] = []
 verdict_lines number (verdict ∷ verdicts) =
     line (codes "query " ++ decimal number ++ codes " " ++ verdict_text verdict) ++ verdict_lines (number + 1) verdicts
 
--- a refusal's code and name
-abbrev pub fault_text : Fault → List ℕ
-fault_text Unexpected = codes "4 Unexpected"
+-- the code of a refused protocol, and its name
+abbrev pub code_text : spells.Refusal → List ℕ
+code_text (Lexical lexical.BadByte) = codes "1 BadByte"
+code_text (Lexical lexical.OpenComment) = codes "2 OpenComment"
+code_text (Lexical lexical.LongNumber) = codes "3 LongNumber"
+code_text spells.Unexpected = codes "4 Unexpected"
+code_text spells.TooDeep = codes "5 TooDeep"
+code_text (Scoped scope.Unknown) = codes "6 Unknown"
+code_text (Scoped scope.Twice) = codes "7 Twice"
+code_text (Scoped scope.Arity) = codes "8 Arity"
+code_text (Scoped scope.Kind) = codes "9 Kind"
+code_text (Scoped scope.LooseVariable) = codes "10 LooseVariable"
+code_text (Scoped scope.TooMany) = codes "11 TooMany"
+code_text (Scoped scope.AmbiguousNew) = codes "12 AmbiguousNew"
+code_text spells.LongFile = codes "13 LongFile"
 
 abbrev pub refusal_text : Refusal → List ℕ
-refusal_text (Protocol row column fault) =
-    codes "refused " ++ decimal row ++ codes ":" ++ decimal column ++ codes " " ++ fault_text fault
+refusal_text (Protocol row column why) =
+    codes "refused " ++ decimal row ++ codes ":" ++ decimal column ++ codes " " ++ code_text why
 
 -- all that a call writes
 abbrev pub outcome_bytes : Outcome → List ℕ
@@ -46,11 +62,3 @@ status_of (Verified verdicts) = if list_all is_proved verdicts then 0 else 1
 status_of (Refused refusal) = 3
 status_of ReadFault = 5
 status_of Memory = 7
-
--- an outcome as it was found, and as it is after its text was made: text that is the same at each call takes no memory
-abbrev pub Remains : Outcome → Outcome → Type 0
-Remains (Verified verdicts) after = (after ≡ Verified verdicts) ⊎ (after ≡ Memory)
-Remains (Refused refusal) after = (after ≡ Refused refusal) ⊎ (after ≡ Memory)
-Remains Usage after = after ≡ Usage
-Remains ReadFault after = after ≡ ReadFault
-Remains Memory after = after ≡ Memory

@@ -4,11 +4,12 @@
 #![tactic(auto)]
 
 mod call;
+mod loading;
 mod outcome;
 mod reading;
 mod text;
 mod verify;
 
 pub use crate::call::top;
-pub use crate::outcome::{Answer, Fault, Outcome, Refusal, Verdict, Verdicts};
+pub use crate::outcome::{Answer, Outcome, ProtocolCode, Refusal, Verdict, Verdicts};
 pub use crate::text::{outcome_text, status};

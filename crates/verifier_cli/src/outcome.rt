@@ -9,7 +9,8 @@ use std::marker::Model;
 pub enum Verdict {
     /// No run of the protocol beside the attacker violates the query.
     Proved,
-    /// Not decided: the queried name is public, or a term of the process holds it.
+    /// Not decided: the query asks for another thing than a message, or a term of the process holds each private free
+    /// name of the message.
     Occurs,
 }
 
@@ -41,21 +42,45 @@ impl Model for Verdicts {
     ghost view = { λ a. map verdict_of a.items.items };
 }
 
-/// Why a protocol is refused.
+/// Why the bytes of a protocol's file are refused. The printed code of each is its number here, from 1.
 #[derive(Clone, Copy, Debug, PartialEq, Eq)]
-pub enum Fault {
-    /// The bytes spell no protocol.
+pub enum ProtocolCode {
+    /// No token begins with this byte.
+    BadByte,
+    /// The comment that begins here has no end.
+    OpenComment,
+    /// The number that begins here has more than nine digits.
+    LongNumber,
+    /// No file of the grammar goes on with the token that begins here, or ends here.
     Unexpected,
+    /// What begins here would stand below level 512.
+    TooDeep,
+    /// The name is not declared, or not yet.
+    Unknown,
+    /// The name is declared or bound twice.
+    Twice,
+    /// The name takes another number of arguments.
+    Arity,
+    /// The name is of another kind than is wanted.
+    Kind,
+    /// The variable, on the right of a rule, does not stand on its left.
+    LooseVariable,
+    /// What begins here passes a limit.
+    TooMany,
+    /// The query asks for the name of one of several restrictions.
+    AmbiguousNew,
+    /// The file has more than 1,048,576 bytes. This is looked at before all else; its place is 1:1.
+    LongFile,
 }
 
-/// A text that is refused, with its place.
+/// A text that is refused, why and where.
 #[derive(Clone, Copy, Debug, PartialEq, Eq)]
 pub enum Refusal {
     /// The protocol; line and column are counted from 1, in bytes.
     Protocol {
         line: u64,
         column: u64,
-        fault: Fault,
+        code: ProtocolCode,
     },
 }
 

@@ -1,58 +1,106 @@
-//! Reading a protocol file: from its bytes to the protocol that they spell.
+//! Reading a protocol: from the bytes of its file to the protocol that they spell.
 
-ghost use Rattle.std.specs.Prelude.{◌≡◌, ◌↔◌, IsTrue, IfOk, MatchOption};
-ghost use Rattle.calculus.specs.Syntax as calculus;
+ghost use Rattle.std.specs.Prelude.{◌≡◌, ◌≤◌, length, IfOk, IfErr};
 ghost use Rattle.pi_tree.specs.Protocols.{protocol_of};
-ghost use Rattle.protocol_tokens.specs.Laws.{HoldsComment};
-ghost use Rattle.protocol_text.specs.Spells.{Spells};
-ghost use Rattle.verifier_cli.specs.Reading.{AnswersSpelling};
+ghost use Rattle.pi_parser.specs.Files.{file_of};
+ghost use Rattle.protocol_scope.specs.Spells.{IsSketchOf, Spells};
+ghost use Rattle.verifier_cli.specs.Reading.{IsStopOf};
 
-mod grammar;
-mod scope;
-mod sketch;
-mod stop;
-mod text;
+use crate::outcome::ProtocolCode;
+use pi_lexer::{LexError, lex};
+use pi_parser::{ParseError, Sketch, parse};
+use pi_tree::Protocol;
+use protocol_tokens::spans_ascend;
+use scope_check::{ScopeError, check_scope};
+use std::alloc::Global;
 
-use pi_lexer::lex;
-use pi_tree::{MOST_BYTES, Protocol};
-use std::alloc::{AllocError, Global};
-use stop::Stop;
+/// Why no protocol was read.
+#[derive(Clone, Copy)]
+pub enum Stop {
+    /// The bytes are refused, at the byte of this number, from 0.
+    Refused(ProtocolCode, usize),
+    /// There was no memory.
+    Memory,
+}
 
-/// Whether a comment begins somewhere in the bytes.
-fn holds_comment(bytes: &[u8]) -> bool
-    ensures { IsTrue result ↔ HoldsComment bytes.now }
-{
-    for at in 0..bytes.len() {
-        if bytes[at..].starts_with(b"(*") {
-            return true;
+impl From<LexError> for Stop {
+    ghost use Rattle.verifier_cli.specs.Reading.{lex_stop};
+
+    ghost from_gives = { λ e stop. stop ≡ lex_stop e };
+
+    fn from(error: LexError) -> Stop {
+        match error {
+            LexError::BadByte(place) => Stop::Refused(ProtocolCode::BadByte, place),
+            LexError::OpenComment(place) => Stop::Refused(ProtocolCode::OpenComment, place),
+            LexError::LongNumber(place) => Stop::Refused(ProtocolCode::LongNumber, place),
+            LexError::Memory(_) => Stop::Memory,
         }
     }
-    false
 }
 
-/// The protocol that the bytes of a file spell.
-fn protocol(alloc: Global, bytes: &[u8]) -> Result<Protocol, Stop>
-    ensures { AnswersSpelling bytes.now result }
-{
-    if bytes.len() > MOST_BYTES || holds_comment(bytes) {
-        return Err(Stop::Refused);
+impl From<ParseError> for Stop {
+    ghost use Rattle.verifier_cli.specs.Reading.{parse_stop};
+
+    ghost from_gives = { λ e stop. stop ≡ parse_stop e };
+
+    fn from(error: ParseError) -> Stop {
+        match error {
+            ParseError::Unexpected(place) => Stop::Refused(ProtocolCode::Unexpected, place),
+            ParseError::TooDeep(place) => Stop::Refused(ProtocolCode::TooDeep, place),
+            ParseError::Memory(_) => Stop::Memory,
+        }
     }
+}
+
+impl From<ScopeError> for Stop {
+    ghost use Rattle.verifier_cli.specs.Reading.{scope_stop};
+
+    ghost from_gives = { λ e stop. stop ≡ scope_stop e };
+
+    fn from(error: ScopeError) -> Stop {
+        match error {
+            ScopeError::Unknown(place) => Stop::Refused(ProtocolCode::Unknown, place),
+            ScopeError::Twice(place) => Stop::Refused(ProtocolCode::Twice, place),
+            ScopeError::Arity(place) => Stop::Refused(ProtocolCode::Arity, place),
+            ScopeError::Kind(place) => Stop::Refused(ProtocolCode::Kind, place),
+            ScopeError::LooseVariable(place) => Stop::Refused(ProtocolCode::LooseVariable, place),
+            ScopeError::TooMany(place) => Stop::Refused(ProtocolCode::TooMany, place),
+            ScopeError::AmbiguousNew(place) => Stop::Refused(ProtocolCode::AmbiguousNew, place),
+            ScopeError::Memory(_) => Stop::Memory,
+        }
+    }
+}
+
+/// What the grammar makes of the bytes of a file, or why it refuses them and at which byte.
+fn read_sketch(alloc: Global, bytes: &[u8]) -> Result<Sketch, Stop>
+    requires { length bytes.now ≤ 1048576 }
+    ensures sketched { IfOk result (λ sketch. IsSketchOf bytes.now (file_of sketch)) }
+    ensures refused { IfErr result (λ stop. IsStopOf bytes.now stop) }
+{
+    spans_ascend();
     let tokens = lex(alloc, bytes)?;
-    let classes = text::classes(alloc, bytes, &tokens)?;
-    let sketch = grammar::file(alloc, &classes)?;
-    scope::protocol(alloc, bytes, &tokens, &sketch)
+    let sketch = parse(alloc, bytes, &tokens)?;
+    Ok(sketch)
 }
 
-/// The protocol that the bytes of a file spell, `None` where they spell none.
-pub(crate) fn read_protocol(alloc: Global, bytes: &[u8]) -> Result<Option<Protocol>, AllocError>
-    ensures spelled { IfOk result (λ found. MatchOption found ((p : calculus.Protocol) → Spells bytes.now p → ⊥) (λ p. Spells bytes.now (protocol_of p))) }
+/// The protocol that the sketch of these bytes stands for, or why it is refused and at which byte.
+fn scoped(alloc: Global, bytes: &[u8], sketch: &Sketch) -> Result<Protocol, Stop>
+    requires few { length bytes.now ≤ 1048576 }
+    requires sketched { IsSketchOf bytes.now (file_of sketch.now) }
+    ensures spelled { IfOk result (λ protocol. Spells bytes.now (protocol_of protocol)) }
+    ensures refused { IfErr result (λ stop. IsStopOf bytes.now stop) }
 {
-    match protocol(alloc, bytes) {
-        Ok(protocol) => Ok(Some(protocol)),
-        Err(Stop::Refused) => Ok(None),
-        Err(Stop::Memory) => Err(AllocError),
-    }
+    spans_ascend();
+    let protocol = check_scope(alloc, bytes, sketch)?;
+    Ok(protocol)
 }
 
-#[cfg(test)]
-mod tests;
+/// The protocol that the bytes of a file spell, which are not too many, or why they are refused and at which byte.
+pub(crate) fn read_protocol(alloc: Global, bytes: &[u8]) -> Result<Protocol, Stop>
+    requires { length bytes.now ≤ 1048576 }
+    ensures spelled { IfOk result (λ protocol. Spells bytes.now (protocol_of protocol)) }
+    ensures refused { IfErr result (λ stop. IsStopOf bytes.now stop) }
+{
+    let sketch = read_sketch(alloc, bytes)?;
+    scoped(alloc, bytes, &sketch)
+}

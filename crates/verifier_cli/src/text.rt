@@ -3,11 +3,12 @@
 ghost use Rattle.std.specs.Prelude.{◌≡◌, IfOk, IfSome, IsSome};
 ghost use Rattle.std.specs.List.{list_all};
 ghost use Rattle.std.specs.String.{string_bytes};
-ghost use Rattle.verifier_cli.specs.SeenOutcome.{outcome_of, refusal_of, fault_of};
+ghost use Rattle.verifier_cli.specs.SeenOutcome.{outcome_of, refusal_of};
 ghost use Rattle.verifier_cli.specs.Outcome as own;
+ghost use Rattle.verifier_cli.specs.Seen.{refusal_by};
 ghost use Rattle.verifier_cli.specs.Text.{line, outcome_bytes, status_of, refusal_text, verdict_lines, is_proved};
 
-use crate::outcome::{Fault, Outcome, Refusal, Verdict, Verdicts};
+use crate::outcome::{Outcome, ProtocolCode, Refusal, Verdict, Verdicts};
 use pi_tree::Protocol;
 use std::alloc::{AllocError, Global};
 use std::fmt;
@@ -38,16 +39,28 @@ impl fmt::Display for Verdict {
     }
 }
 
-impl fmt::Display for Fault {
+impl fmt::Display for ProtocolCode {
     ghost use Rattle.std.specs.Prelude.{Some};
-    ghost use Rattle.verifier_cli.specs.SeenOutcome.{fault_of};
-    ghost use Rattle.verifier_cli.specs.Text.{fault_text};
+    ghost use Rattle.verifier_cli.specs.Seen.{refusal_by};
+    ghost use Rattle.verifier_cli.specs.Text.{code_text};
 
-    ghost output = { λ f. Some (fault_text (fault_of f)) };
+    ghost output = { λ c. Some (code_text (refusal_by c)) };
 
     fn fmt<W: fmt::Write>(&self, f: &mut fmt::Formatter<W>) -> fmt::Result {
         match self {
-            Fault::Unexpected => f.write_str("4 Unexpected"),
+            ProtocolCode::BadByte => f.write_str("1 BadByte"),
+            ProtocolCode::OpenComment => f.write_str("2 OpenComment"),
+            ProtocolCode::LongNumber => f.write_str("3 LongNumber"),
+            ProtocolCode::Unexpected => f.write_str("4 Unexpected"),
+            ProtocolCode::TooDeep => f.write_str("5 TooDeep"),
+            ProtocolCode::Unknown => f.write_str("6 Unknown"),
+            ProtocolCode::Twice => f.write_str("7 Twice"),
+            ProtocolCode::Arity => f.write_str("8 Arity"),
+            ProtocolCode::Kind => f.write_str("9 Kind"),
+            ProtocolCode::LooseVariable => f.write_str("10 LooseVariable"),
+            ProtocolCode::TooMany => f.write_str("11 TooMany"),
+            ProtocolCode::AmbiguousNew => f.write_str("12 AmbiguousNew"),
+            ProtocolCode::LongFile => f.write_str("13 LongFile"),
         }
     }
 }
@@ -69,13 +82,13 @@ fn protocol_refusal(
     alloc: Global,
     row: u64,
     column: u64,
-    fault: Fault,
+    code: ProtocolCode,
 ) -> Result<String, AllocError>
-    ensures { IfOk result (λ text. string_bytes text ≡ line (refusal_text (own.Protocol row column (fault_of fault)))) }
+    ensures { IfOk result (λ text. string_bytes text ≡ line (refusal_text (own.Protocol row column (refusal_by code)))) }
 {
     let mut text = String::new(alloc);
     write!(text, "refused {row}:{column}")?;
-    writeln!(text, " {fault}")?;
+    writeln!(text, " {code}")?;
     Ok(text)
 }
 
@@ -84,11 +97,7 @@ fn refusal_line(alloc: Global, refusal: Refusal) -> Result<String, AllocError>
     ensures { IfOk result (λ text. string_bytes text ≡ line (refusal_text (refusal_of refusal))) }
 {
     match refusal {
-        Refusal::Protocol {
-            line,
-            column,
-            fault,
-        } => protocol_refusal(alloc, line, column, fault),
+        Refusal::Protocol { line, column, code } => protocol_refusal(alloc, line, column, code),
     }
 }
 

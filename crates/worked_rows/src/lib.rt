@@ -2,4 +2,10 @@
 #![tactic(auto)]
 
 #[cfg(test)]
-mod tests;
+mod calls;
+#[cfg(test)]
+mod expected;
+#[cfg(test)]
+mod refused;
+#[cfg(test)]
+mod verified;

@@ -1,95 +1,10 @@
-//! Each expected text and status stands here as it was worked out from the rules of the language and the formats.
+//! Calls with other words, with faults of the outside and with sinks of their own: each expected text and status was
+//! worked out from the rules of the formats.
 
+use crate::expected::{call, words};
 use hv_io::{CalmFiles, CalmSink, MemFiles, MemSink};
-use std::alloc::{AllocError, Global};
-use std::process::Abort;
 use std::test::Fail;
 use verifier_cli::{Outcome, top};
-
-/// The words of a command line.
-fn words(alloc: Global, texts: &[&str]) -> Result<Vec<String>, AllocError> {
-    let mut words = Vec::new(alloc);
-    for text in texts {
-        words.push(String::from_str(alloc, text)?)?;
-    }
-    Ok(words)
-}
-
-/// A file is verified, and its text and status are these.
-fn expect(
-    rt: &impl Abort,
-    alloc: Global,
-    file: &[u8],
-    text: &[u8],
-    status: u8,
-) -> Result<(), Fail> {
-    let mut files = MemFiles::new(alloc)?;
-    files.add("first.pi", file)?;
-    let mut out = MemSink::new(alloc, 1000)?;
-    let words = words(alloc, &["hv", "verify", "first.pi"])?;
-    let answer = top(alloc, &words, &mut files, &mut out);
-    assert_eq!(rt; out.written(), text);
-    assert_eq!(rt; answer.status, status);
-    Ok(())
-}
-
-#[test]
-fn verified_files(rt: HostRuntime) -> Result<(), Fail> {
-    let rows: [(&[u8], &[u8], u8); 12] = [
-        (
-            b"free c. private free s. query attacker(s). process 0",
-            b"query 1 proved\n",
-            0,
-        ),
-        (
-            b"free c. private free s. query attacker(s). process out(s,c)",
-            b"query 1 unknown occurs\n",
-            1,
-        ),
-        (
-            b"free c. private free s. query attacker(s). process out(c,s)",
-            b"query 1 unknown occurs\n",
-            1,
-        ),
-        (
-            b"free c. private free s. query attacker(s). process new s; out(c,s)",
-            b"query 1 proved\n",
-            0,
-        ),
-        (
-            b"free c. private free s. query attacker(s). query attacker(c). process 0",
-            b"query 1 proved\nquery 2 unknown occurs\n",
-            1,
-        ),
-        (
-            b"query attacker(s). private free t, s. process out(t,t); new s; out(s,s)",
-            b"query 1 proved\n",
-            0,
-        ),
-        (b"process 0", b"", 0),
-        (b"free c. process let", b"refused 1:1 4 Unexpected\n", 3),
-        (b"", b"refused 1:1 4 Unexpected\n", 3),
-        (
-            b"free c. process out(c,d)",
-            b"refused 1:1 4 Unexpected\n",
-            3,
-        ),
-        (
-            b"free c. (* none *) process 0",
-            b"refused 1:1 4 Unexpected\n",
-            3,
-        ),
-        (
-            b"free c. query attacker(new k). process new k; out(c,k)",
-            b"refused 1:1 4 Unexpected\n",
-            3,
-        ),
-    ];
-    for (file, text, status) in rows {
-        expect(&rt, rt.alloc(), file, text, status)?;
-    }
-    Ok(())
-}
 
 #[test]
 fn a_missing_file_is_a_read_fault(rt: HostRuntime) -> Result<(), Fail> {
@@ -107,22 +22,44 @@ fn a_missing_file_is_a_read_fault(rt: HostRuntime) -> Result<(), Fail> {
 fn other_words_get_the_usage_line(rt: HostRuntime) -> Result<(), Fail> {
     let usage =
         b"usage: verify FILE [--budget N] | check FILE REPORT | list FILE QUERY | replay FILE RUN | ring N\n";
-    let rows: [&[&str]; 7] = [
+    let rows: [&[&str]; 11] = [
         &[],
         &["hv"],
         &["hv", "verify"],
         &["hv", "ring", "1"],
         &["hv", "check", "first.pi"],
         &["hv", "Verify", "first.pi"],
+        &["hv", "verify", "first.pi", "first.pi"],
         &["hv", "verify", "first.pi", "--budget", "1000001"],
+        &["hv", "verify", "first.pi", "--budget"],
+        &["hv", "--help"],
+        // Its command is to come.
+        &["hv", "replay", "first.pi", "first.run"],
     ];
     for row in rows {
-        let mut files = MemFiles::new(rt.alloc())?;
-        files.add("first.pi", b"process 0")?;
-        let mut out = MemSink::new(rt.alloc(), 1000)?;
-        let answer = top(rt.alloc(), &words(rt.alloc(), row)?, &mut files, &mut out);
-        assert_eq!(rt; out.written(), usage.as_slice());
-        assert_eq!(rt; answer.status, 2);
+        let (text, status) = call(rt.alloc(), row, b"process 0")?;
+        assert_eq!(rt; text.as_slice(), usage.as_slice());
+        assert_eq!(rt; status, 2);
+    }
+    Ok(())
+}
+
+#[test]
+fn a_budget_changes_nothing_yet(rt: HostRuntime) -> Result<(), Fail> {
+    let rows: [&[&str]; 4] = [
+        &["hv", "verify", "first.pi", "--budget", "5"],
+        &["hv", "verify", "--budget=0", "first.pi"],
+        &["hv", "verify", "first.pi", "--budget", "1000000"],
+        &["hv", "verify", "--", "first.pi"],
+    ];
+    for row in rows {
+        let (text, status) = call(
+            rt.alloc(),
+            row,
+            b"free c. private free s. query attacker(s). process 0",
+        )?;
+        assert_eq!(rt; text.as_slice(), b"query 1 proved\n".as_slice());
+        assert_eq!(rt; status, 0);
     }
     Ok(())
 }
