@@ -230,17 +230,22 @@ fn other_queries_ask_for_nothing_absent(rt: HostRuntime) -> Result<(), AllocErro
     Ok(())
 }
 
-/// Whether a copy of a protocol of every form reads as its source does.
-fn reads_as_its_copy(alloc: Global) -> Result<bool, AllocError> {
-    let protocol = with_main(alloc, every_form(alloc, 3)?)?;
+/// What a protocol reads as.
+fn shown(alloc: Global, protocol: &Protocol) -> Result<String, AllocError> {
+    format!(in alloc; "{protocol:?}")
+}
+
+/// Whether a copy of the protocol reads as it does.
+fn reads_as_its_copy(alloc: Global, protocol: &Protocol) -> Result<bool, AllocError> {
     let copied = protocol.copy(alloc)?;
-    let text = format!(in alloc; "{copied:?}")?;
-    Ok(text == format!(in alloc; "{protocol:?}")?)
+    let text = shown(alloc, &copied)?;
+    Ok(text == shown(alloc, protocol)?)
 }
 
 #[test]
 fn a_copied_protocol_is_its_source(rt: HostRuntime) -> Result<(), AllocError> {
-    assert!(rt; reads_as_its_copy(rt.alloc())?);
+    let protocol = with_main(rt.alloc(), every_form(rt.alloc(), 3)?)?;
+    assert!(rt; reads_as_its_copy(rt.alloc(), &protocol)?);
     Ok(())
 }
 
