@@ -31,7 +31,7 @@ same_name-sound (Variable i) (Free n) h = cc
 same_name-sound (Variable i) (Made q) h = cc
 same_name-sound (Variable i) (Variable j) h = ap Variable (eqb-true i j h)
 
-same_name-refl : (x : Name) → same_name x x ≡ true
+pub same_name-refl : (x : Name) → same_name x x ≡ true
 same_name-refl (Free n) = eq-eqb n n refl
 same_name-refl (Made p) = eq-eqb p p refl
 same_name-refl (Variable i) = eq-eqb i i refl
@@ -47,7 +47,7 @@ rule_value-sound rule vs v h = go (same_values (map (instance_of s) rule.left) v
     go true e k = (places_row (trees rule.left) (trees vs), same_values-sound (map (instance_of (places_row (trees rule.left) (trees vs))) rule.left) vs e, cc)
     go false e k = cc
 
-not_false : (b : Bool) → not b ≡ false → b ≡ true
+pub not_false : (b : Bool) → not b ≡ false → b ≡ true
 not_false true h = refl
 not_false false h = cc
 
@@ -57,7 +57,7 @@ given false v w h e = cc
 
 -- what stands at the places of a term in its instance
 module _ (f : Name → Value) where
-  abbrev Follows : Binding → Type 0
+  abbrev pub Follows : Binding → Type 0
   Follows b = b.value ≡ f b.name
 
   mutual
@@ -65,7 +65,7 @@ module _ (f : Name → Value) where
     places_follow (Leaf x) = (refl, tt)
     places_follow (Node g ts) = places_row_follow ts
 
-    places_row_follow : (ts : Trees Name Symbol) → AllByRecursion Follows (places_row ts (binds f ts))
+    pub places_row_follow : (ts : Trees Name Symbol) → AllByRecursion Follows (places_row ts (binds f ts))
     places_row_follow none = tt
     places_row_follow (more t ts) = each-append Follows (places t (bind f t)) (places_row ts (binds f ts)) (places_follow t) (places_row_follow ts)
 
@@ -86,7 +86,7 @@ module _ (f : Name → Value) where
   is_some_either true v o h = refl
   is_some_either false v o h = h
 
-  bound_right : (front back : Environment) (x : Name) → is_some (bound_to back x) ≡ true → is_some (bound_to (front ++ back) x) ≡ true
+  pub bound_right : (front back : Environment) (x : Name) → is_some (bound_to back x) ≡ true → is_some (bound_to (front ++ back) x) ≡ true
   bound_right [] back x h = h
   bound_right (b ∷ front) back x h = is_some_either (same_name b.name x) b.value (bound_to (front ++ back) x) (bound_right front back x h)
 
@@ -102,7 +102,7 @@ module _ (f : Name → Value) where
         ap (λ b. is_some (cond b (Some (f y)) None)) found
     places_bind (Node g ts) x h = places_row_bind ts x h
 
-    places_row_bind : (ts : Trees Name Symbol) (x : Name) → some_leaves (same_name x) ts ≡ true → is_some (bound_to (places_row ts (binds f ts)) x) ≡ true
+    pub places_row_bind : (ts : Trees Name Symbol) (x : Name) → some_leaves (same_name x) ts ≡ true → is_some (bound_to (places_row ts (binds f ts)) x) ≡ true
     places_row_bind none x h = cc
     places_row_bind (more t ts) x h =
         elim (or_true (some_leaf (same_name x) t) (some_leaves (same_name x) ts) h) as (λ _. is_some (bound_to (places t (bind f t) ++ places_row ts (binds f ts)) x) ≡ true) [
@@ -110,7 +110,7 @@ module _ (f : Name → Value) where
           | inr there ↦ bound_right (places t (bind f t)) (places_row ts (binds f ts)) x (places_row_bind ts x there)
         ]
 
-  bound_value : (environment : Environment) (x : Name) → AllByRecursion Follows environment → is_some (bound_to environment x) ≡ true → value_of_bound environment x ≡ f x
+  pub bound_value : (environment : Environment) (x : Name) → AllByRecursion Follows environment → is_some (bound_to environment x) ≡ true → value_of_bound environment x ≡ f x
   bound_value environment x h bound = there (bound_to environment x) (bound_follows environment x h) bound
     where
       there : (o : Option Value) → IfSome o (λ v. v ≡ f x) → is_some o ≡ true → unwrap_or o (Leaf (FreeName 0)) ≡ f x
@@ -122,7 +122,7 @@ module _ (f : Name → Value) where
   value_in_row ts x h = bound_value (places_row ts (binds f ts)) x (places_row_follow ts) (places_row_bind ts x (not_false (some_leaves (same_name x) ts) h))
 
 -- a row holds its own leaves
-no_other : (ts : Trees Name Symbol) → some_leaves (λ x. not (some_leaves (same_name x) ts)) ts ≡ false
+pub no_other : (ts : Trees Name Symbol) → some_leaves (λ x. not (some_leaves (same_name x) ts)) ts ≡ false
 no_other ts = some_leaves-stands (λ x. not (some_leaves (same_name x) ts)) ts (λ x stands. ap not (stands (same_name x) (same_name-refl x)))
 
 -- where the values are an instance of the left side, the rule gives that instance of the right side

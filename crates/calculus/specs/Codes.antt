@@ -1,10 +1,11 @@
 -- How contracts store these data: what the models of types that are seen as them take.
-use Rattle.std.specs.Prelude.{◌≡◌, ℕ, zero, suc, ◌⊎◌, List, refl}
+use Rattle.std.specs.Prelude.{◌≡◌, ℕ, zero, suc, ◌⊎◌, List, Option, None, Some, refl}
 use Rattle.std.proofs.Common.{inl, inr}
-use Rattle.std.specs.Coded.{Coded, code_by, coded×, coded⊎, coded_ℕ, coded_list}
+use Rattle.std.specs.Coded.{Coded, code_by, coded×, coded⊎, coded_ℕ, coded_list, coded_option}
 use Rattle.trees.specs.Code.{coded_tree}
 use Rattle.calculus.specs.Syntax.{Name, Free, Made, Variable, Symbol, Constructor, Tuple, Term, Hole, Bind, Equal, Pattern, Rule, EventTerm, Destructor, Query, Secret, SecretNew, Correspondence}
 use Rattle.calculus.specs.Values.{Atom, FreeName, MadeName, AttackerName, Value, Binding, Environment}
+use Rattle.calculus.specs.Runs.{Thread, At, Ended, Performed}
 
 abbrev name_pair : Name → ℕ × ℕ
 name_pair (Free n) = (0, n)
@@ -137,3 +138,21 @@ coded_binding = code_by (Name × Value) (coded× coded_name coded_value) (λ b. 
 
 abbrev pub coded_environment : Coded Environment
 coded_environment = coded_list coded_binding
+
+abbrev thread_parts : Thread → Option (ℕ × Environment)
+thread_parts (At point environment) = Some (point, environment)
+thread_parts Ended = None
+
+abbrev parts_thread : Option (ℕ × Environment) → Thread
+parts_thread (Some (point, environment)) = At point environment
+parts_thread None = Ended
+
+pub parts_thread-thread_parts : (t : Thread) → parts_thread (thread_parts t) ≡ t
+parts_thread-thread_parts (At point environment) = refl
+parts_thread-thread_parts Ended = refl
+
+abbrev pub coded_threads : Coded (List Thread)
+coded_threads = coded_list (code_by (Option (ℕ × Environment)) (coded_option (coded× coded_ℕ coded_environment)) thread_parts parts_thread parts_thread-thread_parts)
+
+abbrev pub coded_performed : Coded (List Performed)
+coded_performed = coded_list (code_by (ℕ × List Value) (coded× coded_ℕ coded_values) (λ p. (p.event, p.arguments)) (λ p. record { event = p.0; arguments = p.1 }) (λ _. refl))

@@ -3,8 +3,9 @@ pub mod Points
 pub mod Values
 pub mod Matching
 pub mod Runs
+pub mod Codes
 pub mod Secrecy
 pub mod Absence
 pub mod Standing
-pub mod Codes
 pub mod Refusals
+pub mod Limits

@@ -25,6 +25,8 @@ pub data Refusal : Type 0 where
   NotFailing : Refusal
   -- the constructor is private
   NotPublic : Refusal
+  -- the step is possible, and a value that it evaluates or makes is over the limit of size
+  Large : Refusal
 
 -- a cause, where it applies
 pub record Cause : Type 0 where

@@ -140,4 +140,6 @@ pub fn check_scope(alloc: Global, source: &[u8], sketch: &Sketch) -> Result<Prot
 }
 
 #[cfg(test)]
+mod limit_tests;
+#[cfg(test)]
 mod tests;

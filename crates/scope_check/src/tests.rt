@@ -1,24 +1,32 @@
 //! Files, worked out by hand: a `#` stands before the place at which a file is refused, and is no part of it.
 
-use crate::check_scope;
+use crate::{ScopeError, check_scope};
 use pi_lexer::lex;
 use pi_parser::parse;
+use pi_tree::Protocol;
 use std::process::Abort;
 use std::test::Fail;
 
-/// The code and the place of the refusal, none for a file that spells a protocol.
-fn refusal<R: AllocGlobal + Abort>(rt: &R, source: &[u8]) -> (Option<u8>, Option<usize>) {
+/// What the rules of scope answer for a file that has a sketch.
+fn answer<R: AllocGlobal + Abort>(rt: &R, source: &[u8]) -> Result<Protocol, ScopeError> {
     let tokens = lex(rt.alloc(), source).expect(rt, "tokens");
     let sketch = parse(rt.alloc(), source, &tokens).expect(rt, "a sketch");
-    let error = check_scope(rt.alloc(), source, &sketch).err();
-    (
-        error.as_ref().and_then(|error| error.code()),
-        error.as_ref().and_then(|error| error.place()),
-    )
+    check_scope(rt.alloc(), source, &sketch)
+}
+
+/// The code and the place of the refusal, `0` and none for a file that spells a protocol.
+pub(crate) fn refusal<R: AllocGlobal + Abort>(
+    rt: &R,
+    source: &[u8],
+) -> (Option<u8>, Option<usize>) {
+    match answer(rt, source) {
+        Ok(_) => (Some(0), None),
+        Err(error) => (error.code(), error.place()),
+    }
 }
 
 /// Where the mark stands, and the file without it.
-fn unmarked<R: AllocGlobal + Abort>(rt: &R, marked: &[u8]) -> (Option<usize>, Vec<u8>) {
+pub(crate) fn unmarked<R: AllocGlobal + Abort>(rt: &R, marked: &[u8]) -> (Option<usize>, Vec<u8>) {
     let mut text = Vec::new(rt.alloc());
     let mut place = None;
     for (at, byte) in marked.iter().enumerate() {
@@ -31,10 +39,10 @@ fn unmarked<R: AllocGlobal + Abort>(rt: &R, marked: &[u8]) -> (Option<usize>, Ve
     (place, text)
 }
 
-/// The file is refused with this code where the mark stands; without one it spells a protocol.
-fn expects<R: AllocGlobal + Abort>(rt: &R, marked: &[u8], code: u8) {
+/// The file is refused with this code where the mark stands; with the code 0, and no mark, it spells a protocol.
+pub(crate) fn expects<R: AllocGlobal + Abort>(rt: &R, marked: &[u8], code: u8) {
     let (place, text) = unmarked(rt, marked);
-    assert_eq!(rt; refusal(rt, &text), (place.map(|_| code), place), "{code}");
+    assert_eq!(rt; refusal(rt, &text), (Some(code), place), "{code}");
 }
 
 #[test]
@@ -248,436 +256,59 @@ fn queries(rt: HostRuntime) {
     }
 }
 
-/// The file of these parts, each of which stands so often.
-fn written<R: AllocGlobal + Abort>(rt: &R, parts: &[(&[u8], usize)]) -> Vec<u8> {
-    let mut text = Vec::new(rt.alloc());
-    for (part, times) in parts {
-        for _ in 0..*times {
-            text.extend_from_slice(part).expect(rt, "memory");
-        }
-    }
-    text
-}
-
-/// Macros `a`, `b`, `c` and `d` of 15, 127, 1,023 and 4,095 points, and `x` of 4,094.
-const MACROS: &[u8] =
-    b"let a = 0|0|0|0|0|0|0|0. let b = a|a|a|a|a|a|a|a. let c = b|b|b|b|b|b|b|b. let d = c|c|c|c. \
-let w = !(0|0|0|0|0|0|0). let z = a|a|a|a|a|a|a|w. let y = b|b|b|b|b|b|b|z. let x = c|c|c|y. ";
-
 #[test]
-fn points(rt: HostRuntime) {
-    let rows: [(&[u8], u8); 32] = [
-        (b"process d", 0),
-        (b"process !d", 0),
-        (b"process !!#d", 11),
-        (b"process d | #0", 11),
-        (b"process d | ((#0))", 11),
-        (b"process d | #new n; 0", 11),
-        (b"process d | #d", 11),
-        (b"let m = 0. let n = m. process d | #n", 11),
-        (b"process (d) | (#0 | 0)", 11),
-        (b"process d | (#(0) | 0)", 11),
-        (b"process d | (#a | 0)", 11),
-        (b"process d | (#q | 0)", 6),
-        (b"free q. process d | (#q | 0)", 9),
-        (b"let m = q | 0. process d | #m", 11),
-        (b"let m = #q | 0. process !(m | d)", 6),
-        (b"process x | 0", 0),
-        (b"process x | #new n", 11),
-        (b"process x | #new n; 0 | 0", 11),
-        (b"free q. process x | if q = q then #0", 11),
-        (b"free q. process !#if q = q then x", 11),
-        (b"free q. process x | (#0 | 0)", 11),
-        (b"free q. process !if q = q then x else #0", 11),
-        (b"free q. process x | #out(q,q)", 11),
-        (b"free q. process x | out(q,q); #0", 11),
-        (b"free q. process x | out(q,#k)", 6),
-        (b"free q. process d | #out(k,k)", 11),
-        (b"let m = new n. process x | #m", 11),
-        (b"free q. process d | (#(q) | 0)", 11),
-        (b"process d | #q", 6),
-        (b"free q. process d | #q", 9),
-        (b"let m = #q. process d | m", 6),
-        (b"let m = 0 | q. process x | #m", 11),
-    ];
-    for (file, code) in rows {
-        // Below a mark the places are those behind the macros.
-        let (place, text) = unmarked(&rt, file);
-        let whole = written(&rt, &[(MACROS, 1), (text.as_slice(), 1)]);
-        let place = place.map(|at| at.saturating_add(MACROS.len()));
-        assert_eq!(&rt; refusal(&rt, &whole), (place.map(|_| code), place));
-    }
-}
-
-/// The file of these parts, with its mark, is refused with this code.
-fn refuses<R: AllocGlobal + Abort>(rt: &R, parts: &[(&[u8], usize)], code: u8) {
-    let marked = written(rt, parts);
-    expects(rt, &marked, code);
-}
-
-#[test]
-fn depth(rt: HostRuntime) {
-    // 511 points may stand above a point; an omitted `0` is one.
-    refuses(
-        &rt,
-        &[
-            (b"let p = ", 1),
-            (b"!", 300),
-            (b"0. process ", 1),
-            (b"!", 211),
-            (b"p", 1),
-        ],
-        0,
+fn protocols(rt: HostRuntime) {
+    // Points and variables are numbered in pre-order, with the macro where it is used.
+    let file = b"private free s. free c. fun f/1. data d/2. reduc g(f(x),y) -> (y,x). event e/1. \
+let p = in(c,d(y,=s)); event e(y). query attacker(new k). query event e(x) ==> event e((x,c)) && event e(y). \
+process new k; (!p | let z = (g(k,c)) in if z = c then out(c,z))";
+    let protocol = answer(&rt, file).expect(&rt, "a protocol");
+    let main = &protocol.main;
+    assert_eq!(&rt;
+        format!(in rt.alloc(); "{main:?}")
+            .expect(&rt, "memory")
+            .as_str(),
+        "New(Word { items: [107] }, \
+Par(Copies(Input(Free(2), App(2, Pats { items: [Bind(1), Equal(Free(1))] }), \
+Event(Atom { event: 1, args: Terms { items: [Var(1)] } }, Nil))), \
+Let(Bind(2), Call(1, Terms { items: [Made(1), Free(2)] }), \
+Let(Equal(Free(2)), Term(Var(2)), Output(Free(2), Var(2), Nil), Nil), Nil)))"
     );
-    refuses(
-        &rt,
-        &[
-            (b"let p = ", 1),
-            (b"!", 300),
-            (b"0. process ", 1),
-            (b"!", 212),
-            (b"#p", 1),
-        ],
-        11,
+    let queries = &protocol.queries;
+    assert_eq!(&rt;
+        format!(in rt.alloc(); "{queries:?}")
+            .expect(&rt, "memory")
+            .as_str(),
+        "Queries { items: [SecretNew(1), \
+Corr { left: Atom { event: 1, args: Terms { items: [Var(1)] } }, alternatives: Alternatives { items: [Atoms { items: [\
+Atom { event: 1, args: Terms { items: [Tuple(Terms { items: [Var(1), Free(2)] })] } }, \
+Atom { event: 1, args: Terms { items: [Var(2)] } }] }] } }] }"
     );
-    refuses(
-        &rt,
-        &[
-            (b"let p = ", 1),
-            (b"!", 300),
-            (b"new n. process ", 1),
-            (b"!", 210),
-            (b"p", 1),
-        ],
-        0,
+    let destructors = &protocol.dtors;
+    assert_eq!(&rt;
+        format!(in rt.alloc(); "{destructors:?}")
+            .expect(&rt, "memory")
+            .as_str(),
+        "Dtors { items: [\
+Dtor { word: Word { items: [103] }, rules: Rules { items: [Rule { left: Terms { items: [\
+App(1, Terms { items: [Var(1)] }), Var(2)] }, right: Tuple(Terms { items: [Var(2), Var(1)] }) }] } }] }"
     );
-    refuses(
-        &rt,
-        &[
-            (b"let p = ", 1),
-            (b"!", 300),
-            (b"new n. process ", 1),
-            (b"!", 211),
-            (b"#p", 1),
-        ],
-        11,
+    let frees = &protocol.frees;
+    assert_eq!(&rt;
+        format!(in rt.alloc(); "{frees:?}")
+            .expect(&rt, "memory")
+            .as_str(),
+        "Declarations { items: [\
+Declared { word: Word { items: [115] }, arity: 0, public: false, is_data: false }, \
+Declared { word: Word { items: [99] }, arity: 0, public: true, is_data: false }] }"
     );
-    refuses(
-        &rt,
-        &[
-            (b"let p = ", 1),
-            (b"!", 300),
-            (b"0. let r = ", 1),
-            (b"!", 200),
-            (b"p. process !!!!!!!!!!!!#r", 1),
-        ],
-        11,
+    let constructors = &protocol.ctors;
+    assert_eq!(&rt;
+        format!(in rt.alloc(); "{constructors:?}")
+            .expect(&rt, "memory")
+            .as_str(),
+        "Declarations { items: [\
+Declared { word: Word { items: [102] }, arity: 1, public: true, is_data: false }, \
+Declared { word: Word { items: [100] }, arity: 2, public: true, is_data: true }] }"
     );
-}
-
-#[test]
-fn parts(rt: HostRuntime) {
-    // Seventeen parts, of a term and of a pattern; a fault among them comes first.
-    refuses(
-        &rt,
-        &[(b"free c. process out(c,(", 1), (b"c,", 15), (b"c))", 1)],
-        0,
-    );
-    refuses(
-        &rt,
-        &[(b"free c. process out(c,#(", 1), (b"c,", 16), (b"c))", 1)],
-        11,
-    );
-    refuses(
-        &rt,
-        &[(b"free c. process out(c,(", 1), (b"c,", 16), (b"#z))", 1)],
-        6,
-    );
-    refuses(
-        &rt,
-        &[
-            (b"free c. process out(c,((c,c),#(", 1),
-            (b"c,", 16),
-            (b"c),z))", 1),
-        ],
-        11,
-    );
-    expects(
-        &rt,
-        b"free c. process in(c,(x,#(a,b,d,e,f,g,h,i,j,k,l,m,n,o,p,q,r)))",
-        11,
-    );
-    expects(
-        &rt,
-        b"free c. process in(c,#((x,y),b,d,e,f,g,h,i,j,k,l,m,n,o,p,q,r))",
-        11,
-    );
-    expects(
-        &rt,
-        b"free c. process in(c,(b,d,e,f,g,h,i,j,k,l,m,n,o,p,q,r,#b))",
-        7,
-    );
-
-    // Seventeen rules.
-    refuses(
-        &rt,
-        &[
-            (b"free c. reduc g(x) -> x", 1),
-            (b"; g(x) -> x", 15),
-            (b". process 0", 1),
-        ],
-        0,
-    );
-    refuses(
-        &rt,
-        &[
-            (b"free c. #reduc g(x) -> x", 1),
-            (b"; g(x) -> x", 16),
-            (b". process 0", 1),
-        ],
-        11,
-    );
-    refuses(
-        &rt,
-        &[
-            (b"free c. reduc g(x) -> x", 1),
-            (b"; g(x) -> x", 16),
-            (b"; #g(x,y) -> x. process 0", 1),
-        ],
-        8,
-    );
-
-    // 257 queries; a fault of the last one comes first.
-    refuses(
-        &rt,
-        &[
-            (b"free c. ", 1),
-            (b"query attacker(c). ", 256),
-            (b"process 0", 1),
-        ],
-        0,
-    );
-    refuses(
-        &rt,
-        &[
-            (b"free c. ", 1),
-            (b"query attacker(c). ", 256),
-            (b"#query attacker(c). query attacker(z). process 0", 1),
-        ],
-        11,
-    );
-    refuses(
-        &rt,
-        &[
-            (b"free c. ", 1),
-            (b"query attacker(c). ", 256),
-            (b"query attacker(#z). process 0", 1),
-        ],
-        6,
-    );
-}
-
-#[test]
-fn sizes(rt: HostRuntime) {
-    // Terms of 1 + 16 * 17 = 273 symbols seven times, and their tuple of 1 + 7 * 273 = 1,912.
-    let row: &[u8] = b"(c,c,c,c,c,c,c,c,c,c,c,c,c,c,c,c)";
-    let rows = written(
-        &rt,
-        &[
-            (b"(", 1),
-            (row, 1),
-            (b",(c,c,c,c,c,c,c,c,c,c,c,c,c,c,c,c)", 15),
-            (b")", 1),
-        ],
-    );
-    let next = written(&rt, &[(b",", 1), (rows.as_slice(), 1)]);
-    let tuple = written(
-        &rt,
-        &[
-            (b"(", 1),
-            (rows.as_slice(), 1),
-            (next.as_slice(), 6),
-            (b")", 1),
-        ],
-    );
-    let tuple = tuple.as_slice();
-
-    // The innermost term of more than 2,000 symbols is named, without parentheses round it.
-    refuses(
-        &rt,
-        &[
-            (b"free c. fun s/1. event e/1. process event e(", 1),
-            (b"s(", 88),
-            (tuple, 1),
-            (b")", 89),
-        ],
-        0,
-    );
-    refuses(
-        &rt,
-        &[
-            (b"free c. fun s/1. event e/1. process event e(((#s(", 1),
-            (b"s(", 88),
-            (tuple, 1),
-            (b")", 92),
-        ],
-        11,
-    );
-    refuses(
-        &rt,
-        &[
-            (b"free c. fun s/1. event e/1. process event e(s(#s(", 1),
-            (b"s(", 88),
-            (tuple, 1),
-            (b")", 91),
-        ],
-        11,
-    );
-    refuses(
-        &rt,
-        &[
-            (b"free c. process out(c,(c,c,c,c,c,c,c,c,", 1),
-            (b"c,c,", 3),
-            (b"c,", 1),
-            (tuple, 1),
-            (b"))", 1),
-        ],
-        0,
-    );
-    refuses(
-        &rt,
-        &[
-            (b"free c. fun s/1. process out(c,#(", 1),
-            (b"s(", 87),
-            (tuple, 1),
-            (b")", 87),
-            (b",c))", 1),
-        ],
-        11,
-    );
-    refuses(
-        &rt,
-        &[
-            (b"free c. fun s/1. process out(c,(", 1),
-            (b"s(", 86),
-            (tuple, 1),
-            (b")", 86),
-            (b",c))", 1),
-        ],
-        0,
-    );
-    refuses(
-        &rt,
-        &[
-            (b"free c. fun s/1. process in(c,=#s(", 1),
-            (b"s(", 88),
-            (tuple, 1),
-            (b")", 90),
-        ],
-        11,
-    );
-
-    // So is the expression of a `let`, of which a destructor is one symbol.
-    refuses(
-        &rt,
-        &[
-            (b"free c. fun s/1. reduc g(x) -> x. process let x = (g(", 1),
-            (b"s(", 87),
-            (tuple, 1),
-            (b")", 89),
-            (b" in 0", 1),
-        ],
-        0,
-    );
-    refuses(
-        &rt,
-        &[
-            (b"free c. fun s/1. reduc g(x) -> x. process let x = (#g(", 1),
-            (b"s(", 88),
-            (tuple, 1),
-            (b")", 90),
-            (b" in 0", 1),
-        ],
-        11,
-    );
-
-    // A rule, whose destructor is one symbol, and an event of a query, whose event is one.
-    refuses(
-        &rt,
-        &[
-            (b"fun s/1. fun c/0. reduc g(", 1),
-            (b"s(", 86),
-            (tuple, 1),
-            (b")", 87),
-            (b" -> c. process 0", 1),
-        ],
-        0,
-    );
-    refuses(
-        &rt,
-        &[
-            (b"fun s/1. fun c/0. reduc #g(", 1),
-            (b"s(", 87),
-            (tuple, 1),
-            (b")", 88),
-            (b" -> c. process 0", 1),
-        ],
-        11,
-    );
-    refuses(
-        &rt,
-        &[
-            (b"fun s/1. free c. event e/1. query event e(", 1),
-            (b"s(", 87),
-            (tuple, 1),
-            (b")", 88),
-            (b" ==> false. process 0", 1),
-        ],
-        0,
-    );
-    refuses(
-        &rt,
-        &[
-            (b"fun s/1. free c. event e/1. query event #e(", 1),
-            (b"s(", 88),
-            (tuple, 1),
-            (b")", 89),
-            (b" ==> false. process 0", 1),
-        ],
-        11,
-    );
-    refuses(
-        &rt,
-        &[
-            (
-                b"fun s/1. free c. event e/1. query event e(c) ==> event #e(",
-                1,
-            ),
-            (b"s(", 88),
-            (tuple, 1),
-            (b")", 89),
-            (b". process 0", 1),
-        ],
-        11,
-    );
-}
-
-#[test]
-fn names(rt: HostRuntime) {
-    // 1,024 names are declared, and one more.
-    let mut text = Vec::new(rt.alloc());
-    for number in 0..1024 {
-        let item = format!(in rt.alloc(); "free c{number}. ").expect(&rt, "memory");
-        text.extend_from_slice(item.as_bytes())
-            .expect(&rt, "memory");
-    }
-    let start = text.len();
-    let full = written(&rt, &[(text.as_slice(), 1), (b"process out(c0,c1023)", 1)]);
-    assert_eq!(&rt; refusal(&rt, &full), (None, None));
-    let more = written(&rt, &[(text.as_slice(), 1), (b"free d. process 0", 1)]);
-    assert_eq!(&rt; refusal(&rt, &more), (Some(11), Some(start + 5)));
-    let twice = written(&rt, &[(text.as_slice(), 1), (b"free c5. process 0", 1)]);
-    assert_eq!(&rt; refusal(&rt, &twice), (Some(7), Some(start + 5)));
-    let variable = written(&rt, &[(text.as_slice(), 1), (b"free v5. process 0", 1)]);
-    assert_eq!(&rt; refusal(&rt, &variable), (Some(9), Some(start + 5)));
 }
