@@ -1,0 +1,11 @@
+pub mod Errors
+pub mod Steps
+pub mod Threads
+pub mod Moves
+pub mod Happenings
+pub mod Configurations
+pub mod Plans
+pub mod Changes
+pub mod Answers
+pub mod Choices
+pub mod Correspondences

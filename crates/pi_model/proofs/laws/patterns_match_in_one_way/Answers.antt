@@ -1,5 +1,5 @@
 use Rattle.calculus.proofs.Patterns.{matched-filled, filled-unique}
-use Rattle.pi_model.proofs.patterns_match_in_one_way.Goals as goal
+use Rattle.pi_model.proofs.laws.patterns_match_in_one_way.Goals as goal
 
 pub returns-clause-matched : goal.returns-clause-matched
 returns-clause-matched c = matched-filled

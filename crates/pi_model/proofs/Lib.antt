@@ -1,0 +1,10 @@
+pub mod ThreadItems
+pub mod Points
+pub mod ThreadSteps
+pub mod Causes
+pub mod Naming
+pub mod Passing
+pub mod Keeping
+pub mod Told
+pub mod Searching
+pub mod Deciding

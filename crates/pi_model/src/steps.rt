@@ -1,0 +1,49 @@
+//! Steps of a run.
+
+use std::marker::Model;
+
+/// Numbers of known values in order.
+#[derive(Debug, Drop)]
+pub struct Numbers {
+    pub items: Vec<u32>,
+}
+
+impl Model for Numbers {
+    ghost use Rattle.std.specs.Prelude.{ℕ, List};
+
+    ghost Value = { List ℕ };
+
+    ghost view = { λ a. a.items.items };
+}
+
+/// A step of a run. Threads, known values, constructors, destructors, rules and parts are numbered from 1;
+/// the first four steps are the attacker's, and what they make becomes the last known value.
+#[derive(Debug, Drop)]
+pub enum Step {
+    /// The attacker applies the constructor, 0 for the tuple, to known values.
+    Build(u32, Numbers),
+    /// The attacker applies the rule, the second number, of the destructor to known values.
+    Reduce(u32, u32, Numbers),
+    /// The attacker takes the part, the second number, of a known data value.
+    Part(u32, u32),
+    /// The attacker makes a name.
+    Fresh,
+    /// The thread at a parallel composition goes on as its left process; its right one is a new last thread.
+    Split(u32),
+    /// The thread at a replication gives one more copy, a new last thread.
+    Copy(u32),
+    /// The thread's restriction makes a name.
+    Make(u32),
+    /// The first thread, at an output, sends to the second, at an input.
+    Pass(u32, u32),
+    /// The attacker hears the message of the thread at an output.
+    Hear(u32),
+    /// The thread at an input receives the known value, the second number, from the attacker.
+    Say(u32, u32),
+    /// The thread at a `let` goes on with the value that the rule of that number gives, or its term for 0.
+    Take(u32, u32),
+    /// The thread at a `let` goes to its else branch.
+    Fail(u32),
+    /// The thread performs its event.
+    Mark(u32),
+}

@@ -1,0 +1,9 @@
+use Rattle.pi_tree.specs.Values.{value_of}
+use Rattle.term_values.proofs.Room.{small-by_room, large-by_room}
+use Rattle.term_values.proofs.sizes.is_large.Goals as goal
+
+pub returns-in-Some : goal.returns-in-Some
+returns-in-Some c = small-by_room (value_of c.args.value.now) _ c.in-Some.ensures
+
+pub returns-in-None : goal.returns-in-None
+returns-in-None c = large-by_room (value_of c.args.value.now) c.in-None.ensures

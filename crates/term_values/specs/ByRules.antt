@@ -1,0 +1,14 @@
+-- Values by rules, as names that proofs do not look into.
+use Rattle.std.specs.Prelude.{ℕ, List, Option, option_and_then, filter_map}
+use Rattle.calculus.specs.Syntax.{Rule}
+use Rattle.calculus.specs.Points.{numbered}
+use Rattle.calculus.specs.Values.{Value}
+use Rattle.calculus.specs.Matching.{rule_value}
+
+-- the value that the rule of that number gives of the values
+unfoldable pub by_rule : List Rule → List Value → ℕ → Option Value
+by_rule rules vs number = option_and_then (λ rule. rule_value rule vs) (numbered rules number)
+
+-- the values that the rules give of the values
+unfoldable pub by_rules : List Rule → List Value → List Value
+by_rules rules vs = filter_map (λ rule. rule_value rule vs) rules

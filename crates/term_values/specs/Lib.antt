@@ -1,0 +1,5 @@
+pub mod Slots
+pub mod Bindings
+pub mod Room
+pub mod ByRules
+pub mod Bound

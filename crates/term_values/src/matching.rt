@@ -1,0 +1,89 @@
+//! Matching a value against a pattern (Blanchet 2016, section 2.1).
+
+ghost use Rattle.std.specs.Prelude.{◌≡◌, ◌++◌, map, cond, Some, None, option_map, IfOk};
+ghost use Rattle.trees.specs.Tree.{trees};
+ghost use Rattle.calculus.specs.Matching.{matched, matched_row};
+ghost use Rattle.pi_tree.specs.Patterns.{pattern_of};
+ghost use Rattle.pi_tree.specs.Values.{value_of};
+
+use crate::bindings::Bound;
+use crate::environments::{Environment, Slot};
+use crate::evaluation::is_value_of;
+use pi_tree::{Pat, Pats, Value};
+use std::alloc::{AllocError, Global};
+
+/// Whether the value matches the pattern; what the pattern binds then stands at the end of the bindings.
+#[cycle(matches)]
+fn matches(
+    pattern: &Pat,
+    alloc: Global,
+    environment: &Environment,
+    value: &Value,
+    bindings: &mut Environment,
+) -> Result<bool, AllocError>
+    ensures { IfOk result (λ b. option_map (λ bs. bindings.old ++ bs) (matched environment.now (pattern_of pattern.now) (value_of value.now)) ≡ cond b (Some bindings.new) None) }
+{
+    match pattern {
+        Pat::Bind(number) => {
+            bindings.bind(Slot::Var(*number), value.copy(alloc)?)?;
+            Ok(true)
+        }
+        Pat::Equal(term) => Ok(is_value_of(term, value, &Bound::All(environment))),
+        Pat::App(constructor, arguments) => match value {
+            Value::App(other, values) => {
+                if *constructor != *other {
+                    return Ok(false);
+                }
+                all_match(arguments, alloc, environment, &values.items, bindings)
+            }
+            _ => Ok(false),
+        },
+        Pat::Tuple(parts) => match value {
+            Value::Tuple(values) => {
+                all_match(parts, alloc, environment, &values.items, bindings)
+            }
+            _ => Ok(false),
+        },
+    }
+}
+
+/// Whether each value matches the pattern beside it.
+#[tactic(auto, using(crate::proofs::Rows::of_rows))]
+#[cycle(matches)]
+fn all_match(
+    patterns: &Pats,
+    alloc: Global,
+    environment: &Environment,
+    values: &[Value],
+    bindings: &mut Environment,
+) -> Result<bool, AllocError>
+    ensures { IfOk result (λ b. option_map (λ bs. bindings.old ++ bs) (matched_row environment.now (trees patterns.now) (trees (map value_of values.now))) ≡ cond b (Some bindings.new) None) }
+{
+    if patterns.items.len() != values.len() {
+        return Ok(false);
+    }
+    for (index, pattern) in patterns.items.iter().enumerate() {
+        if !matches(pattern, alloc, environment, &values[index], bindings)? {
+            return Ok(false);
+        }
+    }
+    Ok(true)
+}
+
+/// What the pattern binds where the value matches it.
+#[tactic(auto, using(crate::proofs::Rows::of_rows))]
+pub fn matched(
+    alloc: Global,
+    environment: &Environment,
+    pattern: &Pat,
+    value: &Value,
+) -> Result<Option<Environment>, AllocError>
+    ensures { IfOk result (λ o. o ≡ matched environment.now (pattern_of pattern.now) (value_of value.now)) }
+{
+    let mut bindings = Environment::new(alloc);
+    if matches(pattern, alloc, environment, value, &mut bindings)? {
+        Ok(Some(bindings))
+    } else {
+        Ok(None)
+    }
+}
