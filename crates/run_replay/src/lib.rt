@@ -1,0 +1,30 @@
+//! Runs from their text, and their replay.
+//!
+//! What a text spells is defined in the crate `run_text`.
+#![tactic(auto)]
+
+mod bisect;
+mod cut;
+mod error;
+#[cfg(test)]
+mod large_values;
+mod laws;
+mod line;
+mod numbers;
+mod reach;
+mod read;
+mod replaying;
+#[cfg(test)]
+mod replays;
+#[cfg(test)]
+mod samples;
+mod steps;
+#[cfg(test)]
+mod tests;
+mod words;
+
+pub use error::RunError;
+pub use laws::one_replay;
+pub use read::read_run;
+pub use replaying::{Firsts, Replayed, replay};
+pub use steps::Steps;

@@ -1,0 +1,66 @@
+//! The step of a line.
+
+ghost use Rattle.std.specs.Prelude.{◌≡◌, option_map, IfOk};
+ghost use Rattle.pi_model.specs.Steps.{step_of};
+ghost use Rattle.run_text.specs.Reading.{step_with};
+ghost use Rattle.run_replay.specs.Actions.{action_of};
+ghost use Rattle.run_replay.specs.Answer.{ReadsLine};
+
+use crate::cut::cut;
+use crate::error::RunError;
+use crate::numbers::numbers;
+use crate::words::{Action, action_named};
+use pi_model::{Numbers, Step};
+use std::alloc::{AllocError, Global};
+
+/// The most bytes of a line.
+const LONGEST_LINE: usize = 256;
+
+/// The step of an action with these numbers; `None` where they are not as many as it has.
+fn step(alloc: Global, action: Action, numbers: &[u32]) -> Result<Option<Step>, AllocError>
+    ensures { IfOk result (λ made. option_map step_of made ≡ step_with (action_of action) numbers.now) }
+{
+    let step = match (action, numbers) {
+        (Action::Build, [constructor, arguments @ ..]) => {
+            let items = Vec::from_slice(alloc, arguments)?;
+            Step::Build(*constructor, Numbers { items })
+        }
+        (Action::Reduce, [destructor, rule, arguments @ ..]) => {
+            let items = Vec::from_slice(alloc, arguments)?;
+            Step::Reduce(*destructor, *rule, Numbers { items })
+        }
+        (Action::Part, [value, part]) => Step::Part(*value, *part),
+        (Action::Fresh, []) => Step::Fresh,
+        (Action::Split, [thread]) => Step::Split(*thread),
+        (Action::Copy, [thread]) => Step::Copy(*thread),
+        (Action::Make, [thread]) => Step::Make(*thread),
+        (Action::Pass, [sender, receiver]) => Step::Pass(*sender, *receiver),
+        (Action::Hear, [thread]) => Step::Hear(*thread),
+        (Action::Say, [thread, value]) => Step::Say(*thread, *value),
+        (Action::Take, [thread, label]) => Step::Take(*thread, *label),
+        (Action::Fail, [thread]) => Step::Fail(*thread),
+        (Action::Mark, [thread]) => Step::Mark(*thread),
+        _ => return Ok(None),
+    };
+    Ok(Some(step))
+}
+
+/// The step that a line spells, or its fault, at the line's number.
+pub fn read_line(alloc: Global, line: &[u8], number: u64) -> Result<Step, RunError>
+    ensures { ReadsLine line.now number result }
+{
+    if line.len() > LONGEST_LINE {
+        return Err(RunError::LongLine(number));
+    }
+    let (word, behind) = cut(line, b' ');
+    let Some(action) = action_named(word) else {
+        return Err(RunError::Word(number));
+    };
+    let Some(numbers) = numbers(alloc, behind)? else {
+        return Err(RunError::Number(number));
+    };
+    let Some(step) = step(alloc, action, &numbers)? else {
+        return Err(RunError::Number(number));
+    };
+    Ok(step)
+}
