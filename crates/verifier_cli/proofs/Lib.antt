@@ -1,5 +1,9 @@
 pub mod Commands
+pub mod FewNames
+pub mod FewQueries
 pub mod Held
+pub mod Limits
 pub mod Outcomes
 pub mod Refusals
+pub mod Replaying
 pub mod Verifying

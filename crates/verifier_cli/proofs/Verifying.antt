@@ -1,20 +1,21 @@
 -- From what was read to what is said of the outcome, and the headline.
-use Rattle.std.proofs.Common.{◌≡◌, ◌≢◌, ℕ, zero, suc, ◌<◌, List, [], ◌∷◌, length, map, Bool, true, false, Option, Some, IfSome, slice_get, inl, inr, refl, sym, ap, subst, ◌∙◌, if◌then◌else◌}
+use Rattle.std.proofs.Common.{◌≡◌, ◌≢◌, ℕ, zero, suc, List, [], ◌∷◌, map, Bool, true, false, Option, Some, IfSome, slice_get, inl, inr, refl, sym, ap, subst, ◌∙◌, if◌then◌else◌}
 use Rattle.calculus.specs.Syntax as syntax
 use Rattle.calculus.specs.Absence.{is_absent, IsAbsent}
 use Rattle.calculus.specs.Secrecy.{Holds}
 use Rattle.protocol_scope.specs.Spells as spells
 use Rattle.protocol_scope.specs.Spells.{Spells, Refuses}
-use Rattle.verifier_cli.specs.declared.loading.Unloaded.{Unloaded}
-use Rattle.verifier_cli.specs.declared.loading.Unloaded.TheVariants as unloaded
-use Rattle.verifier_cli.specs.Outcome.{Verdict, Proved, Occurs, Refusal, Outcome, Usage, Verified, Refused, ReadFault, Memory}
+use Rattle.verifier_cli.specs.Outcome.{Verdict, Proved, Occurs, Refusal, Outcome, Usage, Verified, Replayed, Refused, ReadFault, Memory}
 use Rattle.verifier_cli.specs.Command.{OfFile, IsRefusalOf, Verifies, NoneViolated, verdict_on, verdicts_on, refusal_at}
-use Rattle.verifier_cli.specs.Reading.{IsNoReading, IsUnread, not_loaded}
+use Rattle.verifier_cli.specs.Reading.{IsUnread}
 use Rattle.verifier_cli.proofs.Held.{of_any, of_file}
 
--- the laws that the answers rest on
+-- the law that the headline rests on
+abbrev pub AbsenceIsSecrecy : Type 0
+AbsenceIsSecrecy = (P : syntax.Protocol) (q : syntax.Query) → IsAbsent P q → Holds P q
+
+-- the laws of the texts of protocols
 pub record Laws : Type 0 where
-  pub absence_is_secrecy : (P : syntax.Protocol) (q : syntax.Query) → IsAbsent P q → Holds P q
   pub one_protocol : (bytes : List ℕ) (P Q : syntax.Protocol) → Spells bytes P → Spells bytes Q → P ≡ Q
   pub one_refusal : (bytes : List ℕ) (r s : spells.Refusal) (i j : ℕ) → Refuses bytes r i → Refuses bytes s j → (r ≡ s) × (i ≡ j)
   pub never_both : (bytes : List ℕ) (P : syntax.Protocol) (r : spells.Refusal) (i : ℕ) → Spells bytes P → Refuses bytes r i → ⊥
@@ -28,33 +29,33 @@ absent_where_proved P q = by_test (is_absent P q)
     by_test false e = cc
 
 -- each query at whose place `proved` stands holds
-hold_where_proved : Laws → (P : syntax.Protocol) (qs : List syntax.Query) (k : ℕ) → slice_get (map (verdict_on P) qs) k ≡ Some Proved → IfSome (slice_get qs k) (λ q. Holds P q)
-hold_where_proved laws P [] k e = tt
-hold_where_proved laws P (q ∷ qs) zero e = laws.absence_is_secrecy P q (absent_where_proved P q (cc))
-hold_where_proved laws P (q ∷ qs) (suc k) e = hold_where_proved laws P qs k e
+hold_where_proved : AbsenceIsSecrecy → (P : syntax.Protocol) (qs : List syntax.Query) (k : ℕ) → slice_get (map (verdict_on P) qs) k ≡ Some Proved → IfSome (slice_get qs k) (λ q. Holds P q)
+hold_where_proved secrecy P [] k e = tt
+hold_where_proved secrecy P (q ∷ qs) zero e = secrecy P q (absent_where_proved P q (cc))
+hold_where_proved secrecy P (q ∷ qs) (suc k) e = hold_where_proved secrecy P qs k e
 
 -- the answers of a protocol violate nothing
-none_violated : Laws → (bytes : List ℕ) (Q : syntax.Protocol) (verdicts : List Verdict) → Spells bytes Q → verdicts ≡ verdicts_on Q → NoneViolated bytes (Verified verdicts)
-none_violated laws bytes Q verdicts spelled are P spells k proved =
+none_violated : AbsenceIsSecrecy → Laws → (bytes : List ℕ) (Q : syntax.Protocol) (verdicts : List Verdict) → Spells bytes Q → verdicts ≡ verdicts_on Q → NoneViolated bytes (Verified verdicts)
+none_violated secrecy laws bytes Q verdicts spelled are P spells k proved =
     let same : P ≡ Q = laws.one_protocol bytes P Q spells spelled in
     let here : slice_get (verdicts_on Q) k ≡ Some Proved = ap (λ vs. slice_get vs k) (sym are) ∙ proved in
     let F : syntax.Protocol → Type 0 = λ X. IfSome (slice_get X.queries k) (λ q. Holds X q) in
-    subst F (sym same) (hold_where_proved laws Q Q.queries k here)
+    subst F (sym same) (hold_where_proved secrecy Q Q.queries k here)
 
 -- what is said of a protocol's answers
-verdicts_verify : Laws → (bytes : List ℕ) (P : syntax.Protocol) (verdicts : List Verdict) → verdicts ≡ verdicts_on P → Spells bytes P → Verifies bytes (Verified verdicts)
-verdicts_verify laws bytes P verdicts are spelled = record {
+verdicts_verify : AbsenceIsSecrecy → Laws → (bytes : List ℕ) (P : syntax.Protocol) (verdicts : List Verdict) → verdicts ≡ verdicts_on P → Spells bytes P → Verifies bytes (Verified verdicts)
+verdicts_verify secrecy laws bytes P verdicts are spelled = record {
   answers = record { protocol = P; spelled = spelled; answered = are };
   accepts = λ Q spells. inl (ap Verified (are ∙ ap verdicts_on (laws.one_protocol bytes P Q spelled spells)));
   refuses = λ why place refused. absurd (laws.never_both bytes P why place spelled refused);
-  none_violated = none_violated laws bytes P verdicts spelled are;
+  none_violated = none_violated secrecy laws bytes P verdicts spelled are;
 }
 
-pub answers_verified : Laws → (held : Option (List ℕ)) (P : syntax.Protocol) (verdicts : List Verdict) → verdicts ≡ verdicts_on P → OfFile held (λ bytes. Spells bytes P) → OfFile held (λ bytes. Verifies bytes (Verified verdicts))
-answers_verified laws held P verdicts are spelled = of_file held (λ bytes. Spells bytes P) (λ bytes. Verifies bytes (Verified verdicts)) (λ bytes s. verdicts_verify laws bytes P verdicts are s) spelled
+pub answers_verified : AbsenceIsSecrecy → Laws → (held : Option (List ℕ)) (P : syntax.Protocol) (verdicts : List Verdict) → verdicts ≡ verdicts_on P → OfFile held (λ bytes. Spells bytes P) → OfFile held (λ bytes. Verifies bytes (Verified verdicts))
+answers_verified secrecy laws held P verdicts are spelled = of_file held (λ bytes. Spells bytes P) (λ bytes. Verifies bytes (Verified verdicts)) (λ bytes s. verdicts_verify secrecy laws bytes P verdicts are s) spelled
 
 -- of a refusal
-same_refusal : (bytes : List ℕ) (r s : spells.Refusal) (i j : ℕ) → (r ≡ s) × (i ≡ j) → refusal_at bytes r i ≡ refusal_at bytes s j
+pub same_refusal : (bytes : List ℕ) (r s : spells.Refusal) (i j : ℕ) → (r ≡ s) × (i ≡ j) → refusal_at bytes r i ≡ refusal_at bytes s j
 same_refusal bytes r s i j (e, h) = ap (λ (why : spells.Refusal). refusal_at bytes why i) e ∙ ap (λ (place : ℕ). refusal_at bytes s place) h
 
 refusal_verifies : Laws → (bytes : List ℕ) (refusal : Refusal) → IsRefusalOf bytes refusal → Verifies bytes (Refused refusal)
@@ -82,36 +83,6 @@ pub unread_verified : Laws → (Counted : Type 0) (held : Option (List ℕ)) (ou
 unread_verified laws Counted held (Refused refusal) is other = of_file held (λ bytes. IsRefusalOf bytes refusal) (λ bytes. Verifies bytes (Refused refusal)) (λ bytes r. refusal_verifies laws bytes refusal r) is
 unread_verified laws Counted held Memory is other = memory_verified held
 unread_verified laws Counted held ReadFault is other = absurd (other refl)
+unread_verified laws Counted held (Replayed replay) is other = absurd is
 unread_verified laws Counted held Usage is other = absurd is
 unread_verified laws Counted held (Verified verdicts) is other = absurd is
-
-pub unread_counted : (Counted : Type 0) (held : Option (List ℕ)) (outcome : Outcome) → IsUnread Counted held outcome → outcome ≡ ReadFault → Counted
-unread_counted Counted held (Refused refusal) is e = cc
-unread_counted Counted held Memory is e = cc
-unread_counted Counted held ReadFault is e = is
-unread_counted Counted held Usage is e = absurd is
-unread_counted Counted held (Verified verdicts) is e = absurd is
-
-pub unread_used : (Counted : Type 0) (held : Option (List ℕ)) (outcome : Outcome) → IsUnread Counted held outcome → outcome ≢ Usage
-unread_used Counted held (Refused refusal) is e = cc
-unread_used Counted held Memory is e = cc
-unread_used Counted held ReadFault is e = cc
-unread_used Counted held Usage is e = is
-unread_used Counted held (Verified verdicts) is e = is
-
--- one whose file could not be loaded
-long_refused : (bytes : List ℕ) → 1048576 < length bytes → IsRefusalOf bytes (refusal_at bytes spells.LongFile 0)
-long_refused bytes long = record { why = spells.LongFile; place = 0; refused = (long, refl); shown = refl }
-
-pub unloaded_unread : (Counted : Type 0) (held : Option (List ℕ)) (why : Unloaded) → (why ≡ unloaded.TooLong → OfFile held (λ bytes. 1048576 < length bytes)) → (why ≡ unloaded.Failed → Counted) → IsUnread Counted held (not_loaded why)
-unloaded_unread Counted held unloaded.Failed long counted = counted refl
-unloaded_unread Counted held unloaded.TooLong long counted = of_file held (λ bytes. 1048576 < length bytes) (λ bytes. IsRefusalOf bytes (refusal_at bytes spells.LongFile 0)) long_refused (long refl)
-unloaded_unread Counted held unloaded.Memory long counted = tt
-
--- and one whose bytes spell nothing
-pub unspelled_unread : (Counted : Type 0) (held : Option (List ℕ)) (bytes : List ℕ) (outcome : Outcome) → IfSome held (λ all. bytes ≡ all) → IsNoReading bytes outcome → IsUnread Counted held outcome
-unspelled_unread Counted held bytes (Refused refusal) as_held is = record { bytes = bytes; as_held = as_held; fact = is }
-unspelled_unread Counted held bytes Memory as_held is = tt
-unspelled_unread Counted held bytes Usage as_held is = is
-unspelled_unread Counted held bytes (Verified verdicts) as_held is = is
-unspelled_unread Counted held bytes ReadFault as_held is = absurd is

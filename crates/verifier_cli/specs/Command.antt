@@ -1,21 +1,25 @@
 -- What the words, the file and the protocol that it spells have to do with the outcome.
-use Rattle.std.specs.Prelude.{◌≡◌, ℕ, ◌⊎◌, List, map, Option, Some, IfSome, if◌then◌else◌, slice_get}
+use Rattle.std.specs.Prelude.{◌≡◌, ℕ, ◌⊎◌, List, map, Option, Some, None, IfSome, if◌then◌else◌, slice_get}
 use Rattle.calculus.specs.Syntax as syntax
 use Rattle.calculus.specs.Absence.{is_absent}
 use Rattle.calculus.specs.Secrecy.{Holds}
-use Rattle.command_words.specs.Request.{Verify, request_of}
+use Rattle.command_words.specs.Request.{Request, Verify, Replay, request_of}
 use Rattle.hv_io.specs.Place.{line_at, column_at}
 use Rattle.protocol_scope.specs.Spells as spells
 use Rattle.protocol_scope.specs.Spells.{Spells, Refuses}
-use Rattle.verifier_cli.specs.Outcome.{Verdict, Proved, Occurs, Refusal, Protocol, Outcome, Usage, Verified, Refused, ReadFault, Memory}
+use Rattle.verifier_cli.specs.Outcome.{Verdict, Proved, Occurs, Refusal, Protocol, Outcome, Usage, Verified, Replayed, Refused, ReadFault, Memory}
 
 -- the words ask that the queries of this file's protocol be answered
 abbrev pub IsVerify : List (List ℕ) → List ℕ → Type 0
 IsVerify words file = (budget : ℕ) × (request_of words ≡ Some (Verify file budget))
 
--- the words ask for nothing that the program does
+-- the words ask that a run of this file's protocol be replayed
+abbrev pub IsReplay : List (List ℕ) → List ℕ → List ℕ → Type 0
+IsReplay words file run = request_of words ≡ Some (Replay file run)
+
+-- the words ask for nothing
 abbrev pub IsNoCommand : List (List ℕ) → Type 0
-IsNoCommand words = (file : List ℕ) → IsVerify words file → ⊥
+IsNoCommand words = request_of words ≡ None
 
 -- what is said of the bytes of a file that was read; where those that it holds are told, they are these
 pub record OfFile (held : Option (List ℕ)) (Fact : List ℕ → Type 0) : Type 0 where
@@ -33,6 +37,12 @@ pub record IsRefusalOf (bytes : List ℕ) (refusal : Refusal) : Type 0 where
   pub place : ℕ
   pub refused : Refuses bytes why place
   pub shown : refusal ≡ refusal_at bytes why place
+
+-- a file cannot be read: the one that is asked for, or where that spells a protocol, the run's; the last argument tells of which a fault was counted
+abbrev pub IsUnreadable : Option Request → (List ℕ → Option (List ℕ)) → (List ℕ → Type 0) → Type 0
+IsUnreadable None held Counted = ⊥
+IsUnreadable (Some (Verify file budget)) held Counted = Counted file
+IsUnreadable (Some (Replay file run)) held Counted = Counted file ⊎ (OfFile (held file) (λ bytes. (P : syntax.Protocol) × Spells bytes P) × Counted run)
 
 -- the answer to a query: proved exactly where it asks for a message with a private free name that no term of the process holds
 abbrev pub verdict_on : syntax.Protocol → syntax.Query → Verdict
@@ -53,6 +63,7 @@ abbrev pub IsOutcomeOf : List ℕ → Outcome → Type 0
 IsOutcomeOf bytes (Verified verdicts) = AreVerdictsOf bytes verdicts
 IsOutcomeOf bytes (Refused refusal) = IsRefusalOf bytes refusal
 IsOutcomeOf bytes Memory = Unit {0}
+IsOutcomeOf bytes (Replayed replay) = ⊥
 IsOutcomeOf bytes Usage = ⊥
 IsOutcomeOf bytes ReadFault = ⊥
 
@@ -65,6 +76,7 @@ abbrev pub IsProvedAt : Outcome → ℕ → Type 0
 IsProvedAt (Verified verdicts) k = slice_get verdicts k ≡ Some Proved
 IsProvedAt (Refused refusal) k = ⊥
 IsProvedAt Memory k = ⊥
+IsProvedAt (Replayed replay) k = ⊥
 IsProvedAt Usage k = ⊥
 IsProvedAt ReadFault k = ⊥
 

@@ -1,20 +1,39 @@
 -- What a call of the program comes to, as plain data.
-use Rattle.std.specs.Prelude.{ℕ, List}
+use Rattle.std.specs.Prelude.{ℕ, List, Option}
+use Rattle.calculus.specs.Runs.{Configuration}
+use Rattle.calculus.specs.Refusals as steps
 use Rattle.protocol_scope.specs.Spells as spells
+use Rattle.run_text.specs.Faults.{Fault}
 
 -- what is answered to one query
 pub data Verdict : Type 0 where
   Proved : Verdict
   Occurs : Verdict
 
+-- why the text of a run is refused
+pub data RunRefusal : Type 0 where
+  -- a line of it spells no step
+  Faulty : (fault : Fault) → RunRefusal
+  -- it has more than 16,777,216 bytes
+  LongRun : RunRefusal
+
 -- a text that is refused, why and where: line and column are counted from 1, in bytes
 pub data Refusal : Type 0 where
   Protocol : (line : ℕ) → (column : ℕ) → (why : spells.Refusal) → Refusal
+  Run : (line : ℕ) → (why : RunRefusal) → Refusal
+
+-- what a replay shows
+pub data Replay : Type 0 where
+  -- all steps were made, so many, and this is their end; for each query, in order, the first after which it is violated, 0 where it is so at the start
+  Done : (end : Configuration) → (steps : ℕ) → (firsts : List (Option ℕ)) → Replay
+  -- the step of that number, from 1, is refused
+  Stuck : (number : ℕ) → (refusal : steps.Refusal) → Replay
 
 -- what a call of the program comes to
 pub data Outcome : Type 0 where
   Usage : Outcome
   Verified : (verdicts : List Verdict) → Outcome
+  Replayed : (replay : Replay) → Outcome
   Refused : (refusal : Refusal) → Outcome
   ReadFault : Outcome
   Memory : Outcome

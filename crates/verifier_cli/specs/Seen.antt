@@ -1,8 +1,15 @@
--- What contracts see of verdicts and of the codes of refused protocols.
+-- What contracts see of verdicts, of the codes of refused texts, and of replays.
 use Rattle.protocol_tokens.specs.Piece as lexical
 use Rattle.protocol_scope.specs.Answers as scope
 use Rattle.protocol_scope.specs.Spells.{Refusal, Lexical, Scoped}
 use Rattle.protocol_scope.specs.Spells as spells
+use Rattle.pi_model.specs.Configurations.{configuration_of}
+use Rattle.pi_model.specs.Errors.{refusal_of}
+use Rattle.run_replay.specs.declared.replaying.Replayed.{Replayed}
+use Rattle.run_replay.specs.declared.replaying.Replayed.TheVariants.{Done, Stuck}
+use Rattle.run_text.specs.Faults as run
+use Rattle.verifier_cli.specs.declared.outcome.RunCode.{RunCode}
+use Rattle.verifier_cli.specs.declared.outcome.RunCode.TheVariants as line
 use Rattle.verifier_cli.specs.declared.outcome.Verdict.{Verdict}
 use Rattle.verifier_cli.specs.declared.outcome.Verdict.TheVariants.{Proved, Occurs}
 use Rattle.verifier_cli.specs.declared.outcome.ProtocolCode.{ProtocolCode}
@@ -28,3 +35,15 @@ refusal_by code.LooseVariable = Scoped scope.LooseVariable
 refusal_by code.TooMany = Scoped scope.TooMany
 refusal_by code.AmbiguousNew = Scoped scope.AmbiguousNew
 refusal_by code.LongFile = spells.LongFile
+
+-- why the text of a run is refused, by its code
+abbrev pub run_refusal_by : RunCode → own.RunRefusal
+run_refusal_by line.Word = own.Faulty run.Word
+run_refusal_by line.Number = own.Faulty run.Number
+run_refusal_by line.LongLine = own.Faulty run.LongLine
+run_refusal_by line.LongFile = own.LongRun
+
+-- a replay, by its end, the number of its steps and what they show
+abbrev pub replay_of : Replayed → own.Replay
+replay_of (Done end firsts) = own.Done (configuration_of end) end.steps firsts
+replay_of (Stuck number refusal) = own.Stuck number (refusal_of refusal)

@@ -1,17 +1,19 @@
 -- What contracts see of an outcome.
 use Rattle.verifier_cli.specs.declared.outcome.Refusal.{Refusal}
-use Rattle.verifier_cli.specs.declared.outcome.Refusal.TheVariants.{Protocol}
+use Rattle.verifier_cli.specs.declared.outcome.Refusal.TheVariants.{Protocol, Run}
 use Rattle.verifier_cli.specs.declared.outcome.Outcome.{Outcome}
-use Rattle.verifier_cli.specs.declared.outcome.Outcome.TheVariants.{Usage, Verified, Refused, ReadFault, Memory}
-use Rattle.verifier_cli.specs.Seen.{refusal_by}
+use Rattle.verifier_cli.specs.declared.outcome.Outcome.TheVariants.{Usage, Verified, Replayed, Refused, ReadFault, Memory}
+use Rattle.verifier_cli.specs.Seen.{refusal_by, run_refusal_by, replay_of}
 use Rattle.verifier_cli.specs.Outcome as own
 
 abbrev pub refusal_of : Refusal → own.Refusal
 refusal_of (Protocol row column code) = own.Protocol row column (refusal_by code)
+refusal_of (Run row code) = own.Run row (run_refusal_by code)
 
 abbrev pub outcome_of : Outcome → own.Outcome
 outcome_of Usage = own.Usage
 outcome_of (Verified verdicts) = own.Verified verdicts
+outcome_of (Replayed replayed) = own.Replayed (replay_of replayed)
 outcome_of (Refused refusal) = own.Refused (refusal_of refusal)
 outcome_of ReadFault = own.ReadFault
 outcome_of Memory = own.Memory

@@ -1,12 +1,14 @@
 -- The text that a call of the program writes, and the status that it ends with.
-use Rattle.std.specs.Prelude.{ℕ, ◌+◌, List, [], ◌∷◌, ◌++◌, codes, Bool, true, false, if◌then◌else◌}
+use Rattle.std.specs.Prelude.{ℕ, ◌+◌, List, [], ◌∷◌, ◌++◌, codes, Bool, true, false, if◌then◌else◌, Option, Some, None, is_none}
 use Rattle.std.specs.Fmt.{decimal}
 use Rattle.std.specs.List.{list_all}
+use Rattle.calculus.specs.Refusals as step
+use Rattle.run_text.specs.Faults as run
 use Rattle.protocol_tokens.specs.Piece as lexical
 use Rattle.protocol_scope.specs.Answers as scope
 use Rattle.protocol_scope.specs.Spells as spells
 use Rattle.protocol_scope.specs.Spells.{Lexical, Scoped}
-use Rattle.verifier_cli.specs.Outcome.{Verdict, Proved, Occurs, Refusal, Protocol, Outcome, Usage, Verified, Refused, ReadFault, Memory}
+use Rattle.verifier_cli.specs.Outcome.{Verdict, Proved, Occurs, RunRefusal, Faulty, LongRun, Refusal, Protocol, Run, Replay, Done, Stuck, Outcome, Usage, Verified, Replayed, Refused, ReadFault, Memory}
 
 -- a text with its line's end
 abbrev pub line : List ℕ → List ℕ
@@ -39,14 +41,55 @@ code_text (Scoped scope.TooMany) = codes "11 TooMany"
 code_text (Scoped scope.AmbiguousNew) = codes "12 AmbiguousNew"
 code_text spells.LongFile = codes "13 LongFile"
 
+-- the code of a refused run, and its name
+abbrev pub run_code_text : RunRefusal → List ℕ
+run_code_text (Faulty run.Word) = codes "1 Word"
+run_code_text (Faulty run.Number) = codes "2 Number"
+run_code_text (Faulty run.LongLine) = codes "3 LongLine"
+run_code_text LongRun = codes "4 LongFile"
+
 abbrev pub refusal_text : Refusal → List ℕ
 refusal_text (Protocol row column why) =
     codes "refused " ++ decimal row ++ codes ":" ++ decimal column ++ codes " " ++ code_text why
+refusal_text (Run row why) = codes "refused run " ++ decimal row ++ codes " " ++ run_code_text why
+
+-- since when a query is violated
+abbrev pub first_text : Option ℕ → List ℕ
+first_text None = codes "not violated"
+first_text (Some step) = codes "violated " ++ decimal step
+
+-- a line for each query, the first of which has this number
+abbrev pub first_lines : ℕ → List (Option ℕ) → List ℕ
+first_lines number [] = []
+first_lines number (first ∷ firsts) =
+    line (codes "query " ++ decimal number ++ codes " " ++ first_text first) ++ first_lines (number + 1) firsts
+
+-- the code of a refused step, and its name
+abbrev pub step_text : step.Refusal → List ℕ
+step_text step.NoThread = codes "1 NoThread"
+step_text step.WrongForm = codes "2 WrongForm"
+step_text step.UnknownChannel = codes "3 UnknownChannel"
+step_text step.ChannelsDiffer = codes "4 ChannelsDiffer"
+step_text step.NoKnowledge = codes "5 NoKnowledge"
+step_text step.NoRule = codes "6 NoRule"
+step_text step.NotFailing = codes "7 NotFailing"
+step_text step.NotPublic = codes "8 NotPublic"
+step_text step.Large = codes "9 Large"
+
+-- what a replay to the end shows, by the number of its steps and the queries' first violations
+abbrev pub done_text : ℕ → List (Option ℕ) → List ℕ
+done_text steps firsts = line (codes "done " ++ decimal steps) ++ first_lines 1 firsts
+
+-- what a replay shows
+abbrev pub replay_text : Replay → List ℕ
+replay_text (Done end steps firsts) = done_text steps firsts
+replay_text (Stuck number refusal) = line (codes "stuck " ++ decimal number ++ codes " " ++ step_text refusal)
 
 -- all that a call writes
 abbrev pub outcome_bytes : Outcome → List ℕ
 outcome_bytes Usage = line (codes "usage: verify FILE [--budget N] | check FILE REPORT | list FILE QUERY | replay FILE RUN | ring N")
 outcome_bytes (Verified verdicts) = verdict_lines 1 verdicts
+outcome_bytes (Replayed replay) = replay_text replay
 outcome_bytes (Refused refusal) = line (refusal_text refusal)
 outcome_bytes ReadFault = line (codes "read fault")
 outcome_bytes Memory = line (codes "want of memory")
@@ -55,10 +98,17 @@ abbrev pub is_proved : Verdict → Bool
 is_proved Proved = true
 is_proved Occurs = false
 
+-- a replay to its end that violates no query
+abbrev pub is_without_violation : Replay → Bool
+is_without_violation (Done end steps firsts) = list_all is_none firsts
+is_without_violation (Stuck number refusal) = false
+
 -- the status that a call ends with where its text is written
 abbrev pub status_of : Outcome → ℕ
 status_of Usage = 2
 status_of (Verified verdicts) = if list_all is_proved verdicts then 0 else 1
-status_of (Refused refusal) = 3
+status_of (Replayed replay) = if is_without_violation replay then 0 else 1
+status_of (Refused (Protocol row column why)) = 3
+status_of (Refused (Run row why)) = 4
 status_of ReadFault = 5
 status_of Memory = 7

@@ -7,9 +7,10 @@ mod call;
 mod loading;
 mod outcome;
 mod reading;
+mod replay;
 mod text;
 mod verify;
 
 pub use crate::call::top;
-pub use crate::outcome::{Answer, Outcome, ProtocolCode, Refusal, Verdict, Verdicts};
+pub use crate::outcome::{Answer, Outcome, ProtocolCode, Refusal, RunCode, Verdict, Verdicts};
 pub use crate::text::{outcome_text, status};

@@ -1,11 +1,21 @@
-//! Loading the whole text of a file.
+//! Loading the whole text of a file, and the protocol that it spells.
 
-ghost use Rattle.std.specs.Prelude.{◌≡◌, ◌-◌, ◌^◌, ◌<◌, ◌≤◌, ℕ, List, length, vec_len, IfOk, IfSome, Err};
+ghost use Rattle.std.specs.Prelude.{◌≡◌, ◌-◌, ◌^◌, ◌<◌, ◌≤◌, ℕ, List, length, vec_len, IfOk, IfErr, IfSome, Err};
 ghost use Rattle.hv_io.specs.Faults.{IsFaultCounted};
+ghost use Rattle.pi_tree.specs.Protocols.{protocol_of};
+ghost use Rattle.protocol_scope.specs.Spells.{Spells};
+ghost use Rattle.run_replay.specs.Limits.{IsLimited};
 ghost use Rattle.verifier_cli.specs.declared.loading.Unloaded.TheVariants as unloaded;
 ghost use Rattle.verifier_cli.specs.Command.{OfFile};
+ghost use Rattle.verifier_cli.specs.Reading.{IsStopOf, IsNoReading, IsUnread, not_loaded};
+ghost use Rattle.verifier_cli.specs.SeenOutcome.{outcome_of};
 
-use hv_io::{Files, LoadError};
+use crate::outcome::{Outcome, ProtocolCode, Refusal};
+use crate::reading::{Stop, read_protocol};
+use hv_io::{Files, LoadError, place};
+use pi_tree::{MOST_BYTES, Protocol};
+use protocol_scope::few_points;
+use std::alloc::Global;
 
 /// Why a text was not loaded.
 #[derive(Clone, Copy)]
@@ -42,5 +52,56 @@ pub(crate) fn load_text<F: Files>(
                 Ok(bytes)
             }
         }
+    }
+}
+
+/// What a call comes to whose protocol could not be loaded.
+fn not_loaded(why: Unloaded) -> Outcome
+    ensures { outcome_of result ≡ not_loaded why }
+{
+    match why {
+        Unloaded::Failed => Outcome::ReadFault,
+        Unloaded::TooLong => Outcome::Refused(Refusal::Protocol {
+            line: 1,
+            column: 1,
+            code: ProtocolCode::LongFile,
+        }),
+        Unloaded::Memory => Outcome::Memory,
+    }
+}
+
+/// What a call comes to whose protocol could not be read.
+fn not_read(bytes: &[u8], why: Stop) -> Outcome
+    requires { IsStopOf bytes.now why }
+    ensures { IsNoReading bytes.now (outcome_of result) }
+{
+    match why {
+        Stop::Refused(code, at) => {
+            let (line, column) = place(bytes, at);
+            Outcome::Refused(Refusal::Protocol { line, column, code })
+        }
+        Stop::Memory => Outcome::Memory,
+    }
+}
+
+/// The protocol that a file spells, or what the call comes to where there is none.
+pub(crate) fn load_protocol<F: Files>(
+    alloc: Global,
+    file: &str,
+    files: &mut F,
+) -> Result<Protocol, Outcome>
+    ensures held_stays { (name : List ℕ) → F.held files.new name ≡ F.held files.old name }
+    ensures read_faults_rise { (name : List ℕ) → F.faults files.old name ≤ F.faults files.new name }
+    ensures limited { IfOk result (λ protocol. IsLimited (protocol_of protocol)) }
+    ensures spelled { IfOk result (λ protocol. OfFile (F.held files.old file.now) (λ bytes. Spells bytes (protocol_of protocol))) }
+    ensures unread { IfErr result (λ outcome. IsUnread (IsFaultCounted (F.faults files.old file.now) (F.faults files.new file.now)) (F.held files.old file.now) (outcome_of outcome)) }
+{
+    few_points();
+    match load_text(file, MOST_BYTES, files) {
+        Err(why) => Err(not_loaded(why)),
+        Ok(bytes) => match read_protocol(alloc, &bytes) {
+            Ok(protocol) => Ok(protocol),
+            Err(why) => Err(not_read(&bytes, why)),
+        },
     }
 }

@@ -2,6 +2,7 @@
 
 ghost use Rattle.std.specs.Prelude.{◌≡◌};
 
+use run_replay::Replayed;
 use std::marker::Model;
 
 /// The answer to one query.
@@ -73,6 +74,20 @@ pub enum ProtocolCode {
     LongFile,
 }
 
+/// Why the text of a run is refused. The printed code of each is its number here, from 1.
+#[derive(Clone, Copy, Debug, PartialEq, Eq)]
+pub enum RunCode {
+    /// The line's first word is that of no step.
+    Word,
+    /// The line has another count of numbers than the step of its word, or something that is no decimal number of at
+    /// most nine digits, without leading zero, where a number should stand.
+    Number,
+    /// The line has more than 256 bytes.
+    LongLine,
+    /// The file has more than 16,777,216 bytes. This is looked at before all else; its line is 1.
+    LongFile,
+}
+
 /// A text that is refused, why and where.
 #[derive(Clone, Copy, Debug, PartialEq, Eq)]
 pub enum Refusal {
@@ -81,6 +96,11 @@ pub enum Refusal {
         line: u64,
         column: u64,
         code: ProtocolCode,
+    },
+    /// The run; the line is counted from 1.
+    Run {
+        line: u64,
+        code: RunCode,
     },
 }
 
@@ -91,6 +111,8 @@ pub enum Outcome {
     Usage,
     /// The protocol was read, and each query answered.
     Verified(Verdicts),
+    /// The protocol and the run were read, and the run replayed.
+    Replayed(Replayed),
     /// A text was refused.
     Refused(Refusal),
     /// A file could not be read.

@@ -1,15 +1,18 @@
 //! The text of an outcome, and the status that the program ends with.
 
-ghost use Rattle.std.specs.Prelude.{◌≡◌, IfOk, IfSome, IsSome};
+ghost use Rattle.std.specs.Prelude.{◌≡◌, is_none, IfOk};
 ghost use Rattle.std.specs.List.{list_all};
 ghost use Rattle.std.specs.String.{string_bytes};
 ghost use Rattle.verifier_cli.specs.SeenOutcome.{outcome_of, refusal_of};
+ghost use Rattle.pi_model.specs.Errors as errors;
 ghost use Rattle.verifier_cli.specs.Outcome as own;
-ghost use Rattle.verifier_cli.specs.Seen.{refusal_by};
-ghost use Rattle.verifier_cli.specs.Text.{line, outcome_bytes, status_of, refusal_text, verdict_lines, is_proved};
+ghost use Rattle.verifier_cli.specs.Seen.{refusal_by, run_refusal_by, replay_of};
+ghost use Rattle.verifier_cli.specs.Text.{line, outcome_bytes, status_of, refusal_text, verdict_lines, is_proved, first_text, first_lines, done_text, replay_text, is_without_violation};
 
-use crate::outcome::{Outcome, ProtocolCode, Refusal, Verdict, Verdicts};
+use crate::outcome::{Outcome, ProtocolCode, Refusal, RunCode, Verdict, Verdicts};
+use pi_model::StepError;
 use pi_tree::Protocol;
+use run_replay::{Firsts, Replayed};
 use std::alloc::{AllocError, Global};
 use std::fmt;
 use std::fmt::Write;
@@ -65,6 +68,48 @@ impl fmt::Display for ProtocolCode {
     }
 }
 
+impl fmt::Display for RunCode {
+    ghost use Rattle.std.specs.Prelude.{Some};
+    ghost use Rattle.verifier_cli.specs.Seen.{run_refusal_by};
+    ghost use Rattle.verifier_cli.specs.Text.{run_code_text};
+
+    ghost output = { λ c. Some (run_code_text (run_refusal_by c)) };
+
+    fn fmt<W: fmt::Write>(&self, f: &mut fmt::Formatter<W>) -> fmt::Result {
+        match self {
+            RunCode::Word => f.write_str("1 Word"),
+            RunCode::Number => f.write_str("2 Number"),
+            RunCode::LongLine => f.write_str("3 LongLine"),
+            RunCode::LongFile => f.write_str("4 LongFile"),
+        }
+    }
+}
+
+/// The code of a refused step, and its name.
+#[derive(Clone, Copy)]
+struct StepCode(StepError);
+
+impl fmt::Display for StepCode {
+    ghost use Rattle.std.specs.Prelude.{Some};
+    ghost use Rattle.verifier_cli.specs.Text.{step_text};
+
+    ghost output = { λ c. Some (step_text (errors.refusal_of c.0)) };
+
+    fn fmt<W: fmt::Write>(&self, f: &mut fmt::Formatter<W>) -> fmt::Result {
+        match self.0 {
+            StepError::NoThread => f.write_str("1 NoThread"),
+            StepError::WrongForm => f.write_str("2 WrongForm"),
+            StepError::UnknownChannel => f.write_str("3 UnknownChannel"),
+            StepError::ChannelsDiffer => f.write_str("4 ChannelsDiffer"),
+            StepError::NoKnowledge => f.write_str("5 NoKnowledge"),
+            StepError::NoRule => f.write_str("6 NoRule"),
+            StepError::NotFailing => f.write_str("7 NotFailing"),
+            StepError::NotPublic => f.write_str("8 NotPublic"),
+            StepError::Large => f.write_str("9 Large"),
+        }
+    }
+}
+
 /// The text of the answers to a protocol's queries, a line for each.
 fn verdicts_text(alloc: Global, verdicts: &Verdicts) -> Result<String, AllocError>
     ensures { IfOk result (λ text. string_bytes text ≡ verdict_lines 1 verdicts.now) }
@@ -92,12 +137,77 @@ fn protocol_refusal(
     Ok(text)
 }
 
+/// The line that refuses the text of a run at one of its lines.
+fn run_refusal(alloc: Global, row: u64, code: RunCode) -> Result<String, AllocError>
+    ensures { IfOk result (λ text. string_bytes text ≡ line (refusal_text (own.Run row (run_refusal_by code)))) }
+{
+    let mut text = String::new(alloc);
+    writeln!(text, "refused run {row} {code}")?;
+    Ok(text)
+}
+
 /// The text of a refusal, one line.
 fn refusal_line(alloc: Global, refusal: Refusal) -> Result<String, AllocError>
     ensures { IfOk result (λ text. string_bytes text ≡ line (refusal_text (refusal_of refusal))) }
 {
     match refusal {
         Refusal::Protocol { line, column, code } => protocol_refusal(alloc, line, column, code),
+        Refusal::Run { line, code } => run_refusal(alloc, line, code),
+    }
+}
+
+/// Since when a query is violated.
+fn first_words(alloc: Global, first: Option<u64>) -> Result<String, AllocError>
+    ensures { IfOk result (λ text. string_bytes text ≡ first_text first) }
+{
+    match first {
+        None => String::from_str(alloc, "not violated"),
+        Some(step) => format!(in alloc; "violated {step}"),
+    }
+}
+
+/// A line for each query of a replay.
+fn firsts_text(alloc: Global, firsts: &Firsts) -> Result<String, AllocError>
+    ensures { IfOk result (λ text. string_bytes text ≡ first_lines 1 firsts.now) }
+{
+    let mut text = String::new(alloc);
+    for (place, first) in firsts.items.iter().enumerate() {
+        let number = place as u64 + 1;
+        let words = first_words(alloc, *first)?;
+        writeln!(text, "query {number} {words}")?;
+    }
+    Ok(text)
+}
+
+/// The text of a replay to the end.
+fn done_text(alloc: Global, steps: u64, firsts: &Firsts) -> Result<String, AllocError>
+    ensures { IfOk result (λ text. string_bytes text ≡ done_text steps firsts.now) }
+{
+    let lines = firsts_text(alloc, firsts)?;
+    let mut text = String::new(alloc);
+    writeln!(text, "done {steps}")?;
+    write!(text, "{lines}")?;
+    Ok(text)
+}
+
+/// The text of a replay up to a step that is refused.
+fn stuck_text(alloc: Global, number: u64, error: StepError) -> Result<String, AllocError>
+    ensures { IfOk result (λ text. string_bytes text ≡ replay_text (own.Stuck number (errors.refusal_of error))) }
+{
+    let code = StepCode(error);
+    let mut text = String::new(alloc);
+    write!(text, "stuck {number}")?;
+    writeln!(text, " {code}")?;
+    Ok(text)
+}
+
+/// The text of a replay.
+fn replayed_text(alloc: Global, replayed: &Replayed) -> Result<String, AllocError>
+    ensures { IfOk result (λ text. string_bytes text ≡ replay_text (replay_of replayed.now)) }
+{
+    match replayed {
+        Replayed::Done(end, firsts) => done_text(alloc, end.steps, firsts),
+        Replayed::Stuck(number, error) => stuck_text(alloc, *number, *error),
     }
 }
 
@@ -113,6 +223,7 @@ pub fn outcome_text(
     match outcome {
         Outcome::Usage => USAGE.to_vec(alloc),
         Outcome::Verified(verdicts) => Ok(verdicts_text(alloc, verdicts)?.into_bytes()),
+        Outcome::Replayed(replayed) => Ok(replayed_text(alloc, replayed)?.into_bytes()),
         Outcome::Refused(refusal) => Ok(refusal_line(alloc, *refusal)?.into_bytes()),
         Outcome::ReadFault => READ_FAULT.to_vec(alloc),
         Outcome::Memory => WANT_OF_MEMORY.to_vec(alloc),
@@ -131,6 +242,28 @@ fn are_proved(verdicts: &Verdicts) -> bool
     true
 }
 
+/// Whether no query is violated.
+fn are_unviolated(firsts: &Firsts) -> bool
+    ensures { result ≡ list_all is_none firsts.now }
+{
+    for first in &firsts.items {
+        if first.is_some() {
+            return false;
+        }
+    }
+    true
+}
+
+/// Whether the run was replayed to its end and violates no query.
+fn is_without_violation(replayed: &Replayed) -> bool
+    ensures { result ≡ is_without_violation (replay_of replayed.now) }
+{
+    match replayed {
+        Replayed::Done(_, firsts) => are_unviolated(firsts),
+        Replayed::Stuck(_, _) => false,
+    }
+}
+
 /// The status that the program ends with where the outcome's text was written.
 pub fn status(outcome: &Outcome) -> u8
     ensures { result ≡ status_of (outcome_of outcome.now) }
@@ -138,7 +271,9 @@ pub fn status(outcome: &Outcome) -> u8
     match outcome {
         Outcome::Usage => 2,
         Outcome::Verified(verdicts) => { if are_proved(verdicts) { 0 } else { 1 } }
-        Outcome::Refused(_) => 3,
+        Outcome::Replayed(replayed) => { if is_without_violation(replayed) { 0 } else { 1 } }
+        Outcome::Refused(Refusal::Protocol { .. }) => 3,
+        Outcome::Refused(Refusal::Run { .. }) => 4,
         Outcome::ReadFault => 5,
         Outcome::Memory => 7,
     }

@@ -22,7 +22,7 @@ fn a_missing_file_is_a_read_fault(rt: HostRuntime) -> Result<(), Fail> {
 fn other_words_get_the_usage_line(rt: HostRuntime) -> Result<(), Fail> {
     let usage =
         b"usage: verify FILE [--budget N] | check FILE REPORT | list FILE QUERY | replay FILE RUN | ring N\n";
-    let rows: [&[&str]; 11] = [
+    let rows: [&[&str]; 15] = [
         &[],
         &["hv"],
         &["hv", "verify"],
@@ -33,8 +33,11 @@ fn other_words_get_the_usage_line(rt: HostRuntime) -> Result<(), Fail> {
         &["hv", "verify", "first.pi", "--budget", "1000001"],
         &["hv", "verify", "first.pi", "--budget"],
         &["hv", "--help"],
-        // Its command is to come.
-        &["hv", "replay", "first.pi", "first.run"],
+        &["hv", "replay"],
+        &["hv", "replay", "first.pi"],
+        &["hv", "replay", "first.pi", "first.run", "first.run"],
+        &["hv", "replay", "first.pi", "first.run", "--budget", "5"],
+        &["hv", "replay", "first.pi", "--help"],
     ];
     for row in rows {
         let (text, status) = call(rt.alloc(), row, b"process 0")?;

@@ -8,4 +8,8 @@ mod expected;
 #[cfg(test)]
 mod refused;
 #[cfg(test)]
+mod replay_calls;
+#[cfg(test)]
+mod replayed;
+#[cfg(test)]
 mod verified;

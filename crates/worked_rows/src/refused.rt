@@ -1,20 +1,10 @@
 //! Files that spell no protocol: each expected code and place was worked out from the rules of the language.
 
-use crate::expected::expect;
-use std::alloc::{AllocError, Global};
+use crate::expected::{expect, followed};
 use std::test::Fail;
 
 /// The most bytes of a protocol's file.
 const MOST_BYTES: usize = 1_048_576;
-
-/// These bytes, and so many more after them.
-fn followed(alloc: Global, front: &[u8], byte: u8, count: usize) -> Result<Vec<u8>, AllocError> {
-    let mut bytes = front.to_vec(alloc)?;
-    for _ in 0..count {
-        bytes.push(byte)?;
-    }
-    Ok(bytes)
-}
 
 #[test]
 fn each_code(rt: HostRuntime) -> Result<(), Fail> {

@@ -1,18 +1,10 @@
 //! Files that spell a protocol: each expected text and status was worked out from the rules of the language.
 
-use crate::expected::{call, expect};
+use crate::expected::{HANDSHAKE, call, expect};
 use pi_lexer::lex;
 use pi_parser::parse;
 use scope_check::check_scope;
 use std::test::Fail;
-
-/// Each name that is sent began before: a role that encrypts, and one that decrypts.
-const HANDSHAKE: &[u8] = b"free c. private free k. fun enc/2.
-reduc dec(enc(x,y),y) -> x.
-event begin/1. event end/1.
-query event end(x) ==> event begin(x).
-process !new n; event begin(n); out(c,enc(n,k))
-      | !in(c,x); let y = dec(x,k) in event end(y)";
 
 #[test]
 fn private_names_that_occur_nowhere(rt: HostRuntime) -> Result<(), Fail> {

@@ -1,13 +1,16 @@
--- The file is the one that the words name.
+-- The files are those that the words name.
 use Rattle.std.proofs.Common.{◌≡◌, ◌≢◌, ℕ, List, map, Option, Some, option_map, sym, ap, ◌∙◌}
 use Rattle.std.specs.String.{string_bytes}
+use Rattle.hv_io.specs.Faults.{IsFaultCounted}
 use Rattle.command_words.specs.declared.Request.{Request}
-use Rattle.command_words.specs.Request.{Verify, request_of, request_seen}
+use Rattle.command_words.specs.Request.{Verify, Replay, request_of, request_seen}
 use Rattle.verifier_cli.specs.Outcome.{ReadFault}
 use Rattle.verifier_cli.specs.SeenOutcome.{outcome_of}
 use Rattle.verifier_cli.specs.Command.{OfFile, Verifies}
-use Rattle.verifier_cli.proofs.Commands.{for_file}
+use Rattle.verifier_cli.specs.Replaying.{Replays}
+use Rattle.verifier_cli.proofs.Commands.{for_file, for_files, no_replay, no_verify, a_command, unreadable}
 use Rattle.verifier_cli.proofs.Verifying.{memory_verified}
+use Rattle.verifier_cli.proofs.Replaying.{memory_replayed}
 use Rattle.verifier_cli.proofs.call.decide.Goals as goal
 
 pub returns-in-Ok-Some-Verify-clause-unused : goal.returns-in-Ok-Some-Verify-clause-unused
@@ -15,7 +18,15 @@ returns-in-Ok-Some-Verify-clause-unused g c =
     let w = c.in-Ok-Some-Verify in
     let asked : Some (Verify w.file.now w.field-0-0-1) ≡ request_of (map string_bytes c.args.words.now) =
     sym (ap (λ (r : Option Request). option_map request_seen r) (w.field-0-is ∙ ap Some w.field-0-0-is)) ∙ w.ensures.request in
-    λ none. absurd (none _ (_, sym asked))
+    λ none. absurd (a_command (map string_bytes c.args.words.now) (Verify w.file.now w.field-0-0-1) asked none)
+
+pub returns-in-Ok-Some-Verify-clause-fault : goal.returns-in-Ok-Some-Verify-clause-fault
+returns-in-Ok-Some-Verify-clause-fault g c =
+    let w = c.in-Ok-Some-Verify in
+    let asked : Some (Verify w.file.now w.field-0-0-1) ≡ request_of (map string_bytes c.args.words.now) =
+    sym (ap (λ (r : Option Request). option_map request_seen r) (w.field-0-is ∙ ap Some w.field-0-0-is)) ∙ w.ensures.request in
+    λ e. unreadable (map string_bytes c.args.words.now) (Verify w.file.now w.field-0-0-1) asked (g.F.Files.held c.args.files.now)
+    (λ name. IsFaultCounted (g.F.Files.faults c.args.files.now name) (g.F.Files.faults c.verify_file.new.files name)) (c.verify_file.ensures.fault e)
 
 pub returns-in-Ok-Some-Verify-clause-verified : goal.returns-in-Ok-Some-Verify-clause-verified
 returns-in-Ok-Some-Verify-clause-verified g c =
@@ -26,5 +37,46 @@ returns-in-Ok-Some-Verify-clause-verified g c =
     λ file. outcome_of c.verify_file.result ≢ ReadFault → OfFile (g.F.Files.held c.args.files.now file) (λ bytes. Verifies bytes (outcome_of c.verify_file.result)) in
     for_file (map string_bytes c.args.words.now) w.file.now w.field-0-0-1 asked F c.verify_file.ensures.verified
 
+pub returns-in-Ok-Some-Verify-clause-replayed : goal.returns-in-Ok-Some-Verify-clause-replayed
+returns-in-Ok-Some-Verify-clause-replayed g c =
+    let w = c.in-Ok-Some-Verify in
+    let asked : Some (Verify w.file.now w.field-0-0-1) ≡ request_of (map string_bytes c.args.words.now) =
+    sym (ap (λ (r : Option Request). option_map request_seen r) (w.field-0-is ∙ ap Some w.field-0-0-is)) ∙ w.ensures.request in
+    λ file run is other. absurd (no_replay (map string_bytes c.args.words.now) w.file.now w.field-0-0-1 asked file run is)
+
+pub returns-in-Ok-Some-Replay-clause-unused : goal.returns-in-Ok-Some-Replay-clause-unused
+returns-in-Ok-Some-Replay-clause-unused g c =
+    let w = c.in-Ok-Some-Replay in
+    let asked : Some (Replay w.file.now w.run'.now) ≡ request_of (map string_bytes c.args.words.now) =
+    sym (ap (λ (r : Option Request). option_map request_seen r) (w.field-0-is ∙ ap Some w.field-0-0-is)) ∙ w.ensures.request in
+    λ none. absurd (a_command (map string_bytes c.args.words.now) (Replay w.file.now w.run'.now) asked none)
+
+pub returns-in-Ok-Some-Replay-clause-fault : goal.returns-in-Ok-Some-Replay-clause-fault
+returns-in-Ok-Some-Replay-clause-fault g c =
+    let w = c.in-Ok-Some-Replay in
+    let asked : Some (Replay w.file.now w.run'.now) ≡ request_of (map string_bytes c.args.words.now) =
+    sym (ap (λ (r : Option Request). option_map request_seen r) (w.field-0-is ∙ ap Some w.field-0-0-is)) ∙ w.ensures.request in
+    λ e. unreadable (map string_bytes c.args.words.now) (Replay w.file.now w.run'.now) asked (g.F.Files.held c.args.files.now)
+    (λ name. IsFaultCounted (g.F.Files.faults c.args.files.now name) (g.F.Files.faults c.replay_file.new.files name)) (c.replay_file.ensures.fault e)
+
+pub returns-in-Ok-Some-Replay-clause-verified : goal.returns-in-Ok-Some-Replay-clause-verified
+returns-in-Ok-Some-Replay-clause-verified g c =
+    let w = c.in-Ok-Some-Replay in
+    let asked : Some (Replay w.file.now w.run'.now) ≡ request_of (map string_bytes c.args.words.now) =
+    sym (ap (λ (r : Option Request). option_map request_seen r) (w.field-0-is ∙ ap Some w.field-0-0-is)) ∙ w.ensures.request in
+    λ file is other. absurd (no_verify (map string_bytes c.args.words.now) w.file.now w.run'.now asked file is)
+
+pub returns-in-Ok-Some-Replay-clause-replayed : goal.returns-in-Ok-Some-Replay-clause-replayed
+returns-in-Ok-Some-Replay-clause-replayed g c =
+    let w = c.in-Ok-Some-Replay in
+    let asked : Some (Replay w.file.now w.run'.now) ≡ request_of (map string_bytes c.args.words.now) =
+    sym (ap (λ (r : Option Request). option_map request_seen r) (w.field-0-is ∙ ap Some w.field-0-0-is)) ∙ w.ensures.request in
+    let F : List ℕ → List ℕ → Type 0 =
+    λ file run. outcome_of c.replay_file.result ≢ ReadFault → OfFile (g.F.Files.held c.args.files.now file) (λ bytes. Replays bytes (g.F.Files.held c.args.files.now run) (outcome_of c.replay_file.result)) in
+    for_files (map string_bytes c.args.words.now) w.file.now w.run'.now asked F c.replay_file.ensures.replayed
+
 pub returns-in-Err-clause-verified : goal.returns-in-Err-clause-verified
 returns-in-Err-clause-verified g c = λ file is other. memory_verified _
+
+pub returns-in-Err-clause-replayed : goal.returns-in-Err-clause-replayed
+returns-in-Err-clause-replayed g c = λ file run is other. memory_replayed _ _

@@ -1,4 +1,4 @@
-use Rattle.verifier_cli.proofs.Outcomes.{becomes_after, was_before, verified_after}
+use Rattle.verifier_cli.proofs.Outcomes.{becomes_after, was_before, verified_after, replayed_after}
 use Rattle.verifier_cli.proofs.call.top.Goals as goal
 
 pub returns-clause-usage : goal.returns-clause-usage
@@ -12,3 +12,6 @@ returns-clause-read_fault g c = λ e. c.decide-outcome.ensures.fault (was_before
 
 pub returns-clause-headline : goal.returns-clause-headline
 returns-clause-headline g c = λ file is other. verified_after _ _ _ c.respond.ensures.outcome (c.decide-outcome.ensures.verified file is) other
+
+pub returns-clause-replay : goal.returns-clause-replay
+returns-clause-replay g c = λ file run is other. replayed_after _ _ _ _ c.respond.ensures.outcome (c.decide-outcome.ensures.replayed file run is) other

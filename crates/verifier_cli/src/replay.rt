@@ -1,0 +1,117 @@
+//! The command `replay`: what the steps of a run show.
+
+ghost use Rattle.std.specs.Prelude.{◌≡◌, ◌≢◌, ◌<◌, ◌≤◌, ◌^◌, ◌⊎◌, ℕ, List, length, IfOk, IfErr};
+ghost use Rattle.calculus.specs.Syntax as syntax;
+ghost use Rattle.hv_io.specs.Faults.{IsFaultCounted};
+ghost use Rattle.pi_tree.specs.Protocols.{protocol_of};
+ghost use Rattle.protocol_scope.specs.Spells.{Spells};
+ghost use Rattle.run_replay.specs.Limits.{IsLimited};
+ghost use Rattle.verifier_cli.specs.Command.{OfFile};
+ghost use Rattle.verifier_cli.specs.Outcome as own;
+ghost use Rattle.verifier_cli.specs.Replaying.{SpellsSteps, IsReplayOf, RunsOn, Replays};
+ghost use Rattle.verifier_cli.specs.RunReading.{run_not_loaded, run_not_read, IsUnreadRun, IsOfRun};
+ghost use Rattle.verifier_cli.specs.SeenOutcome.{outcome_of};
+
+use crate::loading::{Unloaded, load_protocol, load_text};
+use crate::outcome::{Outcome, Refusal, RunCode};
+use hv_io::Files;
+use pi_tree::Protocol;
+use protocol_scope::{never_both, one_protocol, one_refusal};
+use run_replay::{RunError, Steps, read_run, replay};
+use std::alloc::Global;
+
+/// The most bytes of a run's text.
+const MOST_RUN_BYTES: usize = 16_777_216;
+
+/// What a call comes to whose run could not be loaded.
+fn run_not_loaded(why: Unloaded) -> Outcome
+    ensures { outcome_of result ≡ run_not_loaded why }
+{
+    match why {
+        Unloaded::Failed => Outcome::ReadFault,
+        Unloaded::TooLong => Outcome::Refused(Refusal::Run {
+            line: 1,
+            code: RunCode::LongFile,
+        }),
+        Unloaded::Memory => Outcome::Memory,
+    }
+}
+
+/// What a call comes to whose run could not be read.
+fn run_not_read(error: RunError) -> Outcome
+    ensures { outcome_of result ≡ run_not_read error }
+{
+    let (line, code) = match error {
+        RunError::Word(line) => (line, RunCode::Word),
+        RunError::Number(line) => (line, RunCode::Number),
+        RunError::LongLine(line) => (line, RunCode::LongLine),
+        RunError::Memory(_) => return Outcome::Memory,
+    };
+    Outcome::Refused(Refusal::Run { line, code })
+}
+
+/// The steps that a file spells, or what the call comes to where it spells none.
+fn load_run<F: Files>(alloc: Global, run: &str, files: &mut F) -> Result<Steps, Outcome>
+    ensures held_stays { (name : List ℕ) → F.held files.new name ≡ F.held files.old name }
+    ensures read_faults_rise { (name : List ℕ) → F.faults files.old name ≤ F.faults files.new name }
+    ensures few { IfOk result (λ steps. length steps < 2 ^ 32) }
+    ensures spelled { IfOk result (λ steps. OfFile (F.held files.old run.now) (λ bytes. SpellsSteps bytes steps)) }
+    ensures unread { IfErr result (λ outcome. IsUnreadRun (IsFaultCounted (F.faults files.old run.now) (F.faults files.new run.now)) (F.held files.old run.now) (outcome_of outcome)) }
+{
+    run_text::few_steps();
+    match load_text(run, MOST_RUN_BYTES, files) {
+        Err(why) => Err(run_not_loaded(why)),
+        Ok(bytes) => match read_run(alloc, &bytes) {
+            Ok(steps) => Ok(steps),
+            Err(error) => Err(run_not_read(error)),
+        },
+    }
+}
+
+/// What replaying the steps comes to.
+fn replayed(alloc: Global, protocol: &Protocol, steps: &Steps) -> Outcome
+    requires limits { IsLimited (protocol_of protocol.now) }
+    requires few { length steps.now < 2 ^ 32 }
+    ensures shown { IsReplayOf (protocol_of protocol.now) steps.now (outcome_of result) }
+    ensures kind { IsOfRun (outcome_of result) }
+{
+    match replay(alloc, protocol, &steps.items) {
+        Ok(replayed) => Outcome::Replayed(replayed),
+        Err(_) => Outcome::Memory,
+    }
+}
+
+/// Loads a run of the protocol and replays it.
+fn replay_run<F: Files>(alloc: Global, protocol: &Protocol, run: &str, files: &mut F) -> Outcome
+    requires { IsLimited (protocol_of protocol.now) }
+    ensures held_stays { (name : List ℕ) → F.held files.new name ≡ F.held files.old name }
+    ensures read_faults_rise { (name : List ℕ) → F.faults files.old name ≤ F.faults files.new name }
+    ensures kind { IsOfRun (outcome_of result) }
+    ensures fault { outcome_of result ≡ own.ReadFault → IsFaultCounted (F.faults files.old run.now) (F.faults files.new run.now) }
+    ensures shown { outcome_of result ≢ own.ReadFault → OfFile (F.held files.old run.now) (λ text. RunsOn (protocol_of protocol.now) text (outcome_of result)) }
+{
+    run_text::one_run();
+    run_text::one_refusal();
+    run_text::never_both();
+    match load_run(alloc, run, files) {
+        Err(outcome) => outcome,
+        Ok(steps) => replayed(alloc, protocol, &steps),
+    }
+}
+
+/// Loads a protocol and a run, and replays that.
+pub(crate) fn replay_file<F: Files>(alloc: Global, file: &str, run: &str, files: &mut F) -> Outcome
+    ensures held_stays { (name : List ℕ) → F.held files.new name ≡ F.held files.old name }
+    ensures read_faults_rise { (name : List ℕ) → F.faults files.old name ≤ F.faults files.new name }
+    ensures used { outcome_of result ≢ own.Usage }
+    ensures fault { outcome_of result ≡ own.ReadFault → IsFaultCounted (F.faults files.old file.now) (F.faults files.new file.now) ⊎ (OfFile (F.held files.old file.now) (λ bytes. (P : syntax.Protocol) × Spells bytes P) × IsFaultCounted (F.faults files.old run.now) (F.faults files.new run.now)) }
+    ensures replayed { outcome_of result ≢ own.ReadFault → OfFile (F.held files.old file.now) (λ bytes. Replays bytes (F.held files.old run.now) (outcome_of result)) }
+{
+    one_protocol();
+    one_refusal();
+    never_both();
+    match load_protocol(alloc, file, files) {
+        Err(outcome) => outcome,
+        Ok(protocol) => replay_run(alloc, &protocol, run, files),
+    }
+}
