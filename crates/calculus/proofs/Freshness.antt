@@ -55,7 +55,7 @@ none_in_expression : (e : Expression) → some_expression (λ x. false) e ≡ fa
 none_in_expression (Plain term) = some_leaf-never (λ x. false) (λ x. refl) term
 none_in_expression (Call d arguments) = none_among arguments
 
-none_passes : (process : Process) → some_name (λ x. false) process ≡ false
+pub none_passes : (process : Process) → some_name (λ x. false) process ≡ false
 none_passes Nil = refl
 none_passes (Output channel message next) =
     let a = some_leaf-never (λ x. false) (λ x. refl) channel in

@@ -9,3 +9,4 @@ pub mod Absence
 pub mod Standing
 pub mod Refusals
 pub mod Limits
+pub mod Bounds

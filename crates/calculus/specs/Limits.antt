@@ -4,15 +4,12 @@ use Rattle.std.specs.List.{list_any}
 use Rattle.std.specs.Option.{option_or}
 use Rattle.trees.specs.Tree.{Trees, Leaf, Node, none, more, size}
 use Rattle.calculus.specs.Syntax.{Symbol, Term, Hole, Bind, Equal, Pattern, Expression, Plain, Call, Process, Nil, Output, Input, Parallel, Replication, New, Let, Event, Protocol}
+use Rattle.calculus.specs.Bounds.{most_symbols}
 use Rattle.calculus.specs.Points.{numbered}
 use Rattle.calculus.specs.Values.{Value, Environment, values_of}
 use Rattle.calculus.specs.Matching.{rule_value, rules_of, value_at, values_at}
 use Rattle.calculus.specs.Runs.{Configuration, Step, Build, Reduce, Part, Fresh, Split, Copy, Make, Pass, Hear, Say, Take, Fail, Mark, acting, known_values, built, part_of}
 use Rattle.calculus.specs.Refusals.{Refusal, Large, refusal}
-
--- the most symbols of a value in a replay
-abbrev pub most_symbols : ℕ
-most_symbols = 4096
 
 -- whether the value has more symbols than the limit
 unfoldable pub is_large : Value → Bool

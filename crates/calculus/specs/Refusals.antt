@@ -3,6 +3,7 @@ use Rattle.std.specs.Prelude.{◌≡◌, ℕ, zero, suc, Bool, true, false, not,
 use Rattle.std.specs.List.{AllByRecursion, list_any}
 use Rattle.std.specs.Option.{option_map_or}
 use Rattle.calculus.specs.Syntax.{Process, Output, Input, Parallel, Replication, New, Let, Event, Rule, Protocol}
+use Rattle.calculus.specs.Bounds.{most_arguments}
 use Rattle.calculus.specs.Points.{numbered}
 use Rattle.calculus.specs.Values.{Value, Environment, same_value, value_of}
 use Rattle.calculus.specs.Matching.{matched, rule_value, rules_of, value_at, values_at}
@@ -42,7 +43,7 @@ where_true refusal applies = record { applies = applies; refusal = refusal }
 
 -- whether the constructor, or for 0 the tuple, takes that many arguments
 abbrev pub takes : Protocol → ℕ → ℕ → Bool
-takes P zero count = nat_le 2 count && nat_le count 16
+takes P zero count = nat_le 2 count && nat_le count most_arguments
 takes P (suc f) count = option_map_or (λ declared. nat_eq declared.arity count) (numbered P.constructors (suc f)) false
 
 abbrev pub is_public_constructor : Protocol → ℕ → Bool

@@ -12,3 +12,4 @@ pub mod Declarations
 pub mod Overlay
 pub mod Ended
 pub mod Answers
+pub mod Tireless

@@ -4,3 +4,4 @@ pub mod Sketch
 pub mod Spelling
 pub mod Refusals
 pub mod Reading
+pub mod Laws

@@ -10,6 +10,7 @@ ghost use Rattle.protocol_grammar.specs.Classes.{source};
 ghost use Rattle.protocol_grammar.specs.Sketch.{FileSketch};
 ghost use Rattle.protocol_grammar.specs.Spelling.{IsSketch};
 ghost use Rattle.protocol_grammar.specs.Refusals.{IsUnexpected, IsTooDeep};
+ghost use Rattle.protocol_grammar.specs.Laws.{HasAnswer};
 
 mod class;
 
@@ -43,4 +44,9 @@ pub fn no_sketch_too_deep()
 /// Tokens are not refused for both reasons.
 pub fn one_refusal()
     ensures { (bytes : List ℕ) (ts : List Token) (i j : ℕ) → IsUnexpected (source bytes ts) (length ts) i → IsTooDeep (source bytes ts) j → ⊥ }
+{}
+
+/// Tokens are spelled as a sketch or are refused.
+pub fn always_one()
+    ensures { (bytes : List ℕ) (ts : List Token) → HasAnswer (source bytes ts) (length ts) }
 {}

@@ -1,5 +1,5 @@
 -- A process has at most 4,096 points, and the number behind them counts them.
-use Rattle.std.proofs.Common.{◌≡◌, ℕ, suc, ◌+◌, ◌≤◌, Bool, true, false, if◌then◌else◌, nat_le, List, [], ◌∷◌, ◌++◌, length, Option, Some, None, unwrap_or, Ok, Err, refl, ap, subst, ◌∙◌, arith}
+use Rattle.std.proofs.Common.{◌≡◌, ℕ, suc, ◌+◌, ◌≤◌, Bool, true, false, if◌then◌else◌, nat_le, List, [], ◌∷◌, ◌++◌, length, Option, Some, None, unwrap_or, Ok, refl, ap, subst, ◌∙◌, arith}
 use Rattle.std.proofs.lemmas.Bool.{leb-true}
 use Rattle.std.proofs.lemmas.List.{length-append}
 use Rattle.std.specs.Str.{bytes_eq}
@@ -8,7 +8,8 @@ use Rattle.trees.proofs.Equality.{and_true}
 use Rattle.calculus.specs.Syntax as calculus
 use Rattle.calculus.specs.Points.{nodes}
 use Rattle.protocol_grammar.specs.Sketch.{ProcessSketch, Process, alone, beside, UnitSketch, Zero, Macro, Inner, Replicated, New, Output, Input, Happens, Let, If, NextSketch, omitted, given, FileSketch}
-use Rattle.protocol_scope.specs.Answers.{Answer, Code, TooMany, ◌>>=◌, fault}
+use Rattle.protocol_scope.specs.Answers.{◌>>=◌, TooMany, fault}
+use Rattle.protocol_scope.proofs.Stepped.{stepped, Refused, passed, faulty, found, found_one}
 use Rattle.protocol_scope.specs.Names as names
 use Rattle.protocol_scope.specs.Names.{Scope}
 use Rattle.protocol_scope.specs.Terms as terms
@@ -18,28 +19,6 @@ use Rattle.protocol_scope.specs.Queries.{queries}
 use Rattle.protocol_scope.specs.Scope.{scope, protocol_of}
 use Rattle.protocol_scope.specs.Processes as rules
 use Rattle.protocol_scope.specs.Processes.{Numbers, Site, Expansion, Macros, is_room, counted}
-
--- what a first step gives, where the next one gives y
-record Steps {A B : Type 0} (x : Answer A) (next : A → Answer B) (y : B) : Type 0 where
-  value : A
-  first : x ≡ Ok value
-  later : next value ≡ Ok y
-
-stepped : {A B : Type 0} (x : Answer A) (next : A → Answer B) (y : B) → (x >>= next) ≡ Ok y → Steps x next y
-stepped (Ok v) next y e = record { value = v; first = refl; later = e }
-stepped (Err f) next y e = absurd (let same = e in cc)
-
--- no value is found
-abbrev Refused : {A : Type 0} → Answer A → Type 0
-Refused {A = A} x = (value : A) → x ≡ Ok value → ⊥
-
--- where no other value is found, the test has passed, and this is the value
-passed : {A : Type 0} (test : Bool) (value found : A) (other : Answer A) → Refused other → (if test then Ok value else other) ≡ Ok found → (test ≡ true) × (found ≡ value)
-passed true value found other never e = (refl, let same = e in cc)
-passed false value found other never e = absurd (never found e)
-
-faulty : {A : Type 0} (code : Code) (token : ℕ) → Refused (fault {A = A} code token)
-faulty code token value e = let same = e in cc
 
 -- a process with its points numbered from here: the number behind them counts them, and they are no more than 4,096
 record Counted (now : Numbers) (read : calculus.Process × Numbers) : Type 0 where
@@ -77,7 +56,7 @@ crowded s macros (Happens n a k) = faulty TooMany n
 crowded s macros (Let n p t u k) = faulty TooMany n
 crowded s macros (If n t v u k) = faulty TooMany n
 
-crowded_in : (s : Scope) (macros : Macros) (used : Option ℕ) (u : UnitSketch) → Refused (rules.crowded_in s macros used u)
+pub crowded_in : (s : Scope) (macros : Macros) (used : Option ℕ) (u : UnitSketch) → Refused (rules.crowded_in s macros used u)
 crowded_in s macros (Some used) u = faulty TooMany used
 crowded_in s macros None u = crowded s macros u
 
@@ -85,15 +64,9 @@ both_reached : (s : Scope) (macros : Macros) (site : Site) (now : Numbers) (u : 
 both_reached s macros site now u next e = by_room site now next (passed (is_room site now) (counted now) next (rules.crowded_in s macros site.used u) (crowded_in s macros site.used u) e)
 
 -- the macro that is used is one of these
-used_macro : (s : Scope) (macros : Macros) (n : ℕ) (e : Expansion) (found : Option Expansion) → macros (s.text n) ≡ found → rules.expansion_or n (names.look s n) found ≡ Ok e → macros (s.text n) ≡ Some e
+pub used_macro : (s : Scope) (macros : Macros) (n : ℕ) (e : Expansion) (found : Option Expansion) → macros (s.text n) ≡ found → rules.expansion_or n (names.look s n) found ≡ Ok e → macros (s.text n) ≡ Some e
 used_macro s macros n e (Some expansion) is h = is ∙ (let same = h in cc)
 used_macro s macros n e None is h = absurd (let same = h in cc)
-
-abbrev found : {A : Type 0} → A → Answer A
-found x = Ok x
-
-found_one : {A : Type 0} (x y : A) → found x ≡ found y → x ≡ y
-found_one x y e = cc
 
 settled : (now : Numbers) (q read : calculus.Process × Numbers) → Counted now q → found q ≡ found read → Counted now read
 settled now q read c e = subst (Counted now) (found_one q read e) c
@@ -124,7 +97,7 @@ two_below now next from middle q left right r here c between d more end = record
 }
 
 -- the nodes of two processes, and one above them
-together : (p q : calculus.Process) → suc (length (nodes p ++ nodes q)) ≡ suc (length (nodes p) + length (nodes q))
+pub together : (p q : calculus.Process) → suc (length (nodes p ++ nodes q)) ≡ suc (length (nodes p) + length (nodes q))
 together p q = ap suc (length-append (nodes p) (nodes q))
 
 -- either this macro, or what another list has

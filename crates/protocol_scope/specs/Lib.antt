@@ -8,3 +8,4 @@ pub mod Processes
 pub mod Queries
 pub mod Scope
 pub mod Spells
+pub mod Words

@@ -1,5 +1,5 @@
 -- What the bytes of a file spell, and where they are refused.
-use Rattle.std.specs.Prelude.{◌≡◌, ℕ, ◌<◌, ◌≤◌, List, [], length, slice_get, Ok}
+use Rattle.std.specs.Prelude.{◌≡◌, ℕ, ◌<◌, ◌≤◌, ◌⊎◌, List, [], length, slice_get, Ok}
 use Rattle.std.specs.Option.{option_map_or}
 use Rattle.calculus.specs.Syntax.{Protocol}
 use Rattle.protocol_tokens.specs.Token.{Token, text}
@@ -106,3 +106,7 @@ IsRefusedAt bytes LongFile place = ⊥
 abbrev pub Refuses : List ℕ → Refusal → ℕ → Type 0
 Refuses bytes LongFile place = (1048576 < length bytes) × (place ≡ 0)
 Refuses bytes refusal place = (length bytes ≤ 1048576) × IsRefusedAt bytes refusal place
+
+-- the bytes spell a protocol, or are refused for some reason at some place
+abbrev pub HasAnswer : List ℕ → Type 0
+HasAnswer bytes = ((p : Protocol) × Spells bytes p) ⊎ ((refusal : Refusal) × ((place : ℕ) × Refuses bytes refusal place))

@@ -7,10 +7,17 @@
 ghost use Rattle.std.specs.Prelude.{◌≡◌, ◌≤◌, ℕ, List, length, Ok};
 ghost use Rattle.calculus.specs.Syntax.{Process, Protocol};
 ghost use Rattle.calculus.specs.Points.{nodes};
+ghost use Rattle.well_formed.specs.Limits.{IsWithinLimits};
+ghost use Rattle.well_formed.specs.Processes.{HasLinearPatterns};
+ghost use Rattle.well_formed.specs.Queries.{HasProperQueries};
+ghost use Rattle.well_formed.specs.Rules.{HasProperRules};
+ghost use Rattle.well_formed.specs.WellFormed.{IsWellScoped};
+ghost use Rattle.well_formed.specs.Words.{HasDistinctWords};
 ghost use Rattle.protocol_grammar.specs.Sketch.{ProcessSketch};
 ghost use Rattle.protocol_scope.specs.Names.{Scope};
 ghost use Rattle.protocol_scope.specs.Processes.{main_process};
-ghost use Rattle.protocol_scope.specs.Spells.{Spells, Refusal, Refuses};
+ghost use Rattle.protocol_scope.specs.Spells.{Spells, Refusal, Refuses, HasAnswer};
+ghost use Rattle.protocol_scope.specs.Words.{HasWords};
 
 /// No bytes spell two protocols.
 pub fn one_protocol()
@@ -27,6 +34,11 @@ pub fn never_both()
     ensures { (bytes : List ℕ) (p : Protocol) (r : Refusal) (i : ℕ) → Spells bytes p → Refuses bytes r i → ⊥ }
 {}
 
+/// Bytes spell a protocol or are refused.
+pub fn always_one()
+    ensures { (bytes : List ℕ) → HasAnswer bytes }
+{}
+
 /// A main process that keeps the rules of scope has at most 4,096 points.
 pub fn main_process_points()
     ensures { (s : Scope) (main : ProcessSketch) (p : Process) → main_process s main ≡ Ok p → length (nodes p) ≤ 4096 }
@@ -35,4 +47,42 @@ pub fn main_process_points()
 /// A protocol that bytes spell has at most 4,096 points.
 pub fn few_points()
     ensures { (bytes : List ℕ) (p : Protocol) → Spells bytes p → length (nodes p.main) ≤ 4096 }
+{}
+
+/// The rules of a protocol that bytes spell hold variables alone, numbered from 1 by first occurrence, and those of one
+/// destructor have one number of arguments.
+pub fn proper_rules()
+    ensures { (bytes : List ℕ) (p : Protocol) → Spells bytes p → HasProperRules p }
+{}
+
+/// No pattern of a protocol that bytes spell binds a variable twice.
+pub fn linear_patterns()
+    ensures { (bytes : List ℕ) (p : Protocol) → Spells bytes p → HasLinearPatterns p.main }
+{}
+
+/// Secrets that a protocol asks of hold declared free names and constructors alone, and its correspondences declared free
+/// names, and variables that are numbered from 1 by first occurrence; where a restriction is asked for, there is one.
+pub fn query_leaves()
+    ensures { (bytes : List ℕ) (p : Protocol) → Spells bytes p → HasProperQueries p }
+{}
+
+/// A protocol that bytes spell is within the limits of names, arguments, rules, symbols, queries and points.
+pub fn within_limits()
+    ensures { (bytes : List ℕ) (p : Protocol) → Spells bytes p → IsWithinLimits p }
+{}
+
+/// In a protocol that bytes spell each leaf of a term is bound above it or declared, each symbol has its number of
+/// arguments, each term has at most 2,000 symbols, and nothing is bound twice on a way.
+pub fn well_scoped()
+    ensures { (bytes : List ℕ) (p : Protocol) → Spells bytes p → IsWellScoped p }
+{}
+
+/// The words of a protocol that bytes spell are identifiers, and no free name or constructor among them is `v` and digits.
+pub fn words()
+    ensures { (bytes : List ℕ) (p : Protocol) → Spells bytes p → HasWords p }
+{}
+
+/// In a protocol that bytes spell no two declared names have one word.
+pub fn distinct_words()
+    ensures { (bytes : List ℕ) (p : Protocol) → Spells bytes p → HasDistinctWords p }
 {}
