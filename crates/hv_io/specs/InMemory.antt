@@ -1,5 +1,5 @@
 -- What the objects that keep everything in memory hold, and what a call of one leaves.
-use Rattle.std.specs.Prelude.{◌≡◌, ℕ, ◌+◌, ◌-◌, ◌^◌, ◌⊎◌, min, List, [], ◌∷◌, Contains, Option, Some, None, unwrap_or, if◌then◌else◌}
+use Rattle.std.specs.Prelude.{◌≡◌, ℕ, ◌+◌, ◌-◌, ◌^◌, ◌<◌, ◌⊎◌, min, length, List, [], ◌∷◌, Contains, Option, Some, None, unwrap_or, if◌then◌else◌}
 use Rattle.std.specs.Str.{bytes_eq}
 
 -- a name, and the bytes under it
@@ -18,10 +18,11 @@ pub record FilesState : Type 0 where
   pub entries : List Entry
   pub calls : Calls
 
--- what a sink in memory was given, how much it takes at once, and its writes
+-- what a sink in memory was given, how much it takes at once, for how many bytes it has memory, and its writes
 pub record SinkState : Type 0 where
   pub bytes : List ℕ
   pub most : ℕ
+  pub room : ℕ
   pub calls : Calls
 
 -- no call was made, none is to fail
@@ -56,3 +57,11 @@ bytes_of entries name = unwrap_or (added entries name) []
 -- a load of this name fails: it is due to, or nothing was added under the name
 abbrev pub FailsNext : FilesState → List ℕ → Type 0
 FailsNext files name = IsNextToFail files.calls ⊎ (added files.entries name ≡ None)
+
+-- what a write takes of this piece
+abbrev pub taken_of : SinkState → List ℕ → ℕ
+taken_of sink piece = min sink.most (length piece)
+
+-- there is no room for what a write takes of this piece, so it needs more memory
+abbrev pub NeedsMemory : SinkState → List ℕ → Type 0
+NeedsMemory sink piece = sink.room < length sink.bytes + taken_of sink piece

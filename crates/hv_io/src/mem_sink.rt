@@ -1,7 +1,7 @@
 //! A sink in memory, of which some writes fail.
-ghost use Rattle.std.specs.Prelude.{◌≡◌, ℕ, ◌<◌, ◌≤◌, List, [], ◌∷◌, ◌++◌, IsErr, IfOk, OnOk, OnErr, IsOkAnd, length, take, min};
+ghost use Rattle.std.specs.Prelude.{◌≡◌, ℕ, ◌<◌, ◌≤◌, ◌⊎◌, List, [], ◌∷◌, ◌++◌, IsErr, IfOk, OnOk, OnErr, IsOkAnd, length, take};
 ghost use Rattle.hv_io.specs.Faults.{IsFaultCounted};
-ghost use Rattle.hv_io.specs.InMemory.{no_calls, IsNextToFail, after_call, after_fault};
+ghost use Rattle.hv_io.specs.InMemory.{no_calls, taken_of, IsNextToFail, NeedsMemory, after_call, after_fault};
 
 use crate::calls::CallLog;
 use crate::writing::{Failed, Sink};
@@ -19,12 +19,12 @@ pub struct MemSink {
 }
 
 impl Model for MemSink {
-    ghost use Rattle.std.specs.Prelude.{◌<◌};
+    ghost use Rattle.std.specs.Prelude.{◌<◌, vec_capacity};
     ghost use Rattle.hv_io.specs.InMemory.{SinkState};
 
     ghost Value = { SinkState };
 
-    ghost view = { λ a. record { bytes = a.bytes.items; most = a.most; calls = a.calls } };
+    ghost view = { λ a. record { bytes = a.bytes.items; most = a.most; room = vec_capacity a.bytes; calls = a.calls } };
 
     ghost invariant = { λ a. 0 < a.most };
 }
@@ -33,7 +33,7 @@ impl MemSink {
     /// Nothing is written, and no write is to fail. Takes no memory yet.
     pub fn new(alloc: Global, most: usize) -> Result<Self, AllocError>
         requires { 0 < most }
-        ensures { IsOkAnd result (λ sink. sink ≡ record { bytes = []; most = most; calls = no_calls }) }
+        ensures { IsOkAnd result (λ sink. sink ≡ record { bytes = []; most = most; room = 0; calls = no_calls }) }
     {
         Ok(MemSink {
             bytes: Vec::new(alloc),
@@ -77,12 +77,17 @@ impl Sink for MemSink {
         ensures goes_on { IfOk result (λ n. 0 < length piece.now → 0 < n) }
         ensures failed { OnErr result (IsFaultCounted self.old.calls.faults self.new.calls.faults) }
 
-        // A write fails where it is to, and where there is no memory; it is then counted as a fault.
+        // A write fails where it is to, and else only where it needs memory; it is then counted as a fault.
         ensures due { IsNextToFail self.old.calls → IsErr result }
-        ensures fault { OnErr result (self.new ≡ record self.old { calls = after_fault self.old.calls }) }
+        ensures cause { OnErr result (IsNextToFail self.old.calls ⊎ NeedsMemory self.old piece.now) }
+        ensures nothing_taken { OnErr result (self.new.bytes ≡ self.old.bytes) }
+        ensures fault { OnErr result (self.new.calls ≡ after_fault self.old.calls) }
 
-        ensures taken { IfOk result (λ n. n ≡ min self.old.most (length piece.now)) }
-        ensures written { IfOk result (λ n. self.new ≡ record self.old { bytes = self.old.bytes ++ take n piece.now; calls = after_call self.old.calls }) }
+        ensures taken { IfOk result (λ n. n ≡ taken_of self.old piece.now) }
+        ensures written { IfOk result (λ n. self.new.bytes ≡ self.old.bytes ++ take n piece.now) }
+        ensures counted { OnOk result (self.new.calls ≡ after_call self.old.calls) }
+        ensures same_most { self.new.most ≡ self.old.most }
+        ensures room_stays { self.old.room ≤ self.new.room }
     {
         if self.calls.is_next_to_fail() {
             self.calls.count_fault();
