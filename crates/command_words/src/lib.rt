@@ -14,8 +14,6 @@ ghost use Rattle.command_words.specs.Request.{request_seen, verify_in};
 
 mod commands;
 pub mod laws;
-#[cfg(test)]
-mod tests;
 
 use clap::ArgMatches;
 use clap::error::ErrorKind;

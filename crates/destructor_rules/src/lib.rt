@@ -8,6 +8,3 @@ pub mod rules;
 
 pub use crate::equality::{are_same, is_same};
 pub use crate::rules::rule_value;
-
-#[cfg(test)]
-mod tests;

@@ -48,7 +48,7 @@ none_lexed bytes at tokens r so_far found others lexed =
     Lexed-not_Stops bytes others r at lexed (Stops-from bytes at tokens r so_far found)
 
 -- and are refused nowhere else
-pub once_refused : (bytes : List ℕ) (at : ℕ) (tokens : List Token) (r : Refusal) → IsSoFar bytes at tokens → Refused r ≡ piece (rest_of bytes at) → (s : Refusal) (place : ℕ) → Stops bytes s place → (s ≡ r) × (at ≡ place)
+pub once_refused : (bytes : List ℕ) (at : ℕ) (tokens : List Token) (r : Refusal) → IsSoFar bytes at tokens → Refused r ≡ piece (rest_of bytes at) → (s : Refusal) (place : ℕ) → Stops bytes s place → (r ≡ s) × (at ≡ place)
 once_refused bytes at tokens r so_far found s place stops =
     let both = Stops-one bytes s r place at stops (Stops-from bytes at tokens r so_far found) in
-    (both.0, sym both.1)
+    (sym both.0, sym both.1)

@@ -1,38 +1,25 @@
 -- What the lexer may answer.
-use Rattle.std.specs.Prelude.{◌≡◌, ℕ, List, Result, Ok, Err}
+use Rattle.std.specs.Prelude.{◌≡◌, ℕ, List, Option, None, IfSome, Result, Ok, Err}
 use Rattle.protocol_tokens.specs.Token as own
-use Rattle.protocol_tokens.specs.Piece as refusal
+use Rattle.protocol_tokens.specs.Piece.{Refusal}
 use Rattle.protocol_tokens.specs.Lexed.{Stops}
 use Rattle.pi_lexer.specs.declared.error.LexError.{LexError}
-use Rattle.pi_lexer.specs.declared.error.LexError.TheVariants.{BadByte, OpenComment, LongNumber, Memory}
+use Rattle.pi_lexer.specs.Error.{refusal_of}
 
 -- the bytes are refused so, and there; want of memory says nothing of them
 abbrev pub IsRefusalOf : List ℕ → LexError → Type 0
-IsRefusalOf bytes (BadByte place) = Stops bytes refusal.BadByte place
-IsRefusalOf bytes (OpenComment place) = Stops bytes refusal.OpenComment place
-IsRefusalOf bytes (LongNumber place) = Stops bytes refusal.LongNumber place
-IsRefusalOf bytes (Memory e) = Unit {0}
+IsRefusalOf bytes error = IfSome (refusal_of error) (λ refusal. Stops bytes refusal.0 refusal.1)
 
 -- the error is want of memory
 abbrev pub IsMemory : LexError → Type 0
-IsMemory (BadByte place) = ⊥
-IsMemory (OpenComment place) = ⊥
-IsMemory (LongNumber place) = ⊥
-IsMemory (Memory e) = Unit {0}
+IsMemory error = refusal_of error ≡ None
 
 -- these tokens, unless memory ran out
 abbrev pub GivesTokens : List own.Token → Result (List own.Token) LexError → Type 0
 GivesTokens tokens (Ok found) = found ≡ tokens
-GivesTokens tokens (Err e) = IsMemory e
-
--- the error is this refusal at this place, or want of memory
-abbrev pub IsFault : refusal.Refusal → ℕ → LexError → Type 0
-IsFault r place (BadByte found) = (r ≡ refusal.BadByte) × (found ≡ place)
-IsFault r place (OpenComment found) = (r ≡ refusal.OpenComment) × (found ≡ place)
-IsFault r place (LongNumber found) = (r ≡ refusal.LongNumber) × (found ≡ place)
-IsFault r place (Memory e) = Unit {0}
+GivesTokens tokens (Err error) = IsMemory error
 
 -- this refusal at this place, unless memory ran out
-abbrev pub GivesRefusal : refusal.Refusal → ℕ → Result (List own.Token) LexError → Type 0
-GivesRefusal r place (Ok found) = ⊥
-GivesRefusal r place (Err e) = IsFault r place e
+abbrev pub GivesRefusal : Refusal → ℕ → Result (List own.Token) LexError → Type 0
+GivesRefusal why place (Ok found) = ⊥
+GivesRefusal why place (Err error) = IfSome (refusal_of error) (λ refusal. (refusal.0 ≡ why) × (refusal.1 ≡ place))

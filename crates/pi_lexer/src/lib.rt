@@ -53,6 +53,3 @@ pub fn lex(alloc: Global, source: &[u8]) -> Result<Tokens, LexError>
     }
     Ok(Tokens { items })
 }
-
-#[cfg(test)]
-mod tests;

@@ -14,6 +14,7 @@ use Rattle.calculus.specs.Secrecy.{instance, AllPerformed, IsUnpreceded, IsViola
 use Rattle.calculus.proofs.Items.{each-append}
 use Rattle.calculus.proofs.Equality.{same_value-sound, same_value-refl}
 use Rattle.calculus.proofs.Rules.{same_values-sound, same_values-refl, places_row_follow, places_row_bind, bound_right, bound_value, no_other, not_false, Follows}
+use Rattle.pi_model.proofs.Members.{any-contains, any-of}
 use Rattle.pi_model.specs.Correspondences.{bound_by, fits, all_found, unpreceded, is_made_at, some_unpreceded, is_violated}
 
 and_true : (a b : Bool) → (a && b) ≡ true → (a ≡ true) × (b ≡ true)
@@ -23,27 +24,6 @@ and_true false b h = cc
 both_true : (a b : Bool) → a ≡ true → b ≡ true → (a && b) ≡ true
 both_true true b h k = k
 both_true false b h k = cc
-
--- some item passes a test
-any-contains : {A : Type 0} (test : A → Bool) (xs : List A) → list_any test xs ≡ true → (x : A) × Contains xs x × (test x ≡ true)
-any-contains test [] h = cc
-any-contains {A} test (x ∷ xs) h =
-    elim (or_true (test x) (list_any test xs) h) as (λ _. (y : A) × Contains (x ∷ xs) y × (test y ≡ true)) [
-      | inl here ↦ (x, (0, omega arith, refl), here)
-      | inr there ↦ let found = any-contains test xs there in (found.0, later x xs found.0 found.1, found.2)
-    ]
-  where
-    later : {B : Type 0} (x : B) (xs : List B) (y : B) → Contains xs y → Contains (x ∷ xs) y
-    later x xs y (k, within, at) = (suc k, omega arith, at)
-
-any-of : {A : Type 0} (test : A → Bool) (xs : List A) (x : A) → Contains xs x → test x ≡ true → list_any test xs ≡ true
-any-of test [] x (k, within, at) h = absurd (omega arith)
-any-of test (y ∷ ys) x (zero, within, at) h = let e : test y ≡ true = ap test at ∙ h in ap (λ b. b || list_any test ys) e
-any-of test (y ∷ ys) x (suc k, within, at) h = or_later (test y) (list_any test ys) (any-of test ys x (k, omega arith, at) h)
-  where
-    or_later : (a b : Bool) → b ≡ true → (a || b) ≡ true
-    or_later true b h = refl
-    or_later false b h = h
 
 -- what is bound earlier stays
 front_choice : (same : Bool) (v : Value) (o p : Option Value) → (is_some p ≡ true → o ≡ p) → is_some (cond same (Some v) p) ≡ true → cond same (Some v) o ≡ cond same (Some v) p

@@ -1,3 +1,4 @@
+pub mod Members
 pub mod ThreadItems
 pub mod Points
 pub mod ThreadSteps

@@ -104,8 +104,5 @@ pub fn apply(
     ensures steps { OnOk result (conf.new.steps ≡ conf.old.steps + 1) }
     ensures of_protocol { IsConfigurationOf (protocol_of protocol.now) conf.new }
 {
-    match apply_counted(alloc, protocol, conf, step) {
-        Ok(()) => Ok(()),
-        Err(error) => Err(error),
-    }
+    apply_counted(alloc, protocol, conf, step)
 }

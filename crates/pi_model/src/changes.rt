@@ -43,7 +43,7 @@ impl Conf {
         ensures learned { OnOk result (self.new ≡ record self.old { known = self.old.known ++ value_of value ∷ [] }) }
         ensures unchanged { OnErr result (self.new ≡ self.old) }
     {
-        self.known.items.push(value)?;
+        self.known.push(value)?;
         Ok(())
     }
 

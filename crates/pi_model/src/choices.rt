@@ -37,10 +37,7 @@ pub fn take(
     ensures possible { IfOk result (λ change. IsPossible (protocol_of protocol.now) (configuration_of conf.now) (calculus.Take number label) (changed change (configuration_of conf.now))) }
     ensures refused { IfErr result (λ e. IsErrorOf (protocol_of protocol.now) (configuration_of conf.now) (calculus.Take number label) e) }
 {
-    let at = match standing_of(protocol, conf, number) {
-        Ok(at) => at,
-        Err(error) => return Err(ApplyError::Refused(error)),
-    };
+    let at = standing_of(protocol, conf, number)?;
     match at.process {
         Process::Let(pattern, expression, _, _) => {
             let value = match value_at(alloc, protocol, at.environment, expression, label)? {
@@ -92,10 +89,7 @@ pub fn fail(
     ensures possible { IfOk result (λ change. IsPossible (protocol_of protocol.now) (configuration_of conf.now) (calculus.Fail number) (changed change (configuration_of conf.now))) }
     ensures refused { IfErr result (λ e. IsErrorOf (protocol_of protocol.now) (configuration_of conf.now) (calculus.Fail number) e) }
 {
-    let at = match standing_of(protocol, conf, number) {
-        Ok(at) => at,
-        Err(error) => return Err(ApplyError::Refused(error)),
-    };
+    let at = standing_of(protocol, conf, number)?;
     match at.process {
         Process::Let(pattern, expression, next, _) => {
             let values = values_at(alloc, protocol, at.environment, expression)?;

@@ -10,8 +10,9 @@ ghost use Rattle.pi_tree.specs.Values.{value_of};
 ghost use Rattle.pi_model.specs.Configurations.{configuration_of, IsConfigurationOf};
 
 use crate::happenings::Happenings;
+use crate::known::Known;
 use crate::threads::{Thread, Threads};
-use pi_tree::{Declarations, Protocol, Value, Values};
+use pi_tree::{Declarations, Protocol, Value};
 use std::alloc::{AllocError, Global};
 use term_values::Environment;
 
@@ -20,24 +21,24 @@ use term_values::Environment;
 #[derive(Debug, Drop)]
 pub struct Conf {
     pub threads: Threads,
-    pub known: Values,
+    pub known: Known,
     pub events: Happenings,
     pub next: u64,
     pub steps: u64,
 }
 
 /// The public names among the free names, in order of declaration.
-fn public_names(alloc: Global, frees: &Declarations) -> Result<Values, AllocError>
+fn public_names(alloc: Global, frees: &Declarations) -> Result<Known, AllocError>
     requires { length frees.now < 2 ^ 32 }
     ensures { IfOk result (λ vs. vs ≡ filter_map public_name (enumerate_from 1 frees.now)) }
 {
-    let mut items = Vec::new(alloc);
+    let mut known = Known::new(alloc);
     for (index, declared) in frees.items.iter().enumerate() {
         if declared.public {
-            items.push(Value::Free(index as u32 + 1))?;
+            known.push(Value::Free(index as u32 + 1))?;
         }
     }
-    Ok(Values { items })
+    Ok(known)
 }
 
 /// One thread at point 1 with nothing bound, and the public free names known.

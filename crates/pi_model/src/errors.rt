@@ -1,60 +1,62 @@
 //! Why a step is refused.
 
 ghost use Rattle.std.specs.Prelude.{◌≡◌};
-ghost use Rattle.pi_model.specs.Errors.{code_of};
 
 use std::alloc::AllocError;
+use thiserror::Error;
 
 /// Why a step is refused: of the causes that apply, the first in this order.
-#[derive(Clone, Copy, Debug, PartialEq, Eq)]
+#[derive(Clone, Copy, Debug, PartialEq, Eq, Error)]
 pub enum StepError {
-    /// Code 1: there is no such thread.
+    /// There is no such thread.
+    #[error("there is no such thread")]
     NoThread,
-    /// Code 2: the thread stands at another form or has ended; there is no such constructor, destructor or
-    /// part; the number of arguments is another.
+    /// The thread stands at another form or has ended; there is no such constructor, destructor or part; the number
+    /// of arguments is another.
+    #[error("the step is of another form than what is there")]
     WrongForm,
-    /// Code 3: the channel is not known.
+    /// The channel is not known.
+    #[error("the channel is not known")]
     UnknownChannel,
-    /// Code 4: the channels differ.
+    /// The channels differ.
+    #[error("the channels differ")]
     ChannelsDiffer,
-    /// Code 5: there is no known value of that number.
+    /// There is no known value of that number.
+    #[error("there is no known value of that number")]
     NoKnowledge,
-    /// Code 6: there is no such rule, or it does not apply, or its value does not match.
+    /// There is no such rule, or it does not apply, or its value does not match.
+    #[error("no rule applies, or its value does not match")]
     NoRule,
-    /// Code 7: a value matches.
+    /// A value matches.
+    #[error("a value matches")]
     NotFailing,
-    /// Code 8: the constructor is private.
+    /// The constructor is private.
+    #[error("the constructor is private")]
     NotPublic,
-    /// Code 9: a value that the step evaluates or makes is over the limit of size.
+    /// A value that the step evaluates or makes is over the limit of size.
+    #[error("a value is over the limit of size")]
     Large,
 }
 
-impl StepError {
-    /// The code of the refusal, from 1 to 9.
-    pub fn code(self) -> u8
-        ensures { result ≡ code_of self }
-    {
-        match self {
-            StepError::NoThread => 1,
-            StepError::WrongForm => 2,
-            StepError::UnknownChannel => 3,
-            StepError::ChannelsDiffer => 4,
-            StepError::NoKnowledge => 5,
-            StepError::NoRule => 6,
-            StepError::NotFailing => 7,
-            StepError::NotPublic => 8,
-            StepError::Large => 9,
-        }
-    }
-}
-
 /// Why a step was not applied.
-#[derive(Debug, Drop)]
+#[derive(Debug, Drop, Error)]
 pub enum ApplyError {
     /// The step is refused.
+    #[error("{0}")]
     Refused(StepError),
     /// There is no memory for what the step makes.
+    #[error("want of memory")]
     Memory(AllocError),
+}
+
+impl From<StepError> for ApplyError {
+    ghost use Rattle.pi_model.specs.declared.errors.ApplyError.TheVariants.{Refused};
+
+    ghost from_gives = { λ x e. e ≡ Refused x };
+
+    fn from(error: StepError) -> ApplyError {
+        ApplyError::Refused(error)
+    }
 }
 
 impl From<AllocError> for ApplyError {

@@ -1,6 +1,6 @@
 //! What the attacker knows, and what can be made of it.
 
-ghost use Rattle.std.specs.Prelude.{◌≡◌, map, option_map, IfOk};
+ghost use Rattle.std.specs.Prelude.{◌≡◌, true, map, option_map, IfOk};
 ghost use Rattle.trees.specs.Tree.{items_of, trees};
 ghost use Rattle.calculus.specs.Points.{numbered};
 ghost use Rattle.calculus.specs.Values.{value_of};
@@ -15,15 +15,31 @@ ghost use Rattle.term_values.specs.Bound.{bound_of};
 ghost use Rattle.pi_model.specs.Configurations.{configuration_of};
 
 use crate::configurations::{Conf, known_value};
+use crate::hashes::term_hash;
 use crate::steps::Numbers;
-use pi_tree::{Declared, Protocol, Rule, Term, Value, Values};
+use pi_tree::{Declared, MOST_ARGUMENTS, Protocol, Rule, Term, Value, Values};
 use std::alloc::{AllocError, Global};
 use term_values::{Bound, is_value_of};
 
-/// Whether the attacker knows the value of the term.
+/// Whether the value of the term is the one that is found first. Where it isn't, it may be known all the same.
+#[tactic(auto, using(crate::proofs::Members::of_members))]
+fn is_latest(conf: &Conf, term: &Term, bound: &Bound) -> bool
+    ensures { result ≡ true → knows (configuration_of conf.now) (value_of (bound_of bound.now) (term_of term.now)) ≡ true }
+{
+    match conf.known.latest_of(term_hash(term, bound)) {
+        None => false,
+        Some(value) => is_value_of(term, value, bound),
+    }
+}
+
+/// Whether the attacker knows the value of the term. A value that is known is mostly found at once; one that isn't
+/// takes a look at all.
 pub fn knows(conf: &Conf, term: &Term, bound: &Bound) -> bool
     ensures { result ≡ knows (configuration_of conf.now) (value_of (bound_of bound.now) (term_of term.now)) }
 {
+    if is_latest(conf, term, bound) {
+        return true;
+    }
     for value in &conf.known.items {
         if is_value_of(term, value, bound) {
             return true;
@@ -67,7 +83,7 @@ pub fn takes(protocol: &Protocol, number: u32, count: usize) -> bool
     ensures { result ≡ takes (protocol_of protocol.now) number count }
 {
     if number == 0 {
-        return 2 <= count && count <= 16;
+        return 2 <= count && count <= MOST_ARGUMENTS;
     }
     match constructor(protocol, number) {
         None => false,

@@ -9,7 +9,9 @@ mod choices;
 pub mod configurations;
 pub mod errors;
 pub mod happenings;
+mod hashes;
 mod knowledge;
+pub mod known;
 pub mod laws;
 mod processes;
 mod receiving;
@@ -22,6 +24,7 @@ pub use crate::application::apply;
 pub use crate::configurations::{Conf, start};
 pub use crate::errors::{ApplyError, StepError};
 pub use crate::happenings::{Happened, Happenings};
+pub use crate::known::Known;
 pub use crate::laws::{
     absence_is_secrecy, equality_is_decided, knowledge_is_closed, made_names_are_new,
     patterns_match_in_one_way, refusals_are_exact, rules_give_instances, steps_only_add,
@@ -30,6 +33,3 @@ pub use crate::steps::{Numbers, Step};
 pub use crate::threads::{Thread, Threads};
 pub use crate::violations::violated;
 pub use term_values::{Environment, Slot};
-
-#[cfg(test)]
-mod tests;

@@ -33,10 +33,7 @@ pub fn split(
     ensures possible { IfOk result (λ change. IsPossible (protocol_of protocol.now) (configuration_of conf.now) (calculus.Split number) (changed change (configuration_of conf.now))) }
     ensures refused { IfErr result (λ e. IsErrorOf (protocol_of protocol.now) (configuration_of conf.now) (calculus.Split number) e) }
 {
-    let at = match standing_of(protocol, conf, number) {
-        Ok(at) => at,
-        Err(error) => return Err(ApplyError::Refused(error)),
-    };
+    let at = standing_of(protocol, conf, number)?;
     match at.process {
         Process::Par(left, _) => {
             let right = point_after(at.point + 1, left);
@@ -60,10 +57,7 @@ pub fn copy(
     ensures possible { IfOk result (λ change. IsPossible (protocol_of protocol.now) (configuration_of conf.now) (calculus.Copy number) (changed change (configuration_of conf.now))) }
     ensures refused { IfErr result (λ e. IsErrorOf (protocol_of protocol.now) (configuration_of conf.now) (calculus.Copy number) e) }
 {
-    let at = match standing_of(protocol, conf, number) {
-        Ok(at) => at,
-        Err(error) => return Err(ApplyError::Refused(error)),
-    };
+    let at = standing_of(protocol, conf, number)?;
     match at.process {
         Process::Copies(_) => {
             let begun = Thread::At(at.point + 1, at.environment.copy(alloc)?);
@@ -86,10 +80,7 @@ pub fn make(
     ensures possible { IfOk result (λ change. IsPossible (protocol_of protocol.now) (configuration_of conf.now) (calculus.Make number) (changed change (configuration_of conf.now))) }
     ensures refused { IfErr result (λ e. IsErrorOf (protocol_of protocol.now) (configuration_of conf.now) (calculus.Make number) e) }
 {
-    let at = match standing_of(protocol, conf, number) {
-        Ok(at) => at,
-        Err(error) => return Err(ApplyError::Refused(error)),
-    };
+    let at = standing_of(protocol, conf, number)?;
     match at.process {
         Process::New(_, _) => {
             let mut environment = at.environment.copy(alloc)?;
@@ -113,10 +104,7 @@ pub fn hear(
     ensures possible { IfOk result (λ change. IsPossible (protocol_of protocol.now) (configuration_of conf.now) (calculus.Hear number) (changed change (configuration_of conf.now))) }
     ensures refused { IfErr result (λ e. IsErrorOf (protocol_of protocol.now) (configuration_of conf.now) (calculus.Hear number) e) }
 {
-    let at = match standing_of(protocol, conf, number) {
-        Ok(at) => at,
-        Err(error) => return Err(ApplyError::Refused(error)),
-    };
+    let at = standing_of(protocol, conf, number)?;
     match at.process {
         Process::Output(channel, message, _) => {
             if !knows(conf, channel, &Bound::All(at.environment)) {
@@ -145,10 +133,7 @@ pub fn mark(
     ensures possible { IfOk result (λ change. IsPossible (protocol_of protocol.now) (configuration_of conf.now) (calculus.Mark number) (changed change (configuration_of conf.now))) }
     ensures refused { IfErr result (λ e. IsErrorOf (protocol_of protocol.now) (configuration_of conf.now) (calculus.Mark number) e) }
 {
-    let at = match standing_of(protocol, conf, number) {
-        Ok(at) => at,
-        Err(error) => return Err(ApplyError::Refused(error)),
-    };
+    let at = standing_of(protocol, conf, number)?;
     match at.process {
         Process::Event(performed, _) => {
             if some_large_at(at.process, at.environment) {

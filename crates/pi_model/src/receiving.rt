@@ -60,10 +60,7 @@ pub fn say(
     ensures possible { IfOk result (λ change. IsPossible (protocol_of protocol.now) (configuration_of conf.now) (calculus.Say number known) (changed change (configuration_of conf.now))) }
     ensures refused { IfErr result (λ e. IsErrorOf (protocol_of protocol.now) (configuration_of conf.now) (calculus.Say number known) e) }
 {
-    let at = match standing_of(protocol, conf, number) {
-        Ok(at) => at,
-        Err(error) => return Err(ApplyError::Refused(error)),
-    };
+    let at = standing_of(protocol, conf, number)?;
     match at.process {
         Process::Input(channel, pattern, _) => {
             if !knows(conf, channel, &Bound::All(at.environment)) {

@@ -1,5 +1,5 @@
 -- The tokens of some bytes stand within them, and what the parser answers of them.
-use Rattle.std.proofs.Common.{◌≡◌, ℕ, ◌≤◌, List, [], ◌∷◌, map, length, subst, arith}
+use Rattle.std.proofs.Common.{◌≡◌, ℕ, ◌≤◌, List, [], ◌∷◌, map, length, Option, None, Some, IfSome, Result, Ok, Err, refl, ap, subst, arith}
 use Rattle.protocol_tokens.specs.Token.{Token}
 use Rattle.protocol_tokens.specs.Lexed.{Lexed}
 use Rattle.protocol_tokens.specs.Laws.{Ascend}
@@ -13,7 +13,14 @@ use Rattle.protocol_grammar.specs.Reading.{Read, Found, Unexpected, TooDeep, fil
 use Rattle.protocol_grammar.proofs.Answers as laws
 use Rattle.protocol_grammar.proofs.Ended.{not_ended, ended}
 use Rattle.pi_parser.specs.Tokens.{AreWithin}
-use Rattle.pi_parser.specs.Gives.{most_of}
+use Rattle.pi_parser.specs.declared.sketch.Sketch.{Sketch}
+use Rattle.pi_parser.specs.declared.error.Fault.{Fault}
+use Rattle.pi_parser.specs.declared.error.Fault.TheVariants as fault
+use Rattle.pi_parser.specs.Files.{file_of}
+use Rattle.pi_parser.specs.Gives.{Gives, most_of}
+use Rattle.pi_parser.specs.Errors.{Refusal}
+use Rattle.pi_parser.specs.Errors as errors
+use Rattle.pi_parser.specs.Answers.{place_at, IsSpelled, IsRefusedIn, IsRefusedAt, Reads, placed}
 
 ascend_later : (start end : ℕ) (ts : List Token) → Ascend start ts end → start ≤ end
 ascend_later start end [] h = h
@@ -36,15 +43,6 @@ of_tokens bytes ts classes o e h = subst (λ (cs : List Class). file_at (most_of
 pub read_sketch : (bytes : List ℕ) (ts : List Token) (classes : List Class) (f : FileSketch) (end : ℕ) → classes ≡ map (class_of bytes) ts → file_at (most_of classes) (words classes) 0 ≡ Found f end → IsSketch (source bytes ts) f
 read_sketch bytes ts classes f end e h = laws.found_sketch (source bytes ts) (most_of (map (class_of bytes) ts)) end f (of_tokens bytes ts classes (Found f end) e h)
 
-pub only_sketch : (bytes : List ℕ) (ts : List Token) (f g : FileSketch) → IsSketch (source bytes ts) f → IsSketch (source bytes ts) g → f ≡ g
-only_sketch bytes ts f g h k = laws.one_sketch (source bytes ts) f g h k
-
-pub sketch_expected : (bytes : List ℕ) (ts : List Token) (f : FileSketch) (i : ℕ) → IsSketch (source bytes ts) f → IsUnexpected (source bytes ts) (length ts) i → ⊥
-sketch_expected bytes ts f i h k = laws.sketch_not_unexpected (source bytes ts) (length ts) i f (not_ended bytes ts) h k
-
-pub sketch_shallow : (bytes : List ℕ) (ts : List Token) (f : FileSketch) (i : ℕ) → IsSketch (source bytes ts) f → IsTooDeep (source bytes ts) i → ⊥
-sketch_shallow bytes ts f i h k = laws.sketch_not_deep (source bytes ts) f i h k
-
 -- and so is a refusal
 
 pub read_unexpected : (bytes : List ℕ) (ts : List Token) (classes : List Class) (i : ℕ) → classes ≡ map (class_of bytes) ts → file_at (most_of classes) (words classes) 0 ≡ Unexpected i → IsUnexpected (source bytes ts) (length ts) i
@@ -53,11 +51,44 @@ read_unexpected bytes ts classes i e h = laws.word_refused (source bytes ts) (le
 pub read_too_deep : (bytes : List ℕ) (ts : List Token) (classes : List Class) (i : ℕ) → classes ≡ map (class_of bytes) ts → file_at (most_of classes) (words classes) 0 ≡ TooDeep i → IsTooDeep (source bytes ts) i
 read_too_deep bytes ts classes i e h = laws.deep_refused (source bytes ts) (most_of (map (class_of bytes) ts)) i (of_tokens bytes ts classes (TooDeep i) e h)
 
-pub only_unexpected : (bytes : List ℕ) (ts : List Token) (i j : ℕ) → IsUnexpected (source bytes ts) (length ts) i → IsUnexpected (source bytes ts) (length ts) j → i ≡ j
-only_unexpected bytes ts i j h k = laws.one_unexpected (source bytes ts) (length ts) i j h k
+-- what was read of the classes of the tokens
+pub reading : (bytes : List ℕ) (ts : List Token) (classes : List Class) (result : Result (Sketch × ℕ) Fault) → classes ≡ map (class_of bytes) ts → Gives file_of result (file_at (most_of classes) (words classes) 0) → Reads bytes ts result
+reading bytes ts classes (Ok read) e h = read_sketch bytes ts classes (file_of read.0) read.1 e h
+reading bytes ts classes (Err (fault.Unexpected i)) e h = read_unexpected bytes ts classes i e h
+reading bytes ts classes (Err (fault.TooDeep i)) e h = read_too_deep bytes ts classes i e h
+reading bytes ts classes (Err (fault.Memory m)) e h = tt
 
-pub only_too_deep : (bytes : List ℕ) (ts : List Token) (i j : ℕ) → IsTooDeep (source bytes ts) i → IsTooDeep (source bytes ts) j → i ≡ j
-only_too_deep bytes ts i j h k = laws.one_deep (source bytes ts) i j h k
+-- tokens have one answer
 
-pub not_both : (bytes : List ℕ) (ts : List Token) (i j : ℕ) → IsUnexpected (source bytes ts) (length ts) i → IsTooDeep (source bytes ts) j → ⊥
-not_both bytes ts i j h k = laws.unexpected_not_deep (source bytes ts) (length ts) i j h k
+pub only_sketch : (bytes : List ℕ) (ts : List Token) (f g : FileSketch) → IsSketch (source bytes ts) f → IsSketch (source bytes ts) g → f ≡ g
+only_sketch bytes ts f g h k = laws.one_sketch (source bytes ts) f g h k
+
+pub sketch_refused : (bytes : List ℕ) (ts : List Token) (f : FileSketch) (why : Refusal) (i : ℕ) → IsSpelled bytes ts f → IsRefusedIn bytes ts why i → ⊥
+sketch_refused bytes ts f errors.Unexpected i h k = laws.sketch_not_unexpected (source bytes ts) (length ts) i f (not_ended bytes ts) h k
+sketch_refused bytes ts f errors.TooDeep i h k = laws.sketch_not_deep (source bytes ts) f i h k
+
+pub only_refusal : (bytes : List ℕ) (ts : List Token) (why other : Refusal) (i j : ℕ) → IsRefusedIn bytes ts why i → IsRefusedIn bytes ts other j → (why ≡ other) × (i ≡ j)
+only_refusal bytes ts errors.Unexpected errors.Unexpected i j h k = (refl, laws.one_unexpected (source bytes ts) (length ts) i j h k)
+only_refusal bytes ts errors.Unexpected errors.TooDeep i j h k = absurd (laws.unexpected_not_deep (source bytes ts) (length ts) i j h k)
+only_refusal bytes ts errors.TooDeep errors.Unexpected i j h k = absurd (laws.unexpected_not_deep (source bytes ts) (length ts) j i k h)
+only_refusal bytes ts errors.TooDeep errors.TooDeep i j h k = (refl, laws.one_deep (source bytes ts) i j h k)
+
+-- what an error says, where its token is refused so
+
+abbrev pub IsRefused : List ℕ → List Token → Option (Refusal × ℕ) → Type 0
+IsRefused bytes ts fault = IfSome fault (λ refusal. IsRefusedIn bytes ts refusal.0 refusal.1)
+
+pub placed_refused : (bytes : List ℕ) (ts : List Token) (fault : Option (Refusal × ℕ)) → IsRefused bytes ts fault → IfSome (placed bytes ts fault) (λ refusal. IsRefusedAt bytes ts refusal.0 refusal.1)
+placed_refused bytes ts None h = tt
+placed_refused bytes ts (Some refusal) h = (refusal.1, h, refl)
+
+pub placed_accepts : (bytes : List ℕ) (ts : List Token) (fault : Option (Refusal × ℕ)) → IsRefused bytes ts fault → (f : FileSketch) → IsSpelled bytes ts f → placed bytes ts fault ≡ None
+placed_accepts bytes ts None h f k = refl
+placed_accepts bytes ts (Some refusal) h f k = absurd (sketch_refused bytes ts f refusal.0 refusal.1 k h)
+
+pub placed_refuses : (bytes : List ℕ) (ts : List Token) (fault : Option (Refusal × ℕ)) → IsRefused bytes ts fault → (why : Refusal) (i : ℕ) → IsRefusedIn bytes ts why i
+    → IfSome (placed bytes ts fault) (λ refusal. (refusal.0 ≡ why) × (refusal.1 ≡ place_at bytes ts i))
+placed_refuses bytes ts None h why i k = tt
+placed_refuses bytes ts (Some refusal) h why i k =
+    let same = only_refusal bytes ts refusal.0 why refusal.1 i h k in
+    (same.0, ap (place_at bytes ts) same.1)

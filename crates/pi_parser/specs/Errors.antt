@@ -1,16 +1,23 @@
--- The codes and the places of refusals.
+-- What errors say.
 use Rattle.std.specs.Prelude.{ℕ, Option, Some, None}
+use Rattle.pi_parser.specs.declared.error.Fault.{Fault}
+use Rattle.pi_parser.specs.declared.error.Fault.TheVariants as fault
 use Rattle.pi_parser.specs.declared.error.ParseError.{ParseError}
-use Rattle.pi_parser.specs.declared.error.ParseError.TheVariants.{Unexpected, TooDeep, Memory}
+use Rattle.pi_parser.specs.declared.error.ParseError.TheVariants as error
 
--- the code that a refusal is printed with
-abbrev pub code_of : ParseError → Option ℕ
-code_of (Unexpected place) = Some 4
-code_of (TooDeep place) = Some 5
-code_of (Memory e) = None
+-- why tokens are refused
+pub data Refusal : Type 0 where
+  Unexpected : Refusal
+  TooDeep : Refusal
 
--- where it stands
-abbrev pub place_of : ParseError → Option ℕ
-place_of (Unexpected place) = Some place
-place_of (TooDeep place) = Some place
-place_of (Memory e) = None
+-- the refusal and its place; want of memory is none
+abbrev pub refusal_of : ParseError → Option (Refusal × ℕ)
+refusal_of (error.Unexpected place) = Some (Unexpected, place)
+refusal_of (error.TooDeep place) = Some (TooDeep, place)
+refusal_of (error.Memory e) = None
+
+-- the refusal and the number of its token; want of memory is none
+abbrev pub fault_of : Fault → Option (Refusal × ℕ)
+fault_of (fault.Unexpected token) = Some (Unexpected, token)
+fault_of (fault.TooDeep token) = Some (TooDeep, token)
+fault_of (fault.Memory e) = None

@@ -9,7 +9,8 @@ ghost use Rattle.protocol_grammar.specs.Classes.{class_of};
 ghost use Rattle.protocol_grammar.specs.Sketch.{FileSketch};
 ghost use Rattle.pi_parser.specs.Files.{file_of};
 ghost use Rattle.pi_parser.specs.Tokens.{AreWithin};
-ghost use Rattle.pi_parser.specs.Answers.{place_at, IsSpelled, IsUnexpectedIn, IsTooDeepIn, IsRefusalOf, GivesSketch, GivesUnexpected, GivesTooDeep};
+ghost use Rattle.pi_parser.specs.Errors.{Refusal, refusal_of, fault_of};
+ghost use Rattle.pi_parser.specs.Answers.{place_at, IsSpelled, IsRefusedIn, IsRefusalOf, Reads, placed, GivesSketch, GivesRefusal};
 
 use std::alloc::{AllocError, Global};
 
@@ -55,9 +56,29 @@ fn place_at(source: &[u8], tokens: &Tokens, number: usize) -> usize
     }
 }
 
+/// The error with the place of the token in the bytes.
+fn error_at(source: &[u8], tokens: &Tokens, fault: Fault) -> ParseError
+    ensures { refusal_of result ≡ placed source.now tokens.now (fault_of fault) }
+{
+    match fault {
+        Fault::Unexpected(number) => ParseError::Unexpected(place_at(source, tokens, number)),
+        Fault::TooDeep(number) => ParseError::TooDeep(place_at(source, tokens, number)),
+        Fault::Memory(error) => ParseError::Memory(error),
+    }
+}
+
+/// What the grammar makes of the tokens and how many it has read, or the first token at which it refuses them and why.
+#[tactic(auto, using(crate::proofs::Tokens::lexed_within))]
+fn read(alloc: Global, source: &[u8], tokens: &Tokens) -> Result<(Sketch, usize), Fault>
+    requires { Lexed source.now tokens.now }
+    ensures { Reads source.now tokens.now result }
+{
+    let classes = classes_of(alloc, source, tokens)?;
+    file(alloc, &classes)
+}
+
 /// What the grammar makes of the tokens of a file, or the first token at which it refuses them and why. It takes memory
 /// for the sketch, and one byte for each token.
-#[tactic(auto, using(crate::proofs::Tokens::lexed_within))]
 pub fn parse(alloc: Global, source: &[u8], tokens: &Tokens) -> Result<Sketch, ParseError>
     requires { Lexed source.now tokens.now }
     ensures read { IfOk result (λ sketch. IsSpelled source.now tokens.now (file_of sketch)) }
@@ -65,22 +86,10 @@ pub fn parse(alloc: Global, source: &[u8], tokens: &Tokens) -> Result<Sketch, Pa
 
     // Tokens that have a sketch give it, and tokens that are refused give that refusal.
     ensures accepts { (f : FileSketch) → IsSpelled source.now tokens.now f → GivesSketch f result }
-    ensures unexpected { (i : ℕ) → IsUnexpectedIn source.now tokens.now i → GivesUnexpected (place_at source.now tokens.now i) result }
-    ensures too_deep { (i : ℕ) → IsTooDeepIn source.now tokens.now i → GivesTooDeep (place_at source.now tokens.now i) result }
+    ensures refuses { (why : Refusal) (i : ℕ) → IsRefusedIn source.now tokens.now why i → GivesRefusal why (place_at source.now tokens.now i) result }
 {
-    let classes = match classes_of(alloc, source, tokens) {
-        Ok(classes) => classes,
-        Err(error) => return Err(ParseError::Memory(error)),
-    };
-    match file(alloc, &classes) {
+    match read(alloc, source, tokens) {
         Ok((sketch, _)) => Ok(sketch),
-        Err(Fault::Unexpected(number)) => Err(ParseError::Unexpected(place_at(
-            source, tokens, number,
-        ))),
-        Err(Fault::TooDeep(number)) => Err(ParseError::TooDeep(place_at(source, tokens, number))),
-        Err(Fault::Memory(error)) => Err(ParseError::Memory(error)),
+        Err(fault) => Err(error_at(source, tokens, fault)),
     }
 }
-
-#[cfg(test)]
-mod tests;

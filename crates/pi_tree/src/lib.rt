@@ -14,12 +14,12 @@ pub mod value_trees;
 pub use crate::accessors::Kind;
 pub use crate::destructors::{Dtor, Dtors, Rule, Rules};
 pub use crate::limits::{
-    MOST_BYTES, MOST_LEVELS, MOST_NAMES, MOST_POINTS, MOST_POINTS_ABOVE, MOST_QUERIES,
+    MOST_ALTERNATIVES, MOST_ARGUMENTS, MOST_BYTES, MOST_CLAUSES, MOST_DIGITS, MOST_EVENTS,
+    MOST_LEVELS, MOST_LINE_BYTES, MOST_NAMES, MOST_POINTS, MOST_POINTS_ABOVE, MOST_QUERIES,
+    MOST_REPORT_BYTES, MOST_RULES, MOST_RUN_BYTES, MOST_SYMBOLS, MOST_VISITS, MOST_WRITTEN_SYMBOLS,
+    limits_are_named,
 };
 pub use crate::names::{Declarations, Declared, Word};
 pub use crate::protocols::{Alternatives, Protocol, Queries, Query, is_absent};
 pub use crate::syntax::{Atom, Atoms, Expr, Pat, Pats, Process, Term, Terms};
 pub use crate::value_trees::{Value, Values};
-
-#[cfg(test)]
-mod tests;

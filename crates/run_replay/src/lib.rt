@@ -6,21 +6,13 @@
 mod bisect;
 mod cut;
 mod error;
-#[cfg(test)]
-mod large_values;
 mod laws;
 mod line;
 mod numbers;
 mod reach;
 mod read;
 mod replaying;
-#[cfg(test)]
-mod replays;
-#[cfg(test)]
-mod samples;
 mod steps;
-#[cfg(test)]
-mod tests;
 mod words;
 
 pub use error::RunError;

@@ -11,10 +11,8 @@ use crate::error::RunError;
 use crate::numbers::numbers;
 use crate::words::{Action, action_named};
 use pi_model::{Numbers, Step};
+use pi_tree::MOST_LINE_BYTES;
 use std::alloc::{AllocError, Global};
-
-/// The most bytes of a line.
-const LONGEST_LINE: usize = 256;
 
 /// The step of an action with these numbers; `None` where they are not as many as it has.
 fn step(alloc: Global, action: Action, numbers: &[u32]) -> Result<Option<Step>, AllocError>
@@ -49,7 +47,7 @@ fn step(alloc: Global, action: Action, numbers: &[u32]) -> Result<Option<Step>, 
 pub fn read_line(alloc: Global, line: &[u8], number: u64) -> Result<Step, RunError>
     ensures { ReadsLine line.now number result }
 {
-    if line.len() > LONGEST_LINE {
+    if line.len() > MOST_LINE_BYTES {
         return Err(RunError::LongLine(number));
     }
     let (word, behind) = cut(line, b' ');

@@ -9,6 +9,7 @@ ghost use Rattle.run_text.specs.Reading.{is_numeral, numeral, numerals};
 ghost use Rattle.run_replay.specs.Cut.{fields_of};
 
 use crate::cut::cut;
+use pi_tree::MOST_DIGITS;
 use std::alloc::{AllocError, Global};
 
 fn all_digits(field: &[u8]) -> bool
@@ -24,7 +25,7 @@ fn is_numeral(field: &[u8]) -> bool
 {
     all_digits(field)
         && 1 <= field.len()
-        && field.len() <= 9
+        && field.len() <= MOST_DIGITS
         && (field.len() == 1 || field[0] != b'0')
 }
 

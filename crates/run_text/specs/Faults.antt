@@ -1,6 +1,7 @@
 -- Why a line spells no step.
 use Rattle.std.specs.Prelude.{◌≡◌, ◌≢◌, ℕ, ◌<◌, ◌≤◌, ◌==◌, List, length}
 use Rattle.std.specs.List.{before_first}
+use Rattle.calculus.specs.Bounds.{most_line_bytes}
 use Rattle.calculus.specs.Runs.{Step}
 use Rattle.run_text.specs.Spelling.{word_of, IsSpelled}
 
@@ -15,6 +16,6 @@ first_word line = before_first (λ b. b == 32) line
 
 -- the line has this fault: the length is looked at first, and then the word
 abbrev pub IsFaulty : List ℕ → Fault → Type 0
-IsFaulty line LongLine = 256 < length line
-IsFaulty line Word = (length line ≤ 256) × ((step : Step) → first_word line ≢ word_of step)
-IsFaulty line Number = (length line ≤ 256) × ((step : Step) × (first_word line ≡ word_of step)) × ¬ (IsSpelled line)
+IsFaulty line LongLine = most_line_bytes < length line
+IsFaulty line Word = (length line ≤ most_line_bytes) × ((step : Step) → first_word line ≢ word_of step)
+IsFaulty line Number = (length line ≤ most_line_bytes) × ((step : Step) × (first_word line ≡ word_of step)) × ¬ (IsSpelled line)

@@ -2,6 +2,7 @@
 use Rattle.std.specs.Prelude.{ℕ, ◌+◌, ◌==◌, ◌&&◌, ◌||◌, not, nat_le, nat_lt, if◌then◌else◌, Bool, List, [], ◌∷◌, length, slice_index, Option, Some, None, option_map, option_and_then, ok_or, Result, Ok, Err, codes}
 use Rattle.std.specs.Str.{bytes_eq, all_ascii_digits}
 use Rattle.std.specs.Str.Parse.{digits_value}
+use Rattle.calculus.specs.Bounds.{most_line_bytes, most_digits}
 use Rattle.calculus.specs.Runs as runs
 use Rattle.calculus.specs.Runs.{Step}
 use Rattle.run_text.specs.Lines.{lines, fields}
@@ -53,7 +54,7 @@ step_with other numbers = None
 
 -- whether the bytes are 1 to 9 digits, of which a 0 stands first only alone
 abbrev pub is_numeral : List ℕ → Bool
-is_numeral digits = all_ascii_digits digits && nat_le 1 (length digits) && nat_le (length digits) 9 && ((length digits == 1) || not (slice_index digits 0 == 48))
+is_numeral digits = all_ascii_digits digits && nat_le 1 (length digits) && nat_le (length digits) most_digits && ((length digits == 1) || not (slice_index digits 0 == 48))
 
 -- the number that a field is
 abbrev pub numeral : List ℕ → Option ℕ
@@ -80,7 +81,7 @@ line_with (Some action) numbers = ok_or (option_and_then (step_with action) numb
 
 -- the step that a line spells, or its fault
 abbrev pub read_line : List ℕ → Result Step Fault
-read_line line = if nat_lt 256 (length line) then Err LongLine else line_with (action (first_word line)) (line_numbers line)
+read_line line = if nat_lt most_line_bytes (length line) then Err LongLine else line_with (action (first_word line)) (line_numbers line)
 
 -- what lines spell, by what the first of them, which has that number, and the others spell
 abbrev pub preceded : ℕ → Result Step Fault → Result (List Step) (Fault × ℕ) → Result (List Step) (Fault × ℕ)

@@ -1,7 +1,8 @@
 -- The line of a step.
-use Rattle.std.specs.Prelude.{◌≡◌, ℕ, ◌<◌, ◌≤◌, List, [], ◌∷◌, ◌++◌, length, map, codes}
+use Rattle.std.specs.Prelude.{◌≡◌, ℕ, ◌<◌, ◌≤◌, ◌^◌, List, [], ◌∷◌, ◌++◌, length, map, codes}
 use Rattle.std.specs.List.{AllByRecursion, concat}
 use Rattle.std.specs.Fmt.{decimal}
+use Rattle.calculus.specs.Bounds.{most_line_bytes, most_digits}
 use Rattle.calculus.specs.Runs.{Step, Build, Reduce, Part, Fresh, Split, Copy, Make, Pass, Hear, Say, Take, Fail, Mark}
 
 -- the word of a step
@@ -46,13 +47,13 @@ line_of step = word_of step ++ concat (map spaced (numbers_of step))
 
 -- the number has at most 9 digits
 abbrev pub IsSmall : ℕ → Type 0
-IsSmall n = n < 1000000000
+IsSmall n = n < 10 ^ most_digits
 
 -- the line, of at most 256 bytes, is that of the step, each of whose numbers has at most 9 digits
 pub record Spells (line : List ℕ) (step : Step) : Type 0 where
   pub text : line ≡ line_of step
   pub small : AllByRecursion IsSmall (numbers_of step)
-  pub short : length line ≤ 256
+  pub short : length line ≤ most_line_bytes
 
 -- the line spells a step
 abbrev pub IsSpelled : List ℕ → Type 0

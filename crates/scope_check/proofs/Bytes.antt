@@ -1,5 +1,5 @@
 -- What is answered of the tokens of some bytes, said of the bytes.
-use Rattle.std.proofs.Common.{◌≡◌, ℕ, List, Result, Ok, Err, IfOk, IfErr, sym, subst}
+use Rattle.std.proofs.Common.{◌≡◌, ℕ, List, Option, None, Some, IfSome, Result, Ok, Err, IfOk, IfErr, refl, sym, subst}
 use Rattle.calculus.specs.Syntax as calculus
 use Rattle.protocol_tokens.specs.Token.{Token}
 use Rattle.protocol_tokens.specs.Lexed.{Lexed}
@@ -12,8 +12,10 @@ use Rattle.protocol_scope.specs.Spells.{texts, IsSketchOf, IsProtocolOf, IsFault
 use Rattle.pi_tree.specs.declared.protocols.Protocol.{Protocol}
 use Rattle.pi_tree.specs.Protocols.{protocol_of}
 use Rattle.scope_check.specs.declared.error.ScopeError.{ScopeError}
-use Rattle.scope_check.specs.declared.error.ScopeError.TheVariants.{Unknown, Twice, Arity, Kind, LooseVariable, TooMany, AmbiguousNew, Memory}
-use Rattle.scope_check.specs.Error.{IsFault, AnswersScope, IsRefusalOf, GivesProtocol, GivesFault}
+use Rattle.scope_check.specs.declared.stop.Stop.{Stop}
+use Rattle.scope_check.specs.declared.stop.Stop.TheVariants as stop
+use Rattle.scope_check.specs.Answer.{Stops}
+use Rattle.scope_check.specs.Error.{refusal_of, fault_of, placed, IsFault, IsError, AnswersScope, IsRefusalOf, GivesProtocol, GivesFault}
 
 -- the tokens of some bytes, and what is answered of their sketch
 pub record IsAnswered (bytes : List ℕ) (result : Result Protocol ScopeError) : Type 0 where
@@ -43,16 +45,21 @@ fault_at : (bytes : List ℕ) (tokens : List Token) (f : FileSketch) (code : own
 fault_at bytes tokens f code place lexed read fault =
     record { tokens = tokens; lexed = lexed; sketch = f; read = read; token = fault.token; refused = fault.refused; stands = fault.stands }
 
+refused_at : (bytes : List ℕ) (tokens : List Token) (f : FileSketch) (refusal : Option (own.Code × ℕ)) → Lexed bytes tokens → IsSketch (source bytes tokens) f
+    → IfSome refusal (λ r. IsFault bytes tokens r.0 r.1 (scope (texts bytes tokens) f)) → IfSome refusal (λ r. IsFaultAt bytes r.0 r.1)
+refused_at bytes tokens f None lexed read h = tt
+refused_at bytes tokens f (Some r) lexed read h = fault_at bytes tokens f r.0 r.1 lexed read h
+
 pub is_refused : (bytes : List ℕ) (result : Result Protocol ScopeError) → IsAnswered bytes result → IfErr result (λ e. IsRefusalOf bytes e)
 is_refused bytes (Ok p) a = tt
-is_refused bytes (Err (Unknown place)) a = fault_at bytes a.tokens a.sketch own.Unknown place a.lexed a.read a.answers
-is_refused bytes (Err (Twice place)) a = fault_at bytes a.tokens a.sketch own.Twice place a.lexed a.read a.answers
-is_refused bytes (Err (Arity place)) a = fault_at bytes a.tokens a.sketch own.Arity place a.lexed a.read a.answers
-is_refused bytes (Err (Kind place)) a = fault_at bytes a.tokens a.sketch own.Kind place a.lexed a.read a.answers
-is_refused bytes (Err (LooseVariable place)) a = fault_at bytes a.tokens a.sketch own.LooseVariable place a.lexed a.read a.answers
-is_refused bytes (Err (TooMany place)) a = fault_at bytes a.tokens a.sketch own.TooMany place a.lexed a.read a.answers
-is_refused bytes (Err (AmbiguousNew place)) a = fault_at bytes a.tokens a.sketch own.AmbiguousNew place a.lexed a.read a.answers
-is_refused bytes (Err (Memory e)) a = tt
+is_refused bytes (Err e) a = refused_at bytes a.tokens a.sketch (refusal_of e) a.lexed a.read a.answers
+
+-- the error of what the rules answer
+pub stops_error : (bytes : List ℕ) (tokens : List Token) (s : Stop) (e : ScopeError) (answer : own.Answer calculus.Protocol) → Stops s answer → refusal_of e ≡ placed bytes tokens (fault_of s) → IsError bytes tokens answer e
+stops_error bytes tokens (stop.Fault code token) e answer h is =
+    subst (λ (o : Option (own.Code × ℕ)). IfSome o (λ r. IsFault bytes tokens r.0 r.1 answer)) (sym is) (record { token = token; refused = h; stands = refl })
+stops_error bytes tokens (stop.Memory m) e answer h is =
+    subst (λ (o : Option (own.Code × ℕ)). IfSome o (λ r. IsFault bytes tokens r.0 r.1 answer)) (sym is) tt
 
 -- the laws of the definitions
 abbrev pub OneProtocol : Type 0
@@ -68,28 +75,22 @@ NeverBoth = (bytes : List ℕ) (p : calculus.Protocol) (r : Refusal) (i : ℕ) �
 pub accepts : OneProtocol → NeverBoth → (bytes : List ℕ) (result : Result Protocol ScopeError) → IfOk result (λ p. IsProtocolOf bytes (protocol_of p)) → IfErr result (λ e. IsRefusalOf bytes e)
     → (p : calculus.Protocol) → Spells bytes p → GivesProtocol p result
 accepts one never bytes (Ok found) read refused p spelled = one bytes (protocol_of found) p (spelled.0, read) spelled
-accepts one never bytes (Err (Unknown place)) read refused p spelled = never bytes p (Scoped own.Unknown) place spelled (spelled.0, refused)
-accepts one never bytes (Err (Twice place)) read refused p spelled = never bytes p (Scoped own.Twice) place spelled (spelled.0, refused)
-accepts one never bytes (Err (Arity place)) read refused p spelled = never bytes p (Scoped own.Arity) place spelled (spelled.0, refused)
-accepts one never bytes (Err (Kind place)) read refused p spelled = never bytes p (Scoped own.Kind) place spelled (spelled.0, refused)
-accepts one never bytes (Err (LooseVariable place)) read refused p spelled = never bytes p (Scoped own.LooseVariable) place spelled (spelled.0, refused)
-accepts one never bytes (Err (TooMany place)) read refused p spelled = never bytes p (Scoped own.TooMany) place spelled (spelled.0, refused)
-accepts one never bytes (Err (AmbiguousNew place)) read refused p spelled = never bytes p (Scoped own.AmbiguousNew) place spelled (spelled.0, refused)
-accepts one never bytes (Err (Memory e)) read refused p spelled = tt
+accepts one never bytes (Err e) read refused p spelled = by_refusal (refusal_of e) refused
+  where
+    by_refusal : (refusal : Option (own.Code × ℕ)) → IfSome refusal (λ r. IsFaultAt bytes r.0 r.1) → refusal ≡ None
+    by_refusal None h = refl
+    by_refusal (Some r) h = absurd (never bytes p (Scoped r.0) r.1 spelled (spelled.0, h))
 
 -- the code of two refusals that are one
-same_code : (code found : own.Code) (place at : ℕ) → (Scoped code ≡ Scoped found) × (place ≡ at) → (code ≡ found) × (at ≡ place)
+same_code : (code found : own.Code) (place at : ℕ) → (Scoped code ≡ Scoped found) × (place ≡ at) → (found ≡ code) × (at ≡ place)
 same_code code found place at e = (let same = e.0 in cc, sym e.1)
 
 -- bytes that the rules of scope refuse give no other answer
 pub refuses : OneRefusal → NeverBoth → (bytes : List ℕ) (result : Result Protocol ScopeError) → IfOk result (λ p. IsProtocolOf bytes (protocol_of p)) → IfErr result (λ e. IsRefusalOf bytes e)
     → (code : own.Code) (place : ℕ) → Refuses bytes (Scoped code) place → GivesFault code place result
 refuses one never bytes (Ok found) read refused code place r = never bytes (protocol_of found) (Scoped code) place (r.0, read) r
-refuses one never bytes (Err (Unknown at)) read refused code place r = same_code code own.Unknown place at (one bytes (Scoped code) (Scoped own.Unknown) place at r (r.0, refused))
-refuses one never bytes (Err (Twice at)) read refused code place r = same_code code own.Twice place at (one bytes (Scoped code) (Scoped own.Twice) place at r (r.0, refused))
-refuses one never bytes (Err (Arity at)) read refused code place r = same_code code own.Arity place at (one bytes (Scoped code) (Scoped own.Arity) place at r (r.0, refused))
-refuses one never bytes (Err (Kind at)) read refused code place r = same_code code own.Kind place at (one bytes (Scoped code) (Scoped own.Kind) place at r (r.0, refused))
-refuses one never bytes (Err (LooseVariable at)) read refused code place r = same_code code own.LooseVariable place at (one bytes (Scoped code) (Scoped own.LooseVariable) place at r (r.0, refused))
-refuses one never bytes (Err (TooMany at)) read refused code place r = same_code code own.TooMany place at (one bytes (Scoped code) (Scoped own.TooMany) place at r (r.0, refused))
-refuses one never bytes (Err (AmbiguousNew at)) read refused code place r = same_code code own.AmbiguousNew place at (one bytes (Scoped code) (Scoped own.AmbiguousNew) place at r (r.0, refused))
-refuses one never bytes (Err (Memory e)) read refused code place r = tt
+refuses one never bytes (Err e) read refused code place r = by_refusal (refusal_of e) refused
+  where
+    by_refusal : (refusal : Option (own.Code × ℕ)) → IfSome refusal (λ x. IsFaultAt bytes x.0 x.1) → IfSome refusal (λ x. (x.0 ≡ code) × (x.1 ≡ place))
+    by_refusal None h = tt
+    by_refusal (Some x) h = same_code code x.0 place x.1 (one bytes (Scoped code) (Scoped x.0) place x.1 r (r.0, h))

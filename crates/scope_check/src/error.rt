@@ -1,10 +1,8 @@
 //! Why a sketch stands for no protocol.
 
-ghost use Rattle.std.specs.Prelude.{◌≡◌};
-ghost use Rattle.calculus.specs.Syntax.{Protocol};
-ghost use Rattle.protocol_scope.specs.Answers.{Answer};
-ghost use Rattle.scope_check.specs.Answer.{Stops, code_of};
-ghost use Rattle.scope_check.specs.Error.{number_of, place_of, IsError, IsErrorOf};
+ghost use Rattle.std.specs.Prelude.{◌≡◌, Some};
+ghost use Rattle.scope_check.specs.Answer.{code_of};
+ghost use Rattle.scope_check.specs.Error.{refusal_of, fault_of, placed};
 
 use crate::stop::{Code, Stop};
 use crate::text::place;
@@ -15,69 +13,35 @@ use thiserror::Error;
 /// Why a sketch stands for no protocol. A place is the number of a byte, from 0.
 #[derive(Debug, Drop, Error)]
 pub enum ScopeError {
-    /// Code 6: the name at this place is not declared, or not yet.
-    #[error("6 Unknown")]
+    /// The name at this place is not declared, or not yet.
+    #[error("the name at byte {0} is not declared")]
     Unknown(usize),
-    /// Code 7: the name at this place is declared or bound twice.
-    #[error("7 Twice")]
+    /// The name at this place is declared or bound twice.
+    #[error("the name at byte {0} is declared or bound twice")]
     Twice(usize),
-    /// Code 8: the name at this place takes another number of arguments.
-    #[error("8 Arity")]
+    /// The name at this place takes another number of arguments.
+    #[error("the name at byte {0} takes another number of arguments")]
     Arity(usize),
-    /// Code 9: the name at this place is of another kind than is wanted.
-    #[error("9 Kind")]
+    /// The name at this place is of another kind than is wanted.
+    #[error("the name at byte {0} is of another kind")]
     Kind(usize),
-    /// Code 10: the variable at this place, on the right of a rule, does not stand on its left.
-    #[error("10 LooseVariable")]
+    /// The variable at this place, on the right of a rule, does not stand on its left.
+    #[error("the variable at byte {0} does not stand on the left")]
     LooseVariable(usize),
-    /// Code 11: what begins at this place passes a limit.
-    #[error("11 TooMany")]
+    /// What begins at this place passes a limit.
+    #[error("what begins at byte {0} passes a limit")]
     TooMany(usize),
-    /// Code 12: the name at this place is that of several restrictions.
-    #[error("12 AmbiguousNew")]
+    /// The name at this place is that of several restrictions.
+    #[error("the name at byte {0} is that of several restrictions")]
     AmbiguousNew(usize),
     /// There is no memory for the protocol.
     #[error("want of memory")]
     Memory(AllocError),
 }
 
-impl ScopeError {
-    /// The code of the refusal, from 6 to 12; `None` for want of memory.
-    pub fn code(&self) -> Option<u8>
-        ensures { result ≡ number_of self.now }
-    {
-        match self {
-            ScopeError::Unknown(_) => Some(6),
-            ScopeError::Twice(_) => Some(7),
-            ScopeError::Arity(_) => Some(8),
-            ScopeError::Kind(_) => Some(9),
-            ScopeError::LooseVariable(_) => Some(10),
-            ScopeError::TooMany(_) => Some(11),
-            ScopeError::AmbiguousNew(_) => Some(12),
-            ScopeError::Memory(_) => None,
-        }
-    }
-
-    /// The place of the refusal; `None` for want of memory.
-    pub fn place(&self) -> Option<usize>
-        ensures { result ≡ place_of self.now }
-    {
-        match self {
-            ScopeError::Unknown(place)
-            | ScopeError::Twice(place)
-            | ScopeError::Arity(place)
-            | ScopeError::Kind(place)
-            | ScopeError::LooseVariable(place)
-            | ScopeError::TooMany(place)
-            | ScopeError::AmbiguousNew(place) => Some(*place),
-            ScopeError::Memory(_) => None,
-        }
-    }
-}
-
 /// The error with the place of the token in the bytes.
 pub fn error_at(source: &[u8], tokens: &Tokens, stop: Stop) -> ScopeError
-    ensures { (answer : Answer Protocol) → Stops stop answer → IsError source.now tokens.now answer result }
+    ensures { refusal_of result ≡ placed source.now tokens.now (fault_of stop) }
 {
     match stop {
         Stop::Memory(error) => ScopeError::Memory(error),
@@ -87,7 +51,7 @@ pub fn error_at(source: &[u8], tokens: &Tokens, stop: Stop) -> ScopeError
 
 /// The error of this code at this place.
 fn fault_at(code: Code, place: usize) -> ScopeError
-    ensures { IsErrorOf (code_of code) place result }
+    ensures { refusal_of result ≡ Some (code_of code, place) }
 {
     match code {
         Code::Unknown => ScopeError::Unknown(place),

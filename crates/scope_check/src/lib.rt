@@ -138,8 +138,3 @@ pub fn check_scope(alloc: Global, source: &[u8], sketch: &Sketch) -> Result<Prot
         Err(error) => Err(ScopeError::Memory(memory_error(error))),
     }
 }
-
-#[cfg(test)]
-mod limit_tests;
-#[cfg(test)]
-mod tests;

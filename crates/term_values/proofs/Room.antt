@@ -5,7 +5,8 @@ use Rattle.std.specs.List.{list_any}
 use Rattle.trees.specs.Tree.{size}
 use Rattle.calculus.specs.Syntax.{Term}
 use Rattle.calculus.specs.Values.{Value, Environment, value_of, values_of}
-use Rattle.calculus.specs.Limits.{most_symbols, is_large}
+use Rattle.calculus.specs.Bounds.{most_symbols}
+use Rattle.calculus.specs.Limits.{is_large}
 use Rattle.term_values.specs.Room.{room_after}
 
 -- beside a first and the others

@@ -14,10 +14,7 @@ ghost use Rattle.term_values.specs.Room.{room_after};
 ghost use Rattle.term_values.specs.Slots.{name_of};
 
 use crate::environments::{Environment, Slot};
-use pi_tree::{Expr, Pat, Pats, Process, Term, Terms, Value};
-
-/// The most symbols of a value in a replay.
-pub const MOST_SYMBOLS: u64 = 4096;
+use pi_tree::{Expr, MOST_SYMBOLS, Pat, Pats, Process, Term, Terms, Value};
 
 /// How many of `room` symbols are left beside the value; `None` where it has more.
 #[cycle(room)]

@@ -1,5 +1,6 @@
 -- What the text of a run and its replay have to do with the outcome.
 use Rattle.std.specs.Prelude.{◌≡◌, ℕ, ◌<◌, ◌≤◌, List, length, Option}
+use Rattle.calculus.specs.Bounds.{most_run_bytes}
 use Rattle.calculus.specs.Syntax.{Protocol}
 use Rattle.calculus.specs.Runs.{Step}
 use Rattle.protocol_scope.specs.Spells as spells
@@ -12,12 +13,12 @@ use Rattle.verifier_cli.specs.Command.{OfFile, Becomes, IsRefusalOf, refusal_at}
 
 -- the bytes, which are not too many, spell the steps of a run
 abbrev pub SpellsSteps : List ℕ → List Step → Type 0
-SpellsSteps bytes steps = (length bytes ≤ 16777216) × SpellsRun bytes steps
+SpellsSteps bytes steps = (length bytes ≤ most_run_bytes) × SpellsRun bytes steps
 
 -- they are refused so as the text of a run, and at that line, from 1: too many before all else, at the first
 abbrev pub RefusesRun : List ℕ → RunRefusal → ℕ → Type 0
-RefusesRun bytes LongRun line = (16777216 < length bytes) × (line ≡ 1)
-RefusesRun bytes (Faulty fault) line = (length bytes ≤ 16777216) × IsRefused bytes fault line
+RefusesRun bytes LongRun line = (most_run_bytes < length bytes) × (line ≡ 1)
+RefusesRun bytes (Faulty fault) line = (length bytes ≤ most_run_bytes) × IsRefused bytes fault line
 
 -- it is what replaying the steps shows
 abbrev pub IsShown : Protocol → List Step → Replay → Type 0

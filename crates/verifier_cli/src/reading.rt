@@ -1,6 +1,7 @@
 //! Reading a protocol: from the bytes of its file to the protocol that they spell.
 
 ghost use Rattle.std.specs.Prelude.{◌≡◌, ◌≤◌, length, IfOk, IfErr};
+ghost use Rattle.calculus.specs.Bounds.{most_bytes};
 ghost use Rattle.pi_tree.specs.Protocols.{protocol_of};
 ghost use Rattle.pi_parser.specs.Files.{file_of};
 ghost use Rattle.protocol_scope.specs.Spells.{IsSketchOf, Spells};
@@ -73,7 +74,7 @@ impl From<ScopeError> for Stop {
 
 /// What the grammar makes of the bytes of a file, or why it refuses them and at which byte.
 fn read_sketch(alloc: Global, bytes: &[u8]) -> Result<Sketch, Stop>
-    requires { length bytes.now ≤ 1048576 }
+    requires { length bytes.now ≤ most_bytes }
     ensures sketched { IfOk result (λ sketch. IsSketchOf bytes.now (file_of sketch)) }
     ensures refused { IfErr result (λ stop. IsStopOf bytes.now stop) }
 {
@@ -85,7 +86,7 @@ fn read_sketch(alloc: Global, bytes: &[u8]) -> Result<Sketch, Stop>
 
 /// The protocol that the sketch of these bytes stands for, or why it is refused and at which byte.
 fn scoped(alloc: Global, bytes: &[u8], sketch: &Sketch) -> Result<Protocol, Stop>
-    requires few { length bytes.now ≤ 1048576 }
+    requires few { length bytes.now ≤ most_bytes }
     requires sketched { IsSketchOf bytes.now (file_of sketch.now) }
     ensures spelled { IfOk result (λ protocol. Spells bytes.now (protocol_of protocol)) }
     ensures refused { IfErr result (λ stop. IsStopOf bytes.now stop) }
@@ -97,7 +98,7 @@ fn scoped(alloc: Global, bytes: &[u8], sketch: &Sketch) -> Result<Protocol, Stop
 
 /// The protocol that the bytes of a file spell, which are not too many, or why they are refused and at which byte.
 pub(crate) fn read_protocol(alloc: Global, bytes: &[u8]) -> Result<Protocol, Stop>
-    requires { length bytes.now ≤ 1048576 }
+    requires { length bytes.now ≤ most_bytes }
     ensures spelled { IfOk result (λ protocol. Spells bytes.now (protocol_of protocol)) }
     ensures refused { IfErr result (λ stop. IsStopOf bytes.now stop) }
 {

@@ -15,13 +15,10 @@ ghost use Rattle.verifier_cli.specs.SeenOutcome.{outcome_of};
 use crate::loading::{Unloaded, load_protocol, load_text};
 use crate::outcome::{Outcome, Refusal, RunCode};
 use hv_io::Files;
-use pi_tree::Protocol;
+use pi_tree::{MOST_RUN_BYTES, Protocol};
 use protocol_scope::{never_both, one_protocol, one_refusal};
 use run_replay::{RunError, Steps, read_run, replay};
 use std::alloc::Global;
-
-/// The most bytes of a run's text.
-const MOST_RUN_BYTES: usize = 16_777_216;
 
 /// What a call comes to whose run could not be loaded.
 fn run_not_loaded(why: Unloaded) -> Outcome

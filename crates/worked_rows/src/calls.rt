@@ -1,134 +1,63 @@
-//! Calls with other words, with faults of the outside and with sinks of their own: each expected text and status was
-//! worked out from the rules of the formats.
+//! Whole calls of the verifier.
 
-use crate::expected::{call, words};
-use hv_io::{CalmFiles, CalmSink, MemFiles, MemSink};
-use std::test::Fail;
+use crate::settings::Setting;
+use hv_io::{CalmSink, MemSink};
+use std::alloc::{AllocError, Global};
 use verifier_cli::{Outcome, top};
 
-#[test]
-fn a_missing_file_is_a_read_fault(rt: HostRuntime) -> Result<(), Fail> {
-    let mut files = MemFiles::new(rt.alloc())?;
-    let mut out = MemSink::new(rt.alloc(), 1000)?;
-    let words = words(rt.alloc(), &["hv", "verify", "first.pi"])?;
-    let answer = top(rt.alloc(), &words, &mut files, &mut out);
-    assert_eq!(rt; out.written(), b"read fault\n".as_slice());
-    assert_eq!(rt; answer.status, 5);
-    assert_eq!(rt; files.faults(), 1);
-    Ok(())
-}
-
-#[test]
-fn other_words_get_the_usage_line(rt: HostRuntime) -> Result<(), Fail> {
-    let usage =
-        b"usage: verify FILE [--budget N] | check FILE REPORT | list FILE QUERY | replay FILE RUN | ring N\n";
-    let rows: [&[&str]; 15] = [
-        &[],
-        &["hv"],
-        &["hv", "verify"],
-        &["hv", "ring", "1"],
-        &["hv", "check", "first.pi"],
-        &["hv", "Verify", "first.pi"],
-        &["hv", "verify", "first.pi", "first.pi"],
-        &["hv", "verify", "first.pi", "--budget", "1000001"],
-        &["hv", "verify", "first.pi", "--budget"],
-        &["hv", "--help"],
-        &["hv", "replay"],
-        &["hv", "replay", "first.pi"],
-        &["hv", "replay", "first.pi", "first.run", "first.run"],
-        &["hv", "replay", "first.pi", "first.run", "--budget", "5"],
-        &["hv", "replay", "first.pi", "--help"],
-    ];
-    for row in rows {
-        let (text, status) = call(rt.alloc(), row, b"process 0")?;
-        assert_eq!(rt; text.as_slice(), usage.as_slice());
-        assert_eq!(rt; status, 2);
+/// What an outcome is called.
+fn name(outcome: &Outcome) -> &'static str {
+    match outcome {
+        Outcome::Usage => "Usage",
+        Outcome::Verified(_) => "Verified",
+        Outcome::Replayed(_) => "Replayed",
+        Outcome::Refused(_) => "Refused",
+        Outcome::ReadFault => "ReadFault",
+        Outcome::Memory => "Memory",
     }
-    Ok(())
 }
 
-#[test]
-fn a_budget_changes_nothing_yet(rt: HostRuntime) -> Result<(), Fail> {
-    let rows: [&[&str]; 4] = [
-        &["hv", "verify", "first.pi", "--budget", "5"],
-        &["hv", "verify", "--budget=0", "first.pi"],
-        &["hv", "verify", "first.pi", "--budget", "1000000"],
-        &["hv", "verify", "--", "first.pi"],
-    ];
-    for row in rows {
-        let (text, status) = call(
-            rt.alloc(),
-            row,
-            b"free c. private free s. query attacker(s). process 0",
-        )?;
-        assert_eq!(rt; text.as_slice(), b"query 1 proved\n".as_slice());
-        assert_eq!(rt; status, 0);
-    }
-    Ok(())
+/// What was written, as text.
+fn text(written: &[u8]) -> &str {
+    std::str::from_utf8(written).unwrap_or("no text")
 }
 
-#[test]
-fn a_sink_that_takes_three_bytes_a_call_gets_the_same_text(rt: HostRuntime) -> Result<(), Fail> {
-    let mut files = CalmFiles::new(rt.alloc())?;
-    files.add(
-        "first.pi",
-        b"free c. private free s. query attacker(s). process 0",
+/// A sink in memory as the rows want it.
+fn sink(alloc: Global, setting: &Setting) -> Result<MemSink, AllocError> {
+    let mut out = MemSink::new(alloc, setting.width.max(1))?;
+    out.fail_at(setting.failing_write)?;
+    Ok(out)
+}
+
+/// The status and the outcome of a call, how many of its loads failed, and what it writes.
+pub fn call(alloc: Global, setting: &Setting) -> Result<String, AllocError> {
+    let mut files = setting.files(alloc)?;
+    let mut out = sink(alloc, setting)?;
+    let answer = top(alloc, &setting.words, &mut files, &mut out);
+    let mut shown = format!(in alloc;
+        "{} {} {} ",
+        answer.status,
+        name(&answer.outcome),
+        files.faults()
     )?;
-    let words = words(rt.alloc(), &["hv", "verify", "first.pi"])?;
-    let mut out = MemSink::new(rt.alloc(), 3)?;
-    let answer = top(rt.alloc(), &words, &mut files, &mut out);
-    assert_eq!(rt; out.written(), b"query 1 proved\n".as_slice());
-    assert_eq!(rt; answer.status, 0);
-    Ok(())
+    shown.push_str(text(out.written()))?;
+    Ok(shown)
 }
 
-#[test]
-fn a_sink_that_fails_has_a_part_of_the_text(rt: HostRuntime) -> Result<(), Fail> {
-    let mut files = CalmFiles::new(rt.alloc())?;
-    files.add(
-        "first.pi",
-        b"free c. private free s. query attacker(s). process 0",
-    )?;
-    let words = words(rt.alloc(), &["hv", "verify", "first.pi"])?;
-    let rows: [(u64, &[u8]); 5] = [
-        (1, b""),
-        (2, b"que"),
-        (3, b"query "),
-        (4, b"query 1 p"),
-        (5, b"query 1 prov"),
-    ];
-    for (call, text) in rows {
-        let mut out = MemSink::new(rt.alloc(), 3)?;
-        out.fail_at(call)?;
-        let answer = top(rt.alloc(), &words, &mut files, &mut out);
-        assert_eq!(rt; out.written(), text);
-        assert_eq!(rt; answer.status, 6);
-        assert!(rt; matches!(answer.outcome, Outcome::Verified(_)));
-    }
-    Ok(())
+/// The same of files that never fail: the status and the outcome, and what is written.
+pub fn calm_call(alloc: Global, setting: &Setting) -> Result<String, AllocError> {
+    let mut files = setting.calm_files(alloc)?;
+    let mut out = sink(alloc, setting)?;
+    let answer = top(alloc, &setting.words, &mut files, &mut out);
+    let mut shown = format!(in alloc; "{} {} ", answer.status, name(&answer.outcome))?;
+    shown.push_str(text(out.written()))?;
+    Ok(shown)
 }
 
-#[test]
-fn a_load_and_a_write_that_fail_leave_no_bytes(rt: HostRuntime) -> Result<(), Fail> {
-    let mut files = MemFiles::new(rt.alloc())?;
-    files.add("first.pi", b"process 0")?;
-    files.fail_at(1)?;
-    let words = words(rt.alloc(), &["hv", "verify", "first.pi"])?;
-    let mut out = MemSink::new(rt.alloc(), 1000)?;
-    out.fail_at(1)?;
-    let answer = top(rt.alloc(), &words, &mut files, &mut out);
-    assert_eq!(rt; out.written(), b"".as_slice());
-    assert_eq!(rt; answer.status, 6);
-    assert!(rt; matches!(answer.outcome, Outcome::ReadFault));
-    Ok(())
-}
-
-#[test]
-fn files_and_a_sink_that_never_fail(rt: HostRuntime) -> Result<(), Fail> {
-    let mut files = CalmFiles::new(rt.alloc())?;
-    let words = words(rt.alloc(), &["hv", "verify", "first.pi"])?;
-    let mut out = CalmSink::new(rt.alloc())?;
-    let answer = top(rt.alloc(), &words, &mut files, &mut out);
-    assert_eq!(rt; answer.status, 3);
-    Ok(())
+/// The same of a sink that never fails, and keeps nothing: the status and the outcome.
+pub fn calm_status(alloc: Global, setting: &Setting) -> Result<String, AllocError> {
+    let mut files = setting.calm_files(alloc)?;
+    let mut out = CalmSink::new(alloc)?;
+    let answer = top(alloc, &setting.words, &mut files, &mut out);
+    format!(in alloc; "{} {}", answer.status, name(&answer.outcome))
 }

@@ -28,19 +28,19 @@ loop-at-preserved c =
     subst (λ tokens. IsSoFar c.args.source.now (c.loop-at.at + c.in-Lexeme.size) tokens) (sym pushed) next
 
 pub returns-in-BadByte-clause-accepts : goal.returns-in-BadByte-clause-accepts
-returns-in-BadByte-clause-accepts c = none_lexed _ _ _ BadByte c.loop-at.invariant c.in-BadByte.ensures.found
+returns-in-BadByte-clause-accepts c = λ tokens lexed. absurd (none_lexed _ _ _ BadByte c.loop-at.invariant c.in-BadByte.ensures.found tokens lexed)
 
 pub returns-in-BadByte-clause-refuses : goal.returns-in-BadByte-clause-refuses
 returns-in-BadByte-clause-refuses c = once_refused _ _ _ BadByte c.loop-at.invariant c.in-BadByte.ensures.found
 
 pub returns-in-OpenComment-clause-accepts : goal.returns-in-OpenComment-clause-accepts
-returns-in-OpenComment-clause-accepts c = none_lexed _ _ _ OpenComment c.loop-at.invariant c.in-OpenComment.ensures.found
+returns-in-OpenComment-clause-accepts c = λ tokens lexed. absurd (none_lexed _ _ _ OpenComment c.loop-at.invariant c.in-OpenComment.ensures.found tokens lexed)
 
 pub returns-in-OpenComment-clause-refuses : goal.returns-in-OpenComment-clause-refuses
 returns-in-OpenComment-clause-refuses c = once_refused _ _ _ OpenComment c.loop-at.invariant c.in-OpenComment.ensures.found
 
 pub returns-in-LongNumber-clause-accepts : goal.returns-in-LongNumber-clause-accepts
-returns-in-LongNumber-clause-accepts c = none_lexed _ _ _ LongNumber c.loop-at.invariant c.in-LongNumber.ensures.found
+returns-in-LongNumber-clause-accepts c = λ tokens lexed. absurd (none_lexed _ _ _ LongNumber c.loop-at.invariant c.in-LongNumber.ensures.found tokens lexed)
 
 pub returns-in-LongNumber-clause-refuses : goal.returns-in-LongNumber-clause-refuses
 returns-in-LongNumber-clause-refuses c = once_refused _ _ _ LongNumber c.loop-at.invariant c.in-LongNumber.ensures.found

@@ -1,0 +1,110 @@
+//! What the rows of a table are about.
+
+use crate::texts::bytes_of;
+use hv_io::{CalmFiles, MemFiles};
+use std::alloc::{AllocError, Global};
+
+/// The words of a call, the files that it may load, and what fails. Whatever is set stays so in the rows below.
+#[derive(Drop)]
+pub struct Setting {
+    /// The words of the command line.
+    pub words: Vec<String>,
+    /// The bytes of `first.pi`, if there is one.
+    pub file: Option<Vec<u8>>,
+    /// What a run begins with.
+    pub front: Vec<u8>,
+    /// What the bytes of `first.run` go on with, if there is one.
+    pub run: Option<Vec<u8>>,
+    /// The number of the load that fails, from 1; 0 where none does.
+    pub failing_load: u64,
+    /// The number of the write that fails, from 1; 0 where none does.
+    pub failing_write: u64,
+    /// How many bytes the sink takes in a call.
+    pub width: usize,
+}
+
+/// The words of a line, cut at each blank.
+pub fn words_of(alloc: Global, line: &str) -> Result<Vec<String>, AllocError> {
+    let mut words = Vec::new(alloc);
+    for word in line.split(' ') {
+        words.push(String::from_str(alloc, word)?)?;
+    }
+    Ok(words)
+}
+
+/// The number that a text spells, 0 where it spells none.
+fn number_of(text: &str) -> u64 {
+    text.parse::<u64>().unwrap_or(0)
+}
+
+impl Setting {
+    /// No words and no files.
+    pub fn new(alloc: Global) -> Result<Self, AllocError> {
+        Ok(Setting {
+            words: Vec::new(alloc),
+            file: None,
+            front: Vec::new(alloc),
+            run: None,
+            failing_load: 0,
+            failing_write: 0,
+            width: 1000,
+        })
+    }
+
+    /// Sets what a line says; false where it sets nothing.
+    pub fn set(&mut self, alloc: Global, word: &str, text: &str) -> Result<bool, AllocError> {
+        match word.as_bytes() {
+            b"anew" => *self = Setting::new(alloc)?,
+            b"words" => self.words = words_of(alloc, text)?,
+            b"file" => self.file = Some(bytes_of(alloc, text)?),
+            b"front" => self.front = bytes_of(alloc, text)?,
+            b"run" => self.run = Some(bytes_of(alloc, text)?),
+            b"no-file" => self.file = None,
+            b"no-run" => self.run = None,
+            b"failing-load" => self.failing_load = number_of(text),
+            b"failing-write" => self.failing_write = number_of(text),
+            b"width" => self.width = number_of(text) as usize,
+            _ => return Ok(false),
+        }
+        Ok(true)
+    }
+
+    /// The bytes of the protocol's file.
+    pub fn source(&self) -> &[u8] {
+        match &self.file {
+            Some(file) => file,
+            None => &[],
+        }
+    }
+
+    /// The bytes of the run's file.
+    pub fn steps(&self, alloc: Global) -> Result<Vec<u8>, AllocError> {
+        let mut steps = self.front.as_slice().to_vec(alloc)?;
+        if let Some(run) = &self.run {
+            steps.extend_from_slice(run)?;
+        }
+        Ok(steps)
+    }
+
+    /// The files, of which a load may fail.
+    pub fn files(&self, alloc: Global) -> Result<MemFiles, AllocError> {
+        let mut files = MemFiles::new(alloc)?;
+        files.fail_at(self.failing_load)?;
+        if let Some(file) = &self.file {
+            files.add("first.pi", file)?;
+        }
+        if self.run.is_some() {
+            files.add("first.run", &self.steps(alloc)?)?;
+        }
+        Ok(files)
+    }
+
+    /// The protocol's file, of which no load fails.
+    pub fn calm_files(&self, alloc: Global) -> Result<CalmFiles, AllocError> {
+        let mut files = CalmFiles::new(alloc)?;
+        if let Some(file) = &self.file {
+            files.add("first.pi", file)?;
+        }
+        Ok(files)
+    }
+}
