@@ -31,16 +31,16 @@ pub struct Job {
 }
 
 impl Job {
-    /// The job that a command line names, whose first word is the program's name.
+    /// The job that four words name.
     pub fn from_words(words: &[String]) -> Option<Job> {
-        if words.len() != 5 {
+        if words.len() != 4 {
             return None;
         }
         Some(Job {
-            operation: Operation::from_name(&words[1])?,
-            shape: Shape::from_name(&words[2])?,
-            size: words[3].parse::<u32>().ok()?,
-            repetitions: words[4].parse::<u32>().ok()?,
+            operation: Operation::from_name(&words[0])?,
+            shape: Shape::from_name(&words[1])?,
+            size: words[2].parse::<u32>().ok()?,
+            repetitions: words[3].parse::<u32>().ok()?,
         })
     }
 }
@@ -74,7 +74,7 @@ impl Operation {
     }
 }
 
-/// Unifies the left term and the right one.
+/// Unifies the left term and the right one, with the same bindings again and again.
 fn unify_often(
     alloc: Global,
     bank: &TreeBank,
@@ -83,17 +83,17 @@ fn unify_often(
 ) -> Result<u32, AllocError>
     requires { AreInBank bank.now terms }
 {
+    let mut binds = Binds::new(alloc)?;
     let mut yes = 0u32;
     'each: for _ in 0..repetitions {
-        let mut binds = Binds::new(alloc);
-        if unify(bank, terms.left, terms.right, &mut binds)? {
-            yes = yes.saturating_add(1);
-        }
+        let found = unify(bank, terms.left, terms.right, &mut binds)?;
+        binds.undo(0);
+        yes = counted(yes, found);
     }
     Ok(yes)
 }
 
-/// Matches the left term onto the special one.
+/// Matches the left term onto the special one, with the same bindings again and again.
 fn match_often(
     alloc: Global,
     bank: &TreeBank,
@@ -102,14 +102,19 @@ fn match_often(
 ) -> Result<u32, AllocError>
     requires { AreInBank bank.now terms }
 {
+    let mut binds = Binds::new(alloc)?;
     let mut yes = 0u32;
     'each: for _ in 0..repetitions {
-        let mut binds = Binds::new(alloc);
-        if match_onto(bank, terms.left, terms.special, &mut binds)? {
-            yes = yes.saturating_add(1);
-        }
+        let found = match_onto(bank, terms.left, terms.special, &mut binds)?;
+        binds.undo(0);
+        yes = counted(yes, found);
     }
     Ok(yes)
+}
+
+/// The count with one more answer.
+fn counted(yes: u32, found: bool) -> u32 {
+    if found { yes.saturating_add(1) } else { yes }
 }
 
 /// Applies the unifier of the left term and the right one to the left one.
@@ -121,13 +126,12 @@ fn apply_often(
 ) -> Result<u32, AllocError>
     requires { AreInBank bank.old terms }
 {
-    let mut binds = Binds::new(alloc);
+    let mut binds = Binds::new(alloc)?;
     let _ = unify(bank, terms.left, terms.right, &mut binds)?;
     let mut yes = 0u32;
     'each: for _ in 0..repetitions {
-        if apply_once(bank, terms.left, &binds)? {
-            yes = yes.saturating_add(1);
-        }
+        let built = apply_once(bank, terms.left, &binds)?;
+        yes = counted(yes, built);
     }
     Ok(yes)
 }

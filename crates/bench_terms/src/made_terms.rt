@@ -8,7 +8,7 @@ use crate::shape::Shape;
 use std::alloc::AllocError;
 use term_tree::{Bank, Id, Sym, TreeBank};
 
-/// Two terms that have a unifier, and a term that the left one matches onto.
+/// Two terms, which have a unifier but for those of a clash, and a term that the left one matches onto.
 #[derive(Clone, Copy, Debug)]
 pub struct Terms {
     pub left: Id,
@@ -31,6 +31,7 @@ pub fn terms_of(bank: &mut TreeBank, shape: Shape, size: u32) -> Result<Terms, A
         Shape::Variables => combs(bank, 1, size),
         Shape::Repeated => combs(bank, 0, size),
         Shape::Pairs => towers(bank, size),
+        Shape::Clash => clashing_chains(bank, size),
     }
 }
 
@@ -62,6 +63,20 @@ fn chains(bank: &mut TreeBank, size: u32) -> Result<Terms, AllocError>
         left,
         right,
         special: right,
+    })
+}
+
+fn clashing_chains(bank: &mut TreeBank, size: u32) -> Result<Terms, AllocError>
+    ensures { IfOk result (λ terms. AreInBank bank.new terms) }
+{
+    let terms = chains(bank, size)?;
+    let left = over(bank, Sym::Ctor(2), &[terms.left])?;
+    let right = over(bank, Sym::Ctor(3), &[terms.right])?;
+    let special = over(bank, Sym::Ctor(2), &[terms.right])?;
+    Ok(Terms {
+        left,
+        right,
+        special,
     })
 }
 

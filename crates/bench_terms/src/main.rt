@@ -1,12 +1,10 @@
-//! Makes two terms of a shape and a size, and unifies, matches or applies them so many times: `bench/terms`
-//! measures it.
+//! Makes two terms of a shape and a size, and unifies, matches or applies them so many times, for each job that is named:
+//! `bench/terms` measures it.
 #![tactic(auto)]
 
 mod job;
 mod made_terms;
 mod shape;
-#[cfg(test)]
-mod tests;
 
 use job::Job;
 use made_terms::terms_of;
@@ -14,6 +12,9 @@ use std::env::Env;
 use std::process::ExitCode;
 use std::{env, io};
 use term_tree::TreeBank;
+
+/// How many words name a job.
+const WORDS: usize = 4;
 
 /// The status that a call ends with whose words are no job.
 const USAGE: u8 = 2;
@@ -29,18 +30,27 @@ fn main(rt: HostRuntime) -> ExitCode {
     }
 }
 
-/// Does the job that the words name, and writes how many of its calls said yes. `Ok(false)` where they name
-/// none.
+/// Does the jobs that the words name, four words each. `Ok(false)` where they name none, or some are no job.
 fn run(rt: &(impl Env + Print + AllocGlobal)) -> io::Result<bool> {
     let words: Vec<String> = env::args(rt)?.collect(rt.alloc())?;
-    let Some(job) = Job::from_words(&words) else {
+    if words.len() < 2 {
         return Ok(false);
-    };
-    let mut bank = TreeBank::new(rt.alloc());
+    }
+    for job in words[1..].chunks(WORDS) {
+        let Some(job) = Job::from_words(job) else {
+            return Ok(false);
+        };
+        finish(rt, job)?;
+    }
+    Ok(true)
+}
+
+/// Does the job, and writes how many of its calls said yes.
+fn finish(rt: &(impl Print + AllocGlobal), job: Job) -> io::Result<()> {
+    let mut bank = TreeBank::new(rt.alloc())?;
     let terms = terms_of(&mut bank, job.shape, job.size)?;
     let yes = job
         .operation
         .repeat(rt.alloc(), &mut bank, terms, job.repetitions)?;
-    println!(rt; "{} of {}", yes, job.repetitions)?;
-    Ok(true)
+    println!(rt; "{} of {}", yes, job.repetitions)
 }

@@ -14,6 +14,8 @@ pub enum Shape {
     /// As many variables, each of them to be a pair of the one before it twice, against as many others: terms
     /// of exponential size, whose variables are shared.
     Pairs,
+    /// The terms of a chain, under two different symbols: they have no unifier.
+    Clash,
 }
 
 impl Shape {
@@ -25,6 +27,7 @@ impl Shape {
             b"variables" => Some(Shape::Variables),
             b"repeated" => Some(Shape::Repeated),
             b"pairs" => Some(Shape::Pairs),
+            b"clash" => Some(Shape::Clash),
             _ => None,
         }
     }

@@ -1,5 +1,6 @@
 -- Laws of banks as lists of trees: an id keeps its tree as the bank grows, and below a mark.
 use Rattle.std.proofs.Common.{◌≡◌, ℕ, zero, suc, ◌≤◌, ◌<◌, Some, List, [], ◌∷◌, ◌++◌, length, take, map, slice_get, unwrap_or, refl, sym, ap, ◌∙◌, subst, arith, append_assoc, append-nil, length-append}
+use Rattle.std.proofs.lemmas.List.{length-take}
 use Rattle.trees.specs.Tree.{Leaf}
 use Rattle.terms.specs.Term.{Term}
 use Rattle.terms.specs.Term as term
@@ -60,6 +61,9 @@ Names-grows a b id t grows names = let longer = Grows-length a b grows in let kn
 -- an id below a mark keeps its tree when the bank is cut back to it
 pub tree_at-take : (all : List Term) (n : ℕ) (id : Id) → id.index < n → tree_at (take n all) id ≡ tree_at all id
 tree_at-take all n id h = ap (λ o. unwrap_or o (Leaf 0)) (slice_get-take all n id.index h)
+
+pub Names-take : (all : List Term) (n : ℕ) (id : Id) (t : Term) → id.index < n → Names all id t → Names (take n all) id t
+Names-take all n id t h names = let known = names.known in record { known = omega (arith, length-take n all); is = tree_at-take all n id h ∙ names.is }
 
 -- cut back to what it had, a bank that grew is as before
 pub take-grows : (a b : List Term) → Grows a b → take (length a) b ≡ a

@@ -29,7 +29,7 @@ fn is_doubled<B: Bank>(bank: &B, id: Id, constructor: u32, arg: Id) -> bool
 
 #[test]
 fn an_earlier_id_keeps_its_node(rt: HostRuntime) -> Result<(), Fail> {
-    let mut bank = TreeBank::new(rt.alloc());
+    let mut bank = TreeBank::new(rt.alloc())?;
     let x = bank.var(7)?;
     let first = doubled(&mut bank, 1, x)?;
     let mark = bank.mark();
@@ -47,7 +47,7 @@ fn an_earlier_id_keeps_its_node(rt: HostRuntime) -> Result<(), Fail> {
 // A variable doubled k times has 2^(k+1) - 1 symbols.
 #[test]
 fn sizes_stop_at_the_limit(rt: HostRuntime) -> Result<(), Fail> {
-    let mut bank = TreeBank::new(rt.alloc());
+    let mut bank = TreeBank::new(rt.alloc())?;
     let mut id = bank.var(0)?;
     for _ in 0..62 {
         id = doubled(&mut bank, 1, id)?;

@@ -48,14 +48,14 @@ impl TreeBank {
     ghost use Rattle.term_tree.specs.Bank.{tree_at, AreKnown, capped};
     ghost use Rattle.term_tree.specs.TreeBank.{tree_of, HasArgs};
 
-    /// An empty bank. Takes no memory.
-    pub fn new(alloc: Global) -> Self
-        ensures { result ≡ [] }
+    /// An empty bank.
+    pub fn new(alloc: Global) -> Result<Self, AllocError>
+        ensures { IfOk result (λ bank. bank ≡ []) }
     {
-        TreeBank {
+        Ok(TreeBank {
             entries: Vec::new(alloc),
             alloc,
-        }
+        })
     }
 
     /// One more entry, at the end.

@@ -11,24 +11,24 @@ use Rattle.terms.specs.Binding.{only}
 use Rattle.terms.proofs.Replace.{is_there, only-self, only-absent, after_only}
 
 -- a list of equations, and that s solves each
-abbrev UnifiesAll : Subst → List (Term × Term) → Type 0
+abbrev pub UnifiesAll : Subst → List (Term × Term) → Type 0
 UnifiesAll s [] = Unit {0}
 UnifiesAll s (e ∷ es) = Unifies s e.0 e.1 × UnifiesAll s es
 
 -- the size of the left sides under u
-abbrev total : Subst → List (Term × Term) → ℕ
+abbrev pub total : Subst → List (Term × Term) → ℕ
 total u [] = 0
 total u (e ∷ es) = size (bind u e.0) + total u es
 
 -- the equations with x replaced
-abbrev replaced : ℕ → Term → List (Term × Term) → List (Term × Term)
+abbrev pub replaced : ℕ → Term → List (Term × Term) → List (Term × Term)
 replaced x t [] = []
 replaced x t (e ∷ es) = (bind (only x t) e.0, bind (only x t) e.1) ∷ replaced x t es
 
 through : (s : Subst) (x : ℕ) (t : Term) → s x ≡ bind s t → (a : Term) → bind s (bind (only x t) a) ≡ bind s a
 through s x t e a = bind-bind s (only x t) a ∙ bind-same (after s (only x t)) s (after_only s x t e) a
 
-replaced-solved : (s : Subst) (x : ℕ) (t : Term) → s x ≡ bind s t → (es : List (Term × Term)) → UnifiesAll s es → UnifiesAll s (replaced x t es)
+pub replaced-solved : (s : Subst) (x : ℕ) (t : Term) → s x ≡ bind s t → (es : List (Term × Term)) → UnifiesAll s es → UnifiesAll s (replaced x t es)
 replaced-solved s x t e [] h = tt
 replaced-solved s x t e (q ∷ qs) h = (through s x t e q.0 ∙ (h.0 ∙ sym (through s x t e q.1)), replaced-solved s x t e qs h.1)
 
@@ -36,42 +36,42 @@ replaced-total : (s : Subst) (x : ℕ) (t : Term) → s x ≡ bind s t → (es :
 replaced-total s x t e [] = refl
 replaced-total s x t e (q ∷ qs) = let first = ap size (through s x t e q.0) in let others = replaced-total s x t e qs in omega arith
 
-after-solved : (s : Subst) (x : ℕ) (t : Term) (es : List (Term × Term)) → UnifiesAll s (replaced x t es) → UnifiesAll (after s (only x t)) es
+pub after-solved : (s : Subst) (x : ℕ) (t : Term) (es : List (Term × Term)) → UnifiesAll s (replaced x t es) → UnifiesAll (after s (only x t)) es
 after-solved s x t [] h = tt
 after-solved s x t (q ∷ qs) h = (sym (bind-bind s (only x t) q.0) ∙ (h.0 ∙ bind-bind s (only x t) q.1), after-solved s x t qs h.1)
 
 -- two rows of as many terms, item by item
-abbrev pairs : Trees ℕ Sym → Trees ℕ Sym → List (Term × Term)
+abbrev pub pairs : Trees ℕ Sym → Trees ℕ Sym → List (Term × Term)
 pairs none ys = []
 pairs (more x xs) none = []
 pairs (more x xs) (more y ys) = (x, y) ∷ pairs xs ys
 
-abbrev AreEven : Trees ℕ Sym → Trees ℕ Sym → Type 0
+abbrev pub AreEven : Trees ℕ Sym → Trees ℕ Sym → Type 0
 AreEven none none = Unit {0}
 AreEven none (more y ys) = ⊥
 AreEven (more x xs) none = ⊥
 AreEven (more x xs) (more y ys) = AreEven xs ys
 
-even_rows : (u : Subst) (xs ys : Trees ℕ Sym) → binds u xs ≡ binds u ys → AreEven xs ys
+pub even_rows : (u : Subst) (xs ys : Trees ℕ Sym) → binds u xs ≡ binds u ys → AreEven xs ys
 even_rows u none none e = tt
 even_rows u none (more y ys) e = cc
 even_rows u (more x xs) none e = cc
 even_rows u (more x xs) (more y ys) e = let others : binds u xs ≡ binds u ys = cc in even_rows u xs ys others
 
-pairs-solved : (s : Subst) (xs ys : Trees ℕ Sym) (es : List (Term × Term)) → binds s xs ≡ binds s ys → UnifiesAll s es → UnifiesAll s (pairs xs ys ++ es)
+pub pairs-solved : (s : Subst) (xs ys : Trees ℕ Sym) (es : List (Term × Term)) → binds s xs ≡ binds s ys → UnifiesAll s es → UnifiesAll s (pairs xs ys ++ es)
 pairs-solved s none ys es e h = h
 pairs-solved s (more x xs) none es e h = cc
 pairs-solved s (more x xs) (more y ys) es e h =
     let first : bind s x ≡ bind s y = cc in
     let others : binds s xs ≡ binds s ys = cc in (first, pairs-solved s xs ys es others h)
 
-solved-pairs : (s : Subst) (xs ys : Trees ℕ Sym) (es : List (Term × Term)) → AreEven xs ys → UnifiesAll s (pairs xs ys ++ es) → (binds s xs ≡ binds s ys) × UnifiesAll s es
+pub solved-pairs : (s : Subst) (xs ys : Trees ℕ Sym) (es : List (Term × Term)) → AreEven xs ys → UnifiesAll s (pairs xs ys ++ es) → (binds s xs ≡ binds s ys) × UnifiesAll s es
 solved-pairs s none none es even h = (refl, h)
 solved-pairs s none (more y ys) es even h = absurd even
 solved-pairs s (more x xs) none es even h = absurd even
 solved-pairs s (more x xs) (more y ys) es even h = let rest = solved-pairs s xs ys es even h.1 in let others = rest.0 in let first = h.0 in (cc, rest.1)
 
-pairs-total : (u : Subst) (xs ys : Trees ℕ Sym) (es : List (Term × Term)) → total u (pairs xs ys ++ es) ≤ sizes (binds u xs) + total u es
+pub pairs-total : (u : Subst) (xs ys : Trees ℕ Sym) (es : List (Term × Term)) → total u (pairs xs ys ++ es) ≤ sizes (binds u xs) + total u es
 pairs-total u none ys es = omega arith
 pairs-total u (more x xs) none es = size_sum (size (bind u x) + sizes (binds u xs)) (total u es) where
   size_sum : (m n : ℕ) → n ≤ m + n
@@ -93,7 +93,7 @@ solve_var x t es absent s h = record {
 }
 
 -- no variable is one with a symbol over it
-never_within : (u : Subst) (x : ℕ) (f : Sym) (args : Trees ℕ Sym) → u x ≡ bind u (Node f args) → has_var x (Node f args) ≡ false
+pub never_within : (u : Subst) (x : ℕ) (f : Sym) (args : Trees ℕ Sym) → u x ≡ bind u (Node f args) → has_var x (Node f args) ≡ false
 never_within u x f args e = go (is_there (has_var x (Node f args))) where
   go : (has_var x (Node f args) ≡ true) ⊎ (has_var x (Node f args) ≡ false) → has_var x (Node f args) ≡ false
   go (inr apart) = apart

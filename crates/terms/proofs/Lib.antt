@@ -5,3 +5,5 @@ pub mod Loops
 pub mod Renaming
 pub mod Existence
 pub mod Matches
+pub mod Equations
+pub mod Decision

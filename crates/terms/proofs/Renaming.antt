@@ -4,7 +4,7 @@ use Rattle.trees.specs.Tree.{Trees, Leaf, Node, none, more, bind, binds, after, 
 use Rattle.trees.proofs.Substitution.{bind-bind}
 use Rattle.trees.proofs.Occurrence.{or_true}
 use Rattle.terms.specs.Term.{Sym, Term, Subst, has_var}
-use Rattle.terms.specs.Unifier.{IsMgu, IsRenaming}
+use Rattle.terms.specs.Unifier.{Factors, IsMgu, IsRenaming}
 
 -- what leaves a term as it is leaves each of its variables
 mutual
@@ -27,15 +27,17 @@ leaf_source : (r : Subst) (t : Term) (y : ℕ) → bind r t ≡ Leaf y → (z : 
 leaf_source r (Leaf z) y e = (z, refl, e)
 leaf_source r (Node f args) y e = cc
 
+-- substitutions that factor through each other
+pub factors_unique : (s t : Subst) → Factors t s → Factors s t → (q r : Subst) × ((x : ℕ) → after q s x ≡ t x) × ((x : ℕ) → after r t x ≡ s x) × IsRenaming s q r
+factors_unique s t there back = (
+  there.0,
+  back.0,
+  there.1,
+  back.1,
+  λ x y here.
+      let round : bind (after back.0 there.0) (s x) ≡ s x = sym (bind-bind back.0 there.0 (s x)) ∙ (ap (bind back.0) (there.1 x) ∙ back.1 x) in
+      leaf_source back.0 (there.0 y) y (fixed_var (after back.0 there.0) (s x) y round here),
+)
+
 pub mgu_unique : (a b : Term) (s t : Subst) → IsMgu a b s → IsMgu a b t → (q r : Subst) × ((x : ℕ) → after q s x ≡ t x) × ((x : ℕ) → after r t x ≡ s x) × IsRenaming s q r
-mgu_unique a b s t first second =
-    let there = first.most t second.accepted in
-    let back = second.most s first.accepted in (
-      there.0,
-      back.0,
-      there.1,
-      back.1,
-      λ x y here.
-          let round : bind (after back.0 there.0) (s x) ≡ s x = sym (bind-bind back.0 there.0 (s x)) ∙ (ap (bind back.0) (there.1 x) ∙ back.1 x) in
-          leaf_source back.0 (there.0 y) y (fixed_var (after back.0 there.0) (s x) y round here),
-    )
+mgu_unique a b s t first second = factors_unique s t (first.most t second.accepted) (second.most s first.accepted)

@@ -1,7 +1,8 @@
 -- What bindings stand for solves them, and each solution factors through it.
-use Rattle.std.proofs.Common.{◌≡◌, ℕ, Bool, true, false, nat_eq, Some, None, List, [], ◌∷◌, refl, sym, ap, ◌∙◌, eqb-true}
+use Rattle.std.proofs.Common.{◌≡◌, ℕ, Bool, true, false, nat_eq, Some, None, List, [], ◌∷◌, refl, sym, ap, subst, ◌∙◌, eqb-true}
 use Rattle.trees.specs.Tree.{Leaf, bind, after}
 use Rattle.trees.proofs.Substitution.{bind-bind, bind-same}
+use Rattle.trees.proofs.Occurrence.{some_leaf-bind, some_leaf-never, some_leaf-same}
 use Rattle.terms.specs.Term.{Term, Subst, has_var}
 use Rattle.terms.specs.Unifier.{IsMostGeneral}
 use Rattle.terms.specs.Binding.{Binding, bound_to, Solves, only, resolved}
@@ -62,6 +63,39 @@ Solves-at s (b ∷ bs) x t h e = go (Solves-at s bs x t h.1) (nat_eq x b.var) re
   go : (bound_to bs x ≡ Some t → s x ≡ bind s t) → (c : Bool) → nat_eq x b.var ≡ c → s x ≡ bind s t
   go older true same = ap s (eqb-true x b.var same) ∙ (h.0 ∙ ap (bind s) (some_same (sym (bound_to-newest b bs x same) ∙ e)))
   go older false other = older (sym (bound_to-other b bs x other) ∙ e)
+
+-- only replaces nothing where the variable is none of what it asks for
+only-has : (x b : ℕ) (u : Term) → has_var x u ≡ false → nat_eq x b ≡ false → (z : ℕ) → has_var x (only b u z) ≡ nat_eq x z
+only-has x b u absent differ z = go (nat_eq b z) refl where
+  go : (c : Bool) → nat_eq b z ≡ c → has_var x (only b u z) ≡ nat_eq x z
+  go true same = let is : b ≡ z = eqb-true b z same in ap (has_var x) (ap (only b u) (sym is) ∙ only-self b u) ∙ (absent ∙ (sym differ ∙ ap (nat_eq x) is))
+  go false other = ap (has_var x) (only-other b u z other)
+
+-- and of a variable itself nothing is left
+only-gone : (b : ℕ) (u : Term) → has_var b u ≡ false → (z : ℕ) → has_var b (only b u z) ≡ false
+only-gone b u absent z = go (nat_eq b z) refl where
+  go : (c : Bool) → nat_eq b z ≡ c → has_var b (only b u z) ≡ false
+  go true same = let is : b ≡ z = eqb-true b z same in ap (has_var b) (ap (only b u) (sym is) ∙ only-self b u) ∙ absent
+  go false other = ap (has_var b) (only-other b u z other) ∙ other
+
+-- what a term stands for has none of the variables that nothing that is put in has
+bind-free : (x : ℕ) (s : Subst) → ((y : ℕ) → has_var x (s y) ≡ false) → (t : Term) → has_var x (bind s t) ≡ false
+bind-free x s absent t = some_leaf-bind (nat_eq x) s t ∙ some_leaf-never (λ y. has_var x (s y)) absent t
+
+-- no bound variable stands in what sound bindings stand for
+pub resolved-free : (bs : List Binding) → IsSound bs → (x : ℕ) (t : Term) → bound_to bs x ≡ Some t → (y : ℕ) → has_var x (resolved bs y) ≡ false
+resolved-free [] sound x t e y = absurd (some_none (sym e))
+resolved-free (b ∷ bs) sound x t e y = go (resolved-free bs sound.2 x t) (nat_eq x b.var) refl where
+  go : (bound_to bs x ≡ Some t → (z : ℕ) → has_var x (resolved bs z) ≡ false) → (c : Bool) → nat_eq x b.var ≡ c → has_var x (resolved (b ∷ bs) y) ≡ false
+  go older true same =
+      let is : b.var ≡ x = sym (eqb-true x b.var same) in
+      subst (λ (v : ℕ). has_var v (resolved (b ∷ bs) y) ≡ false) is
+      (bind-free b.var (only b.var (bind (resolved bs) b.to)) (only-gone b.var (bind (resolved bs) b.to) sound.1) (resolved bs y))
+  go older false other =
+      let free = older (sym (bound_to-other b bs x other) ∙ e) in
+      some_leaf-bind (nat_eq x) (only b.var (bind (resolved bs) b.to)) (resolved bs y)
+      ∙ (some_leaf-same (λ z. has_var x (only b.var (bind (resolved bs) b.to) z)) (nat_eq x) (only-has x b.var (bind (resolved bs) b.to) (bind-free x (resolved bs) free b.to) other) (resolved bs y)
+      ∙ free y)
 
 -- where the solutions of sound bindings are those that P accepts, what they stand for is most general
 pub resolved-most_general : (P : Subst → Type 0) (bs : List Binding) → IsSound bs → ((s : Subst) → (Solves s bs → P s) × (P s → Solves s bs)) → IsMostGeneral P (resolved bs)

@@ -1,11 +1,16 @@
 -- Unifiers, most general unifiers and matches (Robinson 1965).
-use Rattle.std.specs.Prelude.{◌≡◌, ℕ, IsTrue}
+use Rattle.std.specs.Prelude.{◌≡◌, ℕ, ◌+◌, IsTrue, Option, None, List, map, slice_get}
+use Rattle.std.specs.Option.{unwrap_or}
 use Rattle.trees.specs.Tree.{Leaf, bind, after}
 use Rattle.terms.specs.Term.{Term, Subst, has_var}
 
 -- s makes the two terms one
 abbrev pub Unifies : Subst → Term → Term → Type 0
 Unifies s a b = bind s a ≡ bind s b
+
+-- s makes the two lists of terms one, item by item
+abbrev pub UnifiesAll : Subst → List Term → List Term → Type 0
+UnifiesAll s xs ys = map (bind s) xs ≡ map (bind s) ys
 
 -- r is s and then some substitution
 abbrev pub Factors : Subst → Subst → Type 0
@@ -27,3 +32,19 @@ IsRenaming s q r = (x y : ℕ) → IsTrue (has_var y (s x)) → (z : ℕ) × (q 
 -- s makes the general term the special one, whose variables stand for themselves
 abbrev pub Matches : Subst → Term → Term → Type 0
 Matches s general special = bind s general ≡ special
+
+-- s makes the general terms the special ones, item by item
+abbrev pub MatchesAll : Subst → List Term → List Term → Type 0
+MatchesAll s generals specials = map (bind s) generals ≡ specials
+
+-- the renaming that makes each variable the one that is n further on
+abbrev pub moved : ℕ → Subst
+moved n x = Leaf (x + n)
+
+-- the number that a table has for a variable, and where it has none the variable's own
+abbrev pub number_in : List (Option ℕ) → ℕ → ℕ
+number_in numbers x = unwrap_or (unwrap_or (slice_get numbers x) None) x
+
+-- the renaming by a table
+abbrev pub renumbered : List (Option ℕ) → Subst
+renumbered numbers x = Leaf (number_in numbers x)

@@ -4,6 +4,8 @@ pub mod SeenLemmas
 pub mod Walking
 pub mod Effort
 pub mod Pairs
+pub mod Memos
 pub mod Unifying
 pub mod Matchings
 pub mod Applying
+pub mod Substituting

@@ -41,6 +41,33 @@ one_length F G [] (y ∷ ys) h = absurd h
 one_length F G (x ∷ xs) [] h = absurd h
 one_length F G (x ∷ xs) (y ∷ ys) h = ap suc (one_length F G xs ys h.1)
 
+-- as lists of terms under s
+maps-under : (s : Subst) (all : List Term) (ids : List Id) → map (bind s) (map (tree_at all) ids) ≡ map (under s all) ids
+maps-under s all [] = refl
+maps-under s all (id ∷ ids) = ap (λ l. under s all id ∷ l) (maps-under s all ids)
+
+lists_equal : (F G : Id → Term) (xs ys : List Id) → AreOne F G xs ys → map F xs ≡ map G ys
+lists_equal F G [] [] h = refl
+lists_equal F G [] (y ∷ ys) h = absurd h
+lists_equal F G (x ∷ xs) [] h = absurd h
+lists_equal F G (x ∷ xs) (y ∷ ys) h = cc (h.0, lists_equal F G xs ys h.1)
+
+equal_lists : (F G : Id → Term) (xs ys : List Id) → map F xs ≡ map G ys → AreOne F G xs ys
+equal_lists F G xs ys e = row_one F G xs ys (ap trees e)
+
+pub one_lists : (s : Subst) (all : List Term) (xs ys : List Id) → AreOne (under s all) (under s all) xs ys → map (bind s) (map (tree_at all) xs) ≡ map (bind s) (map (tree_at all) ys)
+one_lists s all xs ys h = maps-under s all xs ∙ (lists_equal (under s all) (under s all) xs ys h ∙ sym (maps-under s all ys))
+
+pub lists_one : (s : Subst) (all : List Term) (xs ys : List Id) → map (bind s) (map (tree_at all) xs) ≡ map (bind s) (map (tree_at all) ys) → AreOne (under s all) (under s all) xs ys
+lists_one s all xs ys e = equal_lists (under s all) (under s all) xs ys (sym (maps-under s all xs) ∙ (e ∙ maps-under s all ys))
+
+-- the same where the right ids stand for themselves
+pub matched_lists : (s : Subst) (all : List Term) (xs ys : List Id) → AreOne (under s all) (tree_at all) xs ys → map (bind s) (map (tree_at all) xs) ≡ map (tree_at all) ys
+matched_lists s all xs ys h = maps-under s all xs ∙ lists_equal (under s all) (tree_at all) xs ys h
+
+pub lists_matched : (s : Subst) (all : List Term) (xs ys : List Id) → map (bind s) (map (tree_at all) xs) ≡ map (tree_at all) ys → AreOne (under s all) (tree_at all) xs ys
+lists_matched s all xs ys e = equal_lists (under s all) (tree_at all) xs ys (sym (maps-under s all xs) ∙ e)
+
 -- symbols over two lists become one exactly where the symbols are the same and the lists become one
 pub node_one : (F G : Id → Term) (f g : Sym) (xs ys : List Id) → node f (map F xs) ≡ node g (map G ys) → (f ≡ g) × AreOne F G xs ys × (length xs ≡ length ys)
 node_one F G f g xs ys e =

@@ -1,5 +1,5 @@
 -- Bindings over the trees of a bank: how they are read, and that they stay as the bank grows.
-use Rattle.std.proofs.Common.{◌≡◌, ℕ, ◌<◌, Bool, true, false, cond, nat_eq, Some, None, List, [], ◌∷◌, length, refl, sym, ap, ◌∙◌, subst, arith, reverse}
+use Rattle.std.proofs.Common.{◌≡◌, ℕ, ◌<◌, Bool, true, false, cond, nat_eq, Some, None, List, [], ◌∷◌, length, refl, sym, ap, ◌∙◌, subst, arith, reverse, drop, zero, suc}
 use Rattle.trees.specs.Tree.{bind}
 use Rattle.terms.specs.Term.{Term, has_var}
 use Rattle.terms.specs.Binding.{Binding, bound_to, AreDistinct, NeverLeadsBack, Leads, directly, by_way_of, Solves, resolved}
@@ -10,7 +10,7 @@ use Rattle.term_tree.specs.Bank.{tree_at, Grows}
 use Rattle.term_tree.specs.declared.bank.Id.{Id}
 use Rattle.term_tree.proofs.BankLaws.{tree_at-grows, Grows-length}
 use Rattle.unify_match.specs.declared.bound.Bound.{Bound}
-use Rattle.unify_match.specs.Trail.{id_of}
+use Rattle.unify_match.specs.Trail.{id_of, BindsOnce}
 use Rattle.unify_match.specs.Seen.{seen, AreInBank, AreBindings, IsReady}
 
 -- a bound variable has the tree of its id
@@ -52,6 +52,10 @@ IsReady-bind all pairs b ready known unbound absent = record {
   acyclic = IsSound-never (seen all (b ∷ pairs)) (bound_to-seen_none all pairs b.var unbound, absent, IsReady-sound all pairs ready);
 }
 
+-- one more binding, for matching
+pub AreBindings-bind : (all : List Term) (pairs : List Bound) (b : Bound) → AreBindings all pairs → b.id.index < length all → id_of pairs b.var ≡ None → AreBindings all (b ∷ pairs)
+AreBindings-bind all pairs b were known unbound = record { known = (known, were.known); once = (bound_to-seen_none all pairs b.var unbound, were.once) }
+
 -- bindings are seen the same as the bank grows
 pub seen-grows : (old new : List Term) (pairs : List Bound) → Grows old new → AreInBank old pairs → seen new pairs ≡ seen old pairs
 seen-grows old new [] grows known = refl
@@ -86,3 +90,22 @@ none_ready all items e = subst (λ (bs : List Bound). IsReady all (reverse bs)) 
 
 pub none_bound : (all : List Term) (items : List Bound) → items ≡ [] → AreBindings all (reverse items)
 none_bound all items e = subst (λ (bs : List Bound). AreBindings all (reverse bs)) (sym e) record { known = tt; once = tt }
+
+-- bindings that bind each variable once do so with their trees
+pub seen-once : (all : List Term) (pairs : List Bound) → BindsOnce pairs → AreDistinct (seen all pairs)
+seen-once all [] h = tt
+seen-once all (b ∷ bs) h = (bound_to-seen_none all bs b.var h.0, seen-once all bs h.1)
+
+-- what is left of bindings
+pub IsReady-drop : (all : List Term) (n : ℕ) (pairs : List Bound) → IsReady all pairs → IsReady all (drop n pairs)
+IsReady-drop all zero pairs ready = ready
+IsReady-drop all (suc n) [] ready = ready
+IsReady-drop all (suc n) (b ∷ bs) ready = IsReady-drop all n bs record {
+  known = ready.known.1;
+  acyclic = IsSound-never (seen all bs) (NeverLeadsBack-sound (seen all (b ∷ bs)) ready.acyclic).2;
+}
+
+pub AreBindings-drop : (all : List Term) (n : ℕ) (pairs : List Bound) → AreBindings all pairs → AreBindings all (drop n pairs)
+AreBindings-drop all zero pairs were = were
+AreBindings-drop all (suc n) [] were = were
+AreBindings-drop all (suc n) (b ∷ bs) were = AreBindings-drop all n bs record { known = were.known.1; once = were.once.1 }

@@ -26,7 +26,7 @@ reverse-last xs x = reverse-append xs (x ∷ [])
 pub IsTableOf-bind : (pairs : List Bound) (old new : HashMap ℕ Id (BuildHasherDefault FoldHasher)) (b : Bound) → IsTableOf pairs old → id_of pairs b.var ≡ None
     → ((q : ℕ) → get nat_eq new q ≡ cond (nat_eq b.var q) (Some b.id) (get nat_eq old q)) → IsTableOf (b ∷ pairs) new
 IsTableOf-bind pairs old new b was unbound updates = record {
-  apart = (unbound, was.apart);
+  once = (unbound, was.once);
   found = λ x. updates x ∙ (ap (λ t. cond t (Some b.id) (get nat_eq old x)) (eqb_flip b.var x) ∙ ap (λ o. cond (nat_eq x b.var) (Some b.id) o) (was.found x));
 }
 
@@ -34,11 +34,11 @@ IsTableOf-bind pairs old new b was unbound updates = record {
 pub IsTableOf-take_back : (pairs : List Bound) (old new : HashMap ℕ Id (BuildHasherDefault FoldHasher)) (b : Bound) → IsTableOf (b ∷ pairs) old
     → ((q : ℕ) → get nat_eq new q ≡ cond (nat_eq b.var q) None (get nat_eq old q)) → IsTableOf pairs new
 IsTableOf-take_back pairs old new b was updates = record {
-  apart = was.apart.1;
+  once = was.once.1;
   found = λ x. updates x ∙ at x (nat_eq b.var x) refl;
 } where
   at : (x : ℕ) (t : Bool) → nat_eq b.var x ≡ t → cond (nat_eq b.var x) None (get nat_eq old x) ≡ id_of pairs x
-  at x true same = let var : b.var ≡ x = eqb-true b.var x same in rw same (sym (ap (id_of pairs) (sym var) ∙ was.apart.0))
+  at x true same = let var : b.var ≡ x = eqb-true b.var x same in rw same (sym (ap (id_of pairs) (sym var) ∙ was.once.0))
   at x false other = rw other (was.found x ∙ ap (λ t. cond t (Some b.id) (id_of pairs x)) (sym (eqb_flip b.var x) ∙ other))
 
 -- dropping one more

@@ -1,29 +1,26 @@
 -- The steps of unification.
-use Rattle.std.proofs.Common.{◌≡◌, ℕ, ◌+◌, ◌≤◌, ◌<◌, Bool, true, false, cond, nat_eq, List, [], ◌∷◌, ◌++◌, length, map, drop, get_or, refl, sym, ap, ◌∙◌, subst, arith, eqb-true, Result, Ok, Err, IfOk, MatchBool}
-use Rattle.std.specs.HashSet.{HashSet, contains}
-use Rattle.std.specs.List.{list_any}
-use Rattle.std.specs.declared.hash.BuildHasherDefault.{BuildHasherDefault}
-use Rattle.std.specs.declared.hash.FoldHasher.{FoldHasher}
+use Rattle.std.proofs.Common.{◌≡◌, ℕ, ◌+◌, ◌≤◌, ◌<◌, Bool, true, false, cond, nat_eq, ◌⊎◌, inl, inr, List, [], ◌∷◌, ◌++◌, length, map, drop, get_or, refl, sym, ap, ◌∙◌, subst, arith, eqb-true, Result, Ok, Err, IfOk, MatchBool}
 use Rattle.trees.specs.Tree.{Leaf, Node, node, bind, binds, size}
 use Rattle.trees.proofs.Occurrence.{leaf_below}
 use Rattle.trees.proofs.Equality.{and_true}
 use Rattle.terms.specs.Term.{Sym, Term, Subst, has_var}
-use Rattle.terms.specs.Unifier.{Unifies}
+use Rattle.terms.specs.Unifier.{Unifies, UnifiesAll}
 use Rattle.terms.specs.Binding.{Solves, resolved}
 use Rattle.terms.specs.Rank.{height, ranks}
 use Rattle.terms.proofs.Resolve.{resolved-unbound, bind-resolved, resolved-most_general}
 use Rattle.term_tree.specs.Bank.{tree_at, AreKnown}
 use Rattle.term_tree.specs.declared.bank.Id.{Id}
 use Rattle.unify_match.specs.declared.bound.Bound.{Bound}
+use Rattle.unify_match.specs.declared.memo.Memo.{Memo}
 use Rattle.unify_match.specs.Trail.{Extends}
 use Rattle.unify_match.specs.Seen.{seen, IsReady, IsWalked}
-use Rattle.unify_match.specs.Outcome.{Unified, NoUnifier}
-use Rattle.unify_match.specs.Memo.{AreClear, AreMade, same_pair}
-use Rattle.unify_match.specs.Progress.{Grown, HasSolutions, IsApart}
+use Rattle.unify_match.specs.Outcome.{Unified, NoUnifier, UnifiedAll, NoUnifierOfAll}
+use Rattle.unify_match.specs.Memo.{is_remembered, AreMade}
+use Rattle.unify_match.specs.Progress.{Grown, HasSolutions, HasAllSolutions, IsApart}
 use Rattle.unify_match.proofs.SeenLemmas.{IsReady-sound, bound_to-seen_none}
 use Rattle.unify_match.proofs.Walking.{heights_of, height-at, known-at}
 use Rattle.unify_match.proofs.Effort.{Grown-refl, Grown-trans}
-use Rattle.unify_match.proofs.Pairs.{AreOne, under, Remains, remains_begins, remains_next, remains_fails, remains_ends, node_one, one_node, bind-application}
+use Rattle.unify_match.proofs.Pairs.{AreOne, under, Remains, remains_begins, remains_next, remains_fails, remains_ends, node_one, one_node, one_lists, lists_one, bind-application}
 
 -- a variable is never one with a larger term in which it stands
 pub bind_fails : (all : List Term) (pairs : List Bound) (x : ℕ) (id : Id) → IsApart all pairs x id → has_var x (bind (resolved (seen all pairs)) (tree_at all id)) ≡ true → NoUnifier all pairs (Leaf x) (tree_at all id)
@@ -48,28 +45,21 @@ pub Solves-extends : (all : List Term) (more old : List Bound) (s : Subst) → S
 Solves-extends all [] old s h = h
 Solves-extends all (b ∷ bs) old s h = Solves-extends all bs old s h.1
 
-pub AreMade-extends : (all : List Term) (old new : List Bound) (set : HashSet (ℕ × ℕ) (BuildHasherDefault FoldHasher)) → Extends old new → AreMade all old set → AreMade all new set
+pub AreMade-extends : (all : List Term) (old new : List Bound) (set : Memo) → Extends old new → AreMade all old set → AreMade all new set
 AreMade-extends all old new set (more, e) made k in_set s solves = made k in_set s (Solves-extends all more old s (subst (λ (bs : List Bound). Solves s (seen all bs)) e solves))
 
 -- nothing is remembered at first
-pub AreClear-empty : (all : List Term) (pairs : List Bound) (x : ℕ) (set : HashSet ℕ (BuildHasherDefault FoldHasher)) → set.keys ≡ [] → AreClear all pairs x set
-AreClear-empty all pairs x set empty k in_set = let no_key : contains nat_eq set k ≡ false = ap (list_any (nat_eq k)) empty in cc
-
-pub AreMade-empty : (all : List Term) (pairs : List Bound) (set : HashSet (ℕ × ℕ) (BuildHasherDefault FoldHasher)) → set.keys ≡ [] → AreMade all pairs set
-AreMade-empty all pairs set empty k in_set = let no_key : contains same_pair set k ≡ false = ap (list_any (same_pair k)) empty in cc
+pub AreMade-none : (all : List Term) (pairs : List Bound) (memo : Memo) → ((q : ℕ × ℕ) → is_remembered memo q ≡ false) → AreMade all pairs memo
+AreMade-none all pairs memo none k remembered = let never = none k in cc
 
 -- one more pair that was made one
-pub AreMade-insert : (all : List Term) (pairs : List Bound) (old new : HashSet (ℕ × ℕ) (BuildHasherDefault FoldHasher)) (a b : Id) → AreMade all pairs old
+pub AreMade-pass : (all : List Term) (pairs : List Bound) (old new : Memo) (a b : Id) → AreMade all pairs old
     → ((s : Subst) → Solves s (seen all pairs) → bind s (tree_at all a) ≡ bind s (tree_at all b))
-    → ((q : ℕ × ℕ) → contains same_pair new q ≡ cond (same_pair (a.index, b.index) q) true (contains same_pair old q)) → AreMade all pairs new
-AreMade-insert all pairs old new a b made one updates k in_new s solves = go (same_pair (a.index, b.index) k) refl where
-  go : (c : Bool) → same_pair (a.index, b.index) k ≡ c → bind s (tree_at all record { index = k.0 }) ≡ bind s (tree_at all record { index = k.1 })
-  go true same =
-      let parts = and_true (nat_eq a.index k.0) (nat_eq b.index k.1) same in
-      let first : a.index ≡ k.0 = eqb-true a.index k.0 parts.0 in
-      let second : b.index ≡ k.1 = eqb-true b.index k.1 parts.1 in
-      sym (ap (λ n. bind s (tree_at all record { index = n })) first) ∙ (one s solves ∙ ap (λ n. bind s (tree_at all record { index = n })) second)
-  go false other = made k (sym (updates k ∙ ap (λ c. cond c true (contains same_pair old k)) other) ∙ in_new) s solves
+    → ((q : ℕ × ℕ) → is_remembered new q ≡ true → (is_remembered old q ≡ true) ⊎ (q ≡ (a.index, b.index))) → AreMade all pairs new
+AreMade-pass all pairs old new a b made one passed k remembered s solves = go (passed k remembered) where
+  go : (is_remembered old k ≡ true) ⊎ (k ≡ (a.index, b.index)) → bind s (tree_at all record { index = k.0 }) ≡ bind s (tree_at all record { index = k.1 })
+  go (inl before) = made k before s solves
+  go (inr same) = ap (λ (q : ℕ × ℕ). bind s (tree_at all record { index = q.0 })) same ∙ (one s solves ∙ ap (λ (q : ℕ × ℕ). bind s (tree_at all record { index = q.1 })) (sym same))
 
 -- what holds of the ends of two walks holds of their beginnings
 pub solutions_walked : (all : List Term) (old new : List Bound) (left right a b : Id) → IsWalked all old left a → IsWalked all old right b → HasSolutions all old new (tree_at all a) (tree_at all b) → HasSolutions all old new (tree_at all left) (tree_at all right)
@@ -93,18 +83,18 @@ pub solutions_same : (all : List Term) (old : List Bound) (a b : Term) → ((s :
 solutions_same all old a b one s = (λ solves. (solves, one s solves), λ both. both.0)
 
 -- how far the two lists of arguments have come
-pub record IsGoing (all : List Term) (old now : List Bound) (set : HashSet (ℕ × ℕ) (BuildHasherDefault FoldHasher)) (left : Id) (xs ys : List Id) (i : ℕ) : Type 0 where
+pub record IsGoing (all : List Term) (old now : List Bound) (set : Memo) (top : ℕ) (xs ys : List Id) (i : ℕ) : Type 0 where
   pub ready : IsReady all now
   pub made : AreMade all now set
   pub grown : Grown all old now
   pub lefts : AreKnown all (drop i xs)
   pub rights : AreKnown all (drop i ys)
-  pub lower : heights_of (ranks (seen all old)) all (drop i xs) < height (ranks (seen all old)) (tree_at all left)
+  pub lower : heights_of (ranks (seen all old)) all (drop i xs) < top
   pub remains : Remains (λ s. Solves s (seen all now)) (λ s. Solves s (seen all old)) (λ s. under s all) (λ s. under s all) xs ys i
 
-pub going_begins : (all : List Term) (old : List Bound) (set : HashSet (ℕ × ℕ) (BuildHasherDefault FoldHasher)) (left : Id) (xs ys : List Id) → IsReady all old → AreMade all old set → AreKnown all xs → AreKnown all ys
-    → heights_of (ranks (seen all old)) all xs < height (ranks (seen all old)) (tree_at all left) → IsGoing all old old set left xs ys 0
-going_begins all old set left xs ys ready made lefts rights lower = record {
+pub going_begins : (all : List Term) (old : List Bound) (set : Memo) (top : ℕ) (xs ys : List Id) → IsReady all old → AreMade all old set → AreKnown all xs → AreKnown all ys
+    → heights_of (ranks (seen all old)) all xs < top → IsGoing all old old set top xs ys 0
+going_begins all old set top xs ys ready made lefts rights lower = record {
   ready = ready;
   made = made;
   grown = Grown-refl all old;
@@ -114,10 +104,10 @@ going_begins all old set left xs ys ready made lefts rights lower = record {
   remains = remains_begins (λ s. under s all) (λ s. under s all) (λ s. Solves s (seen all old)) xs ys;
 }
 
-pub going_on : (all : List Term) (old now next : List Bound) (set after : HashSet (ℕ × ℕ) (BuildHasherDefault FoldHasher)) (left : Id) (xs ys : List Id) (i : ℕ) (d : Id) → IsGoing all old now set left xs ys i
+pub going_on : (all : List Term) (old now next : List Bound) (set after : Memo) (top : ℕ) (xs ys : List Id) (i : ℕ) (d : Id) → IsGoing all old now set top xs ys i
     → i < length xs → i < length ys → IsReady all next → AreMade all next after → Grown all now next
-    → HasSolutions all now next (tree_at all (get_or xs i d)) (tree_at all (get_or ys i d)) → IsGoing all old next after left xs ys (i + 1)
-going_on all old now next set after left xs ys i d was in_xs in_ys ready made grown step = record {
+    → HasSolutions all now next (tree_at all (get_or xs i d)) (tree_at all (get_or ys i d)) → IsGoing all old next after top xs ys (i + 1)
+going_on all old now next set after top xs ys i d was in_xs in_ys ready made grown step = record {
   ready = ready;
   made = made;
   grown = Grown-trans all old now next was.grown grown;
@@ -133,20 +123,49 @@ pub applications_fail : (all : List Term) (old : List Bound) (a b : Id) (f g : S
 applications_fail all old a b f g xs ys is_a is_b never s solves e =
     never s solves (node_one (under s all) (under s all) f g xs ys (sym (bind-application s all a f xs is_a) ∙ (e ∙ bind-application s all b g ys is_b)))
 
-pub going_fails : (all : List Term) (old now : List Bound) (set : HashSet (ℕ × ℕ) (BuildHasherDefault FoldHasher)) (left a b : Id) (f g : Sym) (xs ys : List Id) (i : ℕ) (d : Id)
-    → tree_at all a ≡ node f (map (tree_at all) xs) → tree_at all b ≡ node g (map (tree_at all) ys) → IsGoing all old now set left xs ys i → i < length xs → i < length ys
+pub going_fails : (all : List Term) (old now : List Bound) (set : Memo) (top : ℕ) (a b : Id) (f g : Sym) (xs ys : List Id) (i : ℕ) (d : Id)
+    → tree_at all a ≡ node f (map (tree_at all) xs) → tree_at all b ≡ node g (map (tree_at all) ys) → IsGoing all old now set top xs ys i → i < length xs → i < length ys
     → NoUnifier all now (tree_at all (get_or xs i d)) (tree_at all (get_or ys i d)) → NoUnifier all old (tree_at all a) (tree_at all b)
-going_fails all old now set left a b f g xs ys i d is_a is_b was in_xs in_ys never =
+going_fails all old now set top a b f g xs ys i d is_a is_b was in_xs in_ys never =
     applications_fail all old a b f g xs ys is_a is_b (λ s solves parts. remains_fails (λ r. under r all) (λ r. under r all) (λ r. Solves r (seen all now)) (λ r. Solves r (seen all old)) xs ys i d in_xs in_ys never was.remains s solves parts.1)
 
-pub going_ends : (all : List Term) (old now : List Bound) (set : HashSet (ℕ × ℕ) (BuildHasherDefault FoldHasher)) (left a b : Id) (f g : Sym) (xs ys : List Id) (i : ℕ)
-    → tree_at all a ≡ node f (map (tree_at all) xs) → tree_at all b ≡ node g (map (tree_at all) ys) → f ≡ g → length xs ≡ length ys → IsGoing all old now set left xs ys i → length xs ≤ i
+pub going_ends : (all : List Term) (old now : List Bound) (set : Memo) (top : ℕ) (a b : Id) (f g : Sym) (xs ys : List Id) (i : ℕ)
+    → tree_at all a ≡ node f (map (tree_at all) xs) → tree_at all b ≡ node g (map (tree_at all) ys) → f ≡ g → length xs ≡ length ys → IsGoing all old now set top xs ys i → length xs ≤ i
     → HasSolutions all old now (tree_at all a) (tree_at all b)
-going_ends all old now set left a b f g xs ys i is_a is_b same even was past s =
+going_ends all old now set top a b f g xs ys i is_a is_b same even was past s =
     let ends = remains_ends (λ r. under r all) (λ r. under r all) (λ r. Solves r (seen all now)) (λ r. Solves r (seen all old)) xs ys i past (omega arith) was.remains s in (
       λ solves. let both = ends.0 solves in (both.0, bind-application s all a f xs is_a ∙ (one_node (under s all) (under s all) f xs ys both.1 ∙ (ap (λ h. node h (map (under s all) ys)) same ∙ sym (bind-application s all b g ys is_b)))),
       λ both. ends.1 (both.0, (node_one (under s all) (under s all) f g xs ys (sym (bind-application s all a f xs is_a) ∙ (both.1 ∙ bind-application s all b g ys is_b))).1),
     )
+
+-- two applications of one symbol without arguments
+pub constants_same : (all : List Term) (old : List Bound) (a b : Id) (f g : Sym) (xs ys : List Id) → IsReady all old → tree_at all a ≡ node f (map (tree_at all) xs) → tree_at all b ≡ node g (map (tree_at all) ys)
+    → f ≡ g → length xs ≡ length ys → length xs ≡ 0 → HasSolutions all old old (tree_at all a) (tree_at all b)
+constants_same all old a b f g [] [] ready is_a is_b same even empty = solutions_same all old (tree_at all a) (tree_at all b) (λ s solves. ap (bind s) (is_a ∙ (ap (λ h. node h []) same ∙ sym is_b)))
+constants_same all old a b f g [] (y ∷ ys) ready is_a is_b same even empty = absurd (omega arith)
+constants_same all old a b f g (x ∷ xs) ys ready is_a is_b same even empty = absurd (omega arith)
+
+-- lists that were gone along item by item
+pub all_gone : (all : List Term) (old now : List Bound) (set : Memo) (top : ℕ) (xs ys : List Id) (i : ℕ) → length xs ≡ length ys → IsGoing all old now set top xs ys i → length xs ≤ i
+    → HasAllSolutions all old now (map (tree_at all) xs) (map (tree_at all) ys)
+all_gone all old now set top xs ys i even was past s =
+    let ends = remains_ends (λ r. under r all) (λ r. under r all) (λ r. Solves r (seen all now)) (λ r. Solves r (seen all old)) xs ys i past (omega arith) was.remains s in (
+      λ solves. let both = ends.0 solves in (both.0, one_lists s all xs ys both.1),
+      λ both. ends.1 (both.0, lists_one s all xs ys both.1),
+    )
+
+pub all_fail : (all : List Term) (old now : List Bound) (set : Memo) (top : ℕ) (xs ys : List Id) (i : ℕ) (d : Id) → IsGoing all old now set top xs ys i → i < length xs → i < length ys
+    → NoUnifier all now (tree_at all (get_or xs i d)) (tree_at all (get_or ys i d)) → NoUnifierOfAll all old (map (tree_at all) xs) (map (tree_at all) ys)
+all_fail all old now set top xs ys i d was in_xs in_ys never s solves one =
+    remains_fails (λ r. under r all) (λ r. under r all) (λ r. Solves r (seen all now)) (λ r. Solves r (seen all old)) xs ys i d in_xs in_ys never was.remains s solves (lists_one s all xs ys one)
+
+-- what the public answer says more
+pub unified_all : (all : List Term) (old new : List Bound) (xs ys : List Term) → IsReady all new → Grown all old new → HasAllSolutions all old new xs ys → UnifiedAll all old new xs ys
+unified_all all old new xs ys ready grown h = record {
+  extends = grown.extends;
+  mgu = resolved-most_general (λ r. Solves r (seen all old) × UnifiesAll r xs ys) (seen all new) (IsReady-sound all new ready) (λ s. ((h s).0, (h s).1));
+  solutions = h;
+}
 
 -- what the public answer says more
 pub unified : (all : List Term) (old new : List Bound) (a b : Term) → IsReady all new → Grown all old new → HasSolutions all old new a b → Unified all old new a b

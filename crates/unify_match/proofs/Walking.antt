@@ -1,20 +1,19 @@
 -- Following the bindings of variables.
-use Rattle.std.proofs.Common.{◌≡◌, ℕ, ◌+◌, ◌≤◌, ◌<◌, max, Bool, true, false, ◌||◌, Some, None, List, [], ◌∷◌, map, drop, length, get_or, nat_eq, cond, eqb-true, drop-cons, drop_of_length-le, add-one, subst, refl, sym, ap, ◌∙◌, arith}
+use Rattle.std.proofs.Common.{◌≡◌, ℕ, ◌+◌, ◌≤◌, ◌<◌, max, Bool, true, false, ◌||◌, ◌⊎◌, inl, inr, Some, None, List, [], ◌∷◌, map, drop, length, get_or, nat_eq, cond, eqb-true, drop-cons, drop_of_length-le, add-one, subst, refl, sym, ap, ◌∙◌, arith}
 use Rattle.trees.specs.Tree.{Leaf, node, bind}
 use Rattle.terms.specs.Term.{Sym, Term, Subst, has_var}
 use Rattle.terms.specs.Binding.{Solves, resolved}
 use Rattle.terms.specs.Rank.{height, ranks}
 use Rattle.terms.proofs.Resolve.{Solves-at, resolved-unbound}
 use Rattle.terms.proofs.Ranks.{ranks-fall}
-use Rattle.std.specs.HashSet.{HashSet, contains}
-use Rattle.std.specs.declared.hash.BuildHasherDefault.{BuildHasherDefault}
-use Rattle.std.specs.declared.hash.FoldHasher.{FoldHasher}
+use Rattle.terms.proofs.Replace.{some_none}
 use Rattle.term_tree.specs.Bank.{tree_at, AreKnown}
 use Rattle.term_tree.specs.declared.bank.Id.{Id}
 use Rattle.unify_match.specs.declared.bound.Bound.{Bound}
 use Rattle.unify_match.specs.Trail.{id_of}
 use Rattle.unify_match.specs.Seen.{seen, IsReady, IsWalked}
-use Rattle.unify_match.specs.Memo.{AreClear}
+use Rattle.unify_match.specs.declared.memo.Memo.{Memo}
+use Rattle.unify_match.specs.Memo.{is_remembered, AreClear}
 use Rattle.unify_match.proofs.SeenLemmas.{bound_to-seen, bound_to-seen_none, AreInBank-at, IsReady-sound, IsReady-solves}
 
 -- `at` is on the way from `from`
@@ -22,9 +21,10 @@ pub record IsOnTheWay (all : List Term) (pairs : List Bound) (from at : Id) : Ty
   pub known : at.index < length all
   pub same : (s : Subst) → Solves s (seen all pairs) → bind s (tree_at all at) ≡ bind s (tree_at all from)
   pub lower : height (ranks (seen all pairs)) (tree_at all at) ≤ height (ranks (seen all pairs)) (tree_at all from)
+  pub stays : ((x : ℕ) → tree_at all from ≡ Leaf x → id_of pairs x ≡ None) → at ≡ from
 
 pub way_begins : (all : List Term) (pairs : List Bound) (id : Id) → id.index < length all → IsOnTheWay all pairs id id
-way_begins all pairs id known = record { known = known; same = λ s h. refl; lower = omega arith }
+way_begins all pairs id known = record { known = known; same = λ s h. refl; lower = omega arith; stays = λ h. refl }
 
 -- the id that a variable on the way is bound to is lower
 pub way_falls : (all : List Term) (pairs : List Bound) (at next : Id) (x : ℕ) → IsReady all pairs → tree_at all at ≡ Leaf x → id_of pairs x ≡ Some next
@@ -40,11 +40,12 @@ way_goes_on all pairs from at next x ready way is e = record {
   known = AreInBank-at all pairs x next ready.known e;
   same = λ s h. sym (Solves-at s (seen all pairs) x (tree_at all next) h (bound_to-seen all pairs x next e)) ∙ (sym (ap (bind s) is) ∙ way.same s h);
   lower = let falls = way_falls all pairs at next x ready is e in let lower = way.lower in omega arith;
+  stays = λ unbound. absurd (some_none (sym e ∙ unbound x (sym (ap (tree_at all) (way.stays unbound)) ∙ is)));
 }
 
 -- where the way ends
 pub way_ends : (all : List Term) (pairs : List Bound) (from at : Id) → IsOnTheWay all pairs from at → ((x : ℕ) → tree_at all at ≡ Leaf x → id_of pairs x ≡ None) → IsWalked all pairs from at
-way_ends all pairs from at way unbound = record { known = way.known; same = way.same; lower = way.lower; unbound = unbound }
+way_ends all pairs from at way unbound = record { known = way.known; same = way.same; lower = way.lower; unbound = unbound; stays = way.stays }
 
 -- both ends stand for one term
 pub walked-resolved : (all : List Term) (pairs : List Bound) (from to : Id) → IsReady all pairs → IsWalked all pairs from to → bind (resolved (seen all pairs)) (tree_at all to) ≡ bind (resolved (seen all pairs)) (tree_at all from)
@@ -99,13 +100,17 @@ height-at h all ids i d less = let e = ap (heights_of h all) (ids_at ids i d les
 pub known-at : (all : List Term) (ids : List Id) (i : ℕ) (d : Id) → i < length ids → AreKnown all (drop i ids) → ((get_or ids i d).index < length all) × AreKnown all (drop (i + 1) ids)
 known-at all ids i d less known = let both = subst (λ (l : List Id). AreKnown all l) (ids_at ids i d less) known in (both.0, both.1)
 
--- a set with one more number
-pub AreClear-insert : (all : List Term) (pairs : List Bound) (x : ℕ) (old new : HashSet ℕ (BuildHasherDefault FoldHasher)) (id : Id) → AreClear all pairs x old
-    → has_var x (bind (resolved (seen all pairs)) (tree_at all id)) ≡ false → ((q : ℕ) → contains nat_eq new q ≡ cond (nat_eq id.index q) true (contains nat_eq old q)) → AreClear all pairs x new
-AreClear-insert all pairs x old new id were absent updates k in_new = go (nat_eq id.index k) refl where
-  go : (b : Bool) → nat_eq id.index k ≡ b → has_var x (bind (resolved (seen all pairs)) (tree_at all record { index = k })) ≡ false
-  go true same = let here : id.index ≡ k = eqb-true id.index k same in subst (λ (n : ℕ). has_var x (bind (resolved (seen all pairs)) (tree_at all record { index = n })) ≡ false) here absent
-  go false other = were k (sym (updates k ∙ ap (λ b. cond b true (contains nat_eq old k)) other) ∙ in_new)
+-- nothing is remembered at first
+pub AreClear-none : (all : List Term) (pairs : List Bound) (x : ℕ) (memo : Memo) → ((q : ℕ × ℕ) → is_remembered memo q ≡ false) → AreClear all pairs x memo
+AreClear-none all pairs x memo none k remembered = let never = none (x, k) in cc
+
+-- one more term in which the variable does not stand
+pub AreClear-pass : (all : List Term) (pairs : List Bound) (x : ℕ) (old new : Memo) (id : Id) → AreClear all pairs x old → has_var x (bind (resolved (seen all pairs)) (tree_at all id)) ≡ false
+    → ((q : ℕ × ℕ) → is_remembered new q ≡ true → (is_remembered old q ≡ true) ⊎ (q ≡ (x, id.index))) → AreClear all pairs x new
+AreClear-pass all pairs x old new id were absent passed k remembered = let pair : ℕ × ℕ = (x, k) in go (passed pair remembered) where
+  go : (is_remembered old (x, k) ≡ true) ⊎ (◌≡◌ {A = ℕ × ℕ} (x, k) (x, id.index)) → has_var x (bind (resolved (seen all pairs)) (tree_at all record { index = k })) ≡ false
+  go (inl before) = were k before
+  go (inr same) = ap (λ (q : ℕ × ℕ). has_var x (bind (resolved (seen all pairs)) (tree_at all record { index = q.1 }))) same ∙ absent
 
 -- an end that is an unbound variable has itself alone
 pub walked-variable : (all : List Term) (pairs : List Bound) (from to : Id) (y : ℕ) → IsWalked all pairs from to → tree_at all to ≡ Leaf y → bind (resolved (seen all pairs)) (tree_at all to) ≡ Leaf y

@@ -4,3 +4,4 @@ pub mod Seen
 pub mod Outcome
 pub mod Memo
 pub mod Progress
+pub mod Substitution

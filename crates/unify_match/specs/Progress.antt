@@ -1,8 +1,9 @@
 -- How far a unification has come, and why it ends.
 use Rattle.std.specs.Prelude.{◌≡◌, ◌↔◌, ℕ, ◌+◌, ◌*◌, ◌≤◌, max, zero, suc, ◌||◌, cond, is_some, None, List, [], ◌∷◌, length}
+use Rattle.std.specs.List.{list_any}
 use Rattle.trees.specs.Tree.{Trees, Leaf, Node, none, more, depth}
 use Rattle.terms.specs.Term.{Sym, Term, Subst, has_var}
-use Rattle.terms.specs.Unifier.{Unifies, Matches}
+use Rattle.terms.specs.Unifier.{Unifies, UnifiesAll, Matches, MatchesAll}
 use Rattle.terms.specs.Binding.{Solves, Agrees}
 use Rattle.terms.specs.Rank.{height, ranks}
 use Rattle.term_tree.specs.Bank.{tree_at}
@@ -49,6 +50,10 @@ pub record Grown (all : List Term) (old new : List Bound) : Type 0 where
 abbrev pub HasSolutions : List Term → List Bound → List Bound → Term → Term → Type 0
 HasSolutions all old new a b = (s : Subst) → Solves s (seen all new) ↔ (Solves s (seen all old) × Unifies s a b)
 
+-- the same of two lists, item by item
+abbrev pub HasAllSolutions : List Term → List Bound → List Bound → List Term → List Term → Type 0
+HasAllSolutions all old new xs ys = (s : Subst) → Solves s (seen all new) ↔ (Solves s (seen all old) × UnifiesAll s xs ys)
+
 -- the term is no bound variable, and not this variable
 abbrev pub IsApart : List Term → List Bound → ℕ → Id → Type 0
 IsApart all pairs x id = (y : ℕ) → tree_at all id ≡ Leaf y → (id_of pairs y ≡ None) × (x ≡ y → ⊥)
@@ -58,3 +63,8 @@ IsApart all pairs x id = (y : ℕ) → tree_at all id ≡ Leaf y → (id_of pair
 pub record HasMatches (all : List Term) (old new : List Bound) (general special : Term) : Type 0 where
   pub exactly : (x : ℕ) → is_some (id_of new x) ≡ (is_some (id_of old x) || has_var x general)
   pub only : (s : Subst) → Agrees s (seen all new) ↔ (Agrees s (seen all old) × Matches s general special)
+
+-- the same of two lists, item by item
+pub record HasAllMatches (all : List Term) (old now : List Bound) (generals specials : List Term) : Type 0 where
+  pub exactly : (x : ℕ) → is_some (id_of now x) ≡ (is_some (id_of old x) || list_any (has_var x) generals)
+  pub only : (s : Subst) → Agrees s (seen all now) ↔ (Agrees s (seen all old) × MatchesAll s generals specials)

@@ -29,10 +29,11 @@ pub record IsReady (all : List Term) (pairs : List Bound) : Type 0 where
   pub known : AreInBank all pairs
   pub acyclic : NeverLeadsBack (seen all pairs)
 
--- `to` is where the bindings of variables lead from `from`: the two are one term under each solution, and the
--- end is no bound variable
+-- `to` is where the bindings of variables lead from `from`: the two are one term under each solution, the
+-- end is no bound variable, and it is the beginning where that is none
 pub record IsWalked (all : List Term) (pairs : List Bound) (from to : Id) : Type 0 where
   pub known : to.index < length all
   pub same : (s : Subst) → Solves s (seen all pairs) → bind s (tree_at all to) ≡ bind s (tree_at all from)
   pub lower : height (ranks (seen all pairs)) (tree_at all to) ≤ height (ranks (seen all pairs)) (tree_at all from)
   pub unbound : (x : ℕ) → tree_at all to ≡ Leaf x → id_of pairs x ≡ None
+  pub stays : ((x : ℕ) → tree_at all from ≡ Leaf x → id_of pairs x ≡ None) → to ≡ from

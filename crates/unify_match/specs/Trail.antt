@@ -14,6 +14,11 @@ abbrev pub id_of : List Bound → ℕ → Option Id
 id_of [] x = None
 id_of (b ∷ bs) x = cond (nat_eq x b.var) (Some b.id) (id_of bs x)
 
+-- no variable is bound twice
+abbrev pub BindsOnce : List Bound → Type 0
+BindsOnce [] = Unit {0}
+BindsOnce (b ∷ bs) = (id_of bs b.var ≡ None) × BindsOnce bs
+
 -- the later pairs are the earlier ones, with more of them in front
 abbrev pub Extends : List Bound → List Bound → Type 0
 Extends old new = (more : List Bound) × (new ≡ more ++ old)

@@ -1,12 +1,15 @@
 //! Applying bindings to a term: the symbols are counted before anything is built.
 
-ghost use Rattle.std.specs.Prelude.{◌≡◌, ◌+◌, ◌<◌, ◌≤◌, length, IfOk, OnErr, MatchOption};
+ghost use Rattle.std.specs.Prelude.{◌≡◌, ℕ, ◌+◌, ◌<◌, ◌≤◌, IsTrue, None, length, IfOk, IfSome, OnErr, MatchOption};
 ghost use Rattle.trees.specs.Tree.{bind, size};
+ghost use Rattle.terms.specs.Term.{has_var};
 ghost use Rattle.terms.specs.Binding.{resolved};
 ghost use Rattle.term_tree.specs.Bank.{tree_at, Grows, Names};
+ghost use Rattle.unify_match.specs.Trail.{id_of};
 ghost use Rattle.unify_match.specs.Seen.{seen, IsReady};
 
 use crate::binds::Binds;
+use crate::substitute::{Substitution, substituted};
 use crate::walk::walk;
 use std::alloc::AllocError;
 use term_tree::{Bank, Id, Node};
@@ -35,32 +38,11 @@ fn spare<B: Bank>(bank: &B, binds: &Binds, id: Id, most: u64) -> Option<u64>
     }
 }
 
-/// Builds what a term stands for.
-fn build<B: Bank>(bank: &mut B, binds: &Binds, id: Id) -> Result<Id, AllocError>
-    requires known { id.index < length (B.trees bank.old) }
-    requires ready { IsReady (B.trees bank.old) binds.now.pairs }
-    ensures grows { Grows (B.trees bank.old) (B.trees bank.new) }
-    ensures names { IfOk result (λ built. Names (B.trees bank.new) built (bind (resolved (seen (B.trees bank.old) binds.now.pairs)) (tree_at (B.trees bank.old) id))) }
-{
-    let end = walk(bank, binds, id);
-    match bank.node(end) {
-        Node::Var(_) => Ok(end),
-        Node::App(symbol, parts) => {
-            let args = parts.to_vec(binds.allocator())?;
-            let mut built = Vec::new(binds.allocator());
-            'each: for arg in &args {
-                let next = build(bank, binds, *arg)?;
-                built.push(next)?;
-            }
-            bank.app(symbol, &built)
-        }
-    }
-}
-
 /// The term that a term stands for under the bindings, or `None` where it has more than `most` symbols.
-/// The symbols are counted before anything is built.
+/// The symbols are counted before anything is built. Where no variable of the term is bound it is the id
+/// itself, and what is left as it was is not built again.
 ///
-/// `Err` comes only for want of memory; then, and on `None`, the bank is as before.
+/// `Err` comes only for want of memory; then, on `None`, and where no variable is bound, the bank is as before.
 pub fn apply_bound<B: Bank>(
     bank: &mut B,
     id: Id,
@@ -71,17 +53,13 @@ pub fn apply_bound<B: Bank>(
     requires ready { IsReady (B.trees bank.old) binds.now.pairs }
     ensures grows { Grows (B.trees bank.old) (B.trees bank.new) }
     ensures outcome { let term = bind (resolved (seen (B.trees bank.old) binds.now.pairs)) (tree_at (B.trees bank.old) id) in IfOk result (λ found. MatchOption found ((most < size term) × (B.trees bank.new ≡ B.trees bank.old)) (λ built. (size term ≤ most) × Names (B.trees bank.new) built term)) }
+    ensures unchanged { ((x : ℕ) → IsTrue (has_var x (tree_at (B.trees bank.old) id)) → id_of binds.now.pairs x ≡ None) → B.trees bank.new ≡ B.trees bank.old }
+    ensures itself { ((x : ℕ) → IsTrue (has_var x (tree_at (B.trees bank.old) id)) → id_of binds.now.pairs x ≡ None) → IfOk result (λ found. IfSome found (λ built. built ≡ id)) }
     ensures err { OnErr result (B.trees bank.new ≡ B.trees bank.old) }
 {
     if spare(bank, binds, id, most).is_none() {
         return Ok(None);
     }
-    let mark = bank.mark();
-    match build(bank, binds, id) {
-        Ok(built) => Ok(Some(built)),
-        Err(error) => {
-            bank.back(mark);
-            Err(error)
-        }
-    }
+    let made = substituted(binds.allocator(), bank, Substitution::Bindings(binds), id)?;
+    Ok(Some(made))
 }

@@ -1,9 +1,12 @@
 //! Bindings as a finite map with a trail, which can be taken back to an earlier level.
 
-ghost use Rattle.std.specs.Prelude.{◌≡◌, ◌+◌, ◌-◌, ◌<◌, ◌≤◌, List, [], ◌∷◌, None, length, drop, OnOk, IfOk};
-ghost use Rattle.terms.specs.Term.{Term};
-ghost use Rattle.unify_match.specs.Trail.{id_of};
-ghost use Rattle.unify_match.specs.Seen.{IsReady, AreBindings};
+ghost use Rattle.std.specs.Prelude.{◌≡◌, ◌+◌, ◌-◌, ◌<◌, ◌≤◌, List, [], ◌∷◌, None, IsFalse, length, drop, OnOk, IfOk};
+ghost use Rattle.trees.specs.Tree.{bind};
+ghost use Rattle.terms.specs.Term.{Term, has_var};
+ghost use Rattle.terms.specs.Binding.{resolved};
+ghost use Rattle.term_tree.specs.Bank.{tree_at};
+ghost use Rattle.unify_match.specs.Trail.{id_of, BindsOnce};
+ghost use Rattle.unify_match.specs.Seen.{seen, IsReady, AreBindings};
 
 use crate::bound::Bound;
 use std::alloc::{AllocError, Global};
@@ -36,26 +39,33 @@ impl Model for Binds {
 }
 
 impl Binds {
-    /// No bindings. Takes no memory.
-    pub fn new(alloc: Global) -> Self
-        ensures none { result.pairs ≡ [] }
+    /// No bindings.
+    pub fn new(alloc: Global) -> Result<Self, AllocError>
+        ensures none { IfOk result (λ binds. binds.pairs ≡ []) }
 
         // They are ready for unification and for matching over any bank.
-        ensures ready { (all : List Term) → IsReady all result.pairs }
-        ensures bindings { (all : List Term) → AreBindings all result.pairs }
+        ensures ready { IfOk result (λ binds. (all : List Term) → IsReady all binds.pairs) }
+        ensures bindings { IfOk result (λ binds. (all : List Term) → AreBindings all binds.pairs) }
     {
         let trail = Vec::new(alloc);
         let table = HashMap::new(alloc);
-        Binds {
+        Ok(Binds {
             trail,
             table,
             alloc,
-        }
+        })
     }
 
     /// The allocator of the bindings.
-    pub fn allocator(&self) -> Global {
+    pub(crate) fn allocator(&self) -> Global {
         self.alloc
+    }
+
+    /// Bindings bind each variable once at most. Does nothing.
+    pub fn binds_once(&self)
+        ensures { BindsOnce self.now.pairs }
+    {
+        let _ = &self.table;
     }
 
     /// Makes room for `n` more bindings.
@@ -74,6 +84,13 @@ impl Binds {
         requires room { 0 < self.old.room }
         ensures pairs { self.new.pairs ≡ record { var = var; id = id } ∷ self.old.pairs }
         ensures room { self.old.room ≤ self.new.room + 1 }
+
+        // Over a bank that has the term: what the bindings are then.
+        ensures seen { (all : List Term) → seen all self.new.pairs ≡ record { var = var; to = tree_at all id } ∷ seen all self.old.pairs }
+        ensures bindings { (all : List Term) → AreBindings all self.old.pairs → id.index < length all → AreBindings all self.new.pairs }
+
+        // Ready bindings stay ready where the variable does not stand in what the term stands for.
+        ensures ready { (all : List Term) → IsReady all self.old.pairs → id.index < length all → IsFalse (has_var var (bind (resolved (seen all self.old.pairs)) (tree_at all id))) → IsReady all self.new.pairs }
     {
         let _ = self.trail.push(Bound { var, id });
         let _ = self.table.insert(var, id);

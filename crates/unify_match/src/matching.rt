@@ -1,24 +1,27 @@
 //! Matching: a general term is made the special one, whose variables stand for themselves.
 
-ghost use Rattle.std.specs.Prelude.{◌≡◌, ◌<◌, ◌↔◌, IsTrue, false, length, IfOk, OnErr, MatchBool};
-ghost use Rattle.term_tree.specs.Bank.{tree_at};
+ghost use Rattle.std.specs.Prelude.{◌≡◌, ◌<◌, ◌↔◌, IsTrue, false, length, map, IfOk, OnErr, MatchBool};
+ghost use Rattle.term_tree.specs.Bank.{tree_at, AreKnown};
 ghost use Rattle.unify_match.specs.Trail.{Extends};
 ghost use Rattle.unify_match.specs.Seen.{AreBindings};
-ghost use Rattle.unify_match.specs.Progress.{HasMatches};
-ghost use Rattle.unify_match.specs.Outcome.{Matched, NoMatch};
+ghost use Rattle.unify_match.specs.Progress.{HasMatches, HasAllMatches};
+ghost use Rattle.unify_match.specs.Outcome.{Matched, NoMatch, MatchedAll, NoMatchOfAll};
 
 use crate::binds::Binds;
 use crate::symbol::is_same;
 use std::alloc::AllocError;
 use term_tree::{Bank, Id, Node};
 
-/// Whether two terms are the same tree. Takes no memory.
+/// Whether two terms are the same tree, at once where their ids are the same. Takes no memory.
 #[inline(never)]
 pub fn same_term<B: Bank>(bank: &B, left: Id, right: Id) -> bool
     requires left_known { left.index < length (B.trees bank.now) }
     requires right_known { right.index < length (B.trees bank.now) }
     ensures { IsTrue result ↔ (tree_at (B.trees bank.now) left ≡ tree_at (B.trees bank.now) right) }
 {
+    if left.index == right.index {
+        return true;
+    }
     match bank.node(left) {
         Node::Var(x) => match bank.node(right) {
             Node::Var(y) => x == y,
@@ -113,6 +116,63 @@ pub fn match_onto<B: Bank>(
 {
     let level = binds.level();
     match match_from(bank, binds, general, special) {
+        Ok(true) => Ok(true),
+        Ok(false) => {
+            binds.undo(level);
+            Ok(false)
+        }
+        Err(error) => {
+            binds.undo(level);
+            Err(error)
+        }
+    }
+}
+
+/// Extends the bindings until the general terms are the special ones, item by item.
+fn match_each<B: Bank>(
+    bank: &B,
+    binds: &mut Binds,
+    generals: &[Id],
+    specials: &[Id],
+) -> Result<bool, AllocError>
+    requires generals_known { AreKnown (B.trees bank.now) generals.now }
+    requires specials_known { AreKnown (B.trees bank.now) specials.now }
+    requires paired { length generals.now ≡ length specials.now }
+    requires bindings { AreBindings (B.trees bank.now) binds.old.pairs }
+    ensures bindings { AreBindings (B.trees bank.now) binds.new.pairs }
+    ensures extends { Extends binds.old.pairs binds.new.pairs }
+    ensures outcome { IfOk result (λ yes. MatchBool yes (HasAllMatches (B.trees bank.now) binds.old.pairs binds.new.pairs (map (tree_at (B.trees bank.now)) generals.now) (map (tree_at (B.trees bank.now)) specials.now)) (NoMatchOfAll (B.trees bank.now) binds.old.pairs (map (tree_at (B.trees bank.now)) generals.now) (map (tree_at (B.trees bank.now)) specials.now))) }
+{
+    'each: for (i, general) in generals.iter().enumerate() {
+        if !match_from(bank, binds, *general, specials[i])? {
+            return Ok(false);
+        }
+    }
+    Ok(true)
+}
+
+/// Extends the bindings to a match of general terms onto special ones under them, item by item, or tells
+/// that there is none. The variables of the special terms stand for themselves: none of them is bound. The
+/// time grows with the symbols of the special terms, also where the bank shares them.
+///
+/// `Err` comes only for want of memory. On `Ok(false)` and `Err` the bindings are as before.
+pub fn match_all_onto<B: Bank>(
+    bank: &B,
+    generals: &[Id],
+    specials: &[Id],
+    binds: &mut Binds,
+) -> Result<bool, AllocError>
+    requires generals_known { AreKnown (B.trees bank.now) generals.now }
+    requires specials_known { AreKnown (B.trees bank.now) specials.now }
+    requires paired { length generals.now ≡ length specials.now }
+    requires bindings { AreBindings (B.trees bank.now) binds.old.pairs }
+    ensures bindings { AreBindings (B.trees bank.now) binds.new.pairs }
+    ensures outcome { IfOk result (λ yes. MatchBool yes (MatchedAll (B.trees bank.now) binds.old.pairs binds.new.pairs (map (tree_at (B.trees bank.now)) generals.now) (map (tree_at (B.trees bank.now)) specials.now)) (NoMatchOfAll (B.trees bank.now) binds.old.pairs (map (tree_at (B.trees bank.now)) generals.now) (map (tree_at (B.trees bank.now)) specials.now))) }
+    ensures no_match { IfOk result (λ yes. yes ≡ false → binds.new.pairs ≡ binds.old.pairs) }
+    ensures err { OnErr result (binds.new.pairs ≡ binds.old.pairs) }
+{
+    let level = binds.level();
+    match match_each(bank, binds, generals, specials) {
         Ok(true) => Ok(true),
         Ok(false) => {
             binds.undo(level);

@@ -4,8 +4,9 @@ ghost use Rattle.std.specs.Prelude.{◌<◌, ◌↔◌, IsTrue, length};
 
 use crate::apply::apply_bound;
 use crate::binds::Binds;
-use crate::matching::{match_onto, same_term};
-use crate::unification::unify;
+use crate::matching::{match_all_onto, match_onto, same_term};
+use crate::rename::{renumbered, shifted};
+use crate::unification::{unify, unify_all};
 use std::alloc::{AllocError, Global};
 use std::test::Fail;
 use term_tree::{Bank, Id, Node, Sym, TreeBank};
@@ -74,8 +75,8 @@ fn is_answer(
     right: &[u8],
     wanted: Option<&[u8]>,
 ) -> Result<bool, AllocError> {
-    let mut bank = TreeBank::new(alloc);
-    let mut binds = Binds::new(alloc);
+    let mut bank = TreeBank::new(alloc)?;
+    let mut binds = Binds::new(alloc)?;
     let Some(left) = parsed(alloc, &mut bank, left)? else {
         return Ok(false);
     };
@@ -179,8 +180,8 @@ fn matches_worked_out_by_hand(rt: HostRuntime) -> Result<(), Fail> {
 
 #[test]
 fn bindings_are_taken_back(rt: HostRuntime) -> Result<(), Fail> {
-    let mut bank = TreeBank::new(rt.alloc());
-    let mut binds = Binds::new(rt.alloc());
+    let mut bank = TreeBank::new(rt.alloc())?;
+    let mut binds = Binds::new(rt.alloc())?;
     let c = bank.app(Sym::Free(1), &[])?;
     let d = bank.app(Sym::Free(2), &[])?;
     binds.reserve(2)?;
@@ -198,8 +199,8 @@ fn bindings_are_taken_back(rt: HostRuntime) -> Result<(), Fail> {
 #[test]
 fn symbols_are_counted_first(rt: HostRuntime) -> Result<(), Fail> {
     let alloc = rt.alloc();
-    let mut bank = TreeBank::new(alloc);
-    let mut binds = Binds::new(alloc);
+    let mut bank = TreeBank::new(alloc)?;
+    let mut binds = Binds::new(alloc)?;
     let variable = bank.var(0)?;
     let pair = parsed(alloc, &mut bank, b"aaP")?.ok_or("the pair")?;
     let term = parsed(alloc, &mut bank, b"00P")?.ok_or("the term")?;
@@ -216,7 +217,7 @@ fn symbols_are_counted_first(rt: HostRuntime) -> Result<(), Fail> {
     assert!(rt; is_known(&bank, made));
     assert!(rt; is_known(&bank, wanted));
     assert_eq!(rt; bank.size(made), 7);
-    let mut none = Binds::new(alloc);
+    let mut none = Binds::new(alloc)?;
     assert!(rt; match_onto(&bank, made, wanted, &mut none)?);
     assert_eq!(rt; none.level(), 0);
     Ok(())
@@ -225,8 +226,8 @@ fn symbols_are_counted_first(rt: HostRuntime) -> Result<(), Fail> {
 #[test]
 fn variables_of_the_special_side_stay_unbound(rt: HostRuntime) -> Result<(), Fail> {
     let alloc = rt.alloc();
-    let mut bank = TreeBank::new(alloc);
-    let mut binds = Binds::new(alloc);
+    let mut bank = TreeBank::new(alloc)?;
+    let mut binds = Binds::new(alloc)?;
     let variable = bank.var(1)?;
     let general = parsed(alloc, &mut bank, b"0F")?.ok_or("the general term")?;
     let special = over_one(&mut bank, u32::from(b'F'), variable)?.ok_or("the special term")?;
@@ -269,8 +270,8 @@ fn towers<B: Bank>(
 // The terms that the last two variables stand for have 2^201 - 1 symbols each.
 #[test]
 fn shared_terms_are_unified_at_once(rt: HostRuntime) -> Result<(), Fail> {
-    let mut bank = TreeBank::new(rt.alloc());
-    let mut binds = Binds::new(rt.alloc());
+    let mut bank = TreeBank::new(rt.alloc())?;
+    let mut binds = Binds::new(rt.alloc())?;
     let (xs, x_pairs, x) = towers(&mut bank, 0, 200)?.ok_or("the first")?;
     let (ys, y_pairs, y) = towers(&mut bank, 1000, 200)?.ok_or("the second")?;
     assert!(rt; is_known(&bank, xs));
@@ -300,8 +301,8 @@ fn deep<B: Bank>(bank: &mut B, bottom: Id, depth: u32) -> Result<Option<Id>, All
 
 #[test]
 fn deep_terms_fit_the_stack(rt: HostRuntime) -> Result<(), Fail> {
-    let mut bank = TreeBank::new(rt.alloc());
-    let mut binds = Binds::new(rt.alloc());
+    let mut bank = TreeBank::new(rt.alloc())?;
+    let mut binds = Binds::new(rt.alloc())?;
     let variable = bank.var(0)?;
     let name = bank.app(Sym::Free(1), &[])?;
     let left = deep(&mut bank, variable, 16_384)?.ok_or("the left")?;
@@ -310,8 +311,113 @@ fn deep_terms_fit_the_stack(rt: HostRuntime) -> Result<(), Fail> {
     assert!(rt; is_known(&bank, right));
     assert!(rt; unify(&bank, left, right, &mut binds)?);
     assert!(rt; apply_bound(&mut bank, left, &binds, 20000)?.is_some());
-    let mut others = Binds::new(rt.alloc());
+    let mut others = Binds::new(rt.alloc())?;
     assert!(rt; match_onto(&bank, left, right, &mut others)?);
     assert_eq!(rt; others.level(), 1);
+    Ok(())
+}
+
+/// Unifies two lists of two terms, and matches the one onto the other: whether each answer is the wanted one.
+fn are_answers(
+    alloc: Global,
+    lefts: [&[u8]; 2],
+    rights: [&[u8]; 2],
+    unified: bool,
+    matched: bool,
+) -> Result<bool, AllocError> {
+    let mut bank = TreeBank::new(alloc)?;
+    let first = parsed(alloc, &mut bank, lefts[0])?;
+    let second = parsed(alloc, &mut bank, lefts[1])?;
+    let third = parsed(alloc, &mut bank, rights[0])?;
+    let fourth = parsed(alloc, &mut bank, rights[1])?;
+    match (first, second, third, fourth) {
+        (Some(a), Some(b), Some(c), Some(d)) => {
+            Ok(answers(alloc, &bank, (a, b), (c, d))? == Some((unified, matched)))
+        }
+        _ => Ok(false),
+    }
+}
+
+/// Whether the lists unify, and whether the first matches onto the second; nothing where a term is not known.
+fn answers(
+    alloc: Global,
+    bank: &TreeBank,
+    lefts: (Id, Id),
+    rights: (Id, Id),
+) -> Result<Option<(bool, bool)>, AllocError> {
+    if !are_known(bank, lefts.0, lefts.1) {
+        return Ok(None);
+    }
+    if !are_known(bank, rights.0, rights.1) {
+        return Ok(None);
+    }
+    let lefts = [lefts.0, lefts.1];
+    let rights = [rights.0, rights.1];
+    let mut binds = Binds::new(alloc)?;
+    let is_unified = unify_all(bank, &lefts, &rights, &mut binds)?;
+    let mut others = Binds::new(alloc)?;
+    let is_matched = match_all_onto(bank, &lefts, &rights, &mut others)?;
+    Ok(Some((is_unified, is_matched)))
+}
+
+fn are_known<B: Bank>(bank: &B, first: Id, second: Id) -> bool
+    ensures { IsTrue result ↔ ((first.index < length (B.trees bank.now)) × (second.index < length (B.trees bank.now))) }
+{
+    is_known(bank, first) && is_known(bank, second)
+}
+
+// Each row: two lists of two terms, whether they unify, and whether the first matches onto the second.
+#[test]
+fn lists_worked_out_by_hand(rt: HostRuntime) -> Result<(), Fail> {
+    let rows: [([&[u8]; 2], [&[u8]; 2], bool, bool); 6] = [
+        ([b"0", b"1"], [b"a", b"b"], true, true),
+        ([b"0", b"0"], [b"a", b"b"], false, false),
+        ([b"0", b"1"], [b"1F", b"a"], true, true),
+        ([b"0", b"1"], [b"1F", b"0F"], false, true),
+        ([b"0F", b"0"], [b"2", b"a"], true, false),
+        ([b"a", b"0"], [b"b", b"1"], false, false),
+    ];
+    for (lefts, rights, unified, matched) in rows {
+        assert!(rt; are_answers(rt.alloc(), lefts, rights, unified, matched)?);
+    }
+    Ok(())
+}
+
+/// Renames the variables of a term by a table: whether it is the wanted term then.
+fn is_renumbered(
+    alloc: Global,
+    bank: &mut TreeBank,
+    term: Id,
+    numbers: &[Option<u32>],
+    wanted: Id,
+) -> Result<bool, AllocError> {
+    if !are_known(bank, term, wanted) {
+        return Ok(false);
+    }
+    let made = renumbered(alloc, bank, term, numbers)?;
+    Ok(is_known(bank, wanted) && same_term(bank, made, wanted))
+}
+
+// By the table 5, nothing, P(v0, P(v1, a)) is P(v5, P(v1, a)); by the table 1, 0 its variables are exchanged.
+#[test]
+fn variables_are_renamed(rt: HostRuntime) -> Result<(), Fail> {
+    let alloc = rt.alloc();
+    let mut bank = TreeBank::new(alloc)?;
+    let term = parsed(alloc, &mut bank, b"01aPP")?.ok_or("the term")?;
+    let other = parsed(alloc, &mut bank, b"51aPP")?.ok_or("the renumbered term")?;
+    let exchanged = parsed(alloc, &mut bank, b"10aPP")?.ok_or("the exchanged term")?;
+    assert!(rt; is_renumbered(alloc, &mut bank, term, &[Some(5), None], other)?);
+    assert!(rt; is_renumbered(alloc, &mut bank, term, &[Some(1), Some(0)], exchanged)?);
+    Ok(())
+}
+
+// The variable v0 moved by 3 is v3.
+#[test]
+fn variables_are_moved(rt: HostRuntime) -> Result<(), Fail> {
+    let alloc = rt.alloc();
+    let mut bank = TreeBank::new(alloc)?;
+    let variable = bank.var(0)?;
+    let moved = shifted(alloc, &mut bank, variable, 3)?;
+    assert!(rt; matches!(bank.node(moved), Node::Var(3)));
     Ok(())
 }

@@ -10,8 +10,8 @@ ghost use Rattle.unify_match.specs.Seen.{seen, IsReady, IsWalked};
 ghost use Rattle.unify_match.specs.Memo.{AreClear};
 
 use crate::binds::Binds;
+use crate::memo::Memo;
 use std::alloc::AllocError;
-use std::collections::HashSet;
 use term_tree::{Bank, Id, Node};
 
 /// Where the bindings of variables lead from a term: to an application or an unbound variable.
@@ -33,12 +33,12 @@ pub fn walk<B: Bank>(bank: &B, binds: &Binds, id: Id) -> Id
     }
 }
 
-/// Whether a variable stands in what a term stands for. `clear` remembers where it does not, so that each
-/// term is looked at once.
+/// Whether a variable stands in what a term stands for. `clear` remembers where it does not, so that no
+/// term is looked at often.
 pub fn occurs<B: Bank>(
     bank: &B,
     binds: &Binds,
-    clear: &mut HashSet<usize>,
+    clear: &mut Memo,
     number: u32,
     id: Id,
 ) -> Result<bool, AllocError>
@@ -52,7 +52,10 @@ pub fn occurs<B: Bank>(
     match bank.node(end) {
         Node::Var(found) => Ok(number == found),
         Node::App(_, args) => {
-            if clear.contains(&end.index) {
+            if args.is_empty() {
+                return Ok(false);
+            }
+            if clear.has(number as usize, end.index) {
                 return Ok(false);
             }
             'args: for arg in args {
@@ -60,7 +63,7 @@ pub fn occurs<B: Bank>(
                     return Ok(true);
                 }
             }
-            clear.insert(end.index)?;
+            clear.pass(number as usize, end.index)?;
             Ok(false)
         }
     }

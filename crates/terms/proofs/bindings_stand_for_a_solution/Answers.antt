@@ -1,4 +1,4 @@
-use Rattle.terms.proofs.Resolve.{resolved-solves, resolved-factor, resolved-unbound}
+use Rattle.terms.proofs.Resolve.{resolved-solves, resolved-factor, resolved-unbound, resolved-free}
 use Rattle.terms.proofs.Loops.{NeverLeadsBack-sound}
 use Rattle.terms.proofs.bindings_stand_for_a_solution.Goals as goal
 
@@ -10,3 +10,6 @@ returns-clause-most c = λ bs s h. (s, resolved-factor s bs h)
 
 pub returns-clause-unbound : goal.returns-clause-unbound
 returns-clause-unbound c = resolved-unbound
+
+pub returns-clause-bound : goal.returns-clause-bound
+returns-clause-bound c = λ bs ready x t e y. resolved-free bs (NeverLeadsBack-sound bs ready) x t e y

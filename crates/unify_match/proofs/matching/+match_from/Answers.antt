@@ -6,9 +6,9 @@ use Rattle.unify_match.specs.declared.bound.Bound.{Bound}
 use Rattle.unify_match.specs.Seen.{AreBindings}
 use Rattle.unify_match.specs.Outcome.{NoMatch}
 use Rattle.unify_match.specs.Progress.{HasMatches}
-use Rattle.unify_match.proofs.SeenLemmas.{AreInBank-at}
+use Rattle.unify_match.proofs.SeenLemmas.{AreInBank-at, AreBindings-bind}
 use Rattle.unify_match.proofs.Walking.{args-lower, height-at, known-at}
-use Rattle.unify_match.proofs.Matchings.{matches_bound, matches_other, AreBindings-bind, matching_begins, matching_on, matching_fails, matching_ends, match_applications_fail}
+use Rattle.unify_match.proofs.Matchings.{levels, matches_bound, matches_other, matching_begins, matching_on, matching_fails, matching_ends, match_applications_fail}
 use Rattle.unify_match.proofs.Trails.{Extends-trans}
 use Rattle.unify_match.proofs.matching.+match_from.Goals as goal
 
@@ -45,7 +45,7 @@ returns-then-xs-ys-clause-outcome g t c =
 
 pub each-init : goal.each-init
 each-init g t c =
-    matching_begins (g.B.Bank.trees c.args.bank.now) c.args.binds.now.pairs c.args.general c.in-App.xs.now c.in-App-node.ys.now c.requires.bindings c.in-App.ensures.1 c.in-App-node.ensures.1
+    matching_begins (g.B.Bank.trees c.args.bank.now) c.args.binds.now.pairs (levels (tree_at (g.B.Bank.trees c.args.bank.now) c.args.general)) c.in-App.xs.now c.in-App-node.ys.now c.requires.bindings c.in-App.ensures.1 c.in-App-node.ensures.1
     (args-lower (λ x. 1) (g.B.Bank.trees c.args.bank.now) c.args.general (symbol_of c.in-App.f) c.in-App.xs.now c.in-App.ensures.0)
 
 pub match_from-requires : goal.match_from-requires
@@ -69,7 +69,7 @@ returns-then-not-branch-clause-outcome g t c =
     let all = g.B.Bank.trees c.args.bank.now in
     let even : c.each.i < length c.in-App-node.ys.now = omega (arith, c.each-test.true, c.if-xs-ys.false) in
     let never = MatchBool-at_false _ _ c.if-not-branch.true c.in_ok-match_from-in-App-node.ensures.outcome in
-    matching_fails all c.args.binds.now.pairs c.each.binds.pairs c.args.general c.args.general c.args.special (symbol_of c.in-App.f) (symbol_of c.in-App-node.g) c.in-App.xs.now c.in-App-node.ys.now c.each.i record { index = 0 }
+    matching_fails all c.args.binds.now.pairs c.each.binds.pairs (levels (tree_at all c.args.general)) c.args.general c.args.special (symbol_of c.in-App.f) (symbol_of c.in-App-node.g) c.in-App.xs.now c.in-App-node.ys.now c.each.i record { index = 0 }
     c.in-App.ensures.0 c.in-App-node.ensures.0 c.each.invariant c.each-test.true even never
 
 pub each-preserved : goal.each-preserved
@@ -77,11 +77,11 @@ each-preserved g t c =
     let all = g.B.Bank.trees c.args.bank.now in
     let even : c.each.i < length c.in-App-node.ys.now = omega (arith, c.each-test.true, c.if-xs-ys.false) in
     let made_one = MatchBool-at_true _ _ c.if-not-branch.false c.in_ok-match_from-in-App-node.ensures.outcome in
-    matching_on all c.args.binds.now.pairs c.each.binds.pairs c.match_from.new.binds.pairs c.args.general c.in-App.xs.now c.in-App-node.ys.now c.each.i record { index = 0 } c.each.invariant c.each-test.true even
+    matching_on all c.args.binds.now.pairs c.each.binds.pairs c.match_from.new.binds.pairs (levels (tree_at all c.args.general)) c.in-App.xs.now c.in-App-node.ys.now c.each.i record { index = 0 } c.each.invariant c.each-test.true even
     c.match_from.ensures.bindings c.match_from.ensures.extends made_one
 
 pub returns-after-each-clause-outcome : goal.returns-after-each-clause-outcome
 returns-after-each-clause-outcome g t c =
     let all = g.B.Bank.trees c.args.bank.now in
-    matching_ends all c.args.binds.now.pairs c.each.binds.pairs c.args.general c.args.general c.args.special (symbol_of c.in-App.f) (symbol_of c.in-App-node.g) c.in-App.xs.now c.in-App-node.ys.now c.each.i
+    matching_ends all c.args.binds.now.pairs c.each.binds.pairs (levels (tree_at all c.args.general)) c.args.general c.args.special (symbol_of c.in-App.f) (symbol_of c.in-App-node.g) c.in-App.xs.now c.in-App-node.ys.now c.each.i
     c.in-App.ensures.0 c.in-App-node.ensures.0 (ap symbol_of (c.if-not-is_same.ensures.0 refl)) (omega (arith, c.if-xs-ys.false)) c.each.invariant c.each-test.false

@@ -6,4 +6,4 @@ abbrev pub decreases-match_from : goal.decreases-match_from
 decreases-match_from g l = levels (tree_at (g.B.Bank.trees l.bank.now) l.general)
 
 abbrev pub invariant-each : goal.invariant-each
-invariant-each g l = IsMatching (g.B.Bank.trees l.bank) l.fn.binds.pairs l.binds.pairs l.fn.general l.xs l.ys l.i
+invariant-each g l = IsMatching (g.B.Bank.trees l.bank) l.fn.binds.pairs l.binds.pairs (levels (tree_at (g.B.Bank.trees l.bank) l.fn.general)) l.xs l.ys l.i

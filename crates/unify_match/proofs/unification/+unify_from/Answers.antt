@@ -1,21 +1,21 @@
 use Rattle.std.proofs.Common.{◌<◌, sym, ap, subst, arith, length, get_or}
 use Rattle.std.proofs.lemmas.Bool.{MatchBool-at_true, MatchBool-at_false, false≢true}
-use Rattle.terms.specs.Rank.{ranks}
+use Rattle.terms.specs.Rank.{height, ranks}
 use Rattle.term_tree.specs.Bank.{tree_at, symbol_of, IsNodeOf}
 use Rattle.term_tree.specs.declared.bank.Node.{Node}
 use Rattle.term_tree.proofs.BankLaws.{symbol_of-injective}
 use Rattle.unify_match.specs.Seen.{seen}
 use Rattle.unify_match.proofs.Walking.{args-lower, height-at, known-at}
 use Rattle.unify_match.proofs.Effort.{effort-falls, Grown-trans}
-use Rattle.unify_match.proofs.Unifying.{solutions_walked, failure_walked, solutions_same, going_begins, going_on, going_fails, going_ends, applications_fail, AreMade-extends, AreMade-insert, variable_left, variable_right}
+use Rattle.unify_match.proofs.Unifying.{solutions_walked, failure_walked, solutions_same, going_begins, going_on, going_fails, going_ends, applications_fail, AreMade-extends, AreMade-pass, variable_left, variable_right}
 use Rattle.unify_match.proofs.unification.+unify_from.Goals as goal
 
-pub returns-then-contains-clause-outcome : goal.returns-then-contains-clause-outcome
-returns-then-contains-clause-outcome g t c =
+pub returns-then-has-clause-outcome : goal.returns-then-has-clause-outcome
+returns-then-has-clause-outcome g t c =
     let all = g.B.Bank.trees c.args.bank.now in
     let old = c.args.binds.now.pairs in
     solutions_walked all old old c.args.left c.args.right c.walk-a.result c.walk-b.result c.walk-a.ensures c.walk-b.ensures
-    (solutions_same all old (tree_at all c.walk-a.result) (tree_at all c.walk-b.result) (λ s solves. c.requires.made (c.walk-a.result.index, c.walk-b.result.index) (sym c.if-contains.ensures) s solves))
+    (solutions_same all old (tree_at all c.walk-a.result) (tree_at all c.walk-b.result) (λ s solves. c.requires.made (c.walk-a.result.index, c.walk-b.result.index) (c.has.ensures c.if-has.true) s solves))
 
 pub returns-then-not-is_same-clause-outcome : goal.returns-then-not-is_same-clause-outcome
 returns-then-not-is_same-clause-outcome g t c =
@@ -38,7 +38,7 @@ each-init g t c =
     let all = g.B.Bank.trees c.args.bank.now in
     let old = c.args.binds.now.pairs in
     let below = args-lower (ranks (seen all old)) all c.walk-a.result (symbol_of c.in-App-App.f) c.in-App-App.xs.now c.in-App-App.ensures.0 in
-    going_begins all old c.args.made.now c.args.left c.in-App-App.xs.now c.in-App-App.ys.now c.requires.ready c.requires.made c.in-App-App.ensures.1 c.in-App-App.ensures'.1
+    going_begins all old c.args.made.now (height (ranks (seen all old)) (tree_at all c.args.left)) c.in-App-App.xs.now c.in-App-App.ys.now c.requires.ready c.requires.made c.in-App-App.ensures.1 c.in-App-App.ensures'.1
     (omega (arith, below, c.walk-a.ensures.lower))
 
 pub unify_from-requires : goal.unify_from-requires
@@ -69,7 +69,7 @@ returns-then-not-branch-clause-outcome g t c =
     let even : c.each.i < length ys = omega (arith, c.each-test.true, c.if-xs-ys.false) in
     let never = MatchBool-at_false _ _ c.if-not-branch.true c.in_ok-unify_from-in-App-App.ensures.outcome in
     failure_walked all old c.args.left c.args.right c.walk-a.result c.walk-b.result c.walk-a.ensures c.walk-b.ensures
-    (going_fails all old c.each.binds.pairs c.each.made c.args.left c.walk-a.result c.walk-b.result (symbol_of c.in-App-App.f) (symbol_of c.in-App-App.g) xs ys c.each.i record { index = 0 }
+    (going_fails all old c.each.binds.pairs c.each.made (height (ranks (seen all old)) (tree_at all c.args.left)) c.walk-a.result c.walk-b.result (symbol_of c.in-App-App.f) (symbol_of c.in-App-App.g) xs ys c.each.i record { index = 0 }
     c.in-App-App.ensures.0 c.in-App-App.ensures'.0 c.each.invariant c.each-test.true even never)
 
 pub each-preserved : goal.each-preserved
@@ -80,7 +80,7 @@ each-preserved g t c =
     let ys = c.in-App-App.ys.now in
     let even : c.each.i < length ys = omega (arith, c.each-test.true, c.if-xs-ys.false) in
     let made_one = MatchBool-at_true _ _ c.if-not-branch.false c.in_ok-unify_from-in-App-App.ensures.outcome in
-    going_on all old c.each.binds.pairs c.unify_from.new.binds.pairs c.each.made c.unify_from.new.made c.args.left xs ys c.each.i record { index = 0 } c.each.invariant c.each-test.true even
+    going_on all old c.each.binds.pairs c.unify_from.new.binds.pairs c.each.made c.unify_from.new.made (height (ranks (seen all old)) (tree_at all c.args.left)) xs ys c.each.i record { index = 0 } c.each.invariant c.each-test.true even
     c.unify_from.ensures.ready c.unify_from.ensures.made c.unify_from.ensures.grown made_one
 
 pub returns-in-Var-default-clause-made : goal.returns-in-Var-default-clause-made
@@ -100,16 +100,23 @@ returns-in_default-Var-clause-outcome g t c =
     let all = g.B.Bank.trees c.args.bank.now in
     variable_right all c.args.binds.now.pairs c.bind_apart-in_default-Var.new.binds.pairs c.args.left c.args.right c.walk-a.result c.walk-b.result c.in_default-Var.y c.bind_apart-in_default-Var.result c.walk-a.ensures c.walk-b.ensures c.in_default-Var.ensures c.bind_apart-in_default-Var.ensures.outcome
 
-pub returns-in_ok-insert-in-App-App-clause-made : goal.returns-in_ok-insert-in-App-App-clause-made
-returns-in_ok-insert-in-App-App-clause-made g t c =
+pub returns-in_ok-pass-in-App-App-clause-made : goal.returns-in_ok-pass-in-App-App-clause-made
+returns-in_ok-pass-in-App-App-clause-made g t c =
     let all = g.B.Bank.trees c.args.bank.now in
-    let ends = going_ends all c.args.binds.now.pairs c.each.binds.pairs c.each.made c.args.left c.walk-a.result c.walk-b.result (symbol_of c.in-App-App.f) (symbol_of c.in-App-App.g) c.in-App-App.xs.now c.in-App-App.ys.now c.each.i
+    let ends = going_ends all c.args.binds.now.pairs c.each.binds.pairs c.each.made (height (ranks (seen all c.args.binds.now.pairs)) (tree_at all c.args.left)) c.walk-a.result c.walk-b.result (symbol_of c.in-App-App.f) (symbol_of c.in-App-App.g) c.in-App-App.xs.now c.in-App-App.ys.now c.each.i
     c.in-App-App.ensures.0 c.in-App-App.ensures'.0 (ap symbol_of (c.is_same.ensures.0 c.if-not-is_same.false)) (omega (arith, c.if-xs-ys.false)) c.each.invariant c.each-test.false in
-    AreMade-insert all c.each.binds.pairs c.each.made c.insert.new.self c.walk-a.result c.walk-b.result c.each.invariant.made (λ s solves. ((ends s).0 solves).1) c.in_ok-insert-in-App-App.ensures.updates.0
+    AreMade-pass all c.each.binds.pairs c.each.made c.pass.new.self c.walk-a.result c.walk-b.result c.each.invariant.made (λ s solves. ((ends s).0 solves).1) c.pass.ensures
 
-pub returns-in_ok-insert-in-App-App-clause-outcome : goal.returns-in_ok-insert-in-App-App-clause-outcome
-returns-in_ok-insert-in-App-App-clause-outcome g t c =
+pub returns-in_err-pass-in-App-App-clause-made : goal.returns-in_err-pass-in-App-App-clause-made
+returns-in_err-pass-in-App-App-clause-made g t c =
+    let all = g.B.Bank.trees c.args.bank.now in
+    let ends = going_ends all c.args.binds.now.pairs c.each.binds.pairs c.each.made (height (ranks (seen all c.args.binds.now.pairs)) (tree_at all c.args.left)) c.walk-a.result c.walk-b.result (symbol_of c.in-App-App.f) (symbol_of c.in-App-App.g) c.in-App-App.xs.now c.in-App-App.ys.now c.each.i
+    c.in-App-App.ensures.0 c.in-App-App.ensures'.0 (ap symbol_of (c.is_same.ensures.0 c.if-not-is_same.false)) (omega (arith, c.if-xs-ys.false)) c.each.invariant c.each-test.false in
+    AreMade-pass all c.each.binds.pairs c.each.made c.pass.new.self c.walk-a.result c.walk-b.result c.each.invariant.made (λ s solves. ((ends s).0 solves).1) c.pass.ensures
+
+pub returns-in_ok-pass-in-App-App-clause-outcome : goal.returns-in_ok-pass-in-App-App-clause-outcome
+returns-in_ok-pass-in-App-App-clause-outcome g t c =
     let all = g.B.Bank.trees c.args.bank.now in
     solutions_walked all c.args.binds.now.pairs c.each.binds.pairs c.args.left c.args.right c.walk-a.result c.walk-b.result c.walk-a.ensures c.walk-b.ensures
-    (going_ends all c.args.binds.now.pairs c.each.binds.pairs c.each.made c.args.left c.walk-a.result c.walk-b.result (symbol_of c.in-App-App.f) (symbol_of c.in-App-App.g) c.in-App-App.xs.now c.in-App-App.ys.now c.each.i
+    (going_ends all c.args.binds.now.pairs c.each.binds.pairs c.each.made (height (ranks (seen all c.args.binds.now.pairs)) (tree_at all c.args.left)) c.walk-a.result c.walk-b.result (symbol_of c.in-App-App.f) (symbol_of c.in-App-App.g) c.in-App-App.xs.now c.in-App-App.ys.now c.each.i
     c.in-App-App.ensures.0 c.in-App-App.ensures'.0 (ap symbol_of (c.is_same.ensures.0 c.if-not-is_same.false)) (omega (arith, c.if-xs-ys.false)) c.each.invariant c.each-test.false)

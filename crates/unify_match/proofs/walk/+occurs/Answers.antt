@@ -1,12 +1,12 @@
-use Rattle.std.proofs.Common.{◌∙◌, sym, refl, arith}
+use Rattle.std.proofs.Common.{◌∙◌, sym, refl, arith, length, eqb-true}
 use Rattle.terms.specs.Rank.{ranks}
 use Rattle.term_tree.specs.Bank.{symbol_of}
 use Rattle.unify_match.specs.Seen.{seen}
-use Rattle.unify_match.proofs.Walking.{walked-has, args-lower, height-at, known-at, has-variable, has-found, has-none, AreClear-insert}
+use Rattle.unify_match.proofs.Walking.{walked-has, args-lower, height-at, known-at, has-variable, has-found, has-none, AreClear-pass}
 use Rattle.unify_match.proofs.walk.+occurs.Goals as goal
 
-pub returns-then-contains-clause-found : goal.returns-then-contains-clause-found
-returns-then-contains-clause-found g t c = sym (sym (walked-has (g.B.Bank.trees c.args.bank.now) c.args.binds.now.pairs c.args.id c.walk-end.result c.args.number c.requires.ready c.walk-end.ensures) ∙ c.requires.clear c.walk-end.result.index (sym c.if-contains.ensures))
+pub returns-then-has-clause-found : goal.returns-then-has-clause-found
+returns-then-has-clause-found g t c = sym (sym (walked-has (g.B.Bank.trees c.args.bank.now) c.args.binds.now.pairs c.args.id c.walk-end.result c.args.number c.requires.ready c.walk-end.ensures) ∙ c.requires.clear c.walk-end.result.index (c.has.ensures c.if-has.true))
 
 pub args-2-init : goal.args-2-init
 args-2-init g t c = record {
@@ -31,13 +31,24 @@ returns-then-branch-clause-found g t c =
 pub returns-in-Var-clause-found : goal.returns-in-Var-clause-found
 returns-in-Var-clause-found g t c = has-variable (g.B.Bank.trees c.args.bank.now) c.args.binds.now.pairs c.args.id c.walk-end.result c.args.number c.in-Var.found c.requires.ready c.walk-end.ensures c.in-Var.ensures
 
-pub returns-in_ok-insert-in-App-clause-clear : goal.returns-in_ok-insert-in-App-clause-clear
-returns-in_ok-insert-in-App-clause-clear g t c =
-    AreClear-insert (g.B.Bank.trees c.args.bank.now) c.args.binds.now.pairs c.args.number c.args-2.clear c.insert.new.self c.walk-end.result c.args-2.invariant.clear
+pub returns-in_ok-pass-in-App-clause-clear : goal.returns-in_ok-pass-in-App-clause-clear
+returns-in_ok-pass-in-App-clause-clear g t c =
+    AreClear-pass (g.B.Bank.trees c.args.bank.now) c.args.binds.now.pairs c.args.number c.args-2.clear c.pass.new.self c.walk-end.result c.args-2.invariant.clear
     (has-none (g.B.Bank.trees c.args.bank.now) c.args.binds.now.pairs c.walk-end.result c.args.number (symbol_of c.in-App.field-0) c.in-App.args.now c.args-2.arg-index c.in-App.ensures.0 c.args-2.invariant.rest c.args-2-test.false)
-    c.in_ok-insert-in-App.ensures.updates.0
+    c.pass.ensures
 
-pub returns-in_ok-insert-in-App-clause-found : goal.returns-in_ok-insert-in-App-clause-found
-returns-in_ok-insert-in-App-clause-found g t c =
+pub returns-in_err-pass-in-App-clause-clear : goal.returns-in_err-pass-in-App-clause-clear
+returns-in_err-pass-in-App-clause-clear g t c =
+    AreClear-pass (g.B.Bank.trees c.args.bank.now) c.args.binds.now.pairs c.args.number c.args-2.clear c.pass.new.self c.walk-end.result c.args-2.invariant.clear
+    (has-none (g.B.Bank.trees c.args.bank.now) c.args.binds.now.pairs c.walk-end.result c.args.number (symbol_of c.in-App.field-0) c.in-App.args.now c.args-2.arg-index c.in-App.ensures.0 c.args-2.invariant.rest c.args-2-test.false)
+    c.pass.ensures
+
+pub returns-in_ok-pass-in-App-clause-found : goal.returns-in_ok-pass-in-App-clause-found
+returns-in_ok-pass-in-App-clause-found g t c =
     sym (sym (walked-has (g.B.Bank.trees c.args.bank.now) c.args.binds.now.pairs c.args.id c.walk-end.result c.args.number c.requires.ready c.walk-end.ensures)
     ∙ has-none (g.B.Bank.trees c.args.bank.now) c.args.binds.now.pairs c.walk-end.result c.args.number (symbol_of c.in-App.field-0) c.in-App.args.now c.args-2.arg-index c.in-App.ensures.0 c.args-2.invariant.rest c.args-2-test.false)
+
+pub returns-then-is_empty-clause-found : goal.returns-then-is_empty-clause-found
+returns-then-is_empty-clause-found g t c =
+    sym (sym (walked-has (g.B.Bank.trees c.args.bank.now) c.args.binds.now.pairs c.args.id c.walk-end.result c.args.number c.requires.ready c.walk-end.ensures)
+    ∙ has-none (g.B.Bank.trees c.args.bank.now) c.args.binds.now.pairs c.walk-end.result c.args.number (symbol_of c.in-App.field-0) c.in-App.args.now 0 c.in-App.ensures.0 refl (let none = eqb-true (length c.in-App.args.now) 0 (sym c.if-is_empty.ensures) in omega (arith, none)))

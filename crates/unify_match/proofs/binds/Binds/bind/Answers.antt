@@ -2,6 +2,8 @@ use Rattle.std.proofs.Common.{◌∙◌, ◌∷◌, List, reverse, ap, sym, subs
 use Rattle.unify_match.specs.declared.bound.Bound.{Bound}
 use Rattle.unify_match.specs.Trail.{Trail, id_of}
 use Rattle.unify_match.specs.Table.{IsTableOf}
+use Rattle.unify_match.specs.Seen.{IsReady, AreBindings}
+use Rattle.unify_match.proofs.SeenLemmas.{IsReady-bind, AreBindings-bind}
 use Rattle.unify_match.proofs.Tables.{reverse-last, IsTableOf-bind, on_ok, if_ok}
 use Rattle.unify_match.proofs.binds.Binds.bind.Goals as goal
 
@@ -23,3 +25,11 @@ returns-clause-pairs c =
     let pushed = c.push.ensures.succeeds (omega (arith, room, c.requires.room)) in
     ap reverse (c.push.ensures.items ∙ if_ok c.push.result _ _ pushed)
     ∙ (reverse-last c.self.inside.trail.items record { var = c.args.var; id = c.args.id } ∙ ap (λ (l : List Bound). record { var = c.args.var; id = c.args.id } ∷ l) pairs)
+
+pub returns-clause-bindings : goal.returns-clause-bindings
+returns-clause-bindings c all were known =
+    subst (λ (bs : List Bound). AreBindings all bs) (sym (returns-clause-pairs c)) (AreBindings-bind all c.args.self.now.pairs record { var = c.args.var; id = c.args.id } were known c.requires.unbound)
+
+pub returns-clause-ready : goal.returns-clause-ready
+returns-clause-ready c all ready known absent =
+    subst (λ (bs : List Bound). IsReady all bs) (sym (returns-clause-pairs c)) (IsReady-bind all c.args.self.now.pairs record { var = c.args.var; id = c.args.id } ready known c.requires.unbound absent)

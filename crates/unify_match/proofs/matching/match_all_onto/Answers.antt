@@ -1,0 +1,11 @@
+use Rattle.std.proofs.Common.{map}
+use Rattle.std.proofs.lemmas.Bool.{MatchBool-at_true}
+use Rattle.term_tree.specs.Bank.{tree_at}
+use Rattle.unify_match.proofs.Matchings.{matched_all}
+use Rattle.unify_match.proofs.matching.match_all_onto.Goals as goal
+
+pub returns-in-Ok-true-clause-outcome : goal.returns-in-Ok-true-clause-outcome
+returns-in-Ok-true-clause-outcome g c =
+    let all = g.B.Bank.trees c.args.bank.now in
+    matched_all all c.args.binds.now.pairs c.match_each.new.binds.pairs (map (tree_at all) c.args.generals.now) (map (tree_at all) c.args.specials.now) c.match_each.ensures.bindings c.match_each.ensures.extends
+    (MatchBool-at_true _ _ c.in-Ok-true.field-0-test c.in-Ok-true.ensures.outcome)
