@@ -1,0 +1,11 @@
+pub mod Fact
+pub mod Variables
+pub mod Renaming
+pub mod Flat
+pub mod Selection
+pub mod Norm
+pub mod Limits
+pub mod Unify
+pub mod Resolvents
+pub mod Inclusion
+pub mod Subsumption
