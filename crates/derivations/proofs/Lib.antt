@@ -1,0 +1,6 @@
+pub mod Forest
+pub mod Suffices
+pub mod RowLaws
+pub mod Resolution
+pub mod NormLaw
+pub mod Closing

@@ -1,0 +1,4 @@
+pub mod Derivation
+pub mod Closed
+pub mod Laws
+pub mod Example
