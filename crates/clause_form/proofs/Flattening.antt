@@ -1,0 +1,98 @@
+-- Flattening facts over ids.
+use Rattle.std.proofs.Common.{◌≡◌, ℕ, ◌+◌, ◌<◌, ◌≤◌, true, false, Bool, cond, List, [], ◌∷◌, ◌++◌, length, map, flat_map, take, get_or, refl, ap, sym, ◌∙◌, subst, Result, Ok, Err, IfOk}
+use Rattle.std.specs.declared.alloc.AllocError.{AllocError}
+use Rattle.std.proofs.lemmas.List.{map-append, map-id}
+use Rattle.std.proofs.lemmas.Simd.{map-map}
+use Rattle.std.proofs.lemmas.List.Folds.{flat_map-map}
+use Rattle.trees.specs.Tree.{Leaf, Node, node, trees}
+use Rattle.terms.specs.Term.{Sym, Term}
+use Rattle.clauses.specs.Fact.{Fact, Att, Clause}
+use Rattle.clauses.specs.Flat.{is_data, parts, row_parts, flat, flat_parts}
+use Rattle.term_tree.specs.Bank.{tree_at}
+use Rattle.term_tree.specs.declared.bank.Id.{Id}
+use Rattle.clause_form.specs.declared.facts.Fact as declared
+use Rattle.clause_form.specs.declared.facts.Fact.TheVariants as variants
+use Rattle.clause_form.specs.Facts.{fact_of}
+use Rattle.clause_form.specs.Seen.{fact_at, clause_at, IsFactIn, AreFactsIn, IsClauseIn, AreClausesIn, NameFacts, NameClauses}
+use Rattle.clause_form.proofs.Lists.{flat_map_all}
+
+pub AreFactsIn-append : (all : List Term) (fs gs : List (Fact Id)) → AreFactsIn all fs → AreFactsIn all gs → AreFactsIn all (fs ++ gs)
+AreFactsIn-append all [] gs known more = more
+AreFactsIn-append all (f ∷ fs) gs known more = (known.0, AreFactsIn-append all fs gs known.1 more)
+
+-- `att` of the parts of a term that an id names
+abbrev pub parts_at : List Term → Id → List (Fact Term)
+parts_at all id = flat (Att (tree_at all id))
+
+row_flat : (all : List Term) (ids : List Id) → map Att (row_parts (trees (map (tree_at all) ids))) ≡ flat_map (parts_at all) ids
+row_flat all [] = refl
+row_flat all (id ∷ ids) = map-append Att (parts (tree_at all id)) (row_parts (trees (map (tree_at all) ids))) ∙ ap (λ l. parts_at all id ++ l) (row_flat all ids)
+
+pub data_flat : (all : List Term) (id : Id) (f : Sym) (ids : List Id) → tree_at all id ≡ node f (map (tree_at all) ids) → is_data f ≡ true → parts_at all id ≡ flat_map (parts_at all) ids
+data_flat all id f ids is parted = ap (λ t. flat (Att t)) is ∙ (ap (λ b. map Att (cond b (row_parts (trees (map (tree_at all) ids))) (node f (map (tree_at all) ids) ∷ []))) parted ∙ row_flat all ids)
+
+pub other_flat : (all : List Term) (id : Id) (f : Sym) (ids : List Id) → tree_at all id ≡ node f (map (tree_at all) ids) → is_data f ≡ false → parts_at all id ≡ Att (tree_at all id) ∷ []
+other_flat all id f ids is other = ap (λ t. flat (Att t)) is ∙ (ap (λ b. map Att (cond b (row_parts (trees (map (tree_at all) ids))) (node f (map (tree_at all) ids) ∷ []))) other ∙ ap (λ t. Att t ∷ []) (sym is))
+
+pub variable_flat : (all : List Term) (id : Id) (x : ℕ) → tree_at all id ≡ Leaf x → parts_at all id ≡ Att (tree_at all id) ∷ []
+variable_flat all id x is = ap (λ t. flat (Att t)) is ∙ ap (λ t. Att t ∷ []) (sym is)
+
+-- one more fact after those that are there
+pub pushed : (all : List Term) (old new : List (Fact Id)) (f : Fact Id) → new ≡ old ++ f ∷ [] → map (fact_at all) new ≡ map (fact_at all) old ++ fact_at all f ∷ []
+pushed all old new f e = ap (map (fact_at all)) e ∙ map-append (fact_at all) old (f ∷ [])
+
+pub push_known : (all : List Term) (old new : List (Fact Id)) (f : Fact Id) → new ≡ old ++ f ∷ [] → AreFactsIn all old → IsFactIn all f → AreFactsIn all new
+push_known all old new f e known fact = subst (λ (l : List (Fact Id)). AreFactsIn all l) (sym e) (AreFactsIn-append all old (f ∷ []) known (fact, tt))
+
+-- a fact that is no `att` is flat
+pub other_fact_flat : (all : List Term) (f : declared.Fact) → ((t : Id) → f ≡ variants.Att t → ⊥) → flat (fact_at all (fact_of f)) ≡ fact_at all (fact_of f) ∷ []
+other_fact_flat all (variants.Att t) never = absurd (never t refl)
+other_fact_flat all (variants.Mess t u) never = refl
+other_fact_flat all (variants.Ev e ts) never = refl
+other_fact_flat all (variants.Mev e ts) never = refl
+other_fact_flat all (variants.Bad ts) never = refl
+
+pub other_added : (all : List Term) (f : declared.Fact) (old new : List (Fact Id)) → new ≡ old ++ fact_of f ∷ [] → ((t : Id) → f ≡ variants.Att t → ⊥) → IsFactIn all (fact_of f) → AreFactsIn all old
+    → record { known : AreFactsIn all new; parts : map (fact_at all) new ≡ map (fact_at all) old ++ flat (fact_at all (fact_of f)) }
+other_added all f old new e never fact known = record {
+  known = push_known all old new (fact_of f) e known fact;
+  parts = pushed all old new (fact_of f) e ∙ ap (λ l. map (fact_at all) old ++ l) (sym (other_fact_flat all f never));
+}
+
+-- flat facts of all facts
+pub all_flat : (all : List Term) (fs : List declared.Fact) (facts made : List (Fact Id)) (i : ℕ) → map fact_of fs ≡ facts → AreFactsIn all made → map (fact_at all) made ≡ flat_map (λ f. flat (fact_at all (fact_of f))) (take i fs) → length fs ≤ i
+    → NameFacts all made (flat_map flat (map (fact_at all) facts))
+all_flat all fs facts made i seen known are past = record {
+  known = known;
+  are = are ∙ (flat_map_all (λ f. flat (fact_at all (fact_of f))) fs i past
+      ∙ (sym (flat_map-map (λ f. flat (fact_at all f)) fact_of fs) ∙ (sym (flat_map-map flat (fact_at all) (map fact_of fs)) ∙ ap (λ l. flat_map flat (map (fact_at all) l)) seen)));
+}
+
+-- a clause for each conclusion
+abbrev pub with_hypotheses : {X : Type 0} → List (Fact X) → Fact X → Clause X
+with_hypotheses hyps f = record { hypotheses = hyps; conclusion = f }
+
+pub concluding_all : (hyps concls : List (Fact Id)) (yielded items : List declared.Fact) → map (λ x. x) yielded ≡ items → map fact_of items ≡ concls → map (λ f. with_hypotheses hyps (fact_of f)) yielded ≡ map (with_hypotheses hyps) concls
+concluding_all hyps concls yielded items same seen = sym (map-map (with_hypotheses hyps) fact_of yielded) ∙ ap (map (with_hypotheses hyps)) (ap (map fact_of) (sym (map-id yielded) ∙ same) ∙ seen)
+
+concluding_known : (all : List Term) (hyps concls : List (Fact Id)) → AreFactsIn all hyps → AreFactsIn all concls → AreClausesIn all (map (with_hypotheses hyps) concls)
+concluding_known all hyps [] known concls = tt
+concluding_known all hyps (f ∷ fs) known concls = (record { hypotheses = known; conclusion = concls.0 }, concluding_known all hyps fs known concls.1)
+
+concluding_at : (all : List Term) (hyps concls : List (Fact Id)) → map (clause_at all) (map (with_hypotheses hyps) concls) ≡ map (with_hypotheses (map (fact_at all) hyps)) (map (fact_at all) concls)
+concluding_at all hyps [] = refl
+concluding_at all hyps (f ∷ fs) = ap (λ l. with_hypotheses (map (fact_at all) hyps) (fact_at all f) ∷ l) (concluding_at all hyps fs)
+
+-- so they name the flat parts
+parts_named : (all : List Term) (c : Clause Id) (hyps concls : List (Fact Id)) (parts : List (Clause Id)) → NameFacts all hyps (flat_map flat (map (fact_at all) c.hypotheses)) → NameFacts all concls (flat (fact_at all c.conclusion))
+    → parts ≡ map (with_hypotheses hyps) concls → NameClauses all parts (flat_parts (clause_at all c))
+parts_named all c hyps concls parts hyps_named concls_named e = record {
+  known = subst (λ (l : List (Clause Id)). AreClausesIn all l) (sym e) (concluding_known all hyps concls hyps_named.known concls_named.known);
+  are = ap (map (clause_at all)) e ∙ (concluding_at all hyps concls ∙ (ap (λ l. map (with_hypotheses l) (map (fact_at all) concls)) hyps_named.are ∙ ap (map (with_hypotheses (flat_map flat (map (fact_at all) c.hypotheses)))) concls_named.are));
+}
+
+pub flattened : (all : List Term) (c : Clause Id) (hypotheses : List (Fact Id)) (conclusion : Fact Id) (hyps concls : List (Fact Id)) (r : Result (List (Clause Id)) AllocError) → with_hypotheses hypotheses conclusion ≡ c
+    → NameFacts all hyps (flat_map flat (map (fact_at all) hypotheses)) → NameFacts all concls (flat (fact_at all conclusion)) → IfOk r (λ made. made ≡ map (with_hypotheses hyps) concls)
+    → IfOk r (λ parts. NameClauses all parts (flat_parts (clause_at all c)))
+flattened all c hypotheses conclusion hyps concls (Ok parts) is hyps_named concls_named e = subst (λ (d : Clause Id). NameClauses all parts (flat_parts (clause_at all d))) is (parts_named all (with_hypotheses hypotheses conclusion) hyps concls parts hyps_named concls_named e)
+flattened all c hypotheses conclusion hyps concls (Err failed) is hyps_named concls_named e = tt

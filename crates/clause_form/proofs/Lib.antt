@@ -1,0 +1,9 @@
+pub mod Walks
+pub mod Lists
+pub mod Flattening
+pub mod Copying
+pub mod Comparing
+pub mod Counting
+pub mod Renumber
+pub mod Norming
+pub mod Bounding

@@ -1,0 +1,137 @@
+-- The rules of the norm over a bank, one after another.
+use Rattle.std.proofs.Common.{◌≡◌, ℕ, zero, suc, ◌+◌, ◌<◌, ◌≤◌, Bool, true, false, not, ◌&&◌, cond, nat_eq, Option, None, Some, Result, Ok, Err, IfOk, List, [], ◌∷◌, ◌++◌, length, map, flat_map, filter, take, get_or, refl, ap, sym, ◌∙◌, subst, append-nil, arith}
+use Rattle.std.specs.declared.alloc.AllocError.{AllocError}
+use Rattle.std.specs.List.{list_any}
+use Rattle.std.proofs.lemmas.List.{map-append, map_more, take_all, length-map}
+use Rattle.std.proofs.lemmas.Simd.{map-map}
+use Rattle.trees.specs.Tree.{Leaf, Node}
+use Rattle.terms.specs.Term.{Term}
+use Rattle.terms.proofs.Replace.{eqb_self}
+use Rattle.clauses.specs.Fact.{Fact, Att, Mess, Ev, Mev, Bad, Clause, same_fact, is_among, is_variable_known, fact_under}
+use Rattle.clauses.specs.Variables.{fact_variables, clause_variables}
+use Rattle.clauses.specs.Selection.{is_solved}
+use Rattle.clauses.specs.Norm.{distinct, is_lonely, generalized, numbered, norm}
+use Rattle.clauses.proofs.Equality.{same_fact-decides}
+use Rattle.term_tree.specs.Bank.{Grows}
+use Rattle.term_tree.specs.declared.bank.Id.{Id}
+use Rattle.clause_form.specs.declared.facts.Fact as declared
+use Rattle.clause_form.specs.declared.normal.Normal.TheVariants as variants
+use Rattle.clause_form.specs.Facts.{fact_of}
+use Rattle.clause_form.specs.Numbers.{placed}
+use Rattle.clause_form.specs.Normals.{NamesNorm}
+use Rattle.clause_form.specs.Seen.{fact_at, clause_at, IsFactIn, AreFactsIn, NamesFact, NameFacts, NamesClause}
+use Rattle.clause_form.proofs.Flattening.{AreFactsIn-append, with_hypotheses}
+use Rattle.clause_form.proofs.Counting.{distinct_on, filter-append}
+use Rattle.clause_form.proofs.Copying.{fact_at-grows, clause_named}
+
+-- what a fact over ids is over the trees
+abbrev pub seen_at : List Term → declared.Fact → Fact Term
+seen_at all f = fact_at all (fact_of f)
+
+got_map : {X Y : Type 0} (f : X → Y) (xs : List X) (i : ℕ) (d : X) → i < length xs → get_or (map f xs) i (f d) ≡ f (get_or xs i d)
+got_map f [] i d within = absurd (omega arith)
+got_map f (x ∷ xs) zero d within = refl
+got_map f (x ∷ xs) (suc i) d within = got_map f xs i d (omega arith)
+
+kept_known : (all : List Term) (kept : List (Fact Id)) (f : Fact Id) (b : Bool) → AreFactsIn all kept → IsFactIn all f → AreFactsIn all (cond b kept (kept ++ f ∷ []))
+kept_known all kept f true known fact = known
+kept_known all kept f false known fact = AreFactsIn-append all kept (f ∷ []) known (fact, tt)
+
+pub repeats_known : (all : List Term) (kept new : List (Fact Id)) (f : Fact Id) (b : Bool) → AreFactsIn all kept → IsFactIn all f → new ≡ cond b kept (kept ++ f ∷ []) → AreFactsIn all new
+repeats_known all kept new f b known fact e = subst (λ (l : List (Fact Id)). AreFactsIn all l) (sym e) (kept_known all kept f b known fact)
+
+map_cond : (all : List Term) (kept : List (Fact Id)) (f : Fact Id) (b : Bool) → map (fact_at all) (cond b kept (kept ++ f ∷ [])) ≡ cond b (map (fact_at all) kept) (map (fact_at all) kept ++ fact_at all f ∷ [])
+map_cond all kept f true = refl
+map_cond all kept f false = map-append (fact_at all) kept (f ∷ [])
+
+pub repeats_on : (all : List Term) (fs : List declared.Fact) (i : ℕ) (f : declared.Fact) (kept new : List (Fact Id)) → map (fact_at all) kept ≡ distinct same_fact (take i (map (seen_at all) fs)) → i < length fs → f ≡ get_or fs i f
+    → new ≡ cond (is_among (map (fact_at all) kept) (seen_at all f)) kept (kept ++ fact_of f ∷ []) → map (fact_at all) new ≡ distinct same_fact (take (i + 1) (map (seen_at all) fs))
+repeats_on all fs i f kept new was within is e =
+    let inside : i < length (map (seen_at all) fs) = omega (arith, length-map fs (seen_at all)) in
+    let found : seen_at all f ≡ get_or (map (seen_at all) fs) i (seen_at all f) = ap (seen_at all) is ∙ sym (got_map (seen_at all) fs i f within) in
+    let made : map (fact_at all) new ≡ cond (list_any (same_fact (seen_at all f)) (map (fact_at all) kept)) (map (fact_at all) kept) (map (fact_at all) kept ++ seen_at all f ∷ []) =
+    ap (map (fact_at all)) e ∙ map_cond all kept (fact_of f) (is_among (map (fact_at all) kept) (seen_at all f)) in
+    distinct_on same_fact (λ g h. (same_fact-decides g h).0) (λ g. (same_fact-decides g g).1 refl) (map (seen_at all) fs) i (seen_at all f) (map (fact_at all) kept) (map (fact_at all) new) inside found was made
+
+pub repeats_done : (all : List Term) (fs : List declared.Fact) (i : ℕ) (kept : List (Fact Id)) → AreFactsIn all kept → map (fact_at all) kept ≡ distinct same_fact (take i (map (seen_at all) fs)) → length fs ≤ i
+    → NameFacts all kept (distinct same_fact (map (fact_at all) (map fact_of fs)))
+repeats_done all fs i kept known was past = record {
+  known = known;
+  are = was ∙ ap (distinct same_fact) (take_all i (map (seen_at all) fs) (omega (arith, length-map fs (seen_at all))) ∙ sym (map-map (fact_at all) fact_of fs));
+}
+
+-- a fact that isn't lonely goes to the end
+lonely_at : (all : List Term) (numbers : List ℕ) (kept : List (Fact Id)) (f : Fact Id) (b : Bool) → is_lonely numbers (fact_at all f) ≡ b
+    → map (fact_at all) (kept ++ cond b [] (f ∷ [])) ≡ map (fact_at all) kept ++ filter (λ h. not (is_lonely numbers h)) (fact_at all f ∷ [])
+lonely_at all numbers kept f true e = map-append (fact_at all) kept [] ∙ ap (λ b. map (fact_at all) kept ++ cond (not b) (fact_at all f ∷ []) []) (sym e)
+lonely_at all numbers kept f false e = map-append (fact_at all) kept (f ∷ []) ∙ ap (λ b. map (fact_at all) kept ++ cond (not b) (fact_at all f ∷ []) []) (sym e)
+
+pub lonely_on : (all : List Term) (numbers : List ℕ) (fs : List declared.Fact) (i : ℕ) (f : declared.Fact) (kept new : List (Fact Id)) → map (fact_at all) kept ≡ filter (λ h. not (is_lonely numbers h)) (map (seen_at all) (take i fs)) → i < length fs → f ≡ get_or fs i f
+    → new ≡ kept ++ cond (is_lonely numbers (seen_at all f)) [] (fact_of f ∷ []) → map (fact_at all) new ≡ filter (λ h. not (is_lonely numbers h)) (map (seen_at all) (take (i + 1) fs))
+lonely_on all numbers fs i f kept new was within is e =
+    let more : map (seen_at all) (take (i + 1) fs) ≡ map (seen_at all) (take i fs) ++ seen_at all f ∷ [] = map_more (seen_at all) fs i f within ∙ ap (λ x. map (seen_at all) (take i fs) ++ seen_at all x ∷ []) (sym is) in
+    ap (map (fact_at all)) e
+    ∙ (lonely_at all numbers kept (fact_of f) (is_lonely numbers (seen_at all f)) refl
+    ∙ (ap (λ l. l ++ filter (λ h. not (is_lonely numbers h)) (seen_at all f ∷ [])) was
+    ∙ (sym (filter-append (λ h. not (is_lonely numbers h)) (map (seen_at all) (take i fs)) (seen_at all f ∷ [])) ∙ ap (filter (λ h. not (is_lonely numbers h))) (sym more))))
+
+few_known : (all : List Term) (kept : List (Fact Id)) (f : Fact Id) (b : Bool) → AreFactsIn all kept → IsFactIn all f → AreFactsIn all (kept ++ cond b [] (f ∷ []))
+few_known all kept f true known fact = AreFactsIn-append all kept [] known tt
+few_known all kept f false known fact = AreFactsIn-append all kept (f ∷ []) known (fact, tt)
+
+pub lonely_known : (all : List Term) (kept new : List (Fact Id)) (f : Fact Id) (b : Bool) → AreFactsIn all kept → IsFactIn all f → new ≡ kept ++ cond b [] (f ∷ []) → AreFactsIn all new
+lonely_known all kept new f b known fact e = subst (λ (l : List (Fact Id)). AreFactsIn all l) (sym e) (few_known all kept f b known fact)
+
+pub lonely_done : (all : List Term) (numbers : List ℕ) (fs : List declared.Fact) (i : ℕ) (kept : List (Fact Id)) → AreFactsIn all kept → map (fact_at all) kept ≡ filter (λ h. not (is_lonely numbers h)) (map (seen_at all) (take i fs)) → length fs ≤ i
+    → NameFacts all kept (filter (λ h. not (is_lonely numbers h)) (map (fact_at all) (map fact_of fs)))
+lonely_done all numbers fs i kept known was past = record {
+  known = known;
+  are = was ∙ ap (filter (λ h. not (is_lonely numbers h))) (ap (map (seen_at all)) (take_all i fs past) ∙ sym (map-map (fact_at all) fact_of fs));
+}
+
+-- a solved clause that concludes `att` of a variable, numbered
+general_variable : (hs : List (Fact Term)) (f : Fact Term) (b : Bool) → is_solved hs ≡ b → (b && is_variable_known f) ≡ true → numbered (generalized (with_hypotheses hs f)) ≡ numbered (with_hypotheses [] f)
+general_variable hs (Att (Leaf x)) true solved e = ap (λ b. numbered (cond (b && true) (with_hypotheses [] (Att (Leaf 0))) (with_hypotheses hs (Att (Leaf x))))) solved ∙ ap (λ b. with_hypotheses [] (Att (Leaf (cond b 0 1)))) (sym (eqb_self x))
+general_variable hs (Att (Node g ts)) true solved e = cc
+general_variable hs (Mess t u) true solved e = cc
+general_variable hs (Ev k ts) true solved e = cc
+general_variable hs (Mev k ts) true solved e = cc
+general_variable hs (Bad ts) true solved e = cc
+general_variable hs f false solved e = cc
+
+pub general_then : (hs : List (Fact Term)) (f : Fact Term) → (is_solved hs && is_variable_known f) ≡ true → numbered (generalized (with_hypotheses hs f)) ≡ numbered (with_hypotheses [] f)
+general_then hs f e = general_variable hs f (is_solved hs) refl e
+
+pub general_else : (hs : List (Fact Term)) (f : Fact Term) → (is_solved hs && is_variable_known f) ≡ false → numbered (generalized (with_hypotheses hs f)) ≡ numbered (with_hypotheses hs f)
+general_else hs f e = ap (λ b. numbered (cond b (with_hypotheses [] (Att (Leaf 0))) (with_hypotheses hs f))) e
+
+pub named_as : (all : List Term) (r : Result (Clause Id) AllocError) (t u : Clause Term) → t ≡ u → IfOk r (λ made. NamesClause all made t) → IfOk r (λ made. NamesClause all made u)
+named_as all r t u e names = subst (λ (v : Clause Term). IfOk r (λ made. NamesClause all made v)) e names
+
+-- hypotheses and conclusion renumbered by the order of their variables
+pub numbered_named : (old now next : List Term) (hyps : List (Fact Id)) (concl : Fact Id) (o p : List ℕ) (made : List (Fact Id)) (last : Fact Id) → IsFactIn old concl → Grows old now → Grows now next
+    → o ≡ distinct nat_eq (clause_variables (clause_at old (with_hypotheses hyps concl))) → p ≡ distinct nat_eq (clause_variables (clause_at old (with_hypotheses hyps concl)))
+    → NameFacts now made (map (fact_under (placed o)) (map (fact_at old) hyps)) → NamesFact next last (fact_under (placed p) (fact_at now concl)) → NamesClause next record { hypotheses = made; conclusion = last } (numbered (clause_at old (with_hypotheses hyps concl)))
+numbered_named old now next hyps concl o p made last known grows later first second hyps_named concl_named =
+    let plain = numbered (clause_at old (with_hypotheses hyps concl)) in
+    let concl_is : fact_under (placed p) (fact_at now concl) ≡ plain.conclusion = ap (λ q. fact_under (placed q) (fact_at now concl)) second ∙ ap (fact_under (placed (distinct nat_eq (clause_variables (clause_at old (with_hypotheses hyps concl)))))) (fact_at-grows old now concl grows known) in
+    clause_named now next made last (map (fact_under (placed o)) (map (fact_at old) hyps)) plain later hyps_named (ap (λ q. map (fact_under (placed q)) (map (fact_at old) hyps)) first)
+    (subst (λ (t : Fact Term). NamesFact next last t) concl_is concl_named)
+
+-- what is left names the norm
+pub norm_named : (old next : List Term) (hyps : List (Fact Id)) (concl : Fact Id) (kept few k m n fewer : List (Fact Id)) (numbers taken : List ℕ) (among : Bool) (made : Clause Id)
+    → NameFacts old kept (distinct same_fact (map (fact_at old) hyps)) → k ≡ kept → m ≡ kept → n ≡ kept → fewer ≡ few
+    → among ≡ is_among (map (fact_at old) k) (fact_at old concl) → among ≡ false → numbers ≡ flat_map fact_variables (fact_at old concl ∷ map (fact_at old) m) → taken ≡ numbers
+    → NameFacts old few (filter (λ h. not (is_lonely taken h)) (map (fact_at old) n)) → NamesClause next made (numbered (generalized (with_hypotheses (map (fact_at old) fewer) (fact_at old concl))))
+    → NamesNorm next (variants.Clause made) (norm (with_hypotheses (map (fact_at old) hyps) (fact_at old concl)))
+norm_named old next hyps concl kept few k m n fewer numbers taken among made kept_named k_is m_is n_is fewer_is among_is absent numbers_are taken_is few_named names =
+    let D = distinct same_fact (map (fact_at old) hyps) in
+    let C = fact_at old concl in
+    let V = flat_map fact_variables (C ∷ D) in
+    let tautology : is_among D C ≡ false = ap (λ l. is_among l C) (sym (ap (map (fact_at old)) k_is ∙ kept_named.are)) ∙ (sym among_is ∙ absent) in
+    let variables : taken ≡ V = taken_is ∙ (numbers_are ∙ ap (λ l. flat_map fact_variables (C ∷ l)) (ap (map (fact_at old)) m_is ∙ kept_named.are)) in
+    let few_are : map (fact_at old) fewer ≡ filter (λ h. not (is_lonely V h)) D =
+    ap (map (fact_at old)) fewer_is ∙ (few_named.are ∙ (ap (λ v. filter (λ h. not (is_lonely v h)) (map (fact_at old) n)) variables ∙ ap (filter (λ h. not (is_lonely V h))) (ap (map (fact_at old)) n_is ∙ kept_named.are))) in
+    let is : norm (with_hypotheses (map (fact_at old) hyps) C) ≡ Some (numbered (generalized (with_hypotheses (map (fact_at old) fewer) C))) =
+    ap (λ b. cond b None (Some (numbered (generalized (with_hypotheses (filter (λ h. not (is_lonely V h)) D) C))))) tautology ∙ ap (λ l. Some (numbered (generalized (with_hypotheses l C)))) (sym few_are) in
+    subst (λ (o : Option (Clause Term)). NamesNorm next (variants.Clause made) o) (sym is) names

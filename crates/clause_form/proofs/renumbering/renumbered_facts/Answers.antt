@@ -1,0 +1,20 @@
+use Rattle.clause_form.specs.Facts.{fact_of}
+use Rattle.clause_form.specs.Numbers.{placed}
+use Rattle.clause_form.proofs.Walks.{fact_known_at}
+use Rattle.clause_form.proofs.Copying.{IsFactIn-grows}
+use Rattle.clause_form.proofs.Renumber.{facts_renumbered_on, facts_renumbered}
+use Rattle.clause_form.proofs.renumbering.renumbered_facts.Goals as goal
+
+pub renumbered_fact-requires : goal.renumbered_fact-requires
+renumbered_fact-requires g c =
+    let old = g.B.Bank.trees c.args.bank.now in
+    IsFactIn-grows old (g.B.Bank.trees c.each.bank) (fact_of c.fact-item.result) c.each.invariant.grows (fact_known_at old c.args.facts.now c.each.fact-index c.fact-item.result c.fact-item.is c.requires c.each-test.true)
+
+pub each-preserved : goal.each-preserved
+each-preserved g c =
+    let old = g.B.Bank.trees c.args.bank.now in
+    facts_renumbered_on old (g.B.Bank.trees c.each.bank) (g.B.Bank.trees c.renumbered_fact.new.bank) (placed c.args.order.now) c.args.facts.now c.each.fact-index c.fact-item.result c.each.items.items c.push.new.self.items c.in_ok-next.next
+    c.each.invariant c.each-test.true c.fact-item.is (fact_known_at old c.args.facts.now c.each.fact-index c.fact-item.result c.fact-item.is c.requires c.each-test.true) c.renumbered_fact.ensures.grows c.in_ok-next.ensures.names c.in_ok-push.ensures.items
+
+pub returns-clause-names : goal.returns-clause-names
+returns-clause-names g c = facts_renumbered (g.B.Bank.trees c.args.bank.now) (g.B.Bank.trees c.each.bank) (placed c.args.order.now) c.args.facts.now c.each.fact-index c.each.items.items c.each.invariant c.each-test.false

@@ -1,0 +1,18 @@
+use Rattle.clause_form.specs.Numbers.{placed}
+use Rattle.clause_form.proofs.Walks.{known_later}
+use Rattle.clause_form.proofs.Renumber.{renumbered_on, renumbered_all}
+use Rattle.clause_form.proofs.renumbering.renumbered_terms.Goals as goal
+
+pub renumbered-requires : goal.renumbered-requires
+renumbered-requires g c = (known_later (g.B.Bank.trees c.args.bank.now) (g.B.Bank.trees c.each.bank) c.args.terms.now c.each.term-index record { index = 0 } c.each.invariant.grows c.requires c.each-test.true).0
+
+pub each-preserved : goal.each-preserved
+each-preserved g c =
+    let old = g.B.Bank.trees c.args.bank.now in
+    let now = g.B.Bank.trees c.each.bank in
+    let at = known_later old now c.args.terms.now c.each.term-index record { index = 0 } c.each.invariant.grows c.requires c.each-test.true in
+    renumbered_on old now (g.B.Bank.trees c.renumbered.new.bank) (placed c.args.order.now) c.args.terms.now c.each.term-index record { index = 0 } c.each.items.items c.push.new.self.items c.in_ok-next.next
+    c.each.invariant c.each-test.true c.renumbered.ensures.grows at.1 c.in_ok-next.ensures.names c.in_ok-push.ensures.items
+
+pub returns-clause-names : goal.returns-clause-names
+returns-clause-names g c = renumbered_all (g.B.Bank.trees c.args.bank.now) (g.B.Bank.trees c.each.bank) (placed c.args.order.now) c.args.terms.now c.each.term-index c.each.items.items c.each.invariant c.each-test.false

@@ -1,0 +1,14 @@
+use Rattle.std.proofs.Common.{ap}
+use Rattle.std.specs.List.{list_any}
+use Rattle.std.proofs.lemmas.Simd.{map-map}
+use Rattle.clauses.specs.Fact.{same_fact}
+use Rattle.clause_form.specs.Facts.{fact_of}
+use Rattle.clause_form.specs.Seen.{fact_at}
+use Rattle.clause_form.proofs.Walks.{fact_known_at}
+use Rattle.clause_form.proofs.same.is_among.Goals as goal
+
+pub loop-one-init : goal.loop-one-init
+loop-one-init g c = let all = g.B.Bank.trees c.args.bank.now in ap (list_any (same_fact (fact_at all (fact_of c.args.fact.now)))) (map-map (fact_at all) fact_of c.args.facts.now)
+
+pub same_fact-requires-clause-right : goal.same_fact-requires-clause-right
+same_fact-requires-clause-right g c = fact_known_at (g.B.Bank.trees c.args.bank.now) c.args.facts.now c.loop-one.one-index c.one-item.result c.one-item.is c.requires.facts c.loop-one-test.true

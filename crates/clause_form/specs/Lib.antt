@@ -1,0 +1,9 @@
+pub mod Codes
+pub mod Facts
+pub mod Seen
+pub mod Plain
+pub mod PlainDepths
+pub mod PlainFacts
+pub mod Numbers
+pub mod Bounds
+pub mod Normals

@@ -1,0 +1,9 @@
+-- Variables renumbered by their places in a list.
+use Rattle.std.specs.Prelude.{ℕ, List}
+use Rattle.trees.specs.Tree.{Leaf}
+use Rattle.terms.specs.Term.{Subst}
+use Rattle.clauses.specs.Norm.{place_of}
+
+-- each variable gives way to the one whose number is its place
+abbrev pub placed : List ℕ → Subst
+placed order x = Leaf (place_of x order)

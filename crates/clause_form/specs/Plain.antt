@@ -1,0 +1,11 @@
+-- What contracts see of owned trees, and of facts over them.
+use Rattle.trees.specs.Tree.{Leaf, node}
+use Rattle.terms.specs.Term.{Term}
+use Rattle.clauses.specs.Fact as horn
+use Rattle.term_tree.specs.Bank.{symbol_of}
+use Rattle.clause_form.specs.declared.plain.Tree.{Tree}
+use Rattle.clause_form.specs.declared.plain.Tree.TheVariants.{Var, App}
+
+abbrev pub term_of : Tree → Term
+term_of (Var x) = Leaf x
+term_of (App f ts) = node (symbol_of f) ts

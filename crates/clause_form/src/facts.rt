@@ -1,0 +1,172 @@
+//! Facts and clauses over the ids of a bank (Blanchet 2016, section 2.3.1).
+
+ghost use Rattle.std.specs.Prelude.{◌≡◌, IfOk};
+
+use std::alloc::{AllocError, Global};
+use std::marker::Model;
+use term_tree::Id;
+
+/// Ids of terms in order.
+#[derive(Debug, Drop)]
+pub struct Ids {
+    pub items: Vec<Id>,
+}
+
+impl Model for Ids {
+    ghost use Rattle.std.specs.Prelude.{List};
+    ghost use Rattle.term_tree.specs.declared.bank.Id.{Id};
+    ghost use Rattle.clause_form.specs.Codes.{coded_ids};
+
+    ghost Value = { List Id };
+
+    ghost coded = { coded_ids };
+
+    ghost view = { λ a. a.items.items };
+}
+
+/// A fact. Events are numbered from 1.
+#[derive(Debug, Drop)]
+pub enum Fact {
+    /// The attacker has the term.
+    Att(Id),
+    /// The message, which stands second, may be sent on the channel.
+    Mess(Id, Id),
+    /// The event may have run.
+    Ev(u32, Ids),
+    /// The event must have run: stands among hypotheses alone.
+    Mev(u32, Ids),
+    /// What the query asks about has come about: stands in conclusions alone.
+    Bad(Ids),
+}
+
+/// Facts in order.
+#[derive(Debug, Drop)]
+pub struct Facts {
+    pub items: Vec<Fact>,
+}
+
+impl Model for Facts {
+    ghost use Rattle.std.specs.Prelude.{List, map};
+    ghost use Rattle.clauses.specs.Fact as horn;
+    ghost use Rattle.term_tree.specs.declared.bank.Id.{Id};
+    ghost use Rattle.clause_form.specs.Codes.{coded_id, coded_facts};
+
+    ghost Value = { List (horn.Fact Id) };
+
+    ghost coded = { coded_facts coded_id };
+
+    ghost use Rattle.clause_form.specs.Facts.{fact_of};
+
+    ghost view = { λ a. map fact_of a.items.items };
+}
+
+/// A clause: where the hypotheses hold, so does the conclusion.
+#[derive(Debug, Drop)]
+pub struct Clause {
+    pub hyps: Facts,
+    pub concl: Fact,
+}
+
+impl Model for Clause {
+    ghost use Rattle.clauses.specs.Fact as horn;
+    ghost use Rattle.term_tree.specs.declared.bank.Id.{Id};
+    ghost use Rattle.clause_form.specs.Codes.{coded_id, coded_clause};
+
+    ghost Value = { horn.Clause Id };
+
+    ghost coded = { coded_clause coded_id };
+
+    ghost use Rattle.clause_form.specs.Facts.{fact_of};
+
+    ghost view = { λ c. record { hypotheses = c.hyps; conclusion = fact_of c.concl } };
+}
+
+/// Clauses in order.
+#[derive(Debug, Drop)]
+pub struct Clauses {
+    pub items: Vec<Clause>,
+}
+
+impl Model for Clauses {
+    ghost use Rattle.std.specs.Prelude.{List};
+    ghost use Rattle.clauses.specs.Fact as horn;
+    ghost use Rattle.term_tree.specs.declared.bank.Id.{Id};
+    ghost use Rattle.clause_form.specs.Codes.{coded_id, coded_clauses};
+
+    ghost Value = { List (horn.Clause Id) };
+
+    ghost coded = { coded_clauses coded_id };
+
+    ghost view = { λ a. a.items.items };
+}
+
+impl Ids {
+    /// A copy.
+    pub fn copy(&self, alloc: Global) -> Result<Ids, AllocError>
+        ensures { IfOk result (λ copied. copied ≡ self.now) }
+    {
+        let items = self.items.to_vec(alloc)?;
+        Ok(Ids { items })
+    }
+}
+
+impl Fact {
+    /// A copy, the ids the same.
+    pub fn copy(&self, alloc: Global) -> Result<Fact, AllocError>
+        ensures { IfOk result (λ copied. copied ≡ self.now) }
+    {
+        match self {
+            Fact::Att(term) => Ok(Fact::Att(*term)),
+            Fact::Mess(channel, message) => Ok(Fact::Mess(*channel, *message)),
+            Fact::Ev(event, arguments) => Ok(Fact::Ev(*event, arguments.copy(alloc)?)),
+            Fact::Mev(event, arguments) => Ok(Fact::Mev(*event, arguments.copy(alloc)?)),
+            Fact::Bad(arguments) => Ok(Fact::Bad(arguments.copy(alloc)?)),
+        }
+    }
+}
+
+impl Facts {
+    ghost use Rattle.std.specs.Prelude.{◌≡◌, [], ◌∷◌, ◌++◌, IfOk, OnOk, OnErr};
+    ghost use Rattle.clause_form.specs.Facts.{fact_of};
+
+    /// No facts. Takes no memory.
+    pub fn new(alloc: Global) -> Facts
+        ensures { result ≡ [] }
+    {
+        Facts {
+            items: Vec::new(alloc),
+        }
+    }
+
+    /// One more fact, at the end.
+    pub fn push(&mut self, fact: Fact) -> Result<(), AllocError>
+        ensures ok { OnOk result (self.new ≡ self.old ++ fact_of fact ∷ []) }
+        ensures err { OnErr result (self.new ≡ self.old) }
+    {
+        self.items.push(fact)?;
+        Ok(())
+    }
+
+    /// A copy, fact by fact.
+    pub fn copy(&self, alloc: Global) -> Result<Facts, AllocError>
+        ensures { IfOk result (λ copied. copied ≡ self.now) }
+    {
+        let mut items = Vec::with_capacity(alloc, self.items.len())?;
+        for fact in &self.items {
+            items.push(fact.copy(alloc)?)?;
+        }
+        Ok(Facts { items })
+    }
+}
+
+impl Clause {
+    /// A copy, the ids the same.
+    pub fn copy(&self, alloc: Global) -> Result<Clause, AllocError>
+        ensures { IfOk result (λ copied. copied ≡ self.now) }
+    {
+        Ok(Clause {
+            hyps: self.hyps.copy(alloc)?,
+            concl: self.concl.copy(alloc)?,
+        })
+    }
+}

@@ -1,0 +1,28 @@
+//! Facts and clauses over any bank of terms, and over owned trees: copies, flat parts, sizes and norms
+//! (Blanchet 2016, section 3.3.1).
+#![tactic(auto)]
+
+mod bounds;
+mod copies;
+pub mod facts;
+mod flat;
+mod normal;
+pub mod plain;
+mod renumbering;
+mod same;
+mod selectable;
+mod size;
+mod variables;
+
+pub use crate::bounds::above_variables;
+pub use crate::copies::{copy_into, read_out, read_term};
+pub use crate::facts::{Clause, Clauses, Fact, Facts, Ids};
+pub use crate::flat::{flatten, is_data_symbol};
+pub use crate::normal::{Normal, norm};
+pub use crate::plain::{PlainClause, PlainFact, PlainFacts, Tree, Trees};
+pub use crate::same::{is_among, same_fact};
+pub use crate::selectable::{are_solved, is_selectable, is_variable_known};
+pub use crate::size::{size_of, size_of_fact};
+
+#[cfg(test)]
+mod tests;

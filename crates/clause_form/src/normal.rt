@@ -1,0 +1,179 @@
+//! The norm of a clause (Blanchet 2016, section 3.3.1: elimination of duplicate hypotheses, of tautologies and
+//! of useless hypotheses).
+
+ghost use Rattle.std.specs.Prelude.{◌≡◌, ◌&&◌, not, cond, [], ◌∷◌, ◌++◌, filter, map, IfOk, OnOk, OnErr};
+ghost use Rattle.clauses.specs.Fact.{same_fact, is_among as is_among_facts, is_variable_known as is_variable_known_fact};
+ghost use Rattle.clauses.specs.Selection.{is_solved};
+ghost use Rattle.clauses.specs.Norm.{norm as norm_of, distinct, is_lonely as is_lonely_fact, generalized, numbered};
+ghost use Rattle.term_tree.specs.Bank.{Grows};
+ghost use Rattle.clause_form.specs.Facts.{fact_of};
+ghost use Rattle.clause_form.specs.Seen.{fact_at, clause_at, IsFactIn, AreFactsIn, IsClauseIn, NameFacts, NamesClause};
+ghost use Rattle.clause_form.specs.Normals.{NamesNorm};
+
+use crate::facts::{Clause, Fact, Facts};
+use crate::renumbering::numbered_clause;
+use crate::same::is_among;
+use crate::selectable::{are_solved, is_variable_known};
+use crate::variables::{occurrences, variables_of};
+use std::alloc::{AllocError, Global};
+use term_tree::{Bank, Node};
+
+/// The norm of a clause, if it has one.
+#[derive(Debug, Drop)]
+pub enum Normal {
+    /// The conclusion is among the hypotheses.
+    Tautology,
+    Clause(Clause),
+}
+
+/// Adds a copy of a fact that isn't there.
+fn add_new<B: Bank>(
+    alloc: Global,
+    bank: &B,
+    facts: &mut Facts,
+    fact: &Fact,
+) -> Result<(), AllocError>
+    requires facts { AreFactsIn (B.trees bank.now) facts.old }
+    requires fact { IsFactIn (B.trees bank.now) (fact_of fact.now) }
+    ensures { OnOk result (facts.new ≡ cond (is_among_facts (map (fact_at (B.trees bank.now)) facts.old) (fact_at (B.trees bank.now) (fact_of fact.now))) facts.old (facts.old ++ fact_of fact.now ∷ [])) }
+{
+    if is_among(bank, &facts.items, fact) {
+        return Ok(());
+    }
+    let copied = fact.copy(alloc)?;
+    facts.push(copied)?;
+    Ok(())
+}
+
+/// The facts, of those that are the same the first.
+fn without_repeats<B: Bank>(alloc: Global, bank: &B, facts: &[Fact]) -> Result<Facts, AllocError>
+    requires { AreFactsIn (B.trees bank.now) (map fact_of facts.now) }
+    ensures { IfOk result (λ kept. NameFacts (B.trees bank.now) kept (distinct same_fact (map (fact_at (B.trees bank.now)) (map fact_of facts.now)))) }
+{
+    let mut kept = Facts::new(alloc);
+    for fact in facts {
+        add_new(alloc, bank, &mut kept, fact)?;
+    }
+    Ok(kept)
+}
+
+/// Whether the fact is `att` of a variable that occurs but once.
+fn is_lonely<B: Bank>(bank: &B, numbers: &[u32], fact: &Fact) -> bool
+    requires { IsFactIn (B.trees bank.now) (fact_of fact.now) }
+    ensures { result ≡ is_lonely_fact numbers.now (fact_at (B.trees bank.now) (fact_of fact.now)) }
+{
+    match fact {
+        Fact::Att(term) => match bank.node(*term) {
+            Node::Var(number) => occurrences(number, numbers) == 1,
+            Node::App(_, _) => false,
+        },
+        Fact::Mess(..) | Fact::Ev(..) | Fact::Mev(..) | Fact::Bad(_) => false,
+    }
+}
+
+/// Adds a copy of a fact that is no `att` of a variable that occurs but once.
+fn add_unless_lonely<B: Bank>(
+    alloc: Global,
+    bank: &B,
+    numbers: &[u32],
+    facts: &mut Facts,
+    fact: &Fact,
+) -> Result<(), AllocError>
+    requires { IsFactIn (B.trees bank.now) (fact_of fact.now) }
+    ensures { OnOk result (facts.new ≡ facts.old ++ cond (is_lonely_fact numbers.now (fact_at (B.trees bank.now) (fact_of fact.now))) [] (fact_of fact.now ∷ [])) }
+{
+    if is_lonely(bank, numbers, fact) {
+        return Ok(());
+    }
+    let copied = fact.copy(alloc)?;
+    facts.push(copied)?;
+    Ok(())
+}
+
+/// The facts that are no `att` of a variable that occurs but once among these numbers.
+fn without_lonely<B: Bank>(
+    alloc: Global,
+    bank: &B,
+    numbers: &[u32],
+    facts: &[Fact],
+) -> Result<Facts, AllocError>
+    requires { AreFactsIn (B.trees bank.now) (map fact_of facts.now) }
+    ensures { IfOk result (λ kept. NameFacts (B.trees bank.now) kept (filter (λ h. not (is_lonely_fact numbers.now h)) (map (fact_at (B.trees bank.now)) (map fact_of facts.now)))) }
+{
+    let mut kept = Facts::new(alloc);
+    for fact in facts {
+        add_unless_lonely(alloc, bank, numbers, &mut kept, fact)?;
+    }
+    Ok(kept)
+}
+
+/// Whether the clause is solved and concludes `att` of a variable.
+fn is_general<B: Bank>(bank: &B, concl: &Fact, hyps: &[Fact]) -> bool
+    requires concl { IsFactIn (B.trees bank.now) (fact_of concl.now) }
+    requires hyps { AreFactsIn (B.trees bank.now) (map fact_of hyps.now) }
+    ensures { result ≡ (is_solved (map (fact_at (B.trees bank.now)) (map fact_of hyps.now)) && is_variable_known_fact (fact_at (B.trees bank.now) (fact_of concl.now))) }
+{
+    are_solved(bank, hyps) && is_variable_known(bank, concl)
+}
+
+/// The clause, or the one that says that the attacker has everything where this one does, with its
+/// variables numbered. On `Err` the bank may have grown.
+fn generalized_clause<B: Bank>(
+    alloc: Global,
+    bank: &mut B,
+    concl: &Fact,
+    hyps: &[Fact],
+) -> Result<Clause, AllocError>
+    requires concl { IsFactIn (B.trees bank.old) (fact_of concl.now) }
+    requires hyps { AreFactsIn (B.trees bank.old) (map fact_of hyps.now) }
+    ensures grows { Grows (B.trees bank.old) (B.trees bank.new) }
+    ensures names { IfOk result (λ made. NamesClause (B.trees bank.new) made (numbered (generalized record { hypotheses = map (fact_at (B.trees bank.old)) (map fact_of hyps.now); conclusion = fact_at (B.trees bank.old) (fact_of concl.now) }))) }
+{
+    if is_general(bank, concl, hyps) {
+        return numbered_clause(alloc, bank, concl, &[]);
+    }
+    numbered_clause(alloc, bank, concl, hyps)
+}
+
+/// The norm of the clause with this conclusion and these hypotheses. On `Err` the bank may have grown.
+fn norm_grown<B: Bank>(
+    alloc: Global,
+    bank: &mut B,
+    concl: &Fact,
+    hyps: &[Fact],
+) -> Result<Normal, AllocError>
+    requires concl { IsFactIn (B.trees bank.old) (fact_of concl.now) }
+    requires hyps { AreFactsIn (B.trees bank.old) (map fact_of hyps.now) }
+    ensures grows { Grows (B.trees bank.old) (B.trees bank.new) }
+    ensures names { IfOk result (λ normal. NamesNorm (B.trees bank.new) normal (norm_of record { hypotheses = map (fact_at (B.trees bank.old)) (map fact_of hyps.now); conclusion = fact_at (B.trees bank.old) (fact_of concl.now) })) }
+{
+    let kept = without_repeats(alloc, bank, hyps)?;
+    if is_among(bank, &kept.items, concl) {
+        return Ok(Normal::Tautology);
+    }
+    let numbers = variables_of(alloc, bank, concl, &kept.items)?;
+    let few = without_lonely(alloc, bank, &numbers, &kept.items)?;
+    let made = generalized_clause(alloc, bank, concl, &few.items)?;
+    Ok(Normal::Clause(made))
+}
+
+/// The norm of a clause: equal hypotheses but the first are dropped, then those that say only that the
+/// attacker has something, and variables are numbered by their first occurrence. A term that isn't renumbered
+/// keeps its id.
+///
+/// `Err` comes only for want of memory; then the bank is as before.
+pub fn norm<B: Bank>(alloc: Global, bank: &mut B, clause: Clause) -> Result<Normal, AllocError>
+    requires { IsClauseIn (B.trees bank.old) clause }
+    ensures grows { Grows (B.trees bank.old) (B.trees bank.new) }
+    ensures names { IfOk result (λ normal. NamesNorm (B.trees bank.new) normal (norm_of (clause_at (B.trees bank.old) clause))) }
+    ensures err { OnErr result (B.trees bank.new ≡ B.trees bank.old) }
+{
+    let mark = bank.mark();
+    match norm_grown(alloc, bank, &clause.concl, &clause.hyps.items) {
+        Ok(normal) => Ok(normal),
+        Err(error) => {
+            bank.back(mark);
+            Err(error)
+        }
+    }
+}

@@ -1,0 +1,68 @@
+//! Sizes of facts and of clauses.
+
+ghost use Rattle.std.specs.Prelude.{◌≡◌, ℕ, ◌+◌, map};
+ghost use Rattle.trees.specs.Tree.{size};
+ghost use Rattle.clauses.specs.Fact.{total, fact_size, clause_size};
+ghost use Rattle.term_tree.specs.Bank.{tree_at, AreKnown, capped};
+ghost use Rattle.clause_form.specs.Facts.{fact_of};
+ghost use Rattle.clause_form.specs.Seen.{fact_at, clause_at, IsFactIn, AreFactsIn, IsClauseIn};
+
+use crate::facts::{Clause, Fact};
+use term_tree::{Bank, Id, SIZE_LIMIT};
+
+/// So many symbols more, as they are told.
+fn add_symbols(symbols: u64, more: u64) -> u64
+    ensures { (m n : ℕ) → symbols ≡ capped m → more ≡ capped n → result ≡ capped (m + n) }
+{
+    symbols.saturating_add(more).min(SIZE_LIMIT)
+}
+
+/// The size of terms together.
+fn size_of_terms<B: Bank>(bank: &B, terms: &[Id]) -> u64
+    requires { AreKnown (B.trees bank.now) terms.now }
+    ensures { result ≡ capped (total size (map (tree_at (B.trees bank.now)) terms.now)) }
+{
+    let mut symbols = 0u64;
+    for term in terms {
+        symbols = add_symbols(symbols, bank.size(*term));
+    }
+    symbols
+}
+
+/// The size of a fact, or `SIZE_LIMIT` where it is greater. Takes no memory.
+pub fn size_of_fact<B: Bank>(bank: &B, fact: &Fact) -> u64
+    requires { IsFactIn (B.trees bank.now) (fact_of fact.now) }
+    ensures { result ≡ capped (fact_size (fact_at (B.trees bank.now) (fact_of fact.now))) }
+{
+    match fact {
+        Fact::Att(term) => add_symbols(1, bank.size(*term)),
+        Fact::Mess(channel, message) => {
+            add_symbols(1, add_symbols(bank.size(*channel), bank.size(*message)))
+        }
+        Fact::Ev(_, arguments) => add_symbols(2, size_of_terms(bank, &arguments.items)),
+        Fact::Mev(_, arguments) => add_symbols(2, size_of_terms(bank, &arguments.items)),
+        Fact::Bad(arguments) => add_symbols(1, size_of_terms(bank, &arguments.items)),
+    }
+}
+
+/// The size of facts together.
+fn size_of_facts<B: Bank>(bank: &B, facts: &[Fact]) -> u64
+    requires { AreFactsIn (B.trees bank.now) (map fact_of facts.now) }
+    ensures { result ≡ capped (total fact_size (map (fact_at (B.trees bank.now)) (map fact_of facts.now))) }
+{
+    let mut symbols = 0u64;
+    for fact in facts {
+        symbols = add_symbols(symbols, size_of_fact(bank, fact));
+    }
+    symbols
+}
+
+/// The size of a clause: one for each predicate, event, symbol and occurrence of a variable, or
+/// `SIZE_LIMIT` where it is greater. Takes no memory.
+pub fn size_of<B: Bank>(bank: &B, clause: &Clause) -> u64
+    requires { IsClauseIn (B.trees bank.now) clause.now }
+    ensures { result ≡ capped (clause_size (clause_at (B.trees bank.now) clause.now)) }
+{
+    let symbols = size_of_fact(bank, &clause.concl);
+    add_symbols(symbols, size_of_facts(bank, &clause.hyps.items))
+}
