@@ -1,0 +1,5 @@
+use Rattle.translation.proofs.Existence.{a_translation}
+use Rattle.translation.proofs.a_translation.Goals as goal
+
+pub returns : goal.returns
+returns c = a_translation

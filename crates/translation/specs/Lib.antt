@@ -1,0 +1,10 @@
+pub mod Conversion
+pub mod Attacker
+pub mod Goal
+pub mod Visit
+pub mod Choice
+pub mod Course
+pub mod Visited
+pub mod Translation
+pub mod Satisfied
+pub mod Placement
