@@ -1,0 +1,4 @@
+pub mod Key
+pub mod Log
+pub mod End
+pub mod Live
