@@ -1,0 +1,17 @@
+pub mod Holding
+pub mod Listed
+pub mod Values
+pub mod Patterns
+pub mod Conclusions
+pub mod Knowledge
+pub mod Standing
+pub mod Following
+pub mod Choosing
+pub mod Pairs
+pub mod Steps
+pub mod Runs
+pub mod Older
+pub mod Entries
+pub mod Reaching
+pub mod Once
+pub mod OneToOne

@@ -1,0 +1,8 @@
+pub mod Roots
+pub mod Secrecy
+pub mod Plain
+pub mod Extension
+pub mod Instances
+pub mod Correspondences
+pub mod Example
+pub mod GoalRows
