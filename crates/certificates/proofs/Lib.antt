@@ -1,0 +1,2 @@
+pub mod OneRuling
+pub mod Accepting
