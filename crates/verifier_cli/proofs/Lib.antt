@@ -1,6 +1,4 @@
 pub mod Commands
-pub mod FewNames
-pub mod FewQueries
 pub mod Held
 pub mod Limits
 pub mod Outcomes

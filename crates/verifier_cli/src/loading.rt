@@ -14,7 +14,7 @@ use crate::outcome::{Outcome, ProtocolCode, Refusal};
 use crate::reading::{Stop, read_protocol};
 use hv_io::{Files, LoadError, place};
 use pi_tree::{MOST_BYTES, Protocol};
-use protocol_scope::few_points;
+use protocol_scope::within_limits;
 use std::alloc::Global;
 
 /// Why a text was not loaded.
@@ -96,7 +96,7 @@ pub(crate) fn load_protocol<F: Files>(
     ensures spelled { IfOk result (λ protocol. OfFile (F.held files.old file.now) (λ bytes. Spells bytes (protocol_of protocol))) }
     ensures unread { IfErr result (λ outcome. IsUnread (IsFaultCounted (F.faults files.old file.now) (F.faults files.new file.now)) (F.held files.old file.now) (outcome_of outcome)) }
 {
-    few_points();
+    within_limits();
     match load_text(file, MOST_BYTES, files) {
         Err(why) => Err(not_loaded(why)),
         Ok(bytes) => match read_protocol(alloc, &bytes) {
