@@ -1,0 +1,11 @@
+pub mod Loose
+pub mod Flags
+pub mod TakenRows
+pub mod Holding
+pub mod Standing
+pub mod Linked
+pub mod Removing
+pub mod Crowding
+pub mod FactMatching
+pub mod Examples
+pub mod Leading

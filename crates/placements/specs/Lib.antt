@@ -1,0 +1,5 @@
+pub mod Takes
+pub mod Placing
+pub mod LooseParts
+pub mod Crowds
+pub mod Stages
