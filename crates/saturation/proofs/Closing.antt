@@ -1,28 +1,25 @@
 -- The live clauses of a closed log have to cover all that is offered: the given clauses, the goal, and what their pairs give.
-use Rattle.std.proofs.Common.{◌≡◌, ◌⊎◌, ◌∙◌, ℕ, zero, suc, ◌+◌, ◌<◌, ◌≤◌, Bool, true, false, cond, Option, Some, None, List, [], ◌∷◌, ◌++◌, length, drop, refl, ap, sym, subst, inl, inr, append-nil, length-append, arith}
+use Rattle.std.proofs.Common.{◌≡◌, ◌⊎◌, ◌∙◌, ℕ, zero, suc, ◌+◌, ◌<◌, ◌≤◌, Bool, true, false, cond, Some, None, List, [], ◌∷◌, length, refl, ap, sym, subst, inl, inr, arith}
 use Rattle.std.specs.Prelude.{slice_get}
-use Rattle.std.specs.List.{list_all, AllByRecursion}
+use Rattle.std.specs.List.{list_all}
 use Rattle.std.proofs.lemmas.Bool.{cases_lt}
 use Rattle.std.proofs.lemmas.Bool.Decides.{nat_tests}
 use Rattle.trees.proofs.Equality.{and_true}
 use Rattle.terms.specs.Term.{Term}
 use Rattle.calculus.specs.Points.{numbered}
 use Rattle.clauses.specs.Fact.{Clause}
-use Rattle.clauses.specs.Flat.{is_flat, is_flat_clause}
-use Rattle.clauses.specs.Selection.{Selection, select, is_solved}
+use Rattle.clauses.specs.Flat.{is_flat}
 use Rattle.clauses.specs.Norm.{IsNormal}
-use Rattle.clauses.specs.Resolvents.{Answer, NoUnifier, Large, Resolvents, Resolves}
 use Rattle.clauses.specs.Inclusion.{Picks, here, there, Has}
 use Rattle.clauses.specs.Subsumption.{Subsumes, IsCovered}
 use Rattle.clauses.proofs.Inclusion.{Has-filter_source}
 use Rattle.clauses.proofs.Subsumption.{subsumes_itself, subsumption-trans}
 use Rattle.saturation.specs.Key.{Key, key, is_before, Entry, below}
-use Rattle.saturation.specs.Log.{IsBeaten, IsLive, IsCoveredBy, IsDue, Gives, IsGivenOffer, IsResolventOffer, IsGoalOffer, IsOffered, IsNew, goal_key, EndsAt}
-use Rattle.saturation.specs.End.{AreSorted, IsLogUpTo}
+use Rattle.saturation.specs.Log.{IsCoveredBy, IsOffered, IsNew, goal_key}
+use Rattle.saturation.specs.End.{IsLogUpTo}
 use Rattle.saturation.specs.Live.{AreLive, MustBeCovered}
 use Rattle.saturation.proofs.Keys.{before_trans}
-use Rattle.saturation.proofs.Cuts.{AreBefore, AreAfter, below_before, below_below}
-use Rattle.saturation.proofs.Uniqueness.{gives_moved}
+use Rattle.saturation.proofs.Cuts.{below_below}
 
 -- an entry of the list covers what it subsumes
 covered_by_entry : (clauses : List (Clause Term)) (d c : Clause Term) → IsCovered clauses d → Subsumes d c → IsCovered clauses c
@@ -62,7 +59,7 @@ at_index (d ∷ es) zero e at = let same : d ≡ e = cc in subst (Has (d ∷ es)
 at_index (d ∷ es) (suc k) e at = let h = at_index es k e at in (d ∷ h.0, there h.1)
 
 -- fewer stand below a key than there are at most
-below_length : (k : Key) (es : List Entry) → length (below k es) ≤ length es
+pub below_length : (k : Key) (es : List Entry) → length (below k es) ≤ length es
 below_length k [] = omega arith
 below_length k (x ∷ xs) = go (is_before x.key k) (below_length k xs) where
   go : (b : Bool) → length (below k xs) ≤ length xs → length (cond b (x ∷ below k xs) (below k xs)) ≤ length (x ∷ xs)
@@ -99,7 +96,7 @@ module _ (given : List (Clause Term)) (log : List Entry) (up_to : IsLogUpTo give
       uncovered (entries_covered log cs live normal e (up_to.complete e tt new))
 
   -- the given clauses but the goal
-  given_covered : (n : ℕ) (c : Clause Term) → n < length given → numbered given n ≡ Some c → MustBeCovered cs c
+  pub given_covered : (n : ℕ) (c : Clause Term) → n < length given → numbered given n ≡ Some c → MustBeCovered cs c
   given_covered n c few at = offers_covered (record { key = key 0 0 n; clause = c }) (inl (record { number = n; no_goal = few; at = refl; clause = at }))
 
   -- how many entries stand below the goal's key of a turn

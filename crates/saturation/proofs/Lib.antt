@@ -4,3 +4,6 @@ pub mod Cuts
 pub mod Uniqueness
 pub mod Places
 pub mod Closing
+pub mod Pairs
+pub mod Moving
+pub mod Turns

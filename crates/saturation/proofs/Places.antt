@@ -1,17 +1,16 @@
 -- The places of entries in a log: the entry of number m has a key whose major is less than m.
-use Rattle.std.proofs.Common.{◌≡◌, ◌⊎◌, ◌∙◌, ℕ, zero, suc, ◌+◌, ◌<◌, ◌≤◌, Bool, true, false, cond, nat_lt, Option, Some, None, List, [], ◌∷◌, ◌++◌, length, drop, refl, ap, sym, subst, inl, inr, append-nil, length-append, arith}
+use Rattle.std.proofs.Common.{◌≡◌, ◌∙◌, ℕ, zero, suc, ◌<◌, ◌≤◌, Bool, true, false, cond, Some, List, [], ◌∷◌, ◌++◌, length, refl, ap, sym, subst, inl, inr, arith}
 use Rattle.std.specs.Prelude.{slice_get}
-use Rattle.std.proofs.lemmas.Bool.Decides.{nat_tests}
 use Rattle.terms.specs.Term.{Term}
 use Rattle.calculus.specs.Points.{numbered}
 use Rattle.clauses.specs.Fact.{Clause}
-use Rattle.clauses.specs.Inclusion.{Picks, here, there, Has}
+use Rattle.clauses.specs.Inclusion.{here, Has}
 use Rattle.clauses.proofs.Inclusion.{Has-append_right}
 use Rattle.saturation.specs.Key.{Key, key, is_before, Entry, below}
-use Rattle.saturation.specs.Log.{IsBeaten, IsLive, IsDue, Gives, IsGivenOffer, IsResolventOffer, IsGoalOffer, IsOffered, IsNew, goal_key, EndsAt}
-use Rattle.saturation.specs.End.{AreSorted, IsLogUpTo}
-use Rattle.saturation.proofs.Keys.{parts_of_key, before_trans}
-use Rattle.saturation.proofs.Cuts.{AreBefore, AreAfter, below_before, below_front, below_entry, below_below, sorted_front, sorted_rest}
+use Rattle.saturation.specs.Log.{IsOffered, IsNew, goal_key}
+use Rattle.saturation.specs.End.{AreSorted}
+use Rattle.saturation.proofs.Keys.{parts_of_key}
+use Rattle.saturation.proofs.Cuts.{below_before, below_entry, sorted_front, sorted_rest}
 
 -- the list in front of an item at a place, and behind it
 pub record At {X : Type 0} (xs : List X) (k : ℕ) (x : X) : Type 0 where
@@ -28,7 +27,7 @@ at_place (y ∷ xs) (suc k) x e =
     record { front = y ∷ a.front; rest = a.rest; is = ap (λ zs. y ∷ zs) a.is; count = ap (λ n. suc n) count }
 
 -- an item of a list at a place
-numbered_within : {X : Type 0} (xs : List X) (n : ℕ) (x : X) → numbered xs n ≡ Some x → (0 < n) × (n ≤ length xs)
+pub numbered_within : {X : Type 0} (xs : List X) (n : ℕ) (x : X) → numbered xs n ≡ Some x → (0 < n) × (n ≤ length xs)
 numbered_within xs zero x e = cc
 numbered_within xs (suc k) x e = (omega arith, within xs k x e)
   where

@@ -61,7 +61,7 @@ all_after : (k : Key) (front : List Entry) (e : Entry) (rest : List Entry) → i
 all_after k front e rest h sorted =
     (h, all_weaker (λ x. is_before e.key x.key ≡ true) (λ x. is_before k x.key ≡ true) (λ x i. before_trans k e.key x.key h i) rest (sorted_rest front e rest sorted))
 
-same_entry : (d e : Entry) → d.key ≡ e.key → d.clause ≡ e.clause → d ≡ e
+pub same_entry : (d e : Entry) → d.key ≡ e.key → d.clause ≡ e.clause → d ≡ e
 same_entry d e p q = λ i. record { key = p i; clause = q i }
 
 module _ (one_answer : (i j : Clause Term) (at : Selection) (a b : Answer) → Resolves i j at a → Resolves i j at b → a ≡ b) where
