@@ -7,3 +7,5 @@ pub mod Counting
 pub mod Renumber
 pub mod Norming
 pub mod Bounding
+pub mod Testing
+pub mod Told

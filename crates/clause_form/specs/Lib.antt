@@ -7,3 +7,4 @@ pub mod PlainFacts
 pub mod Numbers
 pub mod Bounds
 pub mod Normals
+pub mod Normality

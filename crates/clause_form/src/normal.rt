@@ -108,7 +108,7 @@ fn without_lonely<B: Bank>(
 }
 
 /// Whether the clause is solved and concludes `att` of a variable.
-fn is_general<B: Bank>(bank: &B, concl: &Fact, hyps: &[Fact]) -> bool
+pub(crate) fn is_general<B: Bank>(bank: &B, concl: &Fact, hyps: &[Fact]) -> bool
     requires concl { IsFactIn (B.trees bank.now) (fact_of concl.now) }
     requires hyps { AreFactsIn (B.trees bank.now) (map fact_of hyps.now) }
     ensures { result ≡ (is_solved (map (fact_at (B.trees bank.now)) (map fact_of hyps.now)) && is_variable_known_fact (fact_at (B.trees bank.now) (fact_of concl.now))) }

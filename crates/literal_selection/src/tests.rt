@@ -1,4 +1,4 @@
-//! Selection on clauses worked out by hand.
+//! Selection on a clause worked out by hand; a table of many more stands in `clause_rows`.
 
 use crate::{is_solved, selected};
 use clause_form::{PlainClause, PlainFact, PlainFacts, Tree, Trees, copy_into, size_of};
@@ -14,15 +14,6 @@ fn att(alloc: Global, constructor: u32) -> Result<PlainFact, AllocError> {
     let mut items = Vec::new(alloc);
     items.push(Tree::Var(0))?;
     Ok(PlainFact::Att(Tree::App(Sym::Ctor(constructor), Trees { items })))
-}
-
-/// `mev` of an event of the variable 0 three times.
-fn mev(alloc: Global) -> Result<PlainFact, AllocError> {
-    let mut items = Vec::new(alloc);
-    items.push(Tree::Var(0))?;
-    items.push(Tree::Var(0))?;
-    items.push(Tree::Var(0))?;
-    Ok(PlainFact::Mev(1, Trees { items }))
 }
 
 /// The clause with these hypotheses that concludes that the variable 0 may be sent on itself; a place that is
@@ -48,30 +39,5 @@ fn the_first_of_the_largest(rt: HostRuntime) -> Result<(), Fail> {
     hyps.push(att(rt.alloc(), 1)?)?;
     hyps.push(att(rt.alloc(), 2)?)?;
     assert_eq!(rt; answers(rt.alloc(), hyps)?, (Some(1), false));
-    Ok(())
-}
-
-// A message is larger than both; a `mev`, larger still, can't be selected.
-#[test]
-fn a_larger_one_behind(rt: HostRuntime) -> Result<(), Fail> {
-    let mut hyps = Vec::new(rt.alloc());
-    hyps.push(mev(rt.alloc())?)?;
-    hyps.push(PlainFact::Att(Tree::App(
-        Sym::Free(1),
-        Trees {
-            items: Vec::new(rt.alloc()),
-        },
-    )))?;
-    hyps.push(att(rt.alloc(), 1)?)?;
-    assert_eq!(rt; answers(rt.alloc(), hyps)?, (Some(2), false));
-    Ok(())
-}
-
-#[test]
-fn none_of_a_solved_clause(rt: HostRuntime) -> Result<(), Fail> {
-    let mut hyps = Vec::new(rt.alloc());
-    hyps.push(att(rt.alloc(), 0)?)?;
-    hyps.push(mev(rt.alloc())?)?;
-    assert_eq!(rt; answers(rt.alloc(), hyps)?, (None, true));
     Ok(())
 }

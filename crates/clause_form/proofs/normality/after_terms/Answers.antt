@@ -1,0 +1,20 @@
+use Rattle.std.proofs.Common.{◌∙◌, ap, sym}
+use Rattle.std.proofs.lemmas.List.Folds.{flat_map-map}
+use Rattle.clauses.specs.Variables.{leaves}
+use Rattle.term_tree.specs.Bank.{tree_at}
+use Rattle.clause_form.specs.Normality.{numbers_after}
+use Rattle.clause_form.proofs.Walks.{known_at}
+use Rattle.clause_form.proofs.Counting.{leaves_at}
+use Rattle.clause_form.proofs.Testing.{after_more, after_all}
+use Rattle.clause_form.proofs.normality.after_terms.Goals as goal
+
+pub after_term-found-requires : goal.after_term-found-requires
+after_term-found-requires g c = known_at (g.B.Bank.trees c.args.bank.now) c.args.terms.now c.loop-term.term-index record { index = 0 } c.requires c.loop-term-test.true
+
+pub loop-term-preserved : goal.loop-term-preserved
+loop-term-preserved g c = after_more (leaves_at (g.B.Bank.trees c.args.bank.now)) c.args.terms.now c.loop-term.term-index record { index = 0 } c.args.next c.loop-term.found c.after_term-found.result c.loop-term-test.true c.loop-term.invariant c.after_term-found.ensures
+
+pub returns : goal.returns
+returns g c =
+    let all = g.B.Bank.trees c.args.bank.now in
+    after_all (leaves_at all) c.args.terms.now c.loop-term.term-index c.args.next c.loop-term.found c.loop-term-test.false c.loop-term.invariant ∙ ap (λ l. numbers_after c.args.next l) (sym (flat_map-map leaves (tree_at all) c.args.terms.now))

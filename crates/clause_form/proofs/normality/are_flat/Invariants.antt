@@ -1,0 +1,9 @@
+use Rattle.std.proofs.Common.{◌≡◌, map, drop}
+use Rattle.std.specs.List.{list_all}
+use Rattle.clauses.specs.Flat.{is_flat}
+use Rattle.clause_form.specs.Facts.{fact_of}
+use Rattle.clause_form.specs.Seen.{fact_at}
+use Rattle.clause_form.proofs.normality.are_flat.Given as goal
+
+abbrev pub invariant-loop-fact : goal.invariant-loop-fact
+invariant-loop-fact g l = list_all is_flat (map (fact_at (g.B.Bank.trees l.bank)) (map fact_of l.facts)) ≡ list_all is_flat (map (λ f. fact_at (g.B.Bank.trees l.bank) (fact_of f)) (drop l.fact-index l.facts))

@@ -1,0 +1,7 @@
+use Rattle.std.proofs.Common.{rules}
+use Rattle.clause_form.specs.Seen.{clause_at}
+use Rattle.clause_form.proofs.Told.{lonely_are}
+use Rattle.clause_form.proofs.normality.has_none_lonely.Goals as goal
+
+pub returns : goal.returns
+returns g c = lonely_are (clause_at (g.B.Bank.trees c.args.bank.now) c.args.clause.now) c.none_lonely.result (search rules)

@@ -1,0 +1,332 @@
+//! Whether a clause is its own norm: it is flat, and each rule of the norm leaves it as it is.
+
+ghost use Rattle.std.specs.Prelude.{◌≡◌, ◌↔◌, ◌+◌, ◌-◌, ◌^◌, ◌<◌, true, false, not, ◌&&◌, cond, min, length, map, flat_map, Some};
+ghost use Rattle.std.specs.List.{list_all};
+ghost use Rattle.clauses.specs.Fact.{is_among as is_among_facts};
+ghost use Rattle.clauses.specs.Flat.{is_flat as is_flat_fact, is_flat_clause as is_flat_clause_of};
+ghost use Rattle.clauses.specs.Norm.{without_repeats, is_tautology as is_tautology_of, is_lonely as is_lonely_fact, without_lonely, generalized, everything_known, numbered, IsNormal};
+ghost use Rattle.clauses.specs.Variables.{leaves, fact_variables, clause_variables, times};
+ghost use Rattle.term_tree.specs.Bank.{tree_at, AreKnown};
+ghost use Rattle.clause_form.specs.Facts.{fact_of};
+ghost use Rattle.clause_form.specs.Seen.{fact_at, clause_at, IsFactIn, AreFactsIn, IsClauseIn};
+ghost use Rattle.clause_form.specs.Normality.{are_different as are_different_facts, number_after, numbers_after, KeepsItsFacts, KeepsItsVariables};
+
+use crate::facts::{Clause, Fact};
+use crate::flat::is_data_symbol;
+use crate::normal::is_general;
+use crate::same::is_among;
+use term_tree::{Bank, Id, Node};
+
+/// Whether a fact is flat: no `att` of a data constructor or a tuple.
+fn is_flat<B: Bank>(bank: &B, fact: &Fact) -> bool
+    requires { IsFactIn (B.trees bank.now) (fact_of fact.now) }
+    ensures { result ≡ is_flat_fact (fact_at (B.trees bank.now) (fact_of fact.now)) }
+{
+    match fact {
+        Fact::Att(term) => match bank.node(*term) {
+            Node::Var(_) => true,
+            Node::App(symbol, _) => !is_data_symbol(symbol),
+        },
+        Fact::Mess(..) | Fact::Ev(..) | Fact::Mev(..) | Fact::Bad(_) => true,
+    }
+}
+
+/// Whether facts are flat.
+fn are_flat<B: Bank>(bank: &B, facts: &[Fact]) -> bool
+    requires { AreFactsIn (B.trees bank.now) (map fact_of facts.now) }
+    ensures { result ≡ list_all is_flat_fact (map (fact_at (B.trees bank.now)) (map fact_of facts.now)) }
+{
+    for fact in facts {
+        if !is_flat(bank, fact) {
+            return false;
+        }
+    }
+    true
+}
+
+/// Whether a clause is flat.
+fn is_flat_clause<B: Bank>(bank: &B, clause: &Clause) -> bool
+    requires { IsClauseIn (B.trees bank.now) clause.now }
+    ensures { result ≡ is_flat_clause_of (clause_at (B.trees bank.now) clause.now) }
+{
+    is_flat(bank, &clause.concl) && are_flat(bank, &clause.hyps.items)
+}
+
+/// Whether no fact is the same as a later one.
+fn are_different<B: Bank>(bank: &B, facts: &[Fact]) -> bool
+    requires { AreFactsIn (B.trees bank.now) (map fact_of facts.now) }
+    ensures { result ≡ are_different_facts (map (fact_at (B.trees bank.now)) (map fact_of facts.now)) }
+{
+    'each: for (i, fact) in facts.iter().enumerate() {
+        if is_among(bank, &facts[i + 1..], fact) {
+            return false;
+        }
+    }
+    true
+}
+
+/// Whether no hypothesis stands twice.
+fn has_no_repeats<B: Bank>(bank: &B, clause: &Clause) -> bool
+    requires { IsClauseIn (B.trees bank.now) clause.now }
+    ensures { (result ≡ true) ↔ (without_repeats (clause_at (B.trees bank.now) clause.now) ≡ clause_at (B.trees bank.now) clause.now) }
+{
+    are_different(bank, &clause.hyps.items)
+}
+
+/// Whether the conclusion is among the hypotheses.
+fn is_tautology<B: Bank>(bank: &B, clause: &Clause) -> bool
+    requires { IsClauseIn (B.trees bank.now) clause.now }
+    ensures { result ≡ is_tautology_of (clause_at (B.trees bank.now) clause.now) }
+{
+    is_among(bank, &clause.hyps.items, &clause.concl)
+}
+
+/// One more occurrence where the numbers are the same.
+fn one_more_if(is_same: bool, found: u64) -> u64
+    ensures { result ≡ min (found + cond is_same 1 0) (2 ^ 64 - 1) }
+{
+    if is_same {
+        return found.saturating_add(1);
+    }
+    found
+}
+
+/// So many occurrences of a variable, and those in a term; none are told beyond the greatest number.
+fn times_in_term<B: Bank>(bank: &B, number: u32, id: Id, found: u64) -> u64
+    requires { id.index < length (B.trees bank.now) }
+    ensures { result ≡ min (found + times number (leaves (tree_at (B.trees bank.now) id))) (2 ^ 64 - 1) }
+{
+    match bank.node(id) {
+        Node::Var(other) => one_more_if(number == other, found),
+        Node::App(_, arguments) => {
+            let mut total = found;
+            'each: for argument in arguments {
+                total = times_in_term(bank, number, *argument, total);
+            }
+            total
+        }
+    }
+}
+
+/// The same of terms.
+fn times_in_terms<B: Bank>(bank: &B, number: u32, terms: &[Id], found: u64) -> u64
+    requires { AreKnown (B.trees bank.now) terms.now }
+    ensures { result ≡ min (found + times number (flat_map leaves (map (tree_at (B.trees bank.now)) terms.now))) (2 ^ 64 - 1) }
+{
+    let mut total = found;
+    for term in terms {
+        total = times_in_term(bank, number, *term, total);
+    }
+    total
+}
+
+/// The same of a fact.
+fn times_in_fact<B: Bank>(bank: &B, number: u32, fact: &Fact, found: u64) -> u64
+    requires { IsFactIn (B.trees bank.now) (fact_of fact.now) }
+    ensures { result ≡ min (found + times number (fact_variables (fact_at (B.trees bank.now) (fact_of fact.now)))) (2 ^ 64 - 1) }
+{
+    match fact {
+        Fact::Att(term) => times_in_term(bank, number, *term, found),
+        Fact::Mess(channel, message) => {
+            let first = times_in_term(bank, number, *channel, found);
+            times_in_term(bank, number, *message, first)
+        }
+        Fact::Ev(_, arguments) => times_in_terms(bank, number, &arguments.items, found),
+        Fact::Mev(_, arguments) => times_in_terms(bank, number, &arguments.items, found),
+        Fact::Bad(arguments) => times_in_terms(bank, number, &arguments.items, found),
+    }
+}
+
+/// The same of facts.
+fn times_in_facts<B: Bank>(bank: &B, number: u32, facts: &[Fact], found: u64) -> u64
+    requires { AreFactsIn (B.trees bank.now) (map fact_of facts.now) }
+    ensures { result ≡ min (found + times number (flat_map fact_variables (map (fact_at (B.trees bank.now)) (map fact_of facts.now)))) (2 ^ 64 - 1) }
+{
+    let mut total = found;
+    for fact in facts {
+        total = times_in_fact(bank, number, fact, total);
+    }
+    total
+}
+
+/// How often a variable occurs in a clause; none are told beyond the greatest number.
+fn times_in_clause<B: Bank>(bank: &B, number: u32, clause: &Clause) -> u64
+    requires { IsClauseIn (B.trees bank.now) clause.now }
+    ensures { result ≡ min (times number (clause_variables (clause_at (B.trees bank.now) clause.now))) (2 ^ 64 - 1) }
+{
+    let found = times_in_fact(bank, number, &clause.concl, 0);
+    times_in_facts(bank, number, &clause.hyps.items, found)
+}
+
+/// Whether the fact is `att` of a variable that occurs but once in the clause.
+fn is_lonely<B: Bank>(bank: &B, clause: &Clause, fact: &Fact) -> bool
+    requires clause { IsClauseIn (B.trees bank.now) clause.now }
+    requires fact { IsFactIn (B.trees bank.now) (fact_of fact.now) }
+    ensures { result ≡ is_lonely_fact (clause_variables (clause_at (B.trees bank.now) clause.now)) (fact_at (B.trees bank.now) (fact_of fact.now)) }
+{
+    match fact {
+        Fact::Att(term) => match bank.node(*term) {
+            Node::Var(number) => times_in_clause(bank, number, clause) == 1,
+            Node::App(_, _) => false,
+        },
+        Fact::Mess(..) | Fact::Ev(..) | Fact::Mev(..) | Fact::Bad(_) => false,
+    }
+}
+
+/// Whether none of the facts is `att` of a variable that occurs but once in the clause.
+fn none_lonely<B: Bank>(bank: &B, clause: &Clause, facts: &[Fact]) -> bool
+    requires clause { IsClauseIn (B.trees bank.now) clause.now }
+    requires facts { AreFactsIn (B.trees bank.now) (map fact_of facts.now) }
+    ensures { result ≡ list_all (λ h. not (is_lonely_fact (clause_variables (clause_at (B.trees bank.now) clause.now)) h)) (map (fact_at (B.trees bank.now)) (map fact_of facts.now)) }
+{
+    for fact in facts {
+        if is_lonely(bank, clause, fact) {
+            return false;
+        }
+    }
+    true
+}
+
+/// Whether no hypothesis says only that the attacker has something.
+fn has_none_lonely<B: Bank>(bank: &B, clause: &Clause) -> bool
+    requires { IsClauseIn (B.trees bank.now) clause.now }
+    ensures { (result ≡ true) ↔ (without_lonely (clause_at (B.trees bank.now) clause.now) ≡ clause_at (B.trees bank.now) clause.now) }
+{
+    none_lonely(bank, clause, &clause.hyps.items)
+}
+
+/// Whether the fact is `att` of the variable 0.
+fn is_first_variable_known<B: Bank>(bank: &B, fact: &Fact) -> bool
+    requires { IsFactIn (B.trees bank.now) (fact_of fact.now) }
+    ensures { (result ≡ true) ↔ (fact_at (B.trees bank.now) (fact_of fact.now) ≡ everything_known.conclusion) }
+{
+    match fact {
+        Fact::Att(term) => match bank.node(*term) {
+            Node::Var(number) => number == 0,
+            Node::App(_, _) => false,
+        },
+        Fact::Mess(..) | Fact::Ev(..) | Fact::Mev(..) | Fact::Bad(_) => false,
+    }
+}
+
+/// Whether the clause says in the shortest form that the attacker has everything.
+fn is_everything_known<B: Bank>(bank: &B, clause: &Clause) -> bool
+    requires { IsClauseIn (B.trees bank.now) clause.now }
+    ensures { (result ≡ true) ↔ (clause_at (B.trees bank.now) clause.now ≡ everything_known) }
+{
+    clause.hyps.items.is_empty() && is_first_variable_known(bank, &clause.concl)
+}
+
+/// Whether the clause doesn't say that the attacker has everything, or says it in the shortest form.
+fn is_own_general<B: Bank>(bank: &B, clause: &Clause) -> bool
+    requires { IsClauseIn (B.trees bank.now) clause.now }
+    ensures { (result ≡ true) ↔ (generalized (clause_at (B.trees bank.now) clause.now) ≡ clause_at (B.trees bank.now) clause.now) }
+{
+    !is_general(bank, &clause.concl, &clause.hyps.items) || is_everything_known(bank, clause)
+}
+
+/// The least number that hasn't occurred once this one comes next, if none is left out.
+fn after_number(number: u32, next: Option<u64>) -> Option<u64>
+    ensures { result ≡ number_after next number }
+{
+    let next = next?;
+    let number = u64::from(number);
+    if number == next {
+        return Some(number + 1);
+    }
+    if number < next {
+        return Some(next);
+    }
+    None
+}
+
+/// The same of the variables of a term.
+fn after_term<B: Bank>(bank: &B, id: Id, next: Option<u64>) -> Option<u64>
+    requires { id.index < length (B.trees bank.now) }
+    ensures { result ≡ numbers_after next (leaves (tree_at (B.trees bank.now) id)) }
+{
+    match bank.node(id) {
+        Node::Var(number) => after_number(number, next),
+        Node::App(_, arguments) => {
+            let mut found = next;
+            'each: for argument in arguments {
+                found = after_term(bank, *argument, found);
+            }
+            found
+        }
+    }
+}
+
+/// The same of terms.
+fn after_terms<B: Bank>(bank: &B, terms: &[Id], next: Option<u64>) -> Option<u64>
+    requires { AreKnown (B.trees bank.now) terms.now }
+    ensures { result ≡ numbers_after next (flat_map leaves (map (tree_at (B.trees bank.now)) terms.now)) }
+{
+    let mut found = next;
+    for term in terms {
+        found = after_term(bank, *term, found);
+    }
+    found
+}
+
+/// The same of a fact.
+fn after_fact<B: Bank>(bank: &B, fact: &Fact, next: Option<u64>) -> Option<u64>
+    requires { IsFactIn (B.trees bank.now) (fact_of fact.now) }
+    ensures { result ≡ numbers_after next (fact_variables (fact_at (B.trees bank.now) (fact_of fact.now))) }
+{
+    match fact {
+        Fact::Att(term) => after_term(bank, *term, next),
+        Fact::Mess(channel, message) => {
+            let first = after_term(bank, *channel, next);
+            after_term(bank, *message, first)
+        }
+        Fact::Ev(_, arguments) => after_terms(bank, &arguments.items, next),
+        Fact::Mev(_, arguments) => after_terms(bank, &arguments.items, next),
+        Fact::Bad(arguments) => after_terms(bank, &arguments.items, next),
+    }
+}
+
+/// The same of facts.
+fn after_facts<B: Bank>(bank: &B, facts: &[Fact], next: Option<u64>) -> Option<u64>
+    requires { AreFactsIn (B.trees bank.now) (map fact_of facts.now) }
+    ensures { result ≡ numbers_after next (flat_map fact_variables (map (fact_at (B.trees bank.now)) (map fact_of facts.now))) }
+{
+    let mut found = next;
+    for fact in facts {
+        found = after_fact(bank, fact, found);
+    }
+    found
+}
+
+/// Whether the variables are numbered from 0 by their first occurrence, the conclusion's first.
+fn is_numbered<B: Bank>(bank: &B, clause: &Clause) -> bool
+    requires { IsClauseIn (B.trees bank.now) clause.now }
+    ensures { (result ≡ true) ↔ (numbered (clause_at (B.trees bank.now) clause.now) ≡ clause_at (B.trees bank.now) clause.now) }
+{
+    let first = after_fact(bank, &clause.concl, Some(0));
+    after_facts(bank, &clause.hyps.items, first).is_some()
+}
+
+/// Whether the clause is flat, and says more than its hypotheses, none of which stands twice.
+fn keeps_its_facts<B: Bank>(bank: &B, clause: &Clause) -> bool
+    requires { IsClauseIn (B.trees bank.now) clause.now }
+    ensures { (result ≡ true) ↔ KeepsItsFacts (clause_at (B.trees bank.now) clause.now) }
+{
+    is_flat_clause(bank, clause) && has_no_repeats(bank, clause) && !is_tautology(bank, clause)
+}
+
+/// Whether the rules that speak of variables leave the clause as it is.
+fn keeps_its_variables<B: Bank>(bank: &B, clause: &Clause) -> bool
+    requires { IsClauseIn (B.trees bank.now) clause.now }
+    ensures { (result ≡ true) ↔ KeepsItsVariables (clause_at (B.trees bank.now) clause.now) }
+{
+    has_none_lonely(bank, clause) && is_own_general(bank, clause) && is_numbered(bank, clause)
+}
+
+/// Whether a clause is its own norm, and flat. Takes no memory.
+pub fn is_normal<B: Bank>(bank: &B, clause: &Clause) -> bool
+    requires { IsClauseIn (B.trees bank.now) clause.now }
+    ensures { (result ≡ true) ↔ IsNormal (clause_at (B.trees bank.now) clause.now) }
+{
+    keeps_its_facts(bank, clause) && keeps_its_variables(bank, clause)
+}
