@@ -1,0 +1,24 @@
+use Rattle.std.proofs.Common.{[], ◌∷◌, ◌++◌, map, flat_map, filter_map}
+use Rattle.std.specs.List.{enumerate_from}
+use Rattle.translation.specs.Attacker.{name_known, fresh_known, constructor_applied, rule_applied, message_heard, message_sent, attacker_raw}
+use Rattle.pi_tree.specs.Protocols.{protocol_of}
+use Rattle.attacker_clauses.proofs.Adding.{both_added, all_listed}
+use Rattle.attacker_clauses.proofs.list_grown.Goals as goal
+
+pub returns-clause-names : goal.returns-clause-names
+returns-clause-names g c =
+    let P = protocol_of c.args.protocol.now in
+    let start = g.B.Bank.trees c.args.bank.now in
+    let named = g.B.Bank.trees c.add_names.new.bank in
+    let own = g.B.Bank.trees c.add_own_names.new.bank in
+    let constructed = g.B.Bank.trees c.add_constructors.new.bank in
+    let reduced = g.B.Bank.trees c.add_destructors.new.bank in
+    let end = g.B.Bank.trees c.add_channels.new.bank in
+    let constructors = filter_map constructor_applied (enumerate_from 1 P.constructors) in
+    let rules = flat_map (λ destructor. map (rule_applied P) destructor.rules) P.destructors in
+    let channels = message_heard ∷ message_sent ∷ [] in
+    let last = both_added constructed reduced end c.add_constructors.new.list c.add_destructors.new.list c.add_channels.new.list rules channels c.in_ok-add_destructors.ensures.adds c.in_ok-add_channels.ensures.adds in
+    let made = both_added own constructed end c.add_own_names.new.list c.add_constructors.new.list c.add_channels.new.list constructors (rules ++ channels) c.in_ok-add_constructors.ensures.adds last in
+    let others = both_added named own end c.add_names.new.list c.add_own_names.new.list c.add_channels.new.list (fresh_known ∷ []) (constructors ++ (rules ++ channels)) c.in_ok-add_own_names.ensures.adds made in
+    let whole = both_added start named end c.new.result.items c.add_names.new.list c.add_channels.new.list (filter_map name_known (enumerate_from 1 P.frees)) (fresh_known ∷ (constructors ++ (rules ++ channels))) c.in_ok-add_names.ensures.adds others in
+    all_listed start end c.new.result.items c.add_channels.new.list (attacker_raw P) c.new.ensures.items whole

@@ -1,0 +1,6 @@
+use Rattle.std.proofs.Common.{◌≡◌, map, take}
+use Rattle.clauses.specs.Fact.{Att}
+use Rattle.attacker_clauses.proofs.listing.known_facts.Given as goal
+
+abbrev pub invariant-loop-term : goal.invariant-loop-term
+invariant-loop-term l = l.facts ≡ map Att (take l.term-index l.terms)

@@ -1,0 +1,16 @@
+use Rattle.std.proofs.Common.{[], ◌∷◌, ◌+◌, filter_map, map, take}
+use Rattle.std.specs.List.{enumerate_from}
+use Rattle.translation.specs.Attacker.{name_known}
+use Rattle.pi_tree.specs.Names.{declared_of}
+use Rattle.attacker_clauses.proofs.Numbering.{numbered_more}
+use Rattle.attacker_clauses.proofs.Adding.{added_on}
+use Rattle.attacker_clauses.proofs.names.add_names.Goals as goal
+
+pub loop-index-preserved : goal.loop-index-preserved
+loop-index-preserved g c =
+    let items = c.deref-declared-items.result.now in
+    added_on (g.B.Bank.trees c.args.bank.now) (g.B.Bank.trees c.loop-index.bank) (g.B.Bank.trees c.add_name.new.bank) c.args.list.now c.loop-index.list c.add_name.new.list
+    (filter_map name_known (enumerate_from 1 (map declared_of (take c.loop-index.index items)))) (filter_map name_known ((c.loop-index.index + 1, declared_of c.declared-item.result) ∷ []))
+    (filter_map name_known (enumerate_from 1 (map declared_of (take (c.loop-index.index + 1) items))))
+    c.loop-index.invariant c.add_name.ensures.grows c.in_ok-add_name.ensures.adds
+    (numbered_more declared_of name_known items c.loop-index.index c.declared-item.result c.loop-index-test.true c.declared-item.is)

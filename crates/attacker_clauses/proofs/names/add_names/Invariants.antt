@@ -1,0 +1,9 @@
+use Rattle.std.proofs.Common.{filter_map, map, take}
+use Rattle.std.specs.List.{enumerate_from}
+use Rattle.translation.specs.Attacker.{name_known}
+use Rattle.pi_tree.specs.Names.{declared_of}
+use Rattle.attacker_clauses.proofs.Adding.{AreAdded}
+use Rattle.attacker_clauses.proofs.names.add_names.Given as goal
+
+abbrev pub invariant-loop-index : goal.invariant-loop-index
+invariant-loop-index g l = AreAdded (g.B.Bank.trees l.fn.bank) (g.B.Bank.trees l.bank) l.fn.list l.list (filter_map name_known (enumerate_from 1 (map declared_of (take l.index l.declared-items))))

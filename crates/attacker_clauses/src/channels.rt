@@ -1,0 +1,83 @@
+//! The channels on which the attacker hears and sends.
+
+ghost use Rattle.std.specs.Prelude.{◌≡◌, ◌<◌, [], ◌∷◌, ◌++◌, length, IfOk, OnOk};
+ghost use Rattle.trees.specs.Tree.{Leaf};
+ghost use Rattle.translation.specs.Attacker.{message_heard, message_sent};
+ghost use Rattle.term_tree.specs.Bank.{Names, Grows};
+ghost use Rattle.clause_form.specs.Facts.{fact_of};
+ghost use Rattle.attacker_clauses.specs.Listed.{Adds};
+
+use crate::listing::add_raw;
+use clause_form::{Clause, Clauses, Fact, Facts};
+use std::alloc::{AllocError, Global};
+use term_tree::{Bank, Id};
+
+/// Two facts.
+fn two_facts(alloc: Global, first: Fact, second: Fact) -> Result<Facts, AllocError>
+    ensures { IfOk result (λ facts. facts ≡ fact_of first ∷ fact_of second ∷ []) }
+{
+    let mut facts = Facts::new(alloc);
+    facts.push(first)?;
+    facts.push(second)?;
+    Ok(facts)
+}
+
+/// Adds that the attacker hears what is sent on a channel that he has. On `Err` the bank may have grown.
+fn add_heard<B: Bank>(
+    alloc: Global,
+    bank: &mut B,
+    channel: Id,
+    message: Id,
+    list: &mut Clauses,
+) -> Result<(), AllocError>
+    requires channel { Names (B.trees bank.old) channel (Leaf 0) }
+    requires message { Names (B.trees bank.old) message (Leaf 1) }
+    ensures grows { Grows (B.trees bank.old) (B.trees bank.new) }
+    ensures adds { OnOk result (Adds (B.trees bank.old) list.old (B.trees bank.new) list.new
+        (message_heard ∷ [])) }
+{
+    let hyps = two_facts(alloc, Fact::Mess(channel, message), Fact::Att(channel))?;
+    let raw = Clause {
+        hyps,
+        concl: Fact::Att(message),
+    };
+    add_raw(alloc, bank, &raw, list)
+}
+
+/// Adds that the attacker sends what he has on a channel that he has. On `Err` the bank may have grown.
+fn add_sent<B: Bank>(
+    alloc: Global,
+    bank: &mut B,
+    channel: Id,
+    message: Id,
+    list: &mut Clauses,
+) -> Result<(), AllocError>
+    requires channel { Names (B.trees bank.old) channel (Leaf 0) }
+    requires message { Names (B.trees bank.old) message (Leaf 1) }
+    ensures grows { Grows (B.trees bank.old) (B.trees bank.new) }
+    ensures adds { OnOk result (Adds (B.trees bank.old) list.old (B.trees bank.new) list.new
+        (message_sent ∷ [])) }
+{
+    let hyps = two_facts(alloc, Fact::Att(channel), Fact::Att(message))?;
+    let raw = Clause {
+        hyps,
+        concl: Fact::Mess(channel, message),
+    };
+    add_raw(alloc, bank, &raw, list)
+}
+
+/// Adds that the attacker hears and sends. On `Err` the bank may have grown.
+pub(crate) fn add_channels<B: Bank>(
+    alloc: Global,
+    bank: &mut B,
+    list: &mut Clauses,
+) -> Result<(), AllocError>
+    ensures grows { Grows (B.trees bank.old) (B.trees bank.new) }
+    ensures adds { OnOk result (Adds (B.trees bank.old) list.old (B.trees bank.new) list.new
+        (message_heard ∷ message_sent ∷ [])) }
+{
+    let channel = bank.var(0)?;
+    let message = bank.var(1)?;
+    add_heard(alloc, bank, channel, message, list)?;
+    add_sent(alloc, bank, channel, message, list)
+}

@@ -1,0 +1,66 @@
+//! Raw clauses, each listed by what it gives.
+
+ghost use Rattle.std.specs.Prelude.{◌≡◌, ◌<◌, [], ◌∷◌, ◌++◌, length, map, IfOk, OnOk};
+ghost use Rattle.clauses.specs.Fact.{Att};
+ghost use Rattle.term_tree.specs.Bank.{tree_at, AreKnown, Grows};
+ghost use Rattle.clause_form.specs.Seen.{clause_at, IsClauseIn};
+ghost use Rattle.attacker_clauses.specs.Listed.{Adds};
+
+use clause_form::{Clause, Clauses, Fact, Facts};
+use clause_norms::norms_of;
+use std::alloc::{AllocError, Global};
+use term_tree::{Bank, Id};
+
+/// Adds what a raw clause gives. On `Err` the bank may have grown.
+pub(crate) fn add_raw<B: Bank>(
+    alloc: Global,
+    bank: &mut B,
+    raw: &Clause,
+    list: &mut Clauses,
+) -> Result<(), AllocError>
+    requires { IsClauseIn (B.trees bank.old) raw.now }
+    ensures grows { Grows (B.trees bank.old) (B.trees bank.new) }
+    ensures adds { OnOk result (Adds (B.trees bank.old) list.old (B.trees bank.new) list.new
+        (clause_at (B.trees bank.old) raw.now ∷ [])) }
+{
+    let mut made = norms_of(alloc, bank, raw)?;
+    list.items.append(&mut made.items)?;
+    Ok(())
+}
+
+/// That the attacker has each of these terms.
+fn known_facts(alloc: Global, terms: &[Id]) -> Result<Facts, AllocError>
+    ensures { IfOk result (λ facts. facts ≡ map Att terms.now) }
+{
+    let mut facts = Facts::new(alloc);
+    for term in terms {
+        facts.push(Fact::Att(*term))?;
+    }
+    Ok(facts)
+}
+
+/// Adds that the attacker has the last term where he has the others. On `Err` the bank may have grown.
+pub(crate) fn add_known<B: Bank>(
+    alloc: Global,
+    bank: &mut B,
+    terms: &[Id],
+    last: Id,
+    list: &mut Clauses,
+) -> Result<(), AllocError>
+    requires terms { AreKnown (B.trees bank.old) terms.now }
+    requires last { last.index < length (B.trees bank.old) }
+    ensures grows { Grows (B.trees bank.old) (B.trees bank.new) }
+    ensures adds { OnOk result (Adds (B.trees bank.old) list.old (B.trees bank.new) list.new
+        (record {
+          hypotheses = map Att (map (tree_at (B.trees bank.old)) terms.now);
+          conclusion =
+              Att (tree_at (B.trees bank.old) last);
+        } ∷ [])) }
+{
+    let hyps = known_facts(alloc, terms)?;
+    let raw = Clause {
+        hyps,
+        concl: Fact::Att(last),
+    };
+    add_raw(alloc, bank, &raw, list)
+}

@@ -1,0 +1,4 @@
+pub mod Slots
+pub mod Scopes
+pub mod Conditions
+pub mod Fresh
