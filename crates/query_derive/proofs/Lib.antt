@@ -1,0 +1,5 @@
+pub mod Converting
+pub mod Narrowing
+pub mod Searching
+pub mod Deciding
+pub mod Asking

@@ -1,0 +1,13 @@
+use Rattle.std.proofs.Common.{◌∙◌, [], ◌∷◌, ◌++◌, map, ap, sym}
+use Rattle.std.proofs.lemmas.List.{map-append}
+use Rattle.trees.specs.Tree.{Leaf}
+use Rattle.clause_form.specs.declared.plain.Tree.TheVariants.{Var}
+use Rattle.clause_form.specs.Plain.{term_of}
+use Rattle.query_derive.proofs.Asking.{variables_more}
+use Rattle.query_derive.proofs.goal.variables.Goals as goal
+
+pub each-preserved : goal.each-preserved
+each-preserved c =
+    ap (map term_of) c.in_ok-push.ensures.items
+    ∙ (map-append term_of c.each.items.items (Var c.each.number ∷ [])
+    ∙ (ap (λ l. l ++ Leaf c.each.number ∷ []) c.each.invariant ∙ sym (variables_more c.each.number)))

@@ -1,0 +1,7 @@
+use Rattle.std.proofs.Common.{◌≡◌, map}
+use Rattle.translation.specs.Attacker.{variables_from}
+use Rattle.clause_form.specs.Plain.{term_of}
+use Rattle.query_derive.proofs.goal.variables.Given as goal
+
+abbrev pub invariant-each : goal.invariant-each
+invariant-each l = map term_of l.items.items ≡ variables_from 0 l.number

@@ -1,0 +1,4 @@
+pub mod Sought
+pub mod Wanted
+pub mod Narrowing
+pub mod GoalRows
