@@ -1,0 +1,50 @@
+-- What is read has short tuples.
+use Rattle.std.proofs.Common.{ℕ, zero, suc, ◌+◌, List, [], ◌∷◌, ◌++◌}
+use Rattle.std.specs.List.{AllByRecursion, slice_get}
+use Rattle.std.specs.Option.{option_map_or}
+use Rattle.calculus.specs.Syntax.{Name, Made, Process, Nil, Output, Input, Parallel, Replication, New, Let, Event, Expression, Plain, Call, Rule, Destructor, Protocol}
+use Rattle.calculus.specs.Points.{point_after}
+use Rattle.well_formed.specs.Signature.{Signature, signature_of}
+use Rattle.well_formed.specs.Terms.{IsKnown, IsExpressionBelow, bound_by}
+use Rattle.well_formed.specs.Processes.{IsProcessBelow}
+use Rattle.well_formed.specs.WellFormed.{IsRuleOver, IsWellScoped}
+use Rattle.clause_terms.specs.Conditions.{IsShortRule}
+use Rattle.clause_terms.proofs.Laws.{short_term, short_terms, short_pattern, short_rule}
+use Rattle.clause_translate.specs.Short.{IsShortExpression, IsShortProcess, HasShortRules}
+
+short_expression : (signature : Signature) (bound : List Name) (expression : Expression) → IsExpressionBelow signature bound expression → IsShortExpression expression
+short_expression signature bound (Plain t) below = short_term signature (IsKnown signature bound) t below
+short_expression signature bound (Call d arguments) below = short_terms signature (IsKnown signature bound) arguments below.1
+
+short_process : (signature : Signature) (bound : List Name) (point : ℕ) (p : Process) → IsProcessBelow signature bound point p → IsShortProcess p
+short_process signature bound point Nil below = tt
+short_process signature bound point (Output channel message next) below =
+    (short_term signature (IsKnown signature bound) channel below.0, short_term signature (IsKnown signature bound) message below.1, short_process signature bound (point + 1) next below.2)
+short_process signature bound point (Input channel pattern next) below =
+    (short_term signature (IsKnown signature bound) channel below.0, short_pattern signature bound pattern below.1, short_process signature (bound_by pattern ++ bound) (point + 1) next below.2)
+short_process signature bound point (Parallel left right) below = (short_process signature bound (point + 1) left below.0, short_process signature bound (point_after (point + 1) left) right below.1)
+short_process signature bound point (Replication copied) below = short_process signature bound (point + 1) copied below
+short_process signature bound point (New word next) below = short_process signature (Made point ∷ bound) (point + 1) next below.1
+short_process signature bound point (Let pattern expression next otherwise) below = (
+  short_pattern signature bound pattern below.0,
+  short_expression signature bound expression below.1,
+  short_process signature (bound_by pattern ++ bound) (point + 1) next below.2,
+  short_process signature bound (point_after (point + 1) next) otherwise below.3,
+)
+short_process signature bound point (Event performed next) below = (short_terms signature (IsKnown signature bound) performed.arguments below.0.arguments, short_process signature bound (point + 1) next below.1)
+
+pub main_short : (P : Protocol) → IsWellScoped P → IsShortProcess P.main
+main_short P scoped = short_process (signature_of P) [] 1 P.main scoped.process
+
+rules_short : (signature : Signature) (rules : List Rule) → AllByRecursion (IsRuleOver signature) rules → AllByRecursion IsShortRule rules
+rules_short signature [] over = tt
+rules_short signature (rule ∷ rules) over = (short_rule signature rule over.0, rules_short signature rules over.1)
+
+short_at : (signature : Signature) (ds : List Destructor) (index : ℕ) → AllByRecursion (λ d. AllByRecursion (IsRuleOver signature) d.rules) ds → AllByRecursion IsShortRule (option_map_or (λ destructor. destructor.rules) (slice_get ds index) [])
+short_at signature [] index over = tt
+short_at signature (d ∷ ds) zero over = rules_short signature d.rules over.0
+short_at signature (d ∷ ds) (suc index) over = short_at signature ds index over.1
+
+pub has_short_rules : (P : Protocol) → IsWellScoped P → HasShortRules P
+has_short_rules P scoped zero = tt
+has_short_rules P scoped (suc index) = short_at (signature_of P) P.destructors index scoped.rules

@@ -1,0 +1,66 @@
+-- The translation, by the attacker's clauses, those of the visits, and the goal.
+use Rattle.std.proofs.Common.{◌≡◌, ℕ, zero, suc, ◌<◌, ◌≤◌, Some, None, List, [], ◌∷◌, ◌++◌, length, get_or, map, refl, ap, sym, subst, ◌∙◌, arith}
+use Rattle.std.proofs.lemmas.Option.{slice_get-get_or}
+use Rattle.calculus.specs.Syntax.{Query, Protocol}
+use Rattle.calculus.specs.Points.{numbered}
+use Rattle.terms.specs.Term.{Term}
+use Rattle.clauses.specs.Fact.{Clause}
+use Rattle.term_tree.specs.declared.bank.Id.{Id}
+use Rattle.translation.specs.Visit.{Visit, first_visit}
+use Rattle.translation.specs.Course.{Done, TooLarge}
+use Rattle.translation.specs.Visited.{Visited}
+use Rattle.translation.specs.Translation.{attacker_clauses, goal_clauses, most_visits}
+use Rattle.clause_form.specs.Seen.{clause_at, NameClauses}
+use Rattle.query_derive.specs.GoalRows.{OfQuery}
+use Rattle.clause_translate.specs.declared.listing.Listing.{Listing}
+use Rattle.clause_translate.specs.declared.visit.Visit as source
+use Rattle.clause_translate.specs.Visits.{visit_at, IsVisitIn}
+use Rattle.clause_translate.specs.Jobs.{Once, Ends}
+use Rattle.clause_translate.specs.Whole.{TranslatesTo, EndsAt, AddsVisits}
+use Rattle.clause_translate.proofs.Courses.{appended_twice}
+
+there : (items : List Query) (number : ℕ) → 0 < number → number ≤ length items → (q : Query) × (numbered items number ≡ Some q)
+there items zero up within = absurd (omega (arith, up))
+there [] (suc index) up within = absurd (omega (arith, within))
+there (x ∷ xs) (suc index) up within = (get_or (x ∷ xs) index x, slice_get-get_or (x ∷ xs) index x (omega (arith, within)))
+
+-- the query of the number
+pub query_there : (P : Protocol) (number : ℕ) → (0 < number) × (number ≤ length P.queries) → (q : Query) × (numbered P.queries number ≡ Some q)
+query_there P number is = there P.queries number is.0 is.1
+
+-- nothing is known at first
+pub first_known : (all : List Term) (v : source.Visit) → v ≡ record { scope = []; hypotheses = []; messages = []; sessions = []; next = 0 } → IsVisitIn all v
+first_known all v e = subst (λ (w : source.Visit). IsVisitIn all w) (sym e) record { scope = tt; hypotheses = tt; messages = tt; sessions = tt; below = tt }
+
+pub first_is : (all : List Term) (v : source.Visit) → v ≡ record { scope = []; hypotheses = []; messages = []; sessions = []; next = 0 } → visit_at all v ≡ first_visit
+first_is all v e = ap (visit_at all) e
+
+module _ (P : Protocol) (old new : List Term) (v : source.Visit) (before after : Listing) (left : before.left ≡ most_visits) (e : visit_at old v ≡ first_visit) where
+  pub visits_added : Ends P (Once P.main 1 (visit_at old v)) old new before after None → AddsVisits P old new before.clauses after.clauses
+  visits_added h = record {
+    more = h.more;
+    left = after.left;
+    runs = subst (λ n. Visited P P.main 1 first_visit n (Done h.more after.left)) left (subst (λ (w : Visit). Visited P P.main 1 w before.left (Done h.more after.left)) e h.runs);
+    names = h.clauses;
+  }
+
+  pub visit_large : (point : ℕ) → Ends P (Once P.main 1 (visit_at old v)) old new before after (Some point) → Visited P P.main 1 first_visit most_visits (TooLarge point)
+  visit_large point h = subst (λ n. Visited P P.main 1 first_visit n (TooLarge point)) left (subst (λ (w : Visit). Visited P P.main 1 w before.left (TooLarge point)) e h)
+
+pub ends_at : (P : Protocol) (number point : ℕ) → (0 < number) × (number ≤ length P.queries) → Visited P P.main 1 first_visit most_visits (TooLarge point) → EndsAt P number point
+ends_at P number point is h = let q = query_there P number is in record { query = q.0; is = q.1; translates = (TooLarge point, h, refl) }
+
+pub translates_to : (P : Protocol) (number : ℕ) (first mid last : List Term) (known visited all : List (Clause Id)) → (0 < number) × (number ≤ length P.queries) → NameClauses first known (attacker_clauses P) → AddsVisits P first mid known visited
+    → OfQuery P number (λ q. NameClauses last all (map (clause_at mid) visited ++ goal_clauses P q)) → TranslatesTo P number last all
+translates_to P number first mid last known visited all is attacker adds goal =
+    let q = query_there P number is in
+    let list = attacker_clauses P ++ (adds.more ++ goal_clauses P q.0) in
+    let same : map (clause_at mid) visited ++ goal_clauses P q.0 ≡ list =
+    ap (λ l. l ++ goal_clauses P q.0) (adds.names.are ∙ ap (λ l. l ++ adds.more) attacker.are) ∙ appended_twice (attacker_clauses P) adds.more (goal_clauses P q.0) in
+    record {
+      query = q.0;
+      is = q.1;
+      list = list;
+      names = subst (λ l. NameClauses last all l) same (goal q.0 q.1);
+      translates = (Done adds.more adds.left, adds.runs, refl);
+    }

@@ -1,0 +1,13 @@
+-- How much of a process is left to be visited.
+use Rattle.std.proofs.Common.{ℕ, ◌+◌}
+use Rattle.calculus.specs.Syntax.{Process, Nil, Output, Input, Parallel, Replication, New, Let, Event}
+
+abbrev pub weight : Process → ℕ
+weight Nil = 1
+weight (Output channel message next) = weight next + 1
+weight (Input channel pattern next) = weight next + 1
+weight (Parallel left right) = weight left + weight right + 1
+weight (Replication copied) = weight copied + 1
+weight (New word next) = weight next + 1
+weight (Let pattern expression next otherwise) = weight next + weight otherwise + 1
+weight (Event performed next) = weight next + 1

@@ -1,0 +1,87 @@
+use Rattle.std.proofs.Common.{◌≡◌, true, false, Option, map, ap, sym, subst, ◌∙◌}
+use Rattle.term_tree.specs.Bank.{tree_at}
+use Rattle.term_tree.proofs.BankLaws.{Grows_trans}
+use Rattle.clauses.specs.Variables.{AreBelow}
+use Rattle.clauses.specs.Limits.{is_large_raw}
+use Rattle.clauses.specs.Norm.{norms}
+use Rattle.pi_tree.specs.Events.{event_of}
+use Rattle.translation.specs.Visit.{event_terms, after_event}
+use Rattle.clause_form.proofs.Copying.{NameTerms-grows}
+use Rattle.clause_translate.specs.declared.visit.Visit.{Visit}
+use Rattle.clause_translate.specs.Forms.{Adds, raw_event, below_event, event_raw, IsSmallVisit, EventAdds}
+use Rattle.clause_translate.specs.Places.{protocol_at}
+use Rattle.clause_translate.specs.Visits.{visit_at}
+use Rattle.clause_translate.proofs.Named.{if_ok, visit_later, below_parts}
+use Rattle.clause_translate.proofs.Below.{terms_in_below}
+use Rattle.clause_translate.proofs.Adding.{clauses_later, adds_before}
+use Rattle.clause_translate.proofs.Happening.{event_first, event_second, event_last, if_true, if_false}
+use Rattle.clause_translate.proofs.events.add_event.Goals as goal
+
+pub returns-then-some_large_term-clause-adds : goal.returns-then-some_large_term-clause-adds
+returns-then-some_large_term-clause-adds g c =
+    let old = g.B.Bank.trees c.args.bank.now in
+    event_first (protocol_at c.args.place.now) (visit_at old c.args.visit.now) (event_of c.args.atom.now) (sym c.some_large_term.ensures ∙ c.if-some_large_term.true)
+
+pub add_event_clause-requires-clause-visit : goal.add_event_clause-requires-clause-visit
+add_event_clause-requires-clause-visit g c = (visit_later (g.B.Bank.trees c.args.bank.now) (g.B.Bank.trees c.terms_in.new.bank) c.args.visit.now c.terms_in.ensures.grows c.requires.visit).known
+
+pub add_event_clause-requires-clause-clauses : goal.add_event_clause-requires-clause-clauses
+add_event_clause-requires-clause-clauses g c = (clauses_later (g.B.Bank.trees c.args.bank.now) (g.B.Bank.trees c.terms_in.new.bank) c.args.listing.now.clauses c.terms_in.ensures.grows c.requires.clauses).known
+
+pub add_event_clause-requires-clause-arguments : goal.add_event_clause-requires-clause-arguments
+add_event_clause-requires-clause-arguments g c = c.in_ok-arguments.ensures.names.known
+
+pub event_below-requires : goal.event_below-requires
+event_below-requires g c =
+    let old = g.B.Bank.trees c.args.bank.now in
+    let mid = g.B.Bank.trees c.terms_in.new.bank in
+    let new = g.B.Bank.trees c.add_event_clause.new.bank in
+    let v = c.args.visit.now in
+    let P = protocol_at c.args.place.now in
+    let e = event_of c.args.atom.now in
+    let grows = Grows_trans old mid new c.terms_in.ensures.grows c.add_event_clause.ensures.grows in
+    let names = NameTerms-grows mid new c.in_ok-arguments.arguments (event_terms P (visit_at old v) e) c.add_event_clause.ensures.grows c.in_ok-arguments.ensures.names in
+    record {
+      visit = (visit_later old new v grows c.requires.visit).known;
+      arguments = names.known;
+      below = subst (λ ts. AreBelow v.next ts) (sym names.are) (terms_in_below P v.next (visit_at old v).scope (below_parts old mid v c.terms_in.ensures.grows c.requires.visit).scope e.arguments);
+    }
+
+pub returns-then-added-clause-adds : goal.returns-then-added-clause-adds
+returns-then-added-clause-adds g c =
+    let old = g.B.Bank.trees c.args.bank.now in
+    let mid = g.B.Bank.trees c.terms_in.new.bank in
+    let new = g.B.Bank.trees c.add_event_clause.new.bank in
+    let w = c.args.visit.now in
+    let P = protocol_at c.args.place.now in
+    let v = visit_at old w in
+    let e = event_of c.args.atom.now in
+    let grows = Grows_trans old mid new c.terms_in.ensures.grows c.add_event_clause.ensures.grows in
+    let names = c.in_ok-arguments.ensures.names in
+    let later = NameTerms-grows mid new c.in_ok-arguments.arguments (event_terms P v e) c.add_event_clause.ensures.grows names in
+    let at_mid = (visit_later old mid w c.terms_in.ensures.grows c.requires.visit).is in
+    let at_new = (visit_later old new w grows c.requires.visit).is in
+    let small = sym c.some_large_term.ensures ∙ c.if-some_large_term.false in
+    let raw_mid = raw_event (visit_at mid w) e.event (map (tree_at mid) c.in_ok-arguments.arguments) in
+    let raw_is : raw_mid ≡ event_raw P v e = λ i. raw_event (at_mid i) e.event (names.are i) in
+    let raw : is_large_raw (event_raw P v e) ≡ false = sym (ap is_large_raw raw_is) ∙ if_true c.in_ok-added.added (is_large_raw raw_mid ≡ false) (is_large_raw raw_mid ≡ true) c.if-added.true c.in_ok-added.ensures.large in
+    let adds : Adds old new c.args.listing.now c.add_event_clause.new.listing (norms (event_raw P v e)) = adds_before old mid new c.args.listing.now c.add_event_clause.new.listing (norms (event_raw P v e)) c.terms_in.ensures.grows c.requires.clauses
+    (subst (λ x. Adds mid new c.args.listing.now c.add_event_clause.new.listing (norms x)) raw_is (c.in_ok-added.ensures.adds c.if-added.true)) in
+    let below_is : below_event (visit_at new w) e.event (map (tree_at new) c.in_ok-arguments.arguments) ≡ after_event P v e = λ i. below_event (at_new i) e.event (later.are i) in
+    if_ok c.event_below.result (λ (found : Option Visit). IsSmallVisit new (below_event (visit_at new w) e.event (map (tree_at new) c.in_ok-arguments.arguments)) found)
+    (λ (found : Option Visit). EventAdds P v e old new c.args.listing.now c.add_event_clause.new.listing found)
+    (λ found h. event_last P v e old new c.args.listing.now c.add_event_clause.new.listing found small raw adds (subst (λ x. IsSmallVisit new x found) below_is h)) c.event_below.ensures
+
+pub returns-clause-adds : goal.returns-clause-adds
+returns-clause-adds g c =
+    let old = g.B.Bank.trees c.args.bank.now in
+    let mid = g.B.Bank.trees c.terms_in.new.bank in
+    let w = c.args.visit.now in
+    let P = protocol_at c.args.place.now in
+    let v = visit_at old w in
+    let e = event_of c.args.atom.now in
+    let names = c.in_ok-arguments.ensures.names in
+    let at_mid = (visit_later old mid w c.terms_in.ensures.grows c.requires.visit).is in
+    let raw_mid = raw_event (visit_at mid w) e.event (map (tree_at mid) c.in_ok-arguments.arguments) in
+    let raw_is : raw_mid ≡ event_raw P v e = λ i. raw_event (at_mid i) e.event (names.are i) in
+    event_second P v e (sym (ap is_large_raw raw_is) ∙ if_false c.in_ok-added.added (is_large_raw raw_mid ≡ false) (is_large_raw raw_mid ≡ true) c.if-added.false c.in_ok-added.ensures.large)

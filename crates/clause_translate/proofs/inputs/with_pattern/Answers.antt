@@ -1,0 +1,13 @@
+use Rattle.pi_tree.specs.Patterns.{pattern_of}
+use Rattle.clause_translate.specs.Places.{protocol_at}
+use Rattle.clause_translate.proofs.Named.{visit_later}
+use Rattle.clause_translate.proofs.Receiving.{pattern_named}
+use Rattle.clause_translate.proofs.inputs.with_pattern.Goals as goal
+
+pub with_bound-requires-clause-visit : goal.with_bound-requires-clause-visit
+with_bound-requires-clause-visit g c = (visit_later (g.B.Bank.trees c.args.bank.now) (g.B.Bank.trees c.pattern_term.new.bank) c.args.visit.now c.pattern_term.ensures.grows c.requires.visit).known
+
+pub returns-clause-names : goal.returns-clause-names
+returns-clause-names g c =
+    pattern_named (protocol_at c.args.place.now) (g.B.Bank.trees c.args.bank.now) (g.B.Bank.trees c.pattern_term.new.bank) (g.B.Bank.trees c.with_bound.new.bank) c.args.visit.now c.in_ok-made.made c.args.base c.in_ok-span.span (pattern_of c.args.pattern.now) c.in_ok-term.term
+    c.pattern_term.ensures.grows c.with_bound.ensures.grows c.requires.visit c.requires.up c.in_ok-span.ensures c.in_ok-term.ensures.names c.in_ok-made.ensures.names c.in_ok-made.ensures.next

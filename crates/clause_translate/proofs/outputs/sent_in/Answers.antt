@@ -1,0 +1,25 @@
+use Rattle.std.proofs.Common.{◌∙◌, ap, subst}
+use Rattle.pi_tree.specs.Terms.{term_of}
+use Rattle.term_tree.proofs.BankLaws.{Names-grows}
+use Rattle.translation.specs.Conversion.{term_in}
+use Rattle.translation.specs.Visit.{sent}
+use Rattle.clause_form.specs.Facts.{fact_of}
+use Rattle.clause_form.specs.Seen.{NamesFact}
+use Rattle.clause_terms.specs.Scopes.{scope_at}
+use Rattle.clause_translate.specs.Places.{protocol_at}
+use Rattle.clause_translate.proofs.Scopes.{IsScopeIn-grows, scope_at-grows}
+use Rattle.clause_translate.proofs.outputs.sent_in.Goals as goal
+
+pub term_in-requires-2-clause-scope : goal.term_in-requires-2-clause-scope
+term_in-requires-2-clause-scope g c = IsScopeIn-grows (g.B.Bank.trees c.args.bank.now) (g.B.Bank.trees c.term_in.new.bank) c.args.scope.now c.term_in.ensures.grows c.requires.scope
+
+pub returns-clause-names : goal.returns-clause-names
+returns-clause-names g c =
+    let old = g.B.Bank.trees c.args.bank.now in
+    let mid = g.B.Bank.trees c.term_in.new.bank in
+    let new = g.B.Bank.trees c.term_in-2.new.bank in
+    let P = protocol_at c.args.place.now in
+    let scope = c.args.scope.now in
+    let first = (Names-grows mid new c.in_ok-channel.channel (term_in P (scope_at old scope) (term_of c.args.channel.now)) c.term_in-2.ensures.grows c.in_ok-channel.ensures.names).is in
+    let second = c.in_ok-message.ensures.names.is ∙ ap (λ bound. term_in P bound (term_of c.args.message.now)) (scope_at-grows old mid scope c.term_in.ensures.grows c.requires.scope) in
+    subst (λ f. NamesFact new (fact_of c.sent.result) f) (λ i. sent P (first i) (second i)) c.sent.ensures

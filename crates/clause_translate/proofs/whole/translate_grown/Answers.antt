@@ -1,0 +1,29 @@
+use Rattle.std.proofs.Common.{subst}
+use Rattle.pi_tree.specs.Protocols.{protocol_of}
+use Rattle.clause_translate.specs.declared.whole.Translated.{Translated}
+use Rattle.clause_translate.specs.Whole.{IsVisited}
+use Rattle.clause_translate.proofs.Reading.{main_short, has_short_rules}
+use Rattle.clause_translate.proofs.Translating.{ends_at, translates_to}
+use Rattle.clause_translate.proofs.whole.translate_grown.Goals as goal
+
+pub visited-requires-clause-short : goal.visited-requires-clause-short
+visited-requires-clause-short g c = main_short (protocol_of c.args.protocol.now) c.requires.scoped
+
+pub visited-requires-clause-rules : goal.visited-requires-clause-rules
+visited-requires-clause-rules g c = has_short_rules (protocol_of c.args.protocol.now) c.requires.scoped
+
+pub returns-in-Large-clause-translates : goal.returns-in-Large-clause-translates
+returns-in-Large-clause-translates g c =
+    let first = g.B.Bank.trees c.attacker_list.new.bank in
+    let mid = g.B.Bank.trees c.visited.new.bank in
+    let P = protocol_of c.args.protocol.now in
+    ends_at P c.args.query c.in-Large.point c.requires.there (subst (λ (t : Translated). IsVisited P first mid c.in_ok-clauses.clauses t) c.in-Large.is c.in_ok-point.ensures.visits)
+
+pub returns-in_ok-all-in-Clauses-clause-translates : goal.returns-in_ok-all-in-Clauses-clause-translates
+returns-in_ok-all-in-Clauses-clause-translates g c =
+    let first = g.B.Bank.trees c.attacker_list.new.bank in
+    let mid = g.B.Bank.trees c.visited.new.bank in
+    let last = g.B.Bank.trees c.with_goal.new.bank in
+    let P = protocol_of c.args.protocol.now in
+    translates_to P c.args.query first mid last c.in_ok-clauses.clauses c.in-Clauses.known c.in_ok-all-in-Clauses.all c.requires.there c.in_ok-clauses.ensures.names
+    (subst (λ (t : Translated). IsVisited P first mid c.in_ok-clauses.clauses t) c.in-Clauses.is c.in_ok-point.ensures.visits) c.in_ok-all-in-Clauses.ensures.names

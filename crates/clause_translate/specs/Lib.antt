@@ -1,0 +1,14 @@
+pub mod Places
+pub mod Sizes
+pub mod Numbers
+pub mod Spans
+pub mod Visits
+pub mod Forms
+pub mod Channels
+pub mod Patterns
+pub mod Solving
+pub mod Ways
+pub mod Choices
+pub mod Short
+pub mod Jobs
+pub mod Whole

@@ -1,0 +1,14 @@
+-- What contracts see of places.
+use Rattle.std.specs.Prelude.{◌≡◌, ℕ}
+use Rattle.calculus.specs.Syntax as calculus
+use Rattle.pi_tree.specs.Protocols.{protocol_of}
+use Rattle.clause_translate.specs.declared.place.Place.{Place}
+
+-- the protocol of a place
+abbrev pub protocol_at : Place → calculus.Protocol
+protocol_at place = protocol_of place.protocol.now
+
+-- the place is the point of that number of the protocol
+pub record IsAt (P : calculus.Protocol) (number : ℕ) (place : Place) : Type 0 where
+  pub protocol : protocol_at place ≡ P
+  pub point : place.point ≡ number

@@ -1,0 +1,27 @@
+-- Processes and rules whose tuples have no more parts than the limit.
+use Rattle.std.specs.Prelude.{ℕ}
+use Rattle.std.specs.List.{AllByRecursion}
+use Rattle.calculus.specs.Syntax.{Process, Nil, Output, Input, Parallel, Replication, New, Let, Event, Expression, Plain, Call, Protocol}
+use Rattle.calculus.specs.Matching.{rules_of}
+use Rattle.clause_terms.specs.Conditions.{HasShortTuples, IsShortPattern, IsShortRule}
+
+-- an expression has short tuples
+abbrev pub IsShortExpression : Expression → Type 0
+IsShortExpression (Plain term) = HasShortTuples term
+IsShortExpression (Call d arguments) = AllByRecursion HasShortTuples arguments
+
+-- each term and pattern of the process has
+abbrev pub IsShortProcess : Process → Type 0
+IsShortProcess Nil = Unit {0}
+IsShortProcess (Output channel message next) = HasShortTuples channel × HasShortTuples message × IsShortProcess next
+IsShortProcess (Input channel pattern next) = HasShortTuples channel × IsShortPattern pattern × IsShortProcess next
+IsShortProcess (Parallel left right) = IsShortProcess left × IsShortProcess right
+IsShortProcess (Replication copied) = IsShortProcess copied
+IsShortProcess (New word next) = IsShortProcess next
+IsShortProcess (Let pattern expression next otherwise) =
+    IsShortPattern pattern × IsShortExpression expression × IsShortProcess next × IsShortProcess otherwise
+IsShortProcess (Event performed next) = AllByRecursion HasShortTuples performed.arguments × IsShortProcess next
+
+-- each rule of the protocol has
+abbrev pub HasShortRules : Protocol → Type 0
+HasShortRules P = (d : ℕ) → AllByRecursion IsShortRule (rules_of P d)

@@ -1,0 +1,37 @@
+-- What contracts see of visits.
+use Rattle.std.specs.Prelude.{◌≡◌, List, [], ◌∷◌, map}
+use Rattle.terms.specs.Term.{Term}
+use Rattle.clauses.specs.Variables.{AreBelow}
+use Rattle.term_tree.specs.Bank.{tree_at, AreKnown}
+use Rattle.clause_form.specs.Seen.{fact_at, AreFactsIn}
+use Rattle.translation.specs.Visit as translation
+use Rattle.clause_terms.specs.Scopes.{scope_at, IsScopeIn}
+use Rattle.clause_translate.specs.declared.visit.Visit.{Visit}
+
+-- the visit of the trees that the ids name
+abbrev pub visit_at : List Term → Visit → translation.Visit
+visit_at all v = record {
+  scope = scope_at all v.scope;
+  hypotheses = map (fact_at all) v.hypotheses;
+  messages = map (tree_at all) v.messages;
+  sessions = map (tree_at all) v.sessions;
+}
+
+-- each id of the visit names a tree, and all variables are below the next one
+pub record IsVisitIn (all : List Term) (v : Visit) : Type 0 where
+  pub scope : IsScopeIn all v.scope
+  pub hypotheses : AreFactsIn all v.hypotheses
+  pub messages : AreKnown all v.messages
+  pub sessions : AreKnown all v.sessions
+  pub below : AreBelow v.next (translation.visit_terms (visit_at all v))
+
+-- the ids of the visit name the trees of that one
+pub record NamesVisit (all : List Term) (v : Visit) (tree : translation.Visit) : Type 0 where
+  pub known : IsVisitIn all v
+  pub is : visit_at all v ≡ tree
+
+-- the same of visits
+abbrev pub NameVisits : List Term → List Visit → List translation.Visit → Type 0
+NameVisits all [] trees = trees ≡ []
+NameVisits all (v ∷ vs) [] = ⊥
+NameVisits all (v ∷ vs) (tree ∷ trees) = NamesVisit all v tree × NameVisits all vs trees

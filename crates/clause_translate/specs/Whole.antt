@@ -1,0 +1,48 @@
+-- Translations: the clauses that are one, and those that are too large.
+use Rattle.std.specs.Prelude.{◌≡◌, ℕ, Some, List, ◌++◌, map}
+use Rattle.calculus.specs.Syntax.{Query, Protocol}
+use Rattle.calculus.specs.Points.{numbered}
+use Rattle.terms.specs.Term.{Term}
+use Rattle.clauses.specs.Fact.{Clause}
+use Rattle.term_tree.specs.declared.bank.Id.{Id}
+use Rattle.translation.specs.Visit.{first_visit}
+use Rattle.translation.specs.Course.{Done, TooLarge}
+use Rattle.translation.specs.Visited.{Visited}
+use Rattle.translation.specs.Translation.{Clauses, LargeAt, IsTranslation, most_visits}
+use Rattle.clause_form.specs.Seen.{clause_at, NameClauses}
+use Rattle.clause_translate.specs.declared.whole.Translated.{Translated}
+use Rattle.clause_translate.specs.declared.whole.Translated.TheVariants as made
+
+-- the clauses name those of the translation of the protocol and the query of that number
+pub record TranslatesTo (P : Protocol) (number : ℕ) (all : List Term) (clauses : List (Clause Id)) : Type 0 where
+  pub query : Query
+  pub is : numbered P.queries number ≡ Some query
+  pub list : List (Clause Term)
+  pub names : NameClauses all clauses list
+  pub translates : IsTranslation P query (Clauses list)
+
+-- it ends at the point, whose visit is too large
+pub record EndsAt (P : Protocol) (number point : ℕ) : Type 0 where
+  pub query : Query
+  pub is : numbered P.queries number ≡ Some query
+  pub translates : IsTranslation P query (LargeAt point)
+
+abbrev pub Translates : Protocol → ℕ → List Term → Translated → Type 0
+Translates P number all (made.Clauses clauses) = TranslatesTo P number all clauses
+Translates P number all (made.Large point) = EndsAt P number point
+
+-- where a visit is too large, the bank is as before
+abbrev pub IsKept : List Term → List Term → Translated → Type 0
+IsKept old new (made.Clauses clauses) = Unit {0}
+IsKept old new (made.Large point) = new ≡ old
+
+-- the clauses that visits of the main process add stand behind the earlier ones
+pub record AddsVisits (P : Protocol) (old new : List Term) (before after : List (Clause Id)) : Type 0 where
+  pub more : List (Clause Term)
+  pub left : ℕ
+  pub runs : Visited P P.main 1 first_visit most_visits (Done more left)
+  pub names : NameClauses new after (map (clause_at old) before ++ more)
+
+abbrev pub IsVisited : Protocol → List Term → List Term → List (Clause Id) → Translated → Type 0
+IsVisited P old new before (made.Clauses after) = AddsVisits P old new before after
+IsVisited P old new before (made.Large point) = Visited P P.main 1 first_visit most_visits (TooLarge point)

@@ -1,0 +1,270 @@
+//! The ways in which a `let` goes on: by its term, or by each rule of its destructor.
+
+ghost use Rattle.std.specs.Prelude.{◌≡◌, ◌<◌, Option, length, map, IfOk, IfSome, MatchOption, MatchBool};
+ghost use Rattle.std.specs.List.{AllByRecursion};
+ghost use Rattle.trees.specs.Tree.{bind};
+ghost use Rattle.pi_tree.specs.Terms.{term_of};
+ghost use Rattle.pi_tree.specs.Patterns.{pattern_of, expression_of};
+ghost use Rattle.pi_tree.specs.Rules.{rule_of};
+ghost use Rattle.calculus.specs.Syntax.{Plain, Call};
+ghost use Rattle.clauses.specs.Variables.{IsBelow, AreBelow};
+ghost use Rattle.term_tree.specs.Bank.{tree_at, AreKnown, Grows};
+ghost use Rattle.clause_form.specs.Seen.{NameTerms};
+ghost use Rattle.translation.specs.Conversion.{term_in};
+ghost use Rattle.translation.specs.Visit as translation;
+ghost use Rattle.translation.specs.Choice.{GoesOn, TermGoesOn, RuleGoesOn};
+ghost use Rattle.clause_terms.specs.Conditions.{HasShortTuples, IsShortPattern, IsShortRule};
+ghost use Rattle.clause_translate.specs.Places.{protocol_at};
+ghost use Rattle.clause_translate.specs.Short.{IsShortExpression, HasShortRules};
+ghost use Rattle.clause_translate.specs.Forms.{GoOn, IsLargeChoice};
+ghost use Rattle.clause_translate.specs.Visits.{visit_at, IsVisitIn};
+ghost use Rattle.clause_translate.specs.Ways.{IsWay, choice_at, HasChoiceBelow};
+ghost use Rattle.clause_translate.specs.declared.choices.Way.TheVariants as ways;
+ghost use Rattle.clause_translate.specs.Choices.{ByRule, GoByRules, IsLargeByRules, IsAlone};
+
+use crate::inputs::with_pattern;
+use crate::large::is_large_visit;
+use crate::place::Place;
+use crate::spans::end_of_rule;
+use crate::unified::{Equations, unified, visit_under};
+use crate::visit::{Visit, Visits};
+use clause_terms::{rule_term, rule_terms, term_in, terms_in};
+use pi_tree::{Expr, Pat, Rule, Term, Terms};
+use std::alloc::{AllocError, Global};
+use term_tree::{Bank, Id};
+use term_values::rules_of;
+
+/// How a choice goes on.
+#[derive(Drop)]
+pub enum Way {
+    /// There is no unifier.
+    Nowhere,
+    /// The visit that goes on is too large.
+    Large,
+    Visit(Visit),
+}
+
+/// The visit, unless it is too large.
+fn way_to<B: Bank>(bank: &B, found: Option<Visit>) -> Way
+    requires { IfSome found (λ made. IsVisitIn (B.trees bank.now) made) }
+    ensures { MatchOption found (result ≡ ways.Large) (λ made. MatchBool (translation.is_large_visit (visit_at (B.trees bank.now) made)) (result ≡ ways.Large) (result ≡ ways.Visit made)) }
+{
+    match found {
+        None => Way::Large,
+        Some(made) => {
+            if is_large_visit(bank, &made) {
+                Way::Large
+            } else {
+                Way::Visit(made)
+            }
+        }
+    }
+}
+
+/// How a choice goes on. On `Err` the bank may have grown.
+fn way_of<B: Bank>(
+    alloc: Global,
+    bank: &mut B,
+    equations: &Equations<'_>,
+    visit: &Visit,
+) -> Result<Way, AllocError>
+    requires visit { IsVisitIn (B.trees bank.old) visit.now }
+    requires arguments { AreKnown (B.trees bank.old) equations.now.arguments.now }
+    requires sides { AreKnown (B.trees bank.old) equations.now.sides.now }
+    requires value { equations.now.value.index < length (B.trees bank.old) }
+    requires target { equations.now.target.index < length (B.trees bank.old) }
+    requires below { HasChoiceBelow visit.now.next (choice_at (B.trees bank.old) equations.now visit.now) }
+    ensures grows { Grows (B.trees bank.old) (B.trees bank.new) }
+    ensures way { IfOk result (λ way. (out : Option translation.Visit) × GoesOn (choice_at (B.trees bank.old) equations.now visit.now) out × IsWay (B.trees bank.new) way out) }
+{
+    match unified(alloc, bank, equations)? {
+        None => Ok(Way::Nowhere),
+        Some(binds) => {
+            let found = visit_under(alloc, bank, &binds, visit)?;
+            Ok(way_to(bank, found))
+        }
+    }
+}
+
+/// How a `let` goes on by a term. On `Err` the bank may have grown.
+fn by_term<B: Bank>(
+    place: &Place<'_>,
+    bank: &mut B,
+    visit: &Visit,
+    pattern: &Pat,
+    term: &Term,
+) -> Result<Way, AllocError>
+    requires visit { IsVisitIn (B.trees bank.old) visit.now }
+    requires short { IsShortPattern (pattern_of pattern.now) }
+    requires term { HasShortTuples (term_of term.now) }
+    ensures grows { Grows (B.trees bank.old) (B.trees bank.new) }
+    ensures way { IfOk result (λ way. (out : Option translation.Visit) × TermGoesOn (protocol_at place.now) (visit_at (B.trees bank.old) visit.now) (pattern_of pattern.now) (term_of term.now) out × IsWay (B.trees bank.new) way out) }
+{
+    let value = term_in(place.alloc, bank, place.protocol, &visit.scope, term)?;
+    let (made, target) = with_pattern(place, bank, visit, visit.next, pattern)?;
+    let equations = Equations {
+        arguments: &[],
+        sides: &[],
+        value,
+        target,
+    };
+    way_of(place.alloc, bank, &equations, &made)
+}
+
+/// How a `let` goes on by a rule of its destructor, of the values of its arguments. On `Err`, and where there is no
+/// unifier, the bank may have grown.
+fn by_rule_grown<B: Bank>(
+    place: &Place<'_>,
+    bank: &mut B,
+    visit: &Visit,
+    pattern: &Pat,
+    arguments: &[Id],
+    rule: &Rule,
+) -> Result<Way, AllocError>
+    requires visit { IsVisitIn (B.trees bank.old) visit.now }
+    requires short { IsShortPattern (pattern_of pattern.now) }
+    requires arguments { AreKnown (B.trees bank.old) arguments.now }
+    requires below { AreBelow visit.now.next (map (tree_at (B.trees bank.old)) arguments.now) }
+    requires rule { IsShortRule (rule_of rule.now) }
+    ensures grows { Grows (B.trees bank.old) (B.trees bank.new) }
+    ensures way { IfOk result (λ way. (out : Option translation.Visit) × ByRule (protocol_at place.now) (visit_at (B.trees bank.old) visit.now) (pattern_of pattern.now) (map (tree_at (B.trees bank.old)) arguments.now) (rule_of rule.now) out × IsWay (B.trees bank.new) way out) }
+{
+    let base = end_of_rule(visit.next, rule)?;
+    let sides = rule_terms(place.alloc, bank, place.protocol, visit.next, &rule.left)?;
+    let value = rule_term(place.alloc, bank, place.protocol, visit.next, &rule.right)?;
+    let (made, target) = with_pattern(place, bank, visit, base, pattern)?;
+    let equations = Equations {
+        arguments,
+        sides: &sides.items,
+        value,
+        target,
+    };
+    way_of(place.alloc, bank, &equations, &made)
+}
+
+/// How a `let` goes on by a rule of its destructor, of the values of its arguments. Where there is no unifier, the bank
+/// is as before; on `Err` it may have grown.
+fn by_rule<B: Bank>(
+    place: &Place<'_>,
+    bank: &mut B,
+    visit: &Visit,
+    pattern: &Pat,
+    arguments: &[Id],
+    rule: &Rule,
+) -> Result<Way, AllocError>
+    requires visit { IsVisitIn (B.trees bank.old) visit.now }
+    requires short { IsShortPattern (pattern_of pattern.now) }
+    requires arguments { AreKnown (B.trees bank.old) arguments.now }
+    requires below { AreBelow visit.now.next (map (tree_at (B.trees bank.old)) arguments.now) }
+    requires rule { IsShortRule (rule_of rule.now) }
+    ensures grows { Grows (B.trees bank.old) (B.trees bank.new) }
+    ensures way { IfOk result (λ way. (out : Option translation.Visit) × ByRule (protocol_at place.now) (visit_at (B.trees bank.old) visit.now) (pattern_of pattern.now) (map (tree_at (B.trees bank.old)) arguments.now) (rule_of rule.now) out × IsWay (B.trees bank.new) way out) }
+{
+    let mark = bank.mark();
+    match by_rule_grown(place, bank, visit, pattern, arguments, rule)? {
+        Way::Nowhere => {
+            bank.back(mark);
+            Ok(Way::Nowhere)
+        }
+        Way::Large => Ok(Way::Large),
+        Way::Visit(made) => Ok(Way::Visit(made)),
+    }
+}
+
+/// The visits that go on by rules, of the values of the arguments, in order; none where one is too large. On `Err` the
+/// bank may have grown.
+fn by_rules<B: Bank>(
+    place: &Place<'_>,
+    bank: &mut B,
+    visit: &Visit,
+    pattern: &Pat,
+    arguments: &[Id],
+    rules: &[Rule],
+) -> Result<Option<Visits>, AllocError>
+    requires visit { IsVisitIn (B.trees bank.old) visit.now }
+    requires short { IsShortPattern (pattern_of pattern.now) }
+    requires arguments { AreKnown (B.trees bank.old) arguments.now }
+    requires below { AreBelow visit.now.next (map (tree_at (B.trees bank.old)) arguments.now) }
+    requires rules { AllByRecursion IsShortRule (map rule_of rules.now) }
+    ensures grows { Grows (B.trees bank.old) (B.trees bank.new) }
+    ensures go { IfOk result (λ found. MatchOption found (IsLargeByRules (protocol_at place.now) (visit_at (B.trees bank.old) visit.now) (pattern_of pattern.now) (map (tree_at (B.trees bank.old)) arguments.now) (map rule_of rules.now)) (λ visits. GoByRules (protocol_at place.now) (visit_at (B.trees bank.old) visit.now) (pattern_of pattern.now) (map (tree_at (B.trees bank.old)) arguments.now) (map rule_of rules.now) (B.trees bank.new) visits.items.items)) }
+{
+    let mut items = Vec::new(place.alloc);
+    let mut large = false;
+    'each: for rule in rules {
+        match by_rule(place, bank, visit, pattern, arguments, rule)? {
+            Way::Nowhere => {}
+            Way::Large => large = true,
+            Way::Visit(made) => items.push(made)?,
+        }
+    }
+    if large {
+        return Ok(None);
+    }
+    Ok(Some(Visits { items }))
+}
+
+/// The visits that go on by a destructor. On `Err` the bank may have grown.
+fn by_call<B: Bank>(
+    place: &Place<'_>,
+    bank: &mut B,
+    visit: &Visit,
+    pattern: &Pat,
+    destructor: u32,
+    arguments: &Terms,
+) -> Result<Option<Visits>, AllocError>
+    requires visit { IsVisitIn (B.trees bank.old) visit.now }
+    requires short { IsShortPattern (pattern_of pattern.now) }
+    requires arguments { AllByRecursion HasShortTuples arguments.now }
+    requires rules { HasShortRules (protocol_at place.now) }
+    ensures grows { Grows (B.trees bank.old) (B.trees bank.new) }
+    ensures go { IfOk result (λ found. MatchOption found (IsLargeChoice (protocol_at place.now) (visit_at (B.trees bank.old) visit.now) (pattern_of pattern.now) (Call destructor arguments.now)) (λ visits. GoOn (protocol_at place.now) (visit_at (B.trees bank.old) visit.now) (pattern_of pattern.now) (Call destructor arguments.now) (B.trees bank.new) visits.items.items)) }
+{
+    let arguments = terms_in(place.alloc, bank, place.protocol, &visit.scope, arguments)?;
+    let rules = rules_of(place.protocol, destructor);
+    by_rules(place, bank, visit, pattern, &arguments.items, rules)
+}
+
+/// The visit of a choice, if it goes on, alone.
+fn alone(alloc: Global, way: Way) -> Result<Option<Visits>, AllocError>
+    ensures { IfOk result (λ found. IsAlone way found) }
+{
+    match way {
+        Way::Nowhere => Ok(Some(Visits {
+            items: Vec::new(alloc),
+        })),
+        Way::Large => Ok(None),
+        Way::Visit(made) => {
+            let mut items = Vec::new(alloc);
+            items.push(made)?;
+            Ok(Some(Visits { items }))
+        }
+    }
+}
+
+/// The visits that go on by the expression of a `let`, in order; none where one is too large. On `Err` the bank may have
+/// grown.
+pub fn choices<B: Bank>(
+    place: &Place<'_>,
+    bank: &mut B,
+    visit: &Visit,
+    pattern: &Pat,
+    expression: &Expr,
+) -> Result<Option<Visits>, AllocError>
+    requires visit { IsVisitIn (B.trees bank.old) visit.now }
+    requires short { IsShortPattern (pattern_of pattern.now) }
+    requires expression { IsShortExpression (expression_of expression.now) }
+    requires rules { HasShortRules (protocol_at place.now) }
+    ensures grows { Grows (B.trees bank.old) (B.trees bank.new) }
+    ensures go { IfOk result (λ found. MatchOption found (IsLargeChoice (protocol_at place.now) (visit_at (B.trees bank.old) visit.now) (pattern_of pattern.now) (expression_of expression.now)) (λ visits. GoOn (protocol_at place.now) (visit_at (B.trees bank.old) visit.now) (pattern_of pattern.now) (expression_of expression.now) (B.trees bank.new) visits.items.items)) }
+{
+    match expression {
+        Expr::Term(term) => {
+            let way = by_term(place, bank, visit, pattern, term)?;
+            alone(place.alloc, way)
+        }
+        Expr::Call(destructor, arguments) => {
+            by_call(place, bank, visit, pattern, *destructor, arguments)
+        }
+    }
+}

@@ -1,0 +1,23 @@
+//! The translation of a protocol and a query into clauses (Blanchet 2016, section 3.3).
+#![tactic(auto)]
+
+mod channels;
+mod choices;
+mod copies;
+mod events;
+mod inputs;
+mod large;
+mod listing;
+mod names;
+mod numbers;
+mod outputs;
+mod place;
+mod raw;
+mod spans;
+mod substituted;
+mod unified;
+mod visit;
+mod visits;
+mod whole;
+
+pub use crate::whole::{Translated, translate};

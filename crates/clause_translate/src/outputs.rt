@@ -1,0 +1,91 @@
+//! Outputs: the clause that the message may be sent.
+
+ghost use Rattle.std.specs.Prelude.{◌≡◌, false, true, IfOk, MatchBool};
+ghost use Rattle.clauses.specs.Norm.{norms};
+ghost use Rattle.translation.specs.Conversion as translation;
+ghost use Rattle.translation.specs.Visit.{sent};
+ghost use Rattle.pi_tree.specs.Terms.{term_of};
+ghost use Rattle.term_tree.specs.Bank.{Grows};
+ghost use Rattle.clause_form.specs.Facts.{fact_of};
+ghost use Rattle.clause_form.specs.Seen.{AreClausesIn, NamesFact, NamesClause};
+ghost use Rattle.clause_terms.specs.Conditions.{HasShortTuples};
+ghost use Rattle.clause_terms.specs.Scopes.{scope_at, IsScopeIn};
+ghost use Rattle.clause_translate.specs.Places.{protocol_at};
+ghost use Rattle.clause_translate.specs.Forms.{Adds, output_raw, is_large_output};
+ghost use Rattle.clause_translate.specs.Visits.{visit_at, IsVisitIn};
+
+use crate::channels::sent;
+use crate::large::is_large_term;
+use crate::listing::Listing;
+use crate::place::Place;
+use crate::visit::Visit;
+use clause_form::{Clause, Fact};
+use clause_terms::{Scope, term_in};
+use pi_tree::Term;
+use std::alloc::AllocError;
+use term_tree::Bank;
+
+/// That the message may be sent on the channel, where the output is visited. On `Err` the bank may have grown.
+fn sent_in<B: Bank>(
+    place: &Place<'_>,
+    bank: &mut B,
+    scope: &Scope,
+    channel: &Term,
+    message: &Term,
+) -> Result<Fact, AllocError>
+    requires scope { IsScopeIn (B.trees bank.old) scope.now }
+    requires channel { HasShortTuples (term_of channel.now) }
+    requires message { HasShortTuples (term_of message.now) }
+    ensures grows { Grows (B.trees bank.old) (B.trees bank.new) }
+    ensures names { let P = protocol_at place.now in let bound = scope_at (B.trees bank.old) scope.now in IfOk result (λ fact. NamesFact (B.trees bank.new) (fact_of fact) (sent P (translation.term_in P bound (term_of channel.now)) (translation.term_in P bound (term_of message.now)))) }
+{
+    let channel = term_in(place.alloc, bank, place.protocol, scope, channel)?;
+    let message = term_in(place.alloc, bank, place.protocol, scope, message)?;
+    Ok(sent(bank, place.protocol, channel, message))
+}
+
+/// The raw clause of an output. On `Err` the bank may have grown.
+fn output_clause<B: Bank>(
+    place: &Place<'_>,
+    bank: &mut B,
+    visit: &Visit,
+    channel: &Term,
+    message: &Term,
+) -> Result<Clause, AllocError>
+    requires visit { IsVisitIn (B.trees bank.old) visit.now }
+    requires channel { HasShortTuples (term_of channel.now) }
+    requires message { HasShortTuples (term_of message.now) }
+    ensures grows { Grows (B.trees bank.old) (B.trees bank.new) }
+    ensures names { IfOk result (λ raw. NamesClause (B.trees bank.new) raw (output_raw (protocol_at place.now) (visit_at (B.trees bank.old) visit.now) (term_of channel.now) (term_of message.now))) }
+{
+    let concl = sent_in(place, bank, &visit.scope, channel, message)?;
+    let hyps = visit.hypotheses.copy(place.alloc)?;
+    Ok(Clause { hyps, concl })
+}
+
+/// Adds what an output adds, unless it is too large, and tells whether it did. On `Err` the bank may have grown.
+pub fn add_output<B: Bank>(
+    place: &Place<'_>,
+    bank: &mut B,
+    listing: &mut Listing,
+    visit: &Visit,
+    channel: &Term,
+    message: &Term,
+) -> Result<bool, AllocError>
+    requires visit { IsVisitIn (B.trees bank.old) visit.now }
+    requires clauses { AreClausesIn (B.trees bank.old) listing.old.clauses }
+    requires channel { HasShortTuples (term_of channel.now) }
+    requires message { HasShortTuples (term_of message.now) }
+    ensures grows { Grows (B.trees bank.old) (B.trees bank.new) }
+    ensures large { IfOk result (λ added. MatchBool added (is_large_output (protocol_at place.now) (visit_at (B.trees bank.old) visit.now) (term_of channel.now) (term_of message.now) ≡ false) (is_large_output (protocol_at place.now) (visit_at (B.trees bank.old) visit.now) (term_of channel.now) (term_of message.now) ≡ true)) }
+    ensures adds { IfOk result (λ added. added ≡ true → Adds (B.trees bank.old) (B.trees bank.new) listing.old listing.new (norms (output_raw (protocol_at place.now) (visit_at (B.trees bank.old) visit.now) (term_of channel.now) (term_of message.now)))) }
+{
+    if is_large_term(place, bank, &visit.scope, channel) {
+        return Ok(false);
+    }
+    if is_large_term(place, bank, &visit.scope, message) {
+        return Ok(false);
+    }
+    let raw = output_clause(place, bank, visit, channel, message)?;
+    listing.add(place.alloc, bank, &raw)
+}

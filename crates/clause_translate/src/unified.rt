@@ -1,0 +1,198 @@
+//! Visits under unifiers.
+
+ghost use Rattle.std.specs.Prelude.{◌≡◌, ◌<◌, true, length, map, IfOk, MatchOption};
+ghost use Rattle.trees.specs.Tree.{bind};
+ghost use Rattle.terms.specs.Binding.{resolved};
+ghost use Rattle.term_tree.specs.Bank.{tree_at, AreKnown, Grows};
+ghost use Rattle.unify_match.specs.Seen.{seen, IsReady};
+ghost use Rattle.translation.specs.Visit as translation;
+ghost use Rattle.clause_form.specs.Seen.{NameTerms};
+ghost use Rattle.clause_terms.specs.Scopes.{scope_at, IsScopeIn, NamesScope};
+ghost use Rattle.clause_terms.specs.Slots.{held_of};
+ghost use Rattle.clause_translate.specs.Sizes.{some_standing_over};
+ghost use Rattle.clause_translate.specs.Visits.{visit_at, IsVisitIn, NamesVisit};
+ghost use Rattle.clause_translate.specs.Solving.{AreRowsApart, AreRowsSolved, AreSolved, AreUnsolvable, HasBelow, NamesKnown};
+
+use crate::substituted::{facts_under, terms_under};
+use crate::visit::Visit;
+use clause_form::{Facts, Ids};
+use clause_terms::{Scope, Standing};
+use pi_tree::MOST_SYMBOLS;
+use std::alloc::{AllocError, Global};
+use term_tree::{Bank, Id};
+use unify_match::{Binds, apply_bound, unify, unify_all};
+
+/// The terms that have to become one.
+#[derive(Clone, Copy)]
+pub struct Equations<'a> {
+    pub arguments: &'a [Id],
+    pub sides: &'a [Id],
+    pub value: Id,
+    pub target: Id,
+}
+
+/// The bindings that make the arguments the sides, if there are any.
+fn arguments_unified<B: Bank>(
+    alloc: Global,
+    bank: &B,
+    arguments: &[Id],
+    sides: &[Id],
+) -> Result<Option<Binds>, AllocError>
+    requires arguments { AreKnown (B.trees bank.now) arguments.now }
+    requires sides { AreKnown (B.trees bank.now) sides.now }
+    ensures { let all = B.trees bank.now in IfOk result (λ found. MatchOption found (AreRowsApart (map (tree_at all) arguments.now) (map (tree_at all) sides.now)) (λ binds. AreRowsSolved all binds.pairs (map (tree_at all) arguments.now) (map (tree_at all) sides.now))) }
+{
+    if arguments.len() != sides.len() {
+        return Ok(None);
+    }
+    let mut binds = Binds::new(alloc)?;
+    let are_unified = unify_all(bank, arguments, sides, &mut binds)?;
+    if are_unified {
+        return Ok(Some(binds));
+    }
+    Ok(None)
+}
+
+/// The bindings that make the equations hold, if there are any.
+pub fn unified<B: Bank>(
+    alloc: Global,
+    bank: &B,
+    equations: &Equations<'_>,
+) -> Result<Option<Binds>, AllocError>
+    requires arguments { AreKnown (B.trees bank.now) equations.now.arguments.now }
+    requires sides { AreKnown (B.trees bank.now) equations.now.sides.now }
+    requires value { equations.now.value.index < length (B.trees bank.now) }
+    requires target { equations.now.target.index < length (B.trees bank.now) }
+    ensures { let all = B.trees bank.now in IfOk result (λ found. MatchOption found (AreUnsolvable (map (tree_at all) equations.now.arguments.now) (map (tree_at all) equations.now.sides.now) (tree_at all equations.now.value) (tree_at all equations.now.target)) (λ binds. AreSolved all binds.pairs (map (tree_at all) equations.now.arguments.now) (map (tree_at all) equations.now.sides.now) (tree_at all equations.now.value) (tree_at all equations.now.target))) }
+{
+    match arguments_unified(alloc, bank, equations.arguments, equations.sides)? {
+        None => Ok(None),
+        Some(mut binds) => {
+            let are_unified = unify(bank, equations.value, equations.target, &mut binds)?;
+            if are_unified {
+                return Ok(Some(binds));
+            }
+            Ok(None)
+        }
+    }
+}
+
+/// The scope under the bindings; none where a term of it has more than `most` symbols. On `Err` the bank may have grown.
+fn scope_under<B: Bank>(
+    alloc: Global,
+    bank: &mut B,
+    binds: &Binds,
+    scope: &[Standing],
+    most: u64,
+) -> Result<Option<Scope>, AllocError>
+    requires known { IsScopeIn (B.trees bank.old) (map held_of scope.now) }
+    requires ready { IsReady (B.trees bank.old) binds.now.pairs }
+    ensures grows { Grows (B.trees bank.old) (B.trees bank.new) }
+    ensures under { let made = map (translation.standing_under (resolved (seen (B.trees bank.old) binds.now.pairs))) (scope_at (B.trees bank.old) (map held_of scope.now)) in IfOk result (λ found. MatchOption found (some_standing_over most made ≡ true) (λ scope. NamesScope (B.trees bank.new) scope made)) }
+{
+    let mut items = Vec::new(alloc);
+    'each: for standing in scope {
+        match apply_bound(bank, standing.term, binds, most)? {
+            None => return Ok(None),
+            Some(term) => items.push(Standing {
+                slot: standing.slot,
+                term,
+            })?,
+        }
+    }
+    Ok(Some(Scope { items }))
+}
+
+/// The terms under the bindings. There is no memory for one whose symbols no number counts. On `Err` the bank may have
+/// grown.
+fn all_terms_under<B: Bank>(
+    alloc: Global,
+    bank: &mut B,
+    binds: &Binds,
+    terms: &[Id],
+) -> Result<Ids, AllocError>
+    requires known { AreKnown (B.trees bank.old) terms.now }
+    requires ready { IsReady (B.trees bank.old) binds.now.pairs }
+    ensures grows { Grows (B.trees bank.old) (B.trees bank.new) }
+    ensures names { IfOk result (λ ids. NameTerms (B.trees bank.new) ids (map (bind (resolved (seen (B.trees bank.old) binds.now.pairs))) (map (tree_at (B.trees bank.old)) terms.now))) }
+{
+    match terms_under(alloc, bank, binds, terms, u64::MAX)? {
+        None => Err(AllocError),
+        Some(made) => Ok(made),
+    }
+}
+
+/// The scope and the hypotheses of the visit under the bindings; none where a term of them is over the limit. On `Err` the
+/// bank may have grown.
+fn known_under<B: Bank>(
+    alloc: Global,
+    bank: &mut B,
+    binds: &Binds,
+    visit: &Visit,
+) -> Result<Option<(Scope, Facts)>, AllocError>
+    requires visit { IsVisitIn (B.trees bank.old) visit.now }
+    requires ready { IsReady (B.trees bank.old) binds.now.pairs }
+    ensures grows { Grows (B.trees bank.old) (B.trees bank.new) }
+    ensures under { let made = translation.visit_under (resolved (seen (B.trees bank.old) binds.now.pairs)) (visit_at (B.trees bank.old) visit.now) in IfOk result (λ found. MatchOption found (translation.is_large_visit made ≡ true) (λ known. NamesKnown (B.trees bank.new) known.0 known.1 made)) }
+{
+    match scope_under(alloc, bank, binds, &visit.scope.items, MOST_SYMBOLS)? {
+        None => Ok(None),
+        Some(scope) => match facts_under(
+            alloc,
+            bank,
+            binds,
+            &visit.hypotheses.items,
+            MOST_SYMBOLS,
+        )? {
+            None => Ok(None),
+            Some(hypotheses) => Ok(Some((scope, hypotheses))),
+        },
+    }
+}
+
+/// The messages and the sessions of the visit under the bindings. On `Err` the bank may have grown.
+fn past_under<B: Bank>(
+    alloc: Global,
+    bank: &mut B,
+    binds: &Binds,
+    visit: &Visit,
+) -> Result<(Ids, Ids), AllocError>
+    requires visit { IsVisitIn (B.trees bank.old) visit.now }
+    requires ready { IsReady (B.trees bank.old) binds.now.pairs }
+    ensures grows { Grows (B.trees bank.old) (B.trees bank.new) }
+    ensures messages { IfOk result (λ past. NameTerms (B.trees bank.new) past.0 (map (bind (resolved (seen (B.trees bank.old) binds.now.pairs))) (map (tree_at (B.trees bank.old)) visit.now.messages))) }
+    ensures sessions { IfOk result (λ past. NameTerms (B.trees bank.new) past.1 (map (bind (resolved (seen (B.trees bank.old) binds.now.pairs))) (map (tree_at (B.trees bank.old)) visit.now.sessions))) }
+{
+    let messages = all_terms_under(alloc, bank, binds, &visit.messages.items)?;
+    let sessions = all_terms_under(alloc, bank, binds, &visit.sessions.items)?;
+    Ok((messages, sessions))
+}
+
+/// The visit under the bindings; none where a term of its scope or hypotheses is over the limit. On `Err` the bank may
+/// have grown.
+pub fn visit_under<B: Bank>(
+    alloc: Global,
+    bank: &mut B,
+    binds: &Binds,
+    visit: &Visit,
+) -> Result<Option<Visit>, AllocError>
+    requires visit { IsVisitIn (B.trees bank.old) visit.now }
+    requires ready { IsReady (B.trees bank.old) binds.now.pairs }
+    requires below { HasBelow (resolved (seen (B.trees bank.old) binds.now.pairs)) visit.now.next }
+    ensures grows { Grows (B.trees bank.old) (B.trees bank.new) }
+    ensures under { let made = translation.visit_under (resolved (seen (B.trees bank.old) binds.now.pairs)) (visit_at (B.trees bank.old) visit.now) in IfOk result (λ found. MatchOption found (translation.is_large_visit made ≡ true) (λ w. NamesVisit (B.trees bank.new) w made)) }
+{
+    match known_under(alloc, bank, binds, visit)? {
+        None => Ok(None),
+        Some((scope, hypotheses)) => {
+            let (messages, sessions) = past_under(alloc, bank, binds, visit)?;
+            Ok(Some(Visit {
+                scope,
+                hypotheses,
+                messages,
+                sessions,
+                next: visit.next,
+            }))
+        }
+    }
+}

@@ -1,0 +1,121 @@
+//! Visits: what is known where a point is visited.
+
+ghost use Rattle.std.specs.Prelude.{◌≡◌, ◌<◌, [], ◌∷◌, ◌++◌, length, map, IfOk};
+ghost use Rattle.clauses.specs.Variables.{AreBelow};
+ghost use Rattle.term_tree.specs.Bank.{tree_at};
+ghost use Rattle.clause_form.specs.Facts.{fact_of};
+ghost use Rattle.clause_terms.specs.Slots.{held_of};
+
+use clause_form::{Fact, Facts, Ids};
+use clause_terms::{Scope, Standing};
+use std::alloc::{AllocError, Global};
+use term_tree::Id;
+
+/// What is known where a point is visited: what the leaves stand for, the hypotheses so far, the messages received
+/// above the point, and the numbers of the copies that were taken above it. All variables are below `next`.
+#[derive(Drop)]
+pub struct Visit {
+    pub scope: Scope,
+    pub hypotheses: Facts,
+    pub messages: Ids,
+    pub sessions: Ids,
+    pub next: u32,
+}
+
+/// Visits in order.
+#[derive(Drop)]
+pub struct Visits {
+    pub items: Vec<Visit>,
+}
+
+/// The scope with what is bound besides.
+fn joined(alloc: Global, scope: &Scope, mut bound: Scope) -> Result<Scope, AllocError>
+    ensures { IfOk result (λ whole. whole ≡ scope.now ++ bound) }
+{
+    let mut whole = scope.copy(alloc)?;
+    whole.items.append(&mut bound.items)?;
+    Ok(whole)
+}
+
+impl Visit {
+    /// The first visit, of the main process.
+    pub fn first(alloc: Global) -> Visit
+        ensures { result ≡ record { scope = []; hypotheses = []; messages = []; sessions = []; next = 0 } }
+    {
+        Visit {
+            scope: Scope::new(alloc),
+            hypotheses: Facts::new(alloc),
+            messages: Ids {
+                items: Vec::new(alloc),
+            },
+            sessions: Ids {
+                items: Vec::new(alloc),
+            },
+            next: 0,
+        }
+    }
+
+    /// A copy, the ids the same.
+    pub fn copy(&self, alloc: Global) -> Result<Visit, AllocError>
+        ensures { IfOk result (λ copied. copied ≡ self.now) }
+    {
+        Ok(Visit {
+            scope: self.scope.copy(alloc)?,
+            hypotheses: self.hypotheses.copy(alloc)?,
+            messages: self.messages.copy(alloc)?,
+            sessions: self.sessions.copy(alloc)?,
+            next: self.next,
+        })
+    }
+
+    /// A copy in which a leaf stands for a term besides.
+    pub fn with_standing(&self, alloc: Global, standing: Standing) -> Result<Visit, AllocError>
+        ensures { IfOk result (λ made. made ≡ record self.now { scope = self.now.scope ++ held_of standing ∷ [] }) }
+    {
+        let mut made = self.copy(alloc)?;
+        made.scope.push(standing)?;
+        Ok(made)
+    }
+
+    /// A copy with one more hypothesis.
+    pub fn with_hypothesis(&self, alloc: Global, fact: Fact) -> Result<Visit, AllocError>
+        ensures { IfOk result (λ made. made ≡ record self.now { hypotheses = self.now.hypotheses ++ fact_of fact ∷ [] }) }
+    {
+        let mut made = self.copy(alloc)?;
+        made.hypotheses.push(fact)?;
+        Ok(made)
+    }
+
+    /// A copy with one more session, and another number for the next variable.
+    pub fn with_session(&self, alloc: Global, session: Id, next: u32) -> Result<Visit, AllocError>
+        ensures { IfOk result (λ made. made ≡ record self.now { sessions = self.now.sessions ++ session ∷ []; next = next }) }
+    {
+        let mut made = self.copy(alloc)?;
+        made.sessions.items.push(session)?;
+        made.next = next;
+        Ok(made)
+    }
+
+    /// A copy in which leaves are bound besides, and another number for the next variable.
+    pub fn with_scope(&self, alloc: Global, bound: Scope, next: u32) -> Result<Visit, AllocError>
+        ensures { IfOk result (λ made. made ≡ record self.now { scope = self.now.scope ++ bound; next = next }) }
+    {
+        Ok(Visit {
+            scope: joined(alloc, &self.scope, bound)?,
+            hypotheses: self.hypotheses.copy(alloc)?,
+            messages: self.messages.copy(alloc)?,
+            sessions: self.sessions.copy(alloc)?,
+            next,
+        })
+    }
+
+    /// A copy with one more message, and the hypothesis that it was sent.
+    pub fn with_message(&self, alloc: Global, fact: Fact, message: Id) -> Result<Visit, AllocError>
+        ensures { IfOk result (λ made. made ≡ record self.now { hypotheses = self.now.hypotheses ++ fact_of fact ∷ []; messages = self.now.messages ++ message ∷ [] }) }
+    {
+        let mut made = self.copy(alloc)?;
+        made.hypotheses.push(fact)?;
+        made.messages.items.push(message)?;
+        Ok(made)
+    }
+}

@@ -1,0 +1,288 @@
+//! The visits of a process in pre-order (Blanchet 2016, section 3.3.2).
+
+ghost use Rattle.std.specs.Prelude.{◌≡◌, [], ◌++◌, IfOk};
+ghost use Rattle.calculus.specs.Limits.{compared, terms_in};
+ghost use Rattle.clause_terms.specs.Scopes.{scope_at, IsScopeIn};
+ghost use Rattle.clause_translate.specs.Forms.{are_large_in};
+ghost use Rattle.calculus.specs.Syntax as calculus;
+ghost use Rattle.pi_tree.specs.Terms.{term_of};
+ghost use Rattle.pi_tree.specs.Patterns.{pattern_of, expression_of};
+ghost use Rattle.pi_tree.specs.Events.{event_of};
+ghost use Rattle.pi_tree.specs.Processes.{process_of};
+ghost use Rattle.term_tree.specs.Bank.{Grows};
+ghost use Rattle.clause_form.specs.Seen.{AreClausesIn};
+ghost use Rattle.clause_translate.specs.Places.{protocol_at};
+ghost use Rattle.clause_translate.specs.Short.{IsShortProcess, HasShortRules};
+ghost use Rattle.clause_translate.specs.Visits.{visit_at, IsVisitIn};
+ghost use Rattle.clause_translate.specs.Jobs.{Once, Uncounted, Each, Ends, visits_at, AreVisitsIn};
+
+use crate::choices::choices;
+use crate::copies::after_copy;
+use crate::events::add_event;
+use crate::inputs::after_input;
+use crate::large::{some_large_compared, some_large_in};
+use crate::listing::Listing;
+use crate::names::after_new;
+use crate::outputs::add_output;
+use crate::place::Place;
+use crate::visit::Visit;
+use clause_terms::Scope;
+use pi_tree::{Atom, Expr, Pat, Process, Term};
+use std::alloc::AllocError;
+use term_tree::Bank;
+
+/// Whether a term that a `let` evaluates, or with which its pattern compares, is too large.
+#[tactic(auto, using(crate::proofs::Tests::of_compared))]
+fn is_large_let<B: Bank>(
+    place: &Place<'_>,
+    bank: &B,
+    scope: &Scope,
+    pattern: &Pat,
+    expression: &Expr,
+) -> bool
+    requires { IsScopeIn (B.trees bank.now) scope.now }
+    ensures { result ≡ are_large_in (protocol_at place.now) (scope_at (B.trees bank.now) scope.now) (compared (pattern_of pattern.now) ++ terms_in (expression_of expression.now)) }
+{
+    some_large_compared(place, bank, scope, pattern)
+        || some_large_in(place, bank, scope, expression)
+}
+
+/// Visits a process that begins at the place, and tells the point of the first visit that is too large, if one is. On
+/// `Err` the bank may have grown.
+#[cycle(visits)]
+pub fn visit_process<B: Bank>(
+    process: &Process,
+    place: &Place<'_>,
+    bank: &mut B,
+    listing: &mut Listing,
+    visit: &Visit,
+) -> Result<Option<u32>, AllocError>
+    requires visit { IsVisitIn (B.trees bank.old) visit.now }
+    requires clauses { AreClausesIn (B.trees bank.old) listing.old.clauses }
+    requires short { IsShortProcess (process_of process.now) }
+    requires rules { HasShortRules (protocol_at place.now) }
+    ensures grows { Grows (B.trees bank.old) (B.trees bank.new) }
+    ensures ends { IfOk result (λ large. Ends (protocol_at place.now) (Once (process_of process.now) place.now.point (visit_at (B.trees bank.old) visit.now)) (B.trees bank.old) (B.trees bank.new) listing.old listing.new large) }
+{
+    if listing.left == 0 {
+        return Ok(Some(place.point));
+    }
+    listing.left -= 1;
+    match process {
+        Process::Nil => Ok(None),
+        Process::Output(channel, message, next) => {
+            visit_output(next, place, bank, listing, visit, channel, message)
+        }
+        Process::Input(channel, pattern, next) => {
+            visit_input(next, place, bank, listing, visit, channel, pattern)
+        }
+        Process::Par(left, right) => visit_parallel(left, right, place, bank, listing, visit),
+        Process::Copies(copied) => visit_copies(copied, place, bank, listing, visit),
+        Process::New(_, next) => visit_new(next, place, bank, listing, visit),
+        Process::Let(pattern, expression, next, otherwise) => visit_let(
+            next, otherwise, place, bank, listing, visit, pattern, expression,
+        ),
+        Process::Event(atom, next) => visit_event(next, place, bank, listing, visit, atom),
+    }
+}
+
+/// Visits an output. On `Err` the bank may have grown.
+#[cycle(visits)]
+fn visit_output<B: Bank>(
+    next: &Process,
+    place: &Place<'_>,
+    bank: &mut B,
+    listing: &mut Listing,
+    visit: &Visit,
+    channel: &Term,
+    message: &Term,
+) -> Result<Option<u32>, AllocError>
+    requires visit { IsVisitIn (B.trees bank.old) visit.now }
+    requires clauses { AreClausesIn (B.trees bank.old) listing.old.clauses }
+    requires short { IsShortProcess (calculus.Output (term_of channel.now) (term_of message.now) (process_of next.now)) }
+    requires rules { HasShortRules (protocol_at place.now) }
+    ensures grows { Grows (B.trees bank.old) (B.trees bank.new) }
+    ensures ends { IfOk result (λ large. Ends (protocol_at place.now) (Uncounted (calculus.Output (term_of channel.now) (term_of message.now) (process_of next.now)) place.now.point (visit_at (B.trees bank.old) visit.now)) (B.trees bank.old) (B.trees bank.new) listing.old listing.new large) }
+{
+    if !add_output(place, bank, listing, visit, channel, message)? {
+        return Ok(Some(place.point));
+    }
+    let below = place.below()?;
+    visit_process(next, &below, bank, listing, visit)
+}
+
+/// Visits an input. On `Err` the bank may have grown.
+#[cycle(visits)]
+fn visit_input<B: Bank>(
+    next: &Process,
+    place: &Place<'_>,
+    bank: &mut B,
+    listing: &mut Listing,
+    visit: &Visit,
+    channel: &Term,
+    pattern: &Pat,
+) -> Result<Option<u32>, AllocError>
+    requires visit { IsVisitIn (B.trees bank.old) visit.now }
+    requires clauses { AreClausesIn (B.trees bank.old) listing.old.clauses }
+    requires short { IsShortProcess (calculus.Input (term_of channel.now) (pattern_of pattern.now) (process_of next.now)) }
+    requires rules { HasShortRules (protocol_at place.now) }
+    ensures grows { Grows (B.trees bank.old) (B.trees bank.new) }
+    ensures ends { IfOk result (λ large. Ends (protocol_at place.now) (Uncounted (calculus.Input (term_of channel.now) (pattern_of pattern.now) (process_of next.now)) place.now.point (visit_at (B.trees bank.old) visit.now)) (B.trees bank.old) (B.trees bank.new) listing.old listing.new large) }
+{
+    let below = place.below()?;
+    match after_input(place, bank, visit, channel, pattern)? {
+        None => Ok(Some(place.point)),
+        Some(made) => visit_process(next, &below, bank, listing, &made),
+    }
+}
+
+/// Visits two processes in parallel. On `Err` the bank may have grown.
+#[cycle(visits)]
+fn visit_parallel<B: Bank>(
+    left: &Process,
+    right: &Process,
+    place: &Place<'_>,
+    bank: &mut B,
+    listing: &mut Listing,
+    visit: &Visit,
+) -> Result<Option<u32>, AllocError>
+    requires visit { IsVisitIn (B.trees bank.old) visit.now }
+    requires clauses { AreClausesIn (B.trees bank.old) listing.old.clauses }
+    requires short { IsShortProcess (calculus.Parallel (process_of left.now) (process_of right.now)) }
+    requires rules { HasShortRules (protocol_at place.now) }
+    ensures grows { Grows (B.trees bank.old) (B.trees bank.new) }
+    ensures ends { IfOk result (λ large. Ends (protocol_at place.now) (Uncounted (calculus.Parallel (process_of left.now) (process_of right.now)) place.now.point (visit_at (B.trees bank.old) visit.now)) (B.trees bank.old) (B.trees bank.new) listing.old listing.new large) }
+{
+    let below = place.below()?;
+    let after = place.after(left)?;
+    match visit_process(left, &below, bank, listing, visit)? {
+        Some(point) => Ok(Some(point)),
+        None => visit_process(right, &after, bank, listing, visit),
+    }
+}
+
+/// Visits a replication. On `Err` the bank may have grown.
+#[cycle(visits)]
+fn visit_copies<B: Bank>(
+    copied: &Process,
+    place: &Place<'_>,
+    bank: &mut B,
+    listing: &mut Listing,
+    visit: &Visit,
+) -> Result<Option<u32>, AllocError>
+    requires visit { IsVisitIn (B.trees bank.old) visit.now }
+    requires clauses { AreClausesIn (B.trees bank.old) listing.old.clauses }
+    requires short { IsShortProcess (calculus.Replication (process_of copied.now)) }
+    requires rules { HasShortRules (protocol_at place.now) }
+    ensures grows { Grows (B.trees bank.old) (B.trees bank.new) }
+    ensures ends { IfOk result (λ large. Ends (protocol_at place.now) (Uncounted (calculus.Replication (process_of copied.now)) place.now.point (visit_at (B.trees bank.old) visit.now)) (B.trees bank.old) (B.trees bank.new) listing.old listing.new large) }
+{
+    let below = place.below()?;
+    let made = after_copy(place.alloc, bank, visit)?;
+    visit_process(copied, &below, bank, listing, &made)
+}
+
+/// Visits a restriction, however its name is spelled. On `Err` the bank may have grown.
+#[cycle(visits)]
+fn visit_new<B: Bank>(
+    next: &Process,
+    place: &Place<'_>,
+    bank: &mut B,
+    listing: &mut Listing,
+    visit: &Visit,
+) -> Result<Option<u32>, AllocError>
+    requires visit { IsVisitIn (B.trees bank.old) visit.now }
+    requires clauses { AreClausesIn (B.trees bank.old) listing.old.clauses }
+    requires short { IsShortProcess (calculus.New [] (process_of next.now)) }
+    requires rules { HasShortRules (protocol_at place.now) }
+    ensures grows { Grows (B.trees bank.old) (B.trees bank.new) }
+    ensures ends { IfOk result (λ large. Ends (protocol_at place.now) (Uncounted (calculus.New [] (process_of next.now)) place.now.point (visit_at (B.trees bank.old) visit.now)) (B.trees bank.old) (B.trees bank.new) listing.old listing.new large) }
+{
+    let below = place.below()?;
+    match after_new(place, bank, visit)? {
+        None => Ok(Some(place.point)),
+        Some(made) => visit_process(next, &below, bank, listing, &made),
+    }
+}
+
+/// Visits a `let`. On `Err` the bank may have grown.
+#[cycle(visits)]
+fn visit_let<B: Bank>(
+    next: &Process,
+    otherwise: &Process,
+    place: &Place<'_>,
+    bank: &mut B,
+    listing: &mut Listing,
+    visit: &Visit,
+    pattern: &Pat,
+    expression: &Expr,
+) -> Result<Option<u32>, AllocError>
+    requires visit { IsVisitIn (B.trees bank.old) visit.now }
+    requires clauses { AreClausesIn (B.trees bank.old) listing.old.clauses }
+    requires short { IsShortProcess (calculus.Let (pattern_of pattern.now) (expression_of expression.now) (process_of next.now) (process_of otherwise.now)) }
+    requires rules { HasShortRules (protocol_at place.now) }
+    ensures grows { Grows (B.trees bank.old) (B.trees bank.new) }
+    ensures ends { IfOk result (λ large. Ends (protocol_at place.now) (Uncounted (calculus.Let (pattern_of pattern.now) (expression_of expression.now) (process_of next.now) (process_of otherwise.now)) place.now.point (visit_at (B.trees bank.old) visit.now)) (B.trees bank.old) (B.trees bank.new) listing.old listing.new large) }
+{
+    if is_large_let(place, bank, &visit.scope, pattern, expression) {
+        return Ok(Some(place.point));
+    }
+    let below = place.below()?;
+    let after = place.after(next)?;
+    match choices(place, bank, visit, pattern, expression)? {
+        None => Ok(Some(place.point)),
+        Some(visits) => match visit_each(next, &below, bank, listing, &visits.items)? {
+            Some(point) => Ok(Some(point)),
+            None => visit_process(otherwise, &after, bank, listing, visit),
+        },
+    }
+}
+
+/// Visits an event. On `Err` the bank may have grown.
+#[cycle(visits)]
+fn visit_event<B: Bank>(
+    next: &Process,
+    place: &Place<'_>,
+    bank: &mut B,
+    listing: &mut Listing,
+    visit: &Visit,
+    atom: &Atom,
+) -> Result<Option<u32>, AllocError>
+    requires visit { IsVisitIn (B.trees bank.old) visit.now }
+    requires clauses { AreClausesIn (B.trees bank.old) listing.old.clauses }
+    requires short { IsShortProcess (calculus.Event (event_of atom.now) (process_of next.now)) }
+    requires rules { HasShortRules (protocol_at place.now) }
+    ensures grows { Grows (B.trees bank.old) (B.trees bank.new) }
+    ensures ends { IfOk result (λ large. Ends (protocol_at place.now) (Uncounted (calculus.Event (event_of atom.now) (process_of next.now)) place.now.point (visit_at (B.trees bank.old) visit.now)) (B.trees bank.old) (B.trees bank.new) listing.old listing.new large) }
+{
+    let below = place.below()?;
+    match add_event(place, bank, listing, visit, atom)? {
+        None => Ok(Some(place.point)),
+        Some(made) => visit_process(next, &below, bank, listing, &made),
+    }
+}
+
+/// Visits a process once for each of the visits, in order. On `Err` the bank may have grown.
+#[cycle(visits)]
+fn visit_each<B: Bank>(
+    process: &Process,
+    place: &Place<'_>,
+    bank: &mut B,
+    listing: &mut Listing,
+    visits: &[Visit],
+) -> Result<Option<u32>, AllocError>
+    requires visits { AreVisitsIn (B.trees bank.old) visits.now }
+    requires clauses { AreClausesIn (B.trees bank.old) listing.old.clauses }
+    requires short { IsShortProcess (process_of process.now) }
+    requires rules { HasShortRules (protocol_at place.now) }
+    ensures grows { Grows (B.trees bank.old) (B.trees bank.new) }
+    ensures ends { IfOk result (λ large. Ends (protocol_at place.now) (Each (process_of process.now) place.now.point (visits_at (B.trees bank.old) visits.now)) (B.trees bank.old) (B.trees bank.new) listing.old listing.new large) }
+{
+    'each: for visit in visits {
+        match visit_process(process, place, bank, listing, visit)? {
+            Some(point) => return Ok(Some(point)),
+            None => {}
+        }
+    }
+    Ok(None)
+}

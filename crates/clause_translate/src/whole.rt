@@ -1,0 +1,145 @@
+//! The whole translation: the attacker's clauses, those of the visits, and the goal (Blanchet 2016, section 3.3).
+
+ghost use Rattle.std.specs.Prelude.{◌≡◌, ◌++◌, map, IfOk, OnErr};
+ghost use Rattle.well_formed.specs.Limits.{IsWithinLimits};
+ghost use Rattle.well_formed.specs.Rules.{HasProperRules};
+ghost use Rattle.well_formed.specs.Queries.{HasProperQueries};
+ghost use Rattle.well_formed.specs.WellFormed.{IsWellScoped};
+ghost use Rattle.pi_tree.specs.Protocols.{protocol_of};
+ghost use Rattle.pi_tree.specs.Accessors.{IsThere};
+ghost use Rattle.pi_tree.specs.declared.accessors.Kind.TheVariants.{Query as OfQueries};
+ghost use Rattle.term_tree.specs.Bank.{Grows};
+ghost use Rattle.translation.specs.Translation.{goal_clauses};
+ghost use Rattle.clause_form.specs.Seen.{clause_at, AreClausesIn, NameClauses};
+ghost use Rattle.query_derive.specs.GoalRows.{OfQuery};
+ghost use Rattle.clause_translate.specs.Short.{IsShortProcess, HasShortRules};
+ghost use Rattle.clause_translate.specs.Whole.{IsVisited, Translates, IsKept};
+
+use crate::listing::Listing;
+use crate::place::Place;
+use crate::visit::Visit;
+use crate::visits::visit_process;
+use attacker_clauses::attacker_list;
+use clause_form::Clauses;
+use pi_tree::{MOST_VISITS, Protocol};
+use query_derive::goal_clause;
+use std::alloc::{AllocError, Global};
+use term_tree::Bank;
+
+/// What a protocol and a query are translated into.
+#[derive(Drop)]
+pub enum Translated {
+    Clauses(Clauses),
+    /// The point of the first visit that is too large.
+    Large(u32),
+}
+
+/// The clauses with those that visits of the main process add. On `Err`, and where one is too large, the bank may have
+/// grown.
+fn visited<B: Bank>(
+    alloc: Global,
+    bank: &mut B,
+    protocol: &Protocol,
+    clauses: Clauses,
+) -> Result<Translated, AllocError>
+    requires clauses { AreClausesIn (B.trees bank.old) clauses }
+    requires short { IsShortProcess (protocol_of protocol.now).main }
+    requires rules { HasShortRules (protocol_of protocol.now) }
+    ensures grows { Grows (B.trees bank.old) (B.trees bank.new) }
+    ensures visits { IfOk result (λ found. IsVisited (protocol_of protocol.now) (B.trees bank.old) (B.trees bank.new) clauses found) }
+{
+    let place = Place {
+        alloc,
+        protocol,
+        point: 1,
+    };
+    let mut listing = Listing {
+        clauses,
+        left: MOST_VISITS,
+    };
+    let first = Visit::first(alloc);
+    match visit_process(&protocol.main, &place, bank, &mut listing, &first)? {
+        Some(point) => Ok(Translated::Large(point)),
+        None => Ok(Translated::Clauses(listing.clauses)),
+    }
+}
+
+/// The clauses with the goal. On `Err` the bank may have grown.
+fn with_goal<B: Bank>(
+    alloc: Global,
+    bank: &mut B,
+    protocol: &Protocol,
+    query: u32,
+    mut clauses: Clauses,
+) -> Result<Clauses, AllocError>
+    requires limits { IsWithinLimits (protocol_of protocol.now) }
+    requires queries { HasProperQueries (protocol_of protocol.now) }
+    requires there { IsThere (protocol_of protocol.now) OfQueries query }
+    requires clauses { AreClausesIn (B.trees bank.old) clauses }
+    ensures grows { Grows (B.trees bank.old) (B.trees bank.new) }
+    ensures names { IfOk result (λ all. OfQuery (protocol_of protocol.now) query (λ q. NameClauses (B.trees bank.new) all (map (clause_at (B.trees bank.old)) clauses ++ goal_clauses (protocol_of protocol.now) q))) }
+{
+    let mut goal = goal_clause(alloc, bank, protocol, query)?;
+    clauses.items.append(&mut goal.items)?;
+    Ok(clauses)
+}
+
+/// The translation. On `Err`, and where a visit is too large, the bank may have grown.
+fn translate_grown<B: Bank>(
+    alloc: Global,
+    bank: &mut B,
+    protocol: &Protocol,
+    query: u32,
+) -> Result<Translated, AllocError>
+    requires limits { IsWithinLimits (protocol_of protocol.now) }
+    requires rules { HasProperRules (protocol_of protocol.now) }
+    requires scoped { IsWellScoped (protocol_of protocol.now) }
+    requires queries { HasProperQueries (protocol_of protocol.now) }
+    requires there { IsThere (protocol_of protocol.now) OfQueries query }
+    ensures grows { Grows (B.trees bank.old) (B.trees bank.new) }
+    ensures translates { IfOk result (λ found. Translates (protocol_of protocol.now) query (B.trees bank.new) found) }
+{
+    let clauses = attacker_list(alloc, bank, protocol)?;
+    match visited(alloc, bank, protocol, clauses)? {
+        Translated::Large(point) => Ok(Translated::Large(point)),
+        Translated::Clauses(known) => {
+            let all = with_goal(alloc, bank, protocol, query, known)?;
+            Ok(Translated::Clauses(all))
+        }
+    }
+}
+
+/// What the protocol and the query of that number are translated into: the attacker's clauses, those of the visits of
+/// the main process in pre-order, and the goal; or the point of the first visit that is too large.
+///
+/// The conditions hold of each protocol that is read. `Err` comes only for want of memory; then, and where a visit is
+/// too large, the bank is as before.
+pub fn translate<B: Bank>(
+    alloc: Global,
+    bank: &mut B,
+    protocol: &Protocol,
+    query: u32,
+) -> Result<Translated, AllocError>
+    requires limits { IsWithinLimits (protocol_of protocol.now) }
+    requires rules { HasProperRules (protocol_of protocol.now) }
+    requires scoped { IsWellScoped (protocol_of protocol.now) }
+    requires queries { HasProperQueries (protocol_of protocol.now) }
+    requires there { IsThere (protocol_of protocol.now) OfQueries query }
+    ensures grows { Grows (B.trees bank.old) (B.trees bank.new) }
+    ensures translates { IfOk result (λ found. Translates (protocol_of protocol.now) query (B.trees bank.new) found) }
+    ensures large { IfOk result (λ found. IsKept (B.trees bank.old) (B.trees bank.new) found) }
+    ensures err { OnErr result (B.trees bank.new ≡ B.trees bank.old) }
+{
+    let mark = bank.mark();
+    match translate_grown(alloc, bank, protocol, query) {
+        Ok(Translated::Clauses(all)) => Ok(Translated::Clauses(all)),
+        Ok(Translated::Large(point)) => {
+            bank.back(mark);
+            Ok(Translated::Large(point))
+        }
+        Err(error) => {
+            bank.back(mark);
+            Err(error)
+        }
+    }
+}
