@@ -1,0 +1,166 @@
+-- From raw clauses to the answer of a pair.
+use Rattle.std.proofs.Common.{◌≡◌, ℕ, ◌+◌, ◌<◌, ◌≤◌, Option, Some, None, Result, Ok, Err, IfOk, List, [], ◌∷◌, ◌++◌, length, map, take, get_or, refl, ap, sym, ◌∙◌, subst, append-nil, arith}
+use Rattle.std.specs.Prelude.{filter_map}
+use Rattle.std.specs.declared.alloc.AllocError.{AllocError}
+use Rattle.std.proofs.lemmas.List.{map-append, map_more, take_all}
+use Rattle.std.proofs.lemmas.List.Elements.{filter_map-append}
+use Rattle.trees.specs.Tree.{after}
+use Rattle.terms.specs.Term.{Term, Subst}
+use Rattle.terms.specs.Unifier.{moved, IsMostGeneral}
+use Rattle.calculus.specs.Bounds.{most_symbols}
+use Rattle.clauses.specs.Fact.{Fact, Clause, clause_size, fact_under, clause_under, clause_terms}
+use Rattle.clauses.specs.Variables.{IsBelow}
+use Rattle.clauses.specs.Norm.{norm, norms, IsNormal}
+use Rattle.clauses.specs.Limits.{IsWithinLimit}
+use Rattle.clauses.specs.Resolvents.{joined, IsRawResolvent, Resolves}
+use Rattle.clauses.specs.Resolvents as answer
+use Rattle.clauses.proofs.Lists.{all_weaker}
+use Rattle.clauses.proofs.Facts.{fact_under-fact_under}
+use Rattle.clauses.proofs.NormNumbers.{norm-below}
+use Rattle.clauses.proofs.Answers.{no_unifier, large_answer, clauses_answer}
+use Rattle.term_tree.specs.Bank.{Grows}
+use Rattle.term_tree.specs.declared.bank.Id.{Id}
+use Rattle.term_tree.proofs.BankLaws.{Grows_trans, Grows_same, take-grows}
+use Rattle.clause_form.specs.declared.normal.Normal.TheVariants as normal
+use Rattle.clause_form.specs.Facts.{fact_of}
+use Rattle.clause_form.specs.Normals.{NamesNorm}
+use Rattle.clause_form.specs.Seen.{fact_at, clause_at, IsClauseIn, AreClausesIn, NamesClause, NameClauses}
+use Rattle.clause_form.proofs.Flattening.{AreFactsIn-append}
+use Rattle.clause_form.proofs.Copying.{NameClauses-grow, NamesClause-grows}
+use Rattle.clause_resolve.specs.declared.apart.Apart.{Apart}
+use Rattle.clause_resolve.specs.declared.resolving.Resolved.{Resolved}
+use Rattle.clause_resolve.specs.declared.resolving.Resolved.TheVariants.{NoUnifier, Large, Clauses}
+use Rattle.clause_resolve.specs.Meeting.{IsMguOfFacts, HaveNoUnifier, NeverMeet}
+use Rattle.clause_resolve.specs.Low.{HasLowVariables}
+use Rattle.clause_resolve.specs.Apart.{IsSelectedAt, IsApart}
+use Rattle.clause_resolve.proofs.Shifting.{placed}
+use Rattle.clause_resolve.specs.Joining.{together, IsFoundOf}
+use Rattle.clause_resolve.specs.Answers.{Gives, IsAnswerOf}
+
+-- one clause more
+AreClausesIn-append : (all : List Term) (cs : List (Clause Id)) (c : Clause Id) → AreClausesIn all cs → IsClauseIn all c → AreClausesIn all (cs ++ c ∷ [])
+AreClausesIn-append all [] c known more = (more, tt)
+AreClausesIn-append all (d ∷ cs) c known more = (known.0, AreClausesIn-append all cs c known.1 more)
+
+NameClauses-push : (all : List Term) (cs : List (Clause Id)) (ts : List (Clause Term)) (c : Clause Id) (t : Clause Term) → NameClauses all cs ts → NamesClause all c t → NameClauses all (cs ++ c ∷ []) (ts ++ t ∷ [])
+NameClauses-push all cs ts c t names more = record {
+  known = AreClausesIn-append all cs c names.known more.known;
+  are = map-append (clause_at all) cs (c ∷ []) ∙ λ i. names.are i ++ more.is i ∷ [];
+}
+
+-- a clause without a norm adds nothing, and one with a norm adds that
+pub tautology_added : (old now : List Term) (made : List (Clause Id)) (trees : List (Clause Term)) (c : Clause Term) → Grows old now → NameClauses old made trees → norm c ≡ None → NameClauses now made (trees ++ filter_map norm (c ∷ []))
+tautology_added old now made trees c grows names none =
+    let same : trees ≡ trees ++ filter_map norm (c ∷ []) = sym (append-nil trees) ∙ ap (λ o. trees ++ filter_map (λ (x : Option (Clause Term)). x) (o ∷ [])) (sym none) in
+    subst (λ (l : List (Clause Term)). NameClauses now made l) same (NameClauses-grow old now made trees grows names)
+
+norm_named : (now : List Term) (made : List (Clause Id)) (trees : List (Clause Term)) (d : Clause Id) (o : Option (Clause Term)) → NameClauses now made trees → NamesNorm now (normal.Clause d) o → NameClauses now (made ++ d ∷ []) (trees ++ filter_map (λ (x : Option (Clause Term)). x) (o ∷ []))
+norm_named now made trees d None names named = absurd named
+norm_named now made trees d (Some t) names named = NameClauses-push now made trees d t names named
+
+pub norm_added : (old now : List Term) (made new : List (Clause Id)) (trees : List (Clause Term)) (c : Clause Term) (d : Clause Id) → Grows old now → NameClauses old made trees → NamesNorm now (normal.Clause d) (norm c) → new ≡ made ++ d ∷ []
+    → NameClauses now new (trees ++ filter_map norm (c ∷ []))
+norm_added old now made new trees c d grows names named e =
+    subst (λ (l : List (Clause Id)). NameClauses now l (trees ++ filter_map norm (c ∷ []))) (sym e) (norm_named now made trees d (norm c) (NameClauses-grow old now made trees grows names) named)
+
+-- how far norms are made
+pub record NormsAreMade (old now : List Term) (parts : List (Clause Id)) (i : ℕ) (made : List (Clause Id)) : Type 0 where
+  pub grows : Grows old now
+  pub names : NameClauses now made (filter_map norm (map (clause_at old) (take i parts)))
+
+pub norms_on : (old now next : List Term) (parts : List (Clause Id)) (i : ℕ) (c : Clause Id) (new : List (Clause Id)) (made : List (Clause Id)) → NormsAreMade old now parts i made → i < length parts → c ≡ get_or parts i c → clause_at now c ≡ clause_at old c → Grows now next
+    → NameClauses next new (filter_map norm (map (clause_at old) (take i parts)) ++ filter_map norm (clause_at now c ∷ [])) → NormsAreMade old next parts (i + 1) new
+norms_on old now next parts i c new made was within is same grows names =
+    let more : map (clause_at old) (take (i + 1) parts) ≡ map (clause_at old) (take i parts) ++ clause_at now c ∷ [] =
+    map_more (clause_at old) parts i c within ∙ ap (λ t. map (clause_at old) (take i parts) ++ t ∷ []) (ap (clause_at old) (sym is) ∙ sym same) in
+    record {
+      grows = Grows_trans old now next was.grows grows;
+      names = subst (λ (l : List (Clause Term)). NameClauses next new l) (sym (ap (filter_map norm) more ∙ filter_map-append norm (map (clause_at old) (take i parts)) (clause_at now c ∷ []))) names;
+    }
+
+pub norms_all : (old now : List Term) (parts : List (Clause Id)) (i : ℕ) (made : List (Clause Id)) → NormsAreMade old now parts i made → length parts ≤ i → NameClauses now made (filter_map norm (map (clause_at old) parts))
+norms_all old now parts i made was past = subst (λ (l : List (Clause Id)). NameClauses now made (filter_map norm (map (clause_at old) l))) (take_all i parts past) was.names
+
+-- a clause that is its own norm within the limit
+pub normal_low : (c : Clause Term) → IsNormal c → IsWithinLimit c → HasLowVariables c
+normal_low c own small = all_weaker (IsBelow (clause_size c)) (IsBelow most_symbols) (λ t below. all_weaker (λ x. x < clause_size c) (λ x. x < most_symbols) (λ x h. omega arith) _ below) (clause_terms c) (norm-below c c own.own)
+
+-- the ids of both clauses together
+pub together_known : (all : List Term) (solved rest : Clause Id) → IsClauseIn all solved → IsClauseIn all rest → IsClauseIn all (together solved rest)
+together_known all solved rest first second = record { hypotheses = AreFactsIn-append all solved.hypotheses rest.hypotheses first.hypotheses second.hypotheses; conclusion = second.conclusion }
+
+together_is : (all : List Term) (solved : Clause Id) (unsolved : Clause Term) (apart : Apart) (a : IsApart all unsolved apart) → clause_at all (together solved apart.rest) ≡ joined most_symbols (clause_at all solved) unsolved a.at
+together_is all solved unsolved apart a =
+    let split : clause_at all (together solved apart.rest) ≡ together (clause_at all solved) (clause_at all apart.rest) = ap (λ l. record { hypotheses = l; conclusion = fact_at all apart.rest.conclusion }) (map-append (fact_at all) solved.hypotheses apart.rest.hypotheses) in
+    split ∙ ap (together (clause_at all solved)) a.rest.is
+
+-- the facts that are unified are those of the pair
+abbrev pub meet : List Term → Clause Id → Apart → Subst → Type 0
+meet all solved apart s = IsMguOfFacts (fact_at all solved.conclusion) (fact_at all (fact_of apart.selected)) s
+
+raw_resolvent : (all : List Term) (solved : Clause Id) (unsolved : Clause Term) (apart : Apart) (s : Subst) (a : IsApart all unsolved apart) → HasLowVariables (clause_at all solved) → meet all solved apart s
+    → IsRawResolvent (clause_at all solved) unsolved a.at (Some (clause_under s (clause_at all (together solved apart.rest))))
+raw_resolvent all solved unsolved apart s a low mgu = record {
+  offset = most_symbols;
+  apart = low;
+  unified = (
+    s,
+    subst (λ (f : Fact Term). IsMostGeneral (λ r. fact_under r (fact_at all solved.conclusion) ≡ fact_under r f) s) a.selected.is mgu,
+    ap (clause_under s) (together_is all solved unsolved apart a),
+  );
+}
+
+pub answered : (old new : List Term) (solved together_made : Clause Id) (unsolved : Clause Term) (apart : Apart) (s : Subst) (found : Resolved) → together_made ≡ together solved apart.rest → IsApart old unsolved apart → HasLowVariables (clause_at old solved) → meet old solved apart s
+    → IsFoundOf new (clause_under s (clause_at old together_made)) found → IsAnswerOf new (clause_at old solved) unsolved found
+answered old new solved together_made unsolved apart s found e a low mgu made = go found (subst (λ (c : Clause Id). IsFoundOf new (clause_under s (clause_at old c)) found) e made) where
+  go : (f : Resolved) → IsFoundOf new (clause_under s (clause_at old (together solved apart.rest))) f → IsAnswerOf new (clause_at old solved) unsolved f
+  go NoUnifier h = absurd h
+  go Large h = record { at = a.at; is_selected = a.is_selected; gives = large_answer (clause_at old solved) unsolved (clause_under s (clause_at old (together solved apart.rest))) a.at (raw_resolvent old solved unsolved apart s a low mgu) h }
+  go (Clauses cs) h = (
+    norms (clause_under s (clause_at old (together solved apart.rest))),
+    h.1,
+    record { at = a.at; is_selected = a.is_selected; gives = clauses_answer (clause_at old solved) unsolved (clause_under s (clause_at old (together solved apart.rest))) a.at (raw_resolvent old solved unsolved apart s a low mgu) h.0 },
+  )
+
+pub answered_result : (old new : List Term) (solved together_made : Clause Id) (k : Fact Id) (unsolved : Clause Term) (apart : Apart) (s : Subst) (r : Result Resolved AllocError) → k ≡ solved.conclusion → together_made ≡ together solved apart.rest → HasLowVariables (clause_at old solved)
+    → IsMguOfFacts (fact_at old k) (fact_at old (fact_of apart.selected)) s → IfOk r (λ found. IsFoundOf new (clause_under s (clause_at old together_made)) found) → IsApart old unsolved apart → IfOk r (λ found. IsAnswerOf new (clause_at old solved) unsolved found)
+answered_result old new solved together_made k unsolved apart s (Ok found) k_is e low mgu made a = answered old new solved together_made unsolved apart s found e a low (subst (λ (f : Fact Id). IsMguOfFacts (fact_at old f) (fact_at old (fact_of apart.selected)) s) k_is mgu) made
+answered_result old new solved together_made k unsolved apart s (Err failed) k_is e low mgu made a = tt
+
+-- nothing unifies them
+pub unanswered : (all : List Term) (solved : Clause Id) (k : Fact Id) (unsolved : Clause Term) (apart : Apart) → k ≡ solved.conclusion → IsApart all unsolved apart → HasLowVariables (clause_at all solved) → HaveNoUnifier (fact_at all k) (fact_at all (fact_of apart.selected)) → Gives (clause_at all solved) unsolved answer.NoUnifier
+unanswered all solved k unsolved apart k_is a low never = record {
+  at = a.at;
+  is_selected = a.is_selected;
+  gives = no_unifier (clause_at all solved) unsolved a.at record {
+    offset = most_symbols;
+    apart = low;
+    unified = λ s e. never s (ap (λ f. fact_under s (fact_at all f)) k_is ∙ (e ∙ ap (fact_under s) (sym a.selected.is)));
+  };
+}
+
+-- the conclusion and the selected hypothesis that never meet
+pub clashing : (solved unsolved : Clause Term) (at : ℕ) (k f : Fact Term) → k ≡ solved.conclusion → IsSelectedAt unsolved at → HasLowVariables solved → f ≡ get_or unsolved.hypotheses at f → NeverMeet k f → Gives solved unsolved answer.NoUnifier
+clashing solved unsolved at k f k_is place low is never =
+    let p = placed unsolved at place in
+    let same : f ≡ p.selection.fact = is ∙ p.fact f in
+    record {
+      at = p.selection;
+      is_selected = p.is_selected;
+      gives = no_unifier solved unsolved p.selection record {
+        offset = most_symbols;
+        apart = low;
+        unified = λ s e. never s (after s (moved most_symbols)) (ap (fact_under s) k_is ∙ (e ∙ (fact_under-fact_under s (moved most_symbols) p.selection.fact ∙ ap (fact_under (after s (moved most_symbols))) (sym same))));
+      };
+    }
+
+-- a clause in a bank that grew
+pub IsClauseIn-later : (a b : List Term) (c : Clause Id) → Grows a b → IsClauseIn a c → IsClauseIn b c
+IsClauseIn-later a b c grows known = let names : NamesClause b c (clause_at a c) = NamesClause-grows a b c (clause_at a c) grows record { known = known; is = refl } in names.known
+
+pub clause_at-later : (a b : List Term) (c : Clause Id) → Grows a b → IsClauseIn a c → clause_at b c ≡ clause_at a c
+clause_at-later a b c grows known = let names : NamesClause b c (clause_at a c) = NamesClause-grows a b c (clause_at a c) grows record { known = known; is = refl } in names.is
+
+-- a bank that grew and is taken back
+pub taken_back : (old now new : List Term) (n : ℕ) → Grows old now → n ≡ length old → new ≡ take n now → Grows old new
+taken_back old now new n grows mark back = Grows_same old new (back ∙ (ap (λ k. take k now) mark ∙ take-grows old now grows))

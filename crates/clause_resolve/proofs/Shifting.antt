@@ -1,0 +1,248 @@
+-- Terms, facts and clauses of a bank set apart.
+use Rattle.std.proofs.Common.{◌≡◌, ℕ, zero, suc, ◌+◌, ◌<◌, inl, inr, true, IsTrue, nat_eq, Option, Some, None, List, [], ◌∷◌, ◌++◌, length, map, flat_map, take, drop, get_or, refl, ap, sym, ◌∙◌, subst, eqb-true, arith, length-append}
+use Rattle.std.specs.Prelude.{option_map}
+use Rattle.std.specs.List.{AllByRecursion}
+use Rattle.std.proofs.lemmas.List.{map-append, take-map, drop-map, length-map}
+use Rattle.trees.specs.Tree.{Trees, Leaf, Node, none, more, some_leaves}
+use Rattle.trees.specs.Leaves.{leaves, row_leaves}
+use Rattle.trees.proofs.Occurrence.{or_true}
+use Rattle.terms.specs.Term.{Sym, Term, has_var}
+use Rattle.terms.specs.Unifier.{moved}
+use Rattle.calculus.specs.Bounds.{most_symbols}
+use Rattle.clauses.specs.Fact.{Fact, Att, Mess, Ev, Mev, Bad, terms_of, clause_terms, fact_under}
+use Rattle.clauses.specs.Fact as horn
+use Rattle.clauses.specs.Variables.{IsBelow, AreBelow}
+use Rattle.clauses.specs.Selection.{Selection, select, IsFirstOfLargest}
+use Rattle.clauses.proofs.Lists.{all_first, all_second}
+use Rattle.clauses.proofs.Selection.{select-first_of_largest}
+use Rattle.term_tree.specs.Bank.{tree_at, AreKnown, Grows}
+use Rattle.term_tree.specs.declared.bank.Id.{Id}
+use Rattle.term_tree.proofs.BankLaws.{Grows_trans, Grows-length, tree_at-grows}
+use Rattle.clause_form.specs.declared.facts.Fact as declared
+use Rattle.clause_form.specs.Facts.{fact_of}
+use Rattle.clause_form.specs.Seen.{fact_at, clause_at, IsFactIn, AreFactsIn, IsClauseIn, NamesFact, NameFacts, NamesClause}
+use Rattle.clause_form.proofs.Flattening.{AreFactsIn-append}
+use Rattle.clause_form.proofs.Copying.{fact_at-grows, facts_at-grow, NamesFact-grows, NameFacts-grows, NamesClause-grows, clause_named}
+use Rattle.clause_resolve.specs.Low.{IsLow, AreLow, IsLowFact, AreLowFacts, HasLowVariables}
+use Rattle.clause_resolve.specs.Apart.{IsSelectedAt, IsApartIn, IsApart}
+use Rattle.clause_resolve.specs.declared.apart.Apart.{Apart}
+
+-- a variable that stands in a term is below what all of its leaves are below
+mutual
+  below_in : (n x : ℕ) (t : Term) → AllByRecursion (λ y. y < n) (leaves t) → has_var x t ≡ true → x < n
+  below_in n x (Leaf y) below h = let same : x ≡ y = eqb-true x y h in let here = below.0 in omega arith
+  below_in n x (Node f args) below h = below_in_row n x args below h
+
+  below_in_row : (n x : ℕ) (ts : Trees ℕ Sym) → AllByRecursion (λ y. y < n) (row_leaves ts) → some_leaves (nat_eq x) ts ≡ true → x < n
+  below_in_row n x none below h = cc
+  below_in_row n x (more t ts) below h =
+      elim (or_true (has_var x t) (some_leaves (nat_eq x) ts) h) as (λ _. x < n) [
+        | inl here ↦ below_in n x t (all_first (λ y. y < n) (leaves t) (row_leaves ts) below) here
+        | inr there ↦ below_in_row n x ts (all_second (λ y. y < n) (leaves t) (row_leaves ts) below) there
+      ]
+
+-- so it has a number when it is set apart
+pub low_fits : (all : List Term) (id : Id) → IsLow all id → (x : ℕ) → IsTrue (has_var x (tree_at all id)) → x + 4096 < 4294967296
+low_fits all id low x h = let below : x < most_symbols = below_in most_symbols x (tree_at all id) low.below h in omega arith
+
+-- as the bank grows
+pub IsLow-grows : (a b : List Term) (id : Id) → Grows a b → IsLow a id → IsLow b id
+IsLow-grows a b id grows low =
+    let longer = Grows-length a b grows in
+    let known = low.known in
+    record { known = omega arith; below = subst (λ (t : Term). IsBelow most_symbols t) (sym (tree_at-grows a b id grows low.known)) low.below }
+
+AreLow-grows : (a b : List Term) (ids : List Id) → Grows a b → AreLow a ids → AreLow b ids
+AreLow-grows a b [] grows low = tt
+AreLow-grows a b (id ∷ ids) grows low = (IsLow-grows a b id grows low.0, AreLow-grows a b ids grows low.1)
+
+pub IsLowFact-grows : (a b : List Term) (f : Fact Id) → Grows a b → IsLowFact a f → IsLowFact b f
+IsLowFact-grows a b f grows low = AreLow-grows a b (terms_of f) grows low
+
+pub AreLowFacts-grow : (a b : List Term) (fs : List (Fact Id)) → Grows a b → AreLowFacts a fs → AreLowFacts b fs
+AreLowFacts-grow a b [] grows low = tt
+AreLowFacts-grow a b (f ∷ fs) grows low = (IsLowFact-grows a b f grows low.0, AreLowFacts-grow a b fs grows low.1)
+
+-- what stands at a place
+pub low_at : (all : List Term) (ids : List Id) (i : ℕ) (d : Id) → AreLow all ids → i < length ids → IsLow all (get_or ids i d)
+low_at all [] i d low within = absurd (omega arith)
+low_at all (id ∷ ids) zero d low within = low.0
+low_at all (id ∷ ids) (suc i) d low within = low_at all ids i d low.1 (omega arith)
+
+fact_low : (all : List Term) (fs : List declared.Fact) (i : ℕ) (d : declared.Fact) → AreLowFacts all (map fact_of fs) → i < length fs → IsLowFact all (fact_of (get_or fs i d))
+fact_low all [] i d low within = absurd (omega arith)
+fact_low all (f ∷ fs) zero d low within = low.0
+fact_low all (f ∷ fs) (suc i) d low within = fact_low all fs i d low.1 (omega arith)
+
+pub fact_low_at : (all : List Term) (fs : List declared.Fact) (i : ℕ) (f : declared.Fact) → f ≡ get_or fs i f → AreLowFacts all (map fact_of fs) → i < length fs → IsLowFact all (fact_of f)
+fact_low_at all fs i f is low within = subst (λ (x : declared.Fact). IsLowFact all (fact_of x)) (sym is) (fact_low all fs i f low within)
+
+pub low_take : (all : List Term) (n : ℕ) (fs : List declared.Fact) → AreLowFacts all (map fact_of fs) → AreLowFacts all (map fact_of (take n fs))
+low_take all zero fs low = tt
+low_take all (suc n) [] low = tt
+low_take all (suc n) (f ∷ fs) low = (low.0, low_take all n fs low.1)
+
+pub low_drop : (all : List Term) (n : ℕ) (fs : List declared.Fact) → AreLowFacts all (map fact_of fs) → AreLowFacts all (map fact_of (drop n fs))
+low_drop all zero fs low = low
+low_drop all (suc n) [] low = tt
+low_drop all (suc n) (f ∷ fs) low = low_drop all n fs low.1
+
+-- they are known
+known_low : (all : List Term) (ids : List Id) → AreLow all ids → AreKnown all ids
+known_low all [] low = tt
+known_low all (id ∷ ids) low = let first = low.0 in (first.known, known_low all ids low.1)
+
+pub fact_known_low : (all : List Term) (f : Fact Id) → IsLowFact all f → IsFactIn all f
+fact_known_low all f low = known_low all (terms_of f) low
+
+pub facts_known_low : (all : List Term) (fs : List (Fact Id)) → AreLowFacts all fs → AreFactsIn all fs
+facts_known_low all [] low = tt
+facts_known_low all (f ∷ fs) low = (fact_known_low all f low.0, facts_known_low all fs low.1)
+
+-- a known clause with low variables has low facts
+lows : (all : List Term) (ids : List Id) → AreKnown all ids → AreBelow most_symbols (map (tree_at all) ids) → AreLow all ids
+lows all [] known below = tt
+lows all (id ∷ ids) known below = (record { known = known.0; below = below.0 }, lows all ids known.1 below.1)
+
+fact_lows : (all : List Term) (f : Fact Id) → IsFactIn all f → AreBelow most_symbols (terms_of (fact_at all f)) → IsLowFact all f
+fact_lows all (Att t) known below = lows all (t ∷ []) known below
+fact_lows all (Mess t u) known below = lows all (t ∷ u ∷ []) known below
+fact_lows all (Ev e ts) known below = lows all ts known below
+fact_lows all (Mev e ts) known below = lows all ts known below
+fact_lows all (Bad ts) known below = lows all ts known below
+
+facts_lows : (all : List Term) (fs : List (Fact Id)) → AreFactsIn all fs → AreBelow most_symbols (flat_map terms_of (map (fact_at all) fs)) → AreLowFacts all fs
+facts_lows all [] known below = tt
+facts_lows all (f ∷ fs) known below = (
+  fact_lows all f known.0 (all_first (IsBelow most_symbols) (terms_of (fact_at all f)) (flat_map terms_of (map (fact_at all) fs)) below),
+  facts_lows all fs known.1 (all_second (IsBelow most_symbols) (terms_of (fact_at all f)) (flat_map terms_of (map (fact_at all) fs)) below),
+)
+
+pub conclusion_low : (all : List Term) (c : horn.Clause Id) → IsClauseIn all c → HasLowVariables (clause_at all c) → IsLowFact all c.conclusion
+conclusion_low all c known low = fact_lows all c.conclusion known.conclusion (all_first (IsBelow most_symbols) (terms_of (fact_at all c.conclusion)) (flat_map terms_of (map (fact_at all) c.hypotheses)) low)
+
+pub hypotheses_low : (all : List Term) (c : horn.Clause Id) → IsClauseIn all c → HasLowVariables (clause_at all c) → AreLowFacts all c.hypotheses
+hypotheses_low all c known low = facts_lows all c.hypotheses known.hypotheses (all_second (IsBelow most_symbols) (terms_of (fact_at all c.conclusion)) (flat_map terms_of (map (fact_at all) c.hypotheses)) low)
+
+-- facts one after the other
+pub facts_after : (now next : List Term) (fs gs : List (Fact Id)) (ts us : List (Fact Term)) → Grows now next → NameFacts now fs ts → NameFacts next gs us → NameFacts next (fs ++ gs) (ts ++ us)
+facts_after now next fs gs ts us grows first second =
+    let later = NameFacts-grows now next fs ts grows first in
+    record {
+      known = AreFactsIn-append next fs gs later.known second.known;
+      are = map-append (fact_at next) fs gs ∙ λ i. later.are i ++ second.are i;
+    }
+
+-- the facts before a place, and those behind it
+pub others_named : (old now next : List Term) (fs rest : List declared.Fact) (at : ℕ) (first later new : List (Fact Id)) → Grows old now → Grows now next → AreLowFacts old (map fact_of fs) → rest ≡ drop (at + 1) fs
+    → NameFacts now first (map (fact_under (moved most_symbols)) (map (fact_at old) (map fact_of (take at fs)))) → NameFacts next later (map (fact_under (moved most_symbols)) (map (fact_at now) (map fact_of rest))) → new ≡ first ++ later
+    → NameFacts next new (map (fact_under (moved most_symbols)) (take at (map (fact_at old) (map fact_of fs)) ++ drop (at + 1) (map (fact_at old) (map fact_of fs))))
+others_named old now next fs rest at first later new grows further low rest_is first_named later_named e =
+    let move = map (fact_under (moved most_symbols)) in
+    let trees = map (fact_at old) (map fact_of fs) in
+    let known = facts_known_low old (map fact_of (drop (at + 1) fs)) (low_drop old (at + 1) fs low) in
+    let one : move (map (fact_at old) (map fact_of (take at fs))) ≡ move (take at trees) = ap move (sym (take-map (fact_at old) at (map fact_of fs) ∙ ap (map (fact_at old)) (take-map fact_of at fs))) in
+    let two : move (map (fact_at now) (map fact_of rest)) ≡ move (drop (at + 1) trees) =
+    ap (λ l. move (map (fact_at now) (map fact_of l))) rest_is ∙ ap move (facts_at-grow old now (map fact_of (drop (at + 1) fs)) grows known ∙ sym (drop-map (fact_at old) (at + 1) (map fact_of fs) ∙ ap (map (fact_at old)) (drop-map fact_of (at + 1) fs))) in
+    let both : move (map (fact_at old) (map fact_of (take at fs))) ++ move (map (fact_at now) (map fact_of rest)) ≡ move (take at trees ++ drop (at + 1) trees) =
+    (λ i. one i ++ two i) ∙ sym (map-append (fact_under (moved most_symbols)) (take at trees) (drop (at + 1) trees)) in
+    subst (λ (l : List (Fact Id)). NameFacts next l (move (take at trees ++ drop (at + 1) trees))) (sym e)
+    (subst (λ (l : List (Fact Term)). NameFacts next (first ++ later) l) both (facts_after now next first later (move (map (fact_at old) (map fact_of (take at fs)))) (move (map (fact_at now) (map fact_of rest))) further first_named later_named))
+
+-- the selected hypothesis, its place and the others
+pub record IsPlaced (c : horn.Clause Term) (at : ℕ) : Type 0 where
+  pub selection : Selection
+  pub is_selected : select c.hypotheses ≡ Some selection
+  pub within : at < length c.hypotheses
+  pub fact : (d : Fact Term) → get_or c.hypotheses at d ≡ selection.fact
+  pub others : take at c.hypotheses ++ drop (at + 1) c.hypotheses ≡ selection.others
+
+middle : {X : Type 0} (earlier later : List X) (x d : X) → get_or (earlier ++ x ∷ later) (length earlier) d ≡ x
+middle [] later x d = refl
+middle (y ∷ earlier) later x d = middle earlier later x d
+
+before : {X : Type 0} (earlier later : List X) (x : X) → take (length earlier) (earlier ++ x ∷ later) ≡ earlier
+before [] later x = refl
+before (y ∷ earlier) later x = ap (λ l. y ∷ l) (before earlier later x)
+
+behind_it : {X : Type 0} (earlier later : List X) (x : X) → drop (suc (length earlier)) (earlier ++ x ∷ later) ≡ later
+behind_it [] later x = refl
+behind_it (y ∷ earlier) later x = behind_it earlier later x
+
+placed_first : (c : horn.Clause Term) (at : ℕ) (s : Selection) → select c.hypotheses ≡ Some s → IsFirstOfLargest c.hypotheses s → s.index ≡ at → IsPlaced c at
+placed_first c at s selected first e =
+    let index : at ≡ length first.earlier = sym e ∙ first.index in
+    let count : length c.hypotheses ≡ length first.earlier + length (s.fact ∷ first.later) = ap length first.hypotheses ∙ length-append first.earlier (s.fact ∷ first.later) in
+    let next : at + 1 ≡ suc (length first.earlier) = omega arith in
+    record {
+      selection = s;
+      is_selected = selected;
+      within = omega arith;
+      fact = λ d. (λ i. get_or (first.hypotheses i) (index i) d) ∙ middle first.earlier first.later s.fact d;
+      others = (λ i. take (index i) (first.hypotheses i) ++ drop (next i) (first.hypotheses i)) ∙ ((λ i. before first.earlier first.later s.fact i ++ behind_it first.earlier first.later s.fact i) ∙ sym first.others);
+    }
+
+pub placed : (c : horn.Clause Term) (at : ℕ) → IsSelectedAt c at → IsPlaced c at
+placed c at e = go (select c.hypotheses) refl e where
+  go : (o : Option Selection) → select c.hypotheses ≡ o → option_map (λ s. s.index) o ≡ Some at → IsPlaced c at
+  go None is absent = cc
+  go (Some s) is some = let same : s.index ≡ at = cc in placed_first c at s is (select-first_of_largest c.hypotheses s is) same
+
+-- the clause is set apart
+pub clause_apart : (first second third : List Term) (c : horn.Clause Term) (at : ℕ) (selected : declared.Fact) (hyps : List (Fact Id)) (concl : declared.Fact) (fact : Fact Term) (trees : List (Fact Term)) → IsSelectedAt c at → Grows first second → Grows second third
+    → NamesFact first (fact_of selected) (fact_under (moved most_symbols) fact) → fact ≡ get_or c.hypotheses at fact → NameFacts second hyps (map (fact_under (moved most_symbols)) trees) → trees ≡ take at c.hypotheses ++ drop (at + 1) c.hypotheses
+    → NamesFact third (fact_of concl) (fact_under (moved most_symbols) c.conclusion) → IsApart third c record { selected = selected; rest = record { hypotheses = hyps; conclusion = fact_of concl } }
+clause_apart first second third c at selected hyps concl fact trees place one two fact_named fact_is hyps_named trees_are concl_named =
+    let p = placed c at place in
+    let later = NamesFact-grows first third (fact_of selected) (fact_under (moved most_symbols) fact) (Grows_trans first second third one two) fact_named in
+    let same : fact ≡ p.selection.fact = fact_is ∙ p.fact fact in
+    let others : trees ≡ p.selection.others = trees_are ∙ p.others in
+    record {
+      at = p.selection;
+      is_selected = p.is_selected;
+      selected = subst (λ (f : Fact Term). NamesFact third (fact_of selected) (fact_under (moved most_symbols) f)) same later;
+      rest = subst (λ (l : List (Fact Term)). NamesClause third record { hypotheses = hyps; conclusion = fact_of concl } record { hypotheses = map (fact_under (moved most_symbols)) l; conclusion = fact_under (moved most_symbols) c.conclusion }) others
+          (clause_named second third hyps (fact_of concl) (map (fact_under (moved most_symbols)) trees) record { hypotheses = map (fact_under (moved most_symbols)) trees; conclusion = fact_under (moved most_symbols) c.conclusion } two hyps_named refl concl_named);
+    }
+
+-- and stays so
+pub apart_grows : (old new : List Term) (unsolved : horn.Clause Term) (apart : Apart) → Grows old new → IsApart old unsolved apart → IsApart new unsolved apart
+apart_grows old new unsolved apart grows was = record {
+  at = was.at;
+  is_selected = was.is_selected;
+  selected = NamesFact-grows old new (fact_of apart.selected) (fact_under (moved most_symbols) was.at.fact) grows was.selected;
+  rest = NamesClause-grows old new apart.rest record { hypotheses = map (fact_under (moved most_symbols)) was.at.others; conclusion = fact_under (moved most_symbols) unsolved.conclusion } grows was.rest;
+}
+
+pub apart_known : (all : List Term) (unsolved : horn.Clause Term) (apart : Apart) → IsApart all unsolved apart → IsApartIn all apart
+apart_known all unsolved apart was = record { selected = was.selected.known; rest = was.rest.known }
+
+-- a fact of a bank at the place of the selected one
+pub selected_within : (all : List Term) (c : horn.Clause Id) (fs : List declared.Fact) (at : ℕ) → map fact_of fs ≡ c.hypotheses → IsSelectedAt (clause_at all c) at → at < length fs
+selected_within all c fs at is place =
+    let p = placed (clause_at all c) at place in
+    let within : at < length (map (fact_at all) c.hypotheses) = p.within in
+    omega (arith, within, length-map c.hypotheses (fact_at all), ap length is, length-map fs fact_of)
+
+got_map : {X Y : Type 0} (f : X → Y) (xs : List X) (i : ℕ) (d : X) (e : Y) → i < length xs → get_or (map f xs) i e ≡ f (get_or xs i d)
+got_map f [] i d e within = absurd (omega arith)
+got_map f (x ∷ xs) zero d e within = refl
+got_map f (x ∷ xs) (suc i) d e within = got_map f xs i d e (omega arith)
+
+pub selected_fact : (all : List Term) (c : horn.Clause Id) (fs : List declared.Fact) (at : ℕ) (f : declared.Fact) (d : Fact Term) → map fact_of fs ≡ c.hypotheses → at < length fs → f ≡ get_or fs at f → fact_at all (fact_of f) ≡ get_or (clause_at all c).hypotheses at d
+selected_fact all c fs at f d is within e =
+    ap (λ x. fact_at all (fact_of x)) e
+    ∙ (sym (got_map (λ x. fact_at all x) (map fact_of fs) at (fact_of (get_or fs at f)) d (omega (arith, length-map fs fact_of)) ∙ ap (fact_at all) (got_map fact_of fs at f (fact_of (get_or fs at f)) within)) ∙ ap (λ l. get_or (map (fact_at all) l) at d) is)
+
+-- the clause is set apart, step by step: the selected hypothesis, the others, and the conclusion
+pub clause_set_apart : (old first second third : List Term) (c : horn.Clause Id) (at : ℕ) (fs : List declared.Fact) (f : declared.Fact) (k : Fact Id) (selected : declared.Fact) (hyps : List (Fact Id)) (concl : declared.Fact) → map fact_of fs ≡ c.hypotheses → k ≡ c.conclusion
+    → IsClauseIn old c → IsSelectedAt (clause_at old c) at → f ≡ get_or fs at f → Grows old first → Grows first second → Grows second third → NamesFact first (fact_of selected) (fact_under (moved most_symbols) (fact_at old (fact_of f)))
+    → NameFacts second hyps (map (fact_under (moved most_symbols)) (take at (map (fact_at first) (map fact_of fs)) ++ drop (at + 1) (map (fact_at first) (map fact_of fs)))) → NamesFact third (fact_of concl) (fact_under (moved most_symbols) (fact_at second k))
+    → IsApart third (clause_at old c) record { selected = selected; rest = record { hypotheses = hyps; conclusion = fact_of concl } }
+clause_set_apart old first second third c at fs f k selected hyps concl hyps_are concl_is known place f_is one two three selected_named hyps_named concl_named =
+    let within = selected_within old c fs at hyps_are place in
+    let facts : map (fact_at first) (map fact_of fs) ≡ map (fact_at old) c.hypotheses = ap (map (fact_at first)) hyps_are ∙ facts_at-grow old first c.hypotheses one known.hypotheses in
+    let conclusion : fact_at second k ≡ fact_at old c.conclusion = ap (fact_at second) concl_is ∙ fact_at-grows old second c.conclusion (Grows_trans old first second one two) known.conclusion in
+    clause_apart first second third (clause_at old c) at selected hyps concl (fact_at old (fact_of f)) (take at (map (fact_at first) (map fact_of fs)) ++ drop (at + 1) (map (fact_at first) (map fact_of fs))) place two three selected_named
+    (selected_fact old c fs at f (fact_at old (fact_of f)) hyps_are within f_is) hyps_named (ap (λ l. take at l ++ drop (at + 1) l) facts)
+    (subst (λ (t : Fact Term). NamesFact third (fact_of concl) (fact_under (moved most_symbols) t)) conclusion concl_named)

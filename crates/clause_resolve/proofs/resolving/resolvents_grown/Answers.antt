@@ -1,0 +1,23 @@
+use Rattle.std.proofs.Common.{sym, subst, IfOk}
+use Rattle.terms.specs.Term.{Term}
+use Rattle.clauses.specs.Fact.{Clause}
+use Rattle.clause_form.specs.Seen.{clause_at}
+use Rattle.clause_resolve.specs.Low.{HasLowVariables}
+use Rattle.clause_resolve.specs.Answers.{IsAnswerOf}
+use Rattle.clause_resolve.proofs.Answering.{IsClauseIn-later, clause_at-later}
+use Rattle.clause_resolve.proofs.resolving.resolvents_grown.Goals as goal
+
+pub resolve_apart-requires-clause-solved : goal.resolve_apart-requires-clause-solved
+resolve_apart-requires-clause-solved g c = IsClauseIn-later (g.B.Bank.trees c.args.bank.now) (g.B.Bank.trees c.set_apart.new.bank) c.args.solved.now c.set_apart.ensures.grows c.requires.solved
+
+pub resolve_apart-requires-clause-solved_low : goal.resolve_apart-requires-clause-solved_low
+resolve_apart-requires-clause-solved_low g c =
+    subst (λ (k : Clause Term). HasLowVariables k) (sym (clause_at-later (g.B.Bank.trees c.args.bank.now) (g.B.Bank.trees c.set_apart.new.bank) c.args.solved.now c.set_apart.ensures.grows c.requires.solved)) c.requires.solved_low
+
+pub returns-clause-answer : goal.returns-clause-answer
+returns-clause-answer g c =
+    let old = g.B.Bank.trees c.args.bank.now in
+    let now = g.B.Bank.trees c.set_apart.new.bank in
+    let new = g.B.Bank.trees c.resolve_apart.new.bank in
+    let unsolved = clause_at old c.args.unsolved.now in
+    subst (λ (k : Clause Term). IfOk c.resolve_apart.result (λ found. IsAnswerOf new k unsolved found)) (clause_at-later old now c.args.solved.now c.set_apart.ensures.grows c.requires.solved) (c.resolve_apart.ensures.answer unsolved c.in_ok-apart.ensures.apart)

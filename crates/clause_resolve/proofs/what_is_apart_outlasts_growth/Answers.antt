@@ -1,0 +1,8 @@
+use Rattle.clause_resolve.proofs.Shifting.{apart_grows, apart_known}
+use Rattle.clause_resolve.proofs.what_is_apart_outlasts_growth.Goals as goal
+
+pub returns-clause-apart : goal.returns-clause-apart
+returns-clause-apart c = apart_grows
+
+pub returns-clause-known : goal.returns-clause-known
+returns-clause-known c = apart_known

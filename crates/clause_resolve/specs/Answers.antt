@@ -1,0 +1,29 @@
+-- What a pair of clauses gives.
+use Rattle.std.specs.Prelude.{◌≡◌, Some, List}
+use Rattle.terms.specs.Term.{Term}
+use Rattle.clauses.specs.Fact.{clause_under, fact_under}
+use Rattle.clauses.specs.Fact as horn
+use Rattle.clauses.specs.Selection.{Selection, select}
+use Rattle.clauses.specs.Resolvents.{Answer, Resolves, resolved}
+use Rattle.clauses.specs.Resolvents as answer
+use Rattle.clause_form.specs.Seen.{NameClauses}
+use Rattle.clause_resolve.specs.declared.resolving.Resolved.{Resolved}
+use Rattle.clause_resolve.specs.declared.resolving.Resolved.TheVariants.{NoUnifier, Large, Clauses}
+
+-- the pair, resolved on the unsolved clause's selected hypothesis, gives the answer
+pub record Gives (solved unsolved : horn.Clause Term) (answer : Answer) : Type 0 where
+  pub at : Selection
+  pub is_selected : select unsolved.hypotheses ≡ Some at
+  pub gives : Resolves solved unsolved at answer
+
+-- what was found is the pair's answer: that the facts have no unifier, that the pair is large, or the resolvents
+abbrev pub IsAnswerOf : List Term → horn.Clause Term → horn.Clause Term → Resolved → Type 0
+IsAnswerOf all solved unsolved NoUnifier = Gives solved unsolved answer.NoUnifier
+IsAnswerOf all solved unsolved Large = Gives solved unsolved answer.Large
+IsAnswerOf all solved unsolved (Clauses cs) = (resolvents : List (horn.Clause Term)) × NameClauses all cs resolvents × Gives solved unsolved (answer.Resolvents resolvents)
+
+-- where no clauses were found, the bank is as before
+abbrev pub LeavesBank : List Term → List Term → Resolved → Type 0
+LeavesBank old new NoUnifier = new ≡ old
+LeavesBank old new Large = new ≡ old
+LeavesBank old new (Clauses cs) = Unit {0}

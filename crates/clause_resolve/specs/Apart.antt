@@ -1,0 +1,27 @@
+-- Unsolved clauses set apart from all solved ones.
+use Rattle.std.specs.Prelude.{◌≡◌, ℕ, Some, option_map, List, map}
+use Rattle.terms.specs.Term.{Term}
+use Rattle.terms.specs.Unifier.{moved}
+use Rattle.calculus.specs.Bounds.{most_symbols}
+use Rattle.clauses.specs.Fact.{fact_under}
+use Rattle.clauses.specs.Fact as horn
+use Rattle.clauses.specs.Selection.{Selection, select}
+use Rattle.clause_form.specs.Facts.{fact_of}
+use Rattle.clause_form.specs.Seen.{IsFactIn, IsClauseIn, NamesFact, NamesClause}
+use Rattle.clause_resolve.specs.declared.apart.Apart.{Apart}
+
+-- the hypothesis at this place, from 0, is selected
+abbrev pub IsSelectedAt : horn.Clause Term → ℕ → Type 0
+IsSelectedAt c at = option_map (λ selection. selection.index) (select c.hypotheses) ≡ Some at
+
+-- each id of a clause that is set apart names a tree
+pub record IsApartIn (all : List Term) (apart : Apart) : Type 0 where
+  pub selected : IsFactIn all (fact_of apart.selected)
+  pub rest : IsClauseIn all apart.rest
+
+-- it is the unsolved clause with its selected hypothesis, all variables raised by the limit of size
+pub record IsApart (all : List Term) (unsolved : horn.Clause Term) (apart : Apart) : Type 0 where
+  pub at : Selection
+  pub is_selected : select unsolved.hypotheses ≡ Some at
+  pub selected : NamesFact all (fact_of apart.selected) (fact_under (moved most_symbols) at.fact)
+  pub rest : NamesClause all apart.rest record { hypotheses = map (fact_under (moved most_symbols)) at.others; conclusion = fact_under (moved most_symbols) unsolved.conclusion }

@@ -1,0 +1,22 @@
+-- The symbols of facts beside those of their terms.
+use Rattle.std.specs.Prelude.{ℕ, ◌+◌, Bool, not, nat_le, List}
+use Rattle.std.specs.List.{list_any}
+use Rattle.terms.specs.Term.{Term}
+use Rattle.calculus.specs.Bounds.{most_symbols}
+use Rattle.clauses.specs.Fact.{Fact, Att, Mess, Ev, Mev, Bad, fact_size}
+
+-- one for the predicate, and one for an event
+abbrev pub outline_size : {X : Type 0} → Fact X → ℕ
+outline_size (Att t) = 1
+outline_size (Mess t u) = 1
+outline_size (Ev e ts) = 2
+outline_size (Mev e ts) = 2
+outline_size (Bad ts) = 1
+
+-- whether so many symbols are over the limit
+abbrev pub is_over : ℕ → Bool
+is_over n = not (nat_le n most_symbols)
+
+-- whether some fact has, with n symbols more, more than the limit
+abbrev pub some_over : ℕ → List (Fact Term) → Bool
+some_over n fs = list_any (λ f. is_over (fact_size f + n)) fs

@@ -1,0 +1,19 @@
+-- Two clauses with no variable in common, of which one's conclusion meets a hypothesis of the other.
+use Rattle.std.specs.Prelude.{◌≡◌, true, false, List, ◌++◌}
+use Rattle.terms.specs.Term.{Term}
+use Rattle.clauses.specs.Fact.{Clause}
+use Rattle.clauses.specs.Norm.{norms}
+use Rattle.clauses.specs.Limits.{is_large_raw}
+use Rattle.clause_form.specs.Seen.{NameClauses}
+use Rattle.clause_resolve.specs.declared.resolving.Resolved.{Resolved}
+use Rattle.clause_resolve.specs.declared.resolving.Resolved.TheVariants.{NoUnifier, Large, Clauses}
+
+-- the hypotheses of both, and the second clause's conclusion
+abbrev pub together : {X : Type 0} → Clause X → Clause X → Clause X
+together solved rest = record { hypotheses = solved.hypotheses ++ rest.hypotheses; conclusion = rest.conclusion }
+
+-- what was found of a raw clause: that it is large, or the norms of its flat parts
+abbrev pub IsFoundOf : List Term → Clause Term → Resolved → Type 0
+IsFoundOf all raw NoUnifier = ⊥
+IsFoundOf all raw Large = is_large_raw raw ≡ true
+IsFoundOf all raw (Clauses cs) = (is_large_raw raw ≡ false) × NameClauses all cs (norms raw)

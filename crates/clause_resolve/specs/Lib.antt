@@ -1,0 +1,7 @@
+pub mod Meeting
+pub mod Stops
+pub mod Budget
+pub mod Low
+pub mod Apart
+pub mod Joining
+pub mod Answers

@@ -1,0 +1,25 @@
+-- Unification of facts, and of their terms.
+use Rattle.std.specs.Prelude.{◌≡◌, List}
+use Rattle.terms.specs.Term.{Term, Subst}
+use Rattle.terms.specs.Unifier.{UnifiesAll, IsMostGeneral}
+use Rattle.clauses.specs.Fact.{Fact, fact_under}
+
+-- s is a most general unifier of the two lists of terms, item by item
+abbrev pub IsMguOfAll : List Term → List Term → Subst → Type 0
+IsMguOfAll xs ys s = IsMostGeneral (λ r. UnifiesAll r xs ys) s
+
+-- nothing unifies the two lists
+abbrev pub HaveNoUnifierOfAll : List Term → List Term → Type 0
+HaveNoUnifierOfAll xs ys = (s : Subst) → UnifiesAll s xs ys → ⊥
+
+-- s is a most general unifier of the two facts
+abbrev pub IsMguOfFacts : Fact Term → Fact Term → Subst → Type 0
+IsMguOfFacts f g s = IsMostGeneral (λ r. fact_under r f ≡ fact_under r g) s
+
+-- nothing unifies the two facts
+abbrev pub HaveNoUnifier : Fact Term → Fact Term → Type 0
+HaveNoUnifier f g = (s : Subst) → fact_under s f ≡ fact_under s g → ⊥
+
+-- nothing unifies the two facts, whatever their variables are called
+abbrev pub NeverMeet : Fact Term → Fact Term → Type 0
+NeverMeet f g = (s t : Subst) → fact_under s f ≡ fact_under t g → ⊥

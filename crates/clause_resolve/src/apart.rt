@@ -1,0 +1,170 @@
+//! An unsolved clause whose variables are set apart from those of all solved clauses, by one offset.
+
+ghost use Rattle.std.specs.Prelude.{◌≡◌, ◌<◌, ◌++◌, ◌+◌, length, map, take, drop, IfOk, OnErr};
+ghost use Rattle.trees.specs.Tree.{bind};
+ghost use Rattle.terms.specs.Unifier.{moved};
+ghost use Rattle.calculus.specs.Bounds.{most_symbols};
+ghost use Rattle.clauses.specs.Fact.{fact_under};
+ghost use Rattle.term_tree.specs.Bank.{tree_at, Grows, Names};
+ghost use Rattle.clause_form.specs.Facts.{fact_of};
+ghost use Rattle.clause_form.specs.Seen.{fact_at, clause_at, IsClauseIn, NameTerms, NamesFact, NameFacts};
+ghost use Rattle.clause_resolve.specs.Low.{IsLow, AreLow, IsLowFact, AreLowFacts, HasLowVariables};
+ghost use Rattle.clause_resolve.specs.Apart.{IsSelectedAt, IsApart};
+
+use clause_form::{Clause, Fact, Facts, Ids};
+use std::alloc::{AllocError, Global};
+use term_tree::{Bank, Id};
+use unify_match::shifted;
+
+/// The number from which on variables are numbered that are set apart: the limit of size, since a clause
+/// that is its own norm has variables below its size.
+const OFFSET: u32 = 4096;
+
+/// An unsolved clause set apart: its selected hypothesis, and the clause of the others and the conclusion.
+#[derive(Debug, Drop)]
+pub struct Apart {
+    pub selected: Fact,
+    pub rest: Clause,
+}
+
+/// The terms set apart. On `Err` the bank may have grown.
+fn shifted_terms<B: Bank>(alloc: Global, bank: &mut B, terms: &[Id]) -> Result<Ids, AllocError>
+    requires { AreLow (B.trees bank.old) terms.now }
+    ensures grows { Grows (B.trees bank.old) (B.trees bank.new) }
+    ensures names { IfOk result (λ made. NameTerms (B.trees bank.new) made
+        (map (bind (moved most_symbols)) (map (tree_at (B.trees bank.old)) terms.now))) }
+{
+    let mut items = Vec::with_capacity(alloc, terms.len())?;
+    'each: for term in terms {
+        let next = shifted(alloc, bank, *term, OFFSET)?;
+        items.push(next)?;
+    }
+    Ok(Ids { items })
+}
+
+/// A term set apart. On `Err` the bank may have grown.
+fn shifted_term<B: Bank>(alloc: Global, bank: &mut B, term: Id) -> Result<Id, AllocError>
+    requires { IsLow (B.trees bank.old) term }
+    ensures grows { Grows (B.trees bank.old) (B.trees bank.new) }
+    ensures names { IfOk result (λ made. Names (B.trees bank.new) made
+        (bind (moved most_symbols) (tree_at (B.trees bank.old) term))) }
+{
+    shifted(alloc, bank, term, OFFSET)
+}
+
+/// A fact set apart. On `Err` the bank may have grown.
+fn shifted_fact<B: Bank>(alloc: Global, bank: &mut B, fact: &Fact) -> Result<Fact, AllocError>
+    requires { IsLowFact (B.trees bank.old) (fact_of fact.now) }
+    ensures grows { Grows (B.trees bank.old) (B.trees bank.new) }
+    ensures names { IfOk result (λ made. NamesFact (B.trees bank.new) (fact_of made)
+        (fact_under (moved most_symbols) (fact_at (B.trees bank.old) (fact_of fact.now)))) }
+{
+    match fact {
+        Fact::Att(term) => Ok(Fact::Att(shifted_term(alloc, bank, *term)?)),
+        Fact::Mess(channel, message) => {
+            let channel = shifted_term(alloc, bank, *channel)?;
+            let message = shifted_term(alloc, bank, *message)?;
+            Ok(Fact::Mess(channel, message))
+        }
+        Fact::Ev(event, arguments) => {
+            let made = shifted_terms(alloc, bank, &arguments.items)?;
+            Ok(Fact::Ev(*event, made))
+        }
+        Fact::Mev(event, arguments) => {
+            let made = shifted_terms(alloc, bank, &arguments.items)?;
+            Ok(Fact::Mev(*event, made))
+        }
+        Fact::Bad(arguments) => {
+            let made = shifted_terms(alloc, bank, &arguments.items)?;
+            Ok(Fact::Bad(made))
+        }
+    }
+}
+
+/// The facts set apart. On `Err` the bank may have grown.
+fn shifted_facts<B: Bank>(alloc: Global, bank: &mut B, facts: &[Fact]) -> Result<Facts, AllocError>
+    requires { AreLowFacts (B.trees bank.old) (map fact_of facts.now) }
+    ensures grows { Grows (B.trees bank.old) (B.trees bank.new) }
+    ensures names { IfOk result (λ made. NameFacts (B.trees bank.new) made
+        (map (fact_under (moved most_symbols))
+        (map (fact_at (B.trees bank.old)) (map fact_of facts.now)))) }
+{
+    let mut items = Vec::with_capacity(alloc, facts.len())?;
+    'each: for fact in facts {
+        let next = shifted_fact(alloc, bank, fact)?;
+        items.push(next)?;
+    }
+    Ok(Facts { items })
+}
+
+/// The facts but the one at a place, set apart. On `Err` the bank may have grown.
+fn shifted_others<B: Bank>(
+    alloc: Global,
+    bank: &mut B,
+    facts: &[Fact],
+    at: usize,
+) -> Result<Facts, AllocError>
+    requires facts { AreLowFacts (B.trees bank.old) (map fact_of facts.now) }
+    requires at { at < length facts.now }
+    ensures grows { Grows (B.trees bank.old) (B.trees bank.new) }
+    ensures names { let trees = map (fact_at (B.trees bank.old)) (map fact_of facts.now) in
+        IfOk result (λ made. NameFacts (B.trees bank.new) made
+        (map (fact_under (moved most_symbols)) (take at trees ++ drop (at + 1) trees))) }
+{
+    let mut made = shifted_facts(alloc, bank, &facts[..at])?;
+    let mut later = shifted_facts(alloc, bank, &facts[at + 1..])?;
+    made.items.append(&mut later.items)?;
+    Ok(made)
+}
+
+/// The clause with its selected hypothesis, set apart. On `Err` the bank may have grown.
+fn shifted_clause<B: Bank>(
+    alloc: Global,
+    bank: &mut B,
+    unsolved: &Clause,
+    at: usize,
+) -> Result<Apart, AllocError>
+    requires known { IsClauseIn (B.trees bank.old) unsolved.now }
+    requires low { HasLowVariables (clause_at (B.trees bank.old) unsolved.now) }
+    requires selected { IsSelectedAt (clause_at (B.trees bank.old) unsolved.now) at }
+    ensures grows { Grows (B.trees bank.old) (B.trees bank.new) }
+    ensures apart { IfOk result (λ made. IsApart (B.trees bank.new)
+        (clause_at (B.trees bank.old) unsolved.now) made) }
+{
+    let facts = unsolved.hyps.items.as_slice();
+    let selected = shifted_fact(alloc, bank, &facts[at])?;
+    let hyps = shifted_others(alloc, bank, facts, at)?;
+    let concl = shifted_fact(alloc, bank, &unsolved.concl)?;
+    Ok(Apart {
+        selected,
+        rest: Clause { hyps, concl },
+    })
+}
+
+/// An unsolved clause, whose hypothesis at `at` is selected, set apart from all clauses with variables
+/// below the limit of size, as those have that are their own norms within it.
+///
+/// `Err` comes only for want of memory; then the bank is as before.
+pub fn set_apart<B: Bank>(
+    alloc: Global,
+    bank: &mut B,
+    unsolved: &Clause,
+    at: usize,
+) -> Result<Apart, AllocError>
+    requires known { IsClauseIn (B.trees bank.old) unsolved.now }
+    requires low { HasLowVariables (clause_at (B.trees bank.old) unsolved.now) }
+    requires selected { IsSelectedAt (clause_at (B.trees bank.old) unsolved.now) at }
+    ensures grows { Grows (B.trees bank.old) (B.trees bank.new) }
+    ensures apart { IfOk result (λ made. IsApart (B.trees bank.new)
+        (clause_at (B.trees bank.old) unsolved.now) made) }
+    ensures err { OnErr result (B.trees bank.new ≡ B.trees bank.old) }
+{
+    let mark = bank.mark();
+    match shifted_clause(alloc, bank, unsolved, at) {
+        Ok(made) => Ok(made),
+        Err(error) => {
+            bank.back(mark);
+            Err(error)
+        }
+    }
+}

@@ -1,0 +1,212 @@
+//! Clauses under the bindings of a unifier, as long as they are within the limit of size: what is left of the
+//! limit is counted before each term is built.
+
+ghost use Rattle.std.specs.Prelude.{◌≡◌, ◌+◌, ◌<◌, ◌≤◌, length, map, MatchResult};
+ghost use Rattle.trees.specs.Tree.{bind, size};
+ghost use Rattle.terms.specs.Binding.{resolved};
+ghost use Rattle.calculus.specs.Bounds.{most_symbols};
+ghost use Rattle.clauses.specs.Fact.{total, fact_size, clause_size, fact_under, clause_under};
+ghost use Rattle.clauses.specs.Limits.{IsWithinLimit};
+ghost use Rattle.term_tree.specs.Bank.{tree_at, AreKnown, Names, Grows};
+ghost use Rattle.unify_match.specs.Seen.{seen, IsReady};
+ghost use Rattle.clause_form.specs.Facts.{fact_of};
+ghost use Rattle.clause_form.specs.Seen.{fact_at, clause_at, IsFactIn, AreFactsIn, IsClauseIn, NameTerms, NamesFact, NameFacts, NamesClause};
+ghost use Rattle.clause_resolve.specs.Budget.{outline_size};
+ghost use Rattle.clause_resolve.specs.Stops.{StopsAt};
+
+use crate::stop::Stop;
+use clause_form::{Clause, Fact, Facts, Ids};
+use std::alloc::Global;
+use term_tree::{Bank, Id};
+use unify_match::{Binds, apply_bound};
+
+/// The most symbols of a clause.
+const MOST_SYMBOLS: u64 = 4096;
+
+/// The symbols of a fact beside those of its terms.
+fn outline_symbols(fact: &Fact) -> u64
+    ensures { result ≡ outline_size (fact_of fact.now) }
+{
+    match fact {
+        Fact::Ev(..) | Fact::Mev(..) => 2,
+        Fact::Att(_) | Fact::Mess(..) | Fact::Bad(_) => 1,
+    }
+}
+
+/// Takes symbols from those that are left.
+fn spend(symbols: u64, left: &mut u64) -> Result<(), Stop>
+    ensures at_most { left.new ≤ left.old }
+    ensures outcome { MatchResult result
+        (λ _. left.new + symbols ≡ left.old)
+        (λ stop. StopsAt stop (left.old < symbols)) }
+{
+    if *left < symbols {
+        return Err(Stop::Large);
+    }
+    *left -= symbols;
+    Ok(())
+}
+
+/// A term under the bindings. On `Err` the bank may have grown.
+fn applied<B: Bank>(bank: &mut B, binds: &Binds, id: Id, left: &mut u64) -> Result<Id, Stop>
+    requires known { id.index < length (B.trees bank.old) }
+    requires ready { IsReady (B.trees bank.old) binds.now.pairs }
+    requires small { left.old ≤ most_symbols }
+    ensures grows { Grows (B.trees bank.old) (B.trees bank.new) }
+    ensures at_most { left.new ≤ left.old }
+    ensures outcome { let term = bind (resolved (seen (B.trees bank.old) binds.now.pairs))
+        (tree_at (B.trees bank.old) id) in
+        MatchResult result
+        (λ made. Names (B.trees bank.new) made term × (left.new + size term ≡ left.old))
+        (λ stop. StopsAt stop (left.old < size term)) }
+{
+    match apply_bound(bank, id, binds, *left)? {
+        Some(made) => {
+            *left -= bank.size(made);
+            Ok(made)
+        }
+        None => Err(Stop::Large),
+    }
+}
+
+/// The terms under the bindings. On `Err` the bank may have grown.
+fn applied_terms<B: Bank>(
+    alloc: Global,
+    bank: &mut B,
+    binds: &Binds,
+    terms: &[Id],
+    left: &mut u64,
+) -> Result<Ids, Stop>
+    requires known { AreKnown (B.trees bank.old) terms.now }
+    requires ready { IsReady (B.trees bank.old) binds.now.pairs }
+    requires small { left.old ≤ most_symbols }
+    ensures grows { Grows (B.trees bank.old) (B.trees bank.new) }
+    ensures at_most { left.new ≤ left.old }
+    ensures outcome { let trees = map (bind (resolved (seen (B.trees bank.old) binds.now.pairs)))
+        (map (tree_at (B.trees bank.old)) terms.now) in
+        MatchResult result
+        (λ made. NameTerms (B.trees bank.new) made trees × (left.new + total size trees ≡ left.old))
+        (λ stop. StopsAt stop (left.old < total size trees)) }
+{
+    let mut items = Vec::with_capacity(alloc, terms.len())?;
+    'each: for term in terms {
+        let next = applied(bank, binds, *term, left)?;
+        items.push(next)?;
+    }
+    Ok(Ids { items })
+}
+
+/// A fact under the bindings, its outline not counted. On `Err` the bank may have grown.
+fn applied_outlined<B: Bank>(
+    alloc: Global,
+    bank: &mut B,
+    binds: &Binds,
+    fact: &Fact,
+    left: &mut u64,
+) -> Result<Fact, Stop>
+    requires known { IsFactIn (B.trees bank.old) (fact_of fact.now) }
+    requires ready { IsReady (B.trees bank.old) binds.now.pairs }
+    requires small { left.old ≤ most_symbols }
+    ensures grows { Grows (B.trees bank.old) (B.trees bank.new) }
+    ensures at_most { left.new ≤ left.old }
+    ensures outcome { let tree = fact_under (resolved (seen (B.trees bank.old) binds.now.pairs))
+        (fact_at (B.trees bank.old) (fact_of fact.now)) in
+        MatchResult result
+        (λ made. NamesFact (B.trees bank.new) (fact_of made) tree ×
+        (left.new + fact_size tree ≡ left.old + outline_size tree))
+        (λ stop. StopsAt stop (left.old + outline_size tree < fact_size tree)) }
+{
+    match fact {
+        Fact::Att(term) => Ok(Fact::Att(applied(bank, binds, *term, left)?)),
+        Fact::Mess(channel, message) => {
+            let channel = applied(bank, binds, *channel, left)?;
+            let message = applied(bank, binds, *message, left)?;
+            Ok(Fact::Mess(channel, message))
+        }
+        Fact::Ev(event, arguments) => {
+            let made = applied_terms(alloc, bank, binds, &arguments.items, left)?;
+            Ok(Fact::Ev(*event, made))
+        }
+        Fact::Mev(event, arguments) => {
+            let made = applied_terms(alloc, bank, binds, &arguments.items, left)?;
+            Ok(Fact::Mev(*event, made))
+        }
+        Fact::Bad(arguments) => {
+            let made = applied_terms(alloc, bank, binds, &arguments.items, left)?;
+            Ok(Fact::Bad(made))
+        }
+    }
+}
+
+/// A fact under the bindings. On `Err` the bank may have grown.
+fn applied_fact<B: Bank>(
+    alloc: Global,
+    bank: &mut B,
+    binds: &Binds,
+    fact: &Fact,
+    left: &mut u64,
+) -> Result<Fact, Stop>
+    requires known { IsFactIn (B.trees bank.old) (fact_of fact.now) }
+    requires ready { IsReady (B.trees bank.old) binds.now.pairs }
+    requires small { left.old ≤ most_symbols }
+    ensures grows { Grows (B.trees bank.old) (B.trees bank.new) }
+    ensures at_most { left.new ≤ left.old }
+    ensures outcome { let tree = fact_under (resolved (seen (B.trees bank.old) binds.now.pairs))
+        (fact_at (B.trees bank.old) (fact_of fact.now)) in
+        MatchResult result
+        (λ made. NamesFact (B.trees bank.new) (fact_of made) tree ×
+        (left.new + fact_size tree ≡ left.old))
+        (λ stop. StopsAt stop (left.old < fact_size tree)) }
+{
+    spend(outline_symbols(fact), left)?;
+    applied_outlined(alloc, bank, binds, fact, left)
+}
+
+/// The facts under the bindings. On `Err` the bank may have grown.
+fn applied_facts<B: Bank>(
+    alloc: Global,
+    bank: &mut B,
+    binds: &Binds,
+    facts: &[Fact],
+    left: &mut u64,
+) -> Result<Facts, Stop>
+    requires known { AreFactsIn (B.trees bank.old) (map fact_of facts.now) }
+    requires ready { IsReady (B.trees bank.old) binds.now.pairs }
+    requires small { left.old ≤ most_symbols }
+    ensures grows { Grows (B.trees bank.old) (B.trees bank.new) }
+    ensures outcome { let trees = map (fact_under (resolved (seen (B.trees bank.old) binds.now.pairs)))
+        (map (fact_at (B.trees bank.old)) (map fact_of facts.now)) in
+        MatchResult result
+        (λ made. NameFacts (B.trees bank.new) made trees ×
+        (left.new + total fact_size trees ≡ left.old))
+        (λ stop. StopsAt stop (left.old < total fact_size trees)) }
+{
+    let mut items = Vec::with_capacity(alloc, facts.len())?;
+    'each: for fact in facts {
+        let next = applied_fact(alloc, bank, binds, fact, left)?;
+        items.push(next)?;
+    }
+    Ok(Facts { items })
+}
+
+/// The clause under the bindings, unless it has more symbols than the limit. On `Err` the bank may have grown.
+pub(crate) fn applied_clause<B: Bank>(
+    alloc: Global,
+    bank: &mut B,
+    binds: &Binds,
+    clause: &Clause,
+) -> Result<Clause, Stop>
+    requires known { IsClauseIn (B.trees bank.old) clause.now }
+    requires ready { IsReady (B.trees bank.old) binds.now.pairs }
+    ensures grows { Grows (B.trees bank.old) (B.trees bank.new) }
+    ensures outcome { let tree = clause_under (resolved (seen (B.trees bank.old) binds.now.pairs))
+        (clause_at (B.trees bank.old) clause.now) in
+        MatchResult result
+        (λ made. NamesClause (B.trees bank.new) made tree × IsWithinLimit tree)
+        (λ stop. StopsAt stop (most_symbols < clause_size tree)) }
+{
+    let mut left = MOST_SYMBOLS;
+    let concl = applied_fact(alloc, bank, binds, &clause.concl, &mut left)?;
+    let hyps = applied_facts(alloc, bank, binds, &clause.hyps.items, &mut left)?;
+    Ok(Clause { hyps, concl })
+}

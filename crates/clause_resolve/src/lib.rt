@@ -1,0 +1,40 @@
+//! Resolution of a solved clause with an unsolved one, on its selected hypothesis (Blanchet 2001, section 4;
+//! resolution with free selection, Bachmair and Ganzinger 2001).
+#![tactic(auto)]
+
+ghost use Rattle.std.specs.Prelude.{List};
+ghost use Rattle.terms.specs.Term.{Term};
+ghost use Rattle.clauses.specs.Fact.{Clause as ClauseOf};
+ghost use Rattle.clauses.specs.Norm.{IsNormal};
+ghost use Rattle.clauses.specs.Limits.{IsWithinLimit};
+ghost use Rattle.term_tree.specs.Bank.{Grows};
+ghost use Rattle.clause_resolve.specs.Low.{HasLowVariables};
+ghost use Rattle.clause_resolve.specs.declared.apart.Apart.{Apart};
+ghost use Rattle.clause_resolve.specs.Apart.{IsApartIn, IsApart};
+
+mod apart;
+mod applying;
+mod clash;
+mod meeting;
+mod parts;
+mod resolving;
+mod stop;
+
+pub use crate::apart::{Apart, set_apart};
+pub use crate::resolving::{Resolved, resolve_apart, resolvents};
+
+/// A clause that is set apart stays so as the bank grows, and its ids name trees.
+pub fn what_is_apart_outlasts_growth()
+    ensures apart { (old new : List Term) (unsolved : ClauseOf Term) (apart : Apart) →
+        Grows old new → IsApart old unsolved apart → IsApart new unsolved apart }
+    ensures known { (all : List Term) (unsolved : ClauseOf Term) (apart : Apart) →
+        IsApart all unsolved apart → IsApartIn all apart }
+{}
+
+/// A clause that is its own norm within the limit of size has variables below the limit.
+pub fn normal_clauses_have_low_variables()
+    ensures { (c : ClauseOf Term) → IsNormal c → IsWithinLimit c → HasLowVariables c }
+{}
+
+#[cfg(test)]
+mod tests;

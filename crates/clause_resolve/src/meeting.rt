@@ -1,0 +1,87 @@
+//! Unification of facts: of their terms, item by item.
+
+ghost use Rattle.std.specs.Prelude.{◌≡◌, [], length, map, IfOk, MatchBool};
+ghost use Rattle.terms.specs.Binding.{resolved};
+ghost use Rattle.term_tree.specs.Bank.{tree_at, AreKnown};
+ghost use Rattle.unify_match.specs.Seen.{seen, IsReady};
+ghost use Rattle.clause_form.specs.Facts.{fact_of};
+ghost use Rattle.clause_form.specs.Seen.{fact_at, IsFactIn};
+ghost use Rattle.clause_resolve.specs.Meeting.{IsMguOfAll, HaveNoUnifierOfAll, IsMguOfFacts, HaveNoUnifier};
+
+use clause_form::Fact;
+use std::alloc::AllocError;
+use term_tree::{Bank, Id};
+use unify_match::{Binds, unify_all};
+
+/// Binds variables to a most general unifier of two lists of terms; false where there is none, as where the
+/// lengths differ.
+fn unify_lists<B: Bank>(
+    bank: &B,
+    lefts: &[Id],
+    rights: &[Id],
+    binds: &mut Binds,
+) -> Result<bool, AllocError>
+    requires lefts { AreKnown (B.trees bank.now) lefts.now }
+    requires rights { AreKnown (B.trees bank.now) rights.now }
+    requires none { binds.old.pairs ≡ [] }
+    requires ready { IsReady (B.trees bank.now) binds.old.pairs }
+    ensures ready { IsReady (B.trees bank.now) binds.new.pairs }
+    ensures outcome { let xs = map (tree_at (B.trees bank.now)) lefts.now in
+        let ys = map (tree_at (B.trees bank.now)) rights.now in
+        IfOk result (λ yes. MatchBool yes
+        (IsMguOfAll xs ys (resolved (seen (B.trees bank.now) binds.new.pairs)))
+        (HaveNoUnifierOfAll xs ys)) }
+{
+    if lefts.len() != rights.len() {
+        return Ok(false);
+    }
+    unify_all(bank, lefts, rights, binds)
+}
+
+/// Binds variables to a most general unifier of two facts; false where there is none.
+///
+/// `Err` comes only for want of memory.
+pub(crate) fn unify_facts<B: Bank>(
+    bank: &B,
+    left: &Fact,
+    right: &Fact,
+    binds: &mut Binds,
+) -> Result<bool, AllocError>
+    requires left { IsFactIn (B.trees bank.now) (fact_of left.now) }
+    requires right { IsFactIn (B.trees bank.now) (fact_of right.now) }
+    requires none { binds.old.pairs ≡ [] }
+    requires ready { IsReady (B.trees bank.now) binds.old.pairs }
+    ensures ready { IsReady (B.trees bank.now) binds.new.pairs }
+    ensures outcome { let f = fact_at (B.trees bank.now) (fact_of left.now) in
+        let g = fact_at (B.trees bank.now) (fact_of right.now) in
+        IfOk result (λ yes. MatchBool yes
+        (IsMguOfFacts f g (resolved (seen (B.trees bank.now) binds.new.pairs)))
+        (HaveNoUnifier f g)) }
+{
+    match left {
+        Fact::Att(t) => match right {
+            Fact::Att(u) => unify_lists(bank, &[*t], &[*u], binds),
+            Fact::Mess(..) | Fact::Ev(..) | Fact::Mev(..) | Fact::Bad(_) => Ok(false),
+        },
+        Fact::Mess(t, u) => match right {
+            Fact::Mess(v, w) => unify_lists(bank, &[*t, *u], &[*v, *w], binds),
+            Fact::Att(_) | Fact::Ev(..) | Fact::Mev(..) | Fact::Bad(_) => Ok(false),
+        },
+        Fact::Ev(e, ts) => match right {
+            Fact::Ev(g, us) if e == g => unify_lists(bank, &ts.items, &us.items, binds),
+            Fact::Att(_) | Fact::Mess(..) | Fact::Ev(..) | Fact::Mev(..) | Fact::Bad(_) => Ok(
+                false,
+            ),
+        },
+        Fact::Mev(e, ts) => match right {
+            Fact::Mev(g, us) if e == g => unify_lists(bank, &ts.items, &us.items, binds),
+            Fact::Att(_) | Fact::Mess(..) | Fact::Ev(..) | Fact::Mev(..) | Fact::Bad(_) => Ok(
+                false,
+            ),
+        },
+        Fact::Bad(ts) => match right {
+            Fact::Bad(us) => unify_lists(bank, &ts.items, &us.items, binds),
+            Fact::Att(_) | Fact::Mess(..) | Fact::Ev(..) | Fact::Mev(..) => Ok(false),
+        },
+    }
+}

@@ -1,0 +1,256 @@
+//! Resolution of a solved clause with an unsolved one, on its selected hypothesis (Blanchet 2001, section 4;
+//! resolution with free selection, Bachmair and Ganzinger 2001).
+
+ghost use Rattle.std.specs.Prelude.{◌≡◌, List, ◌∷◌, [], ◌++◌, true, false, filter_map, map, IfOk, OnOk, OnErr, MatchResult};
+ghost use Rattle.terms.specs.Binding.{resolved};
+ghost use Rattle.clauses.specs.Fact.{Clause as ClauseOf, clause_under};
+ghost use Rattle.clauses.specs.Norm.{norm as norm_of, norms};
+ghost use Rattle.clauses.specs.Limits.{is_large_raw, IsWithinLimit};
+ghost use Rattle.terms.specs.Term.{Term};
+ghost use Rattle.term_tree.specs.Bank.{Grows};
+ghost use Rattle.unify_match.specs.Seen.{seen, IsReady};
+ghost use Rattle.clause_form.specs.Seen.{clause_at, IsClauseIn, AreClausesIn, NameClauses};
+ghost use Rattle.clause_resolve.specs.Stops.{StopsAt};
+ghost use Rattle.clause_resolve.specs.Joining.{together, IsFoundOf};
+ghost use Rattle.clause_resolve.specs.Low.{HasLowVariables};
+ghost use Rattle.clause_resolve.specs.Apart.{IsSelectedAt, IsApartIn, IsApart};
+ghost use Rattle.clause_resolve.specs.Answers.{IsAnswerOf, LeavesBank};
+
+use crate::apart::{Apart, set_apart};
+use crate::applying::applied_clause;
+use crate::clash::clash;
+use crate::meeting::unify_facts;
+use crate::parts::some_part_large;
+use crate::stop::Stop;
+use clause_form::{Clause, Clauses, Normal, flatten, norm};
+use std::alloc::{AllocError, Global};
+use term_tree::Bank;
+use unify_match::Binds;
+
+/// What a pair of clauses gives.
+#[derive(Debug, Drop)]
+pub enum Resolved {
+    /// The solved clause's conclusion and the selected hypothesis have no unifier.
+    NoUnifier,
+    /// The raw resolvent, or a flat part of it, has more symbols than the limit.
+    Large,
+    /// The norms of the raw resolvent's flat parts, in order, tautologies left out.
+    Clauses(Clauses),
+}
+
+/// Adds the norm of a clause, if it has one. On `Err` the bank may have grown.
+fn add_norm<B: Bank>(
+    alloc: Global,
+    bank: &mut B,
+    part: &Clause,
+    made: &mut Clauses,
+) -> Result<(), AllocError>
+    requires { IsClauseIn (B.trees bank.old) part.now }
+    ensures grows { Grows (B.trees bank.old) (B.trees bank.new) }
+    ensures names { (trees : List (ClauseOf Term)) → NameClauses (B.trees bank.old) made.old trees →
+        OnOk result (NameClauses (B.trees bank.new) made.new
+        (trees ++ filter_map norm_of (clause_at (B.trees bank.old) part.now ∷ []))) }
+{
+    let copied = part.copy(alloc)?;
+    match norm(alloc, bank, copied)? {
+        Normal::Tautology => {}
+        Normal::Clause(normal) => made.items.push(normal)?,
+    }
+    Ok(())
+}
+
+/// The norms of clauses, those left out that have none. On `Err` the bank may have grown.
+fn norms_of<B: Bank>(alloc: Global, bank: &mut B, parts: &[Clause]) -> Result<Clauses, AllocError>
+    requires { AreClausesIn (B.trees bank.old) parts.now }
+    ensures grows { Grows (B.trees bank.old) (B.trees bank.new) }
+    ensures names { IfOk result (λ made. NameClauses (B.trees bank.new) made
+        (filter_map norm_of (map (clause_at (B.trees bank.old)) parts.now))) }
+{
+    let items = Vec::with_capacity(alloc, parts.len())?;
+    let mut made = Clauses { items };
+    'each: for part in parts {
+        add_norm(alloc, bank, part, &mut made)?;
+    }
+    Ok(made)
+}
+
+/// The norms of the flat parts of a raw clause within the limit of size, unless one of the parts is over it. On
+/// `Err` the bank may have grown.
+fn resolvents_of<B: Bank>(alloc: Global, bank: &mut B, raw: &Clause) -> Result<Clauses, Stop>
+    requires known { IsClauseIn (B.trees bank.old) raw.now }
+    requires small { IsWithinLimit (clause_at (B.trees bank.old) raw.now) }
+    ensures grows { Grows (B.trees bank.old) (B.trees bank.new) }
+    ensures outcome { let tree = clause_at (B.trees bank.old) raw.now in
+        MatchResult result
+        (λ made. (is_large_raw tree ≡ false) × NameClauses (B.trees bank.new) made (norms tree))
+        (λ stop. StopsAt stop (is_large_raw tree ≡ true)) }
+{
+    if some_part_large(bank, raw) {
+        return Err(Stop::Large);
+    }
+    let parts = flatten(alloc, bank, raw)?;
+    let made = norms_of(alloc, bank, &parts.items)?;
+    Ok(made)
+}
+
+/// The resolvents of a clause under a unifier. On `Err` the bank may have grown.
+fn resolvents_under<B: Bank>(
+    alloc: Global,
+    bank: &mut B,
+    binds: &Binds,
+    joined: &Clause,
+) -> Result<Clauses, Stop>
+    requires known { IsClauseIn (B.trees bank.old) joined.now }
+    requires ready { IsReady (B.trees bank.old) binds.now.pairs }
+    ensures grows { Grows (B.trees bank.old) (B.trees bank.new) }
+    ensures outcome { let raw = clause_under (resolved (seen (B.trees bank.old) binds.now.pairs))
+        (clause_at (B.trees bank.old) joined.now) in
+        MatchResult result
+        (λ made. (is_large_raw raw ≡ false) × NameClauses (B.trees bank.new) made (norms raw))
+        (λ stop. StopsAt stop (is_large_raw raw ≡ true)) }
+{
+    let raw = applied_clause(alloc, bank, binds, joined)?;
+    resolvents_of(alloc, bank, &raw)
+}
+
+/// The same, with the bank taken back where there are none.
+fn found_under<B: Bank>(
+    alloc: Global,
+    bank: &mut B,
+    binds: &Binds,
+    joined: &Clause,
+) -> Result<Resolved, AllocError>
+    requires known { IsClauseIn (B.trees bank.old) joined.now }
+    requires ready { IsReady (B.trees bank.old) binds.now.pairs }
+    ensures grows { Grows (B.trees bank.old) (B.trees bank.new) }
+    ensures found { IfOk result (λ found. IsFoundOf (B.trees bank.new)
+        (clause_under (resolved (seen (B.trees bank.old) binds.now.pairs))
+        (clause_at (B.trees bank.old) joined.now)) found) }
+    ensures as_before { IfOk result
+        (λ found. LeavesBank (B.trees bank.old) (B.trees bank.new) found) }
+    ensures err { OnErr result (B.trees bank.new ≡ B.trees bank.old) }
+{
+    let mark = bank.mark();
+    match resolvents_under(alloc, bank, binds, joined) {
+        Ok(made) => Ok(Resolved::Clauses(made)),
+        Err(Stop::Large) => {
+            bank.back(mark);
+            Ok(Resolved::Large)
+        }
+        Err(Stop::Memory(error)) => {
+            bank.back(mark);
+            Err(error)
+        }
+    }
+}
+
+/// The hypotheses of two clauses, and the second one's conclusion.
+fn joined(alloc: Global, solved: &Clause, rest: &Clause) -> Result<Clause, AllocError>
+    ensures { IfOk result (λ made. made ≡ together solved.now rest.now) }
+{
+    let mut hyps = solved.hyps.copy(alloc)?;
+    let mut others = rest.hyps.copy(alloc)?;
+    hyps.items.append(&mut others.items)?;
+    let concl = rest.concl.copy(alloc)?;
+    Ok(Clause { hyps, concl })
+}
+
+/// The same as `resolvents`, with an unsolved clause that was set apart, in this bank or before it grew: so it is
+/// set apart once for many solved clauses.
+///
+/// `Err` comes only for want of memory; then, and where there are no clauses, the bank is as before.
+pub fn resolve_apart<B: Bank>(
+    alloc: Global,
+    bank: &mut B,
+    solved: &Clause,
+    apart: &Apart,
+) -> Result<Resolved, AllocError>
+    requires solved { IsClauseIn (B.trees bank.old) solved.now }
+    requires solved_low { HasLowVariables (clause_at (B.trees bank.old) solved.now) }
+    requires apart { IsApartIn (B.trees bank.old) apart.now }
+    ensures grows { Grows (B.trees bank.old) (B.trees bank.new) }
+    ensures answer { (unsolved : ClauseOf Term) → IsApart (B.trees bank.old) unsolved apart.now →
+        IfOk result (λ found. IsAnswerOf (B.trees bank.new)
+        (clause_at (B.trees bank.old) solved.now) unsolved found) }
+    ensures as_before { IfOk result
+        (λ found. LeavesBank (B.trees bank.old) (B.trees bank.new) found) }
+    ensures err { OnErr result (B.trees bank.new ≡ B.trees bank.old) }
+{
+    if clash(bank, &solved.concl, &apart.selected) {
+        return Ok(Resolved::NoUnifier);
+    }
+    let mut binds = Binds::new(alloc)?;
+    if !unify_facts(bank, &solved.concl, &apart.selected, &mut binds)? {
+        return Ok(Resolved::NoUnifier);
+    }
+    let clause = joined(alloc, solved, &apart.rest)?;
+    found_under(alloc, bank, &binds, &clause)
+}
+
+/// The answer of a pair, anew. Where there are no clauses the bank may have grown.
+fn resolvents_grown<B: Bank>(
+    alloc: Global,
+    bank: &mut B,
+    solved: &Clause,
+    unsolved: &Clause,
+    at: usize,
+) -> Result<Resolved, AllocError>
+    requires solved { IsClauseIn (B.trees bank.old) solved.now }
+    requires solved_low { HasLowVariables (clause_at (B.trees bank.old) solved.now) }
+    requires unsolved { IsClauseIn (B.trees bank.old) unsolved.now }
+    requires unsolved_low { HasLowVariables (clause_at (B.trees bank.old) unsolved.now) }
+    requires selected { IsSelectedAt (clause_at (B.trees bank.old) unsolved.now) at }
+    ensures grows { Grows (B.trees bank.old) (B.trees bank.new) }
+    ensures answer { IfOk result (λ found. IsAnswerOf (B.trees bank.new)
+        (clause_at (B.trees bank.old) solved.now)
+        (clause_at (B.trees bank.old) unsolved.now) found) }
+{
+    let apart = set_apart(alloc, bank, unsolved, at)?;
+    resolve_apart(alloc, bank, solved, &apart)
+}
+
+/// The resolvents of a solved clause with an unsolved one whose hypothesis at `at` is selected, or that the facts
+/// have no unifier, or that the pair is large. Where predicates, events or roots of terms differ, it takes no memory.
+///
+/// `Err` comes only for want of memory; then, and where there are no clauses, the bank is as before.
+pub fn resolvents<B: Bank>(
+    alloc: Global,
+    bank: &mut B,
+    solved: &Clause,
+    unsolved: &Clause,
+    at: usize,
+) -> Result<Resolved, AllocError>
+    requires solved { IsClauseIn (B.trees bank.old) solved.now }
+    requires solved_low { HasLowVariables (clause_at (B.trees bank.old) solved.now) }
+    requires unsolved { IsClauseIn (B.trees bank.old) unsolved.now }
+    requires unsolved_low { HasLowVariables (clause_at (B.trees bank.old) unsolved.now) }
+    requires selected { IsSelectedAt (clause_at (B.trees bank.old) unsolved.now) at }
+    ensures grows { Grows (B.trees bank.old) (B.trees bank.new) }
+    ensures answer { IfOk result (λ found. IsAnswerOf (B.trees bank.new)
+        (clause_at (B.trees bank.old) solved.now)
+        (clause_at (B.trees bank.old) unsolved.now) found) }
+    ensures as_before { IfOk result
+        (λ found. LeavesBank (B.trees bank.old) (B.trees bank.new) found) }
+    ensures err { OnErr result (B.trees bank.new ≡ B.trees bank.old) }
+{
+    let facts = unsolved.hyps.items.as_slice();
+    if clash(bank, &solved.concl, &facts[at]) {
+        return Ok(Resolved::NoUnifier);
+    }
+    let mark = bank.mark();
+    match resolvents_grown(alloc, bank, solved, unsolved, at) {
+        Ok(Resolved::Clauses(made)) => Ok(Resolved::Clauses(made)),
+        Ok(Resolved::NoUnifier) => {
+            bank.back(mark);
+            Ok(Resolved::NoUnifier)
+        }
+        Ok(Resolved::Large) => {
+            bank.back(mark);
+            Ok(Resolved::Large)
+        }
+        Err(error) => {
+            bank.back(mark);
+            Err(error)
+        }
+    }
+}
