@@ -1,0 +1,10 @@
+pub mod FactTerms
+pub mod Listing
+pub mod Putting
+pub mod Removal
+pub mod Along
+pub mod Keeping
+pub mod Confining
+pub mod Searching
+pub mod FirstRows
+pub mod Refuting

@@ -1,0 +1,9 @@
+use Rattle.std.proofs.Common.{◌<◌, length}
+use Rattle.multiset_subsume.specs.Boards.{IsAsBefore}
+use Rattle.multiset_subsume.proofs.crowds.most_constrained.Given as goal
+
+abbrev pub invariant-each : goal.invariant-each
+invariant-each g l = record {
+  same : IsAsBefore l.fn.placing.binds.pairs l.placing.binds.pairs l.fn.placing.taken.items l.placing.taken.items;
+  index : l.choice.at < length l.unplaced;
+}

@@ -1,0 +1,17 @@
+use Rattle.std.proofs.Common.{◌≡◌, map, take, flat_map, length}
+use Rattle.trees.specs.Tree.{depth}
+use Rattle.term_tree.specs.Bank.{tree_at}
+use Rattle.clause_form.specs.Facts.{fact_of}
+use Rattle.clause_form.proofs.Flattening.{parts_at}
+use Rattle.placements.specs.LooseParts.{Removes}
+use Rattle.multiset_subsume.specs.Boards.{facts_at}
+use Rattle.multiset_subsume.proofs.loose.+take_parts.Given as goal
+
+abbrev pub decreases-take_parts : goal.decreases-take_parts
+decreases-take_parts g l = depth (tree_at (g.B.Bank.trees l.bank.now) l.term)
+
+abbrev pub invariant-each : goal.invariant-each
+invariant-each g l = record {
+  flags : length l.taken ≡ length (facts_at (g.B.Bank.trees l.bank) (map fact_of l.hyps));
+  removes : Removes (facts_at (g.B.Bank.trees l.bank) (map fact_of l.hyps)) l.fn.taken l.taken (flat_map (parts_at (g.B.Bank.trees l.bank)) (take l.argument-index l.arguments));
+}

@@ -1,0 +1,184 @@
+//! A first look at two clauses, which takes no memory: what shows at once that no row holds.
+
+ghost use Rattle.std.specs.Prelude.{◌≡◌, ◌↔◌, ◌<◌, ◌≤◌, ℕ, IsTrue, List, [], ◌∷◌, true, false};
+ghost use Rattle.std.specs.Prelude.{length, map};
+ghost use Rattle.trees.specs.Tree.{bind};
+ghost use Rattle.terms.specs.Term.{Subst};
+ghost use Rattle.clauses.specs.Fact.{is_variable_known as is_variable_known_fact};
+ghost use Rattle.clauses.specs.Subsumption.{firm, RowHolds};
+ghost use Rattle.term_tree.specs.Bank.{tree_at};
+ghost use Rattle.clause_form.specs.Facts.{fact_of};
+ghost use Rattle.clause_form.specs.Seen.{fact_at, clause_at, IsFactIn, AreFactsIn, IsClauseIn};
+ghost use Rattle.multiset_subsume.specs.Boards.{facts_at};
+ghost use Rattle.multiset_subsume.specs.Apart.{AreApart, StandsNowhere, CannotAllStand};
+
+use clause_form::{Clause, Fact, is_variable_known};
+use term_tree::{Bank, Id, Node, Sym};
+
+/// Whether two symbols are the same.
+fn is_same_symbol(left: Sym, right: Sym) -> bool
+    ensures { IsTrue result ↔ (left ≡ right) }
+{
+    left == right
+}
+
+/// Whether a substitution may make the general term the special one, by what is at their roots.
+fn roots_match<B: Bank>(bank: &B, general: Id, special: Id) -> bool
+    requires general { general.index < length (B.trees bank.now) }
+    requires special { special.index < length (B.trees bank.now) }
+    ensures { let all = B.trees bank.now in
+        result ≡ false → (s : Subst) → bind s (tree_at all general) ≡ tree_at all special → ⊥ }
+{
+    match bank.node(general) {
+        Node::Var(_) => true,
+        Node::App(f, xs) => match bank.node(special) {
+            Node::Var(_) => false,
+            Node::App(g, ys) => {
+                if !is_same_symbol(f, g) {
+                    return false;
+                }
+                xs.len() == ys.len()
+            }
+        },
+    }
+}
+
+/// Whether a substitution may make the general fact the special one: by predicates, events, numbers of terms, and what is
+/// at the roots of terms.
+fn may_match<B: Bank>(bank: &B, general: &Fact, special: &Fact) -> bool
+    requires general { IsFactIn (B.trees bank.now) (fact_of general.now) }
+    requires special { IsFactIn (B.trees bank.now) (fact_of special.now) }
+    ensures { result ≡ false →
+        AreApart (B.trees bank.now) (fact_of general.now) (fact_of special.now) }
+{
+    match general {
+        Fact::Att(t) => match special {
+            Fact::Att(u) => roots_match(bank, *t, *u),
+            Fact::Mess(..) | Fact::Ev(..) | Fact::Mev(..) | Fact::Bad(_) => false,
+        },
+        Fact::Mess(t, u) => match special {
+            Fact::Mess(v, w) => {
+                if !roots_match(bank, *t, *v) {
+                    return false;
+                }
+                roots_match(bank, *u, *w)
+            }
+            Fact::Att(_) | Fact::Ev(..) | Fact::Mev(..) | Fact::Bad(_) => false,
+        },
+        Fact::Ev(e, ts) => match special {
+            Fact::Ev(g, us) => {
+                if e != g {
+                    return false;
+                }
+                ts.items.len() == us.items.len()
+            }
+            Fact::Att(_) | Fact::Mess(..) | Fact::Mev(..) | Fact::Bad(_) => false,
+        },
+        Fact::Mev(e, ts) => match special {
+            Fact::Mev(g, us) => {
+                if e != g {
+                    return false;
+                }
+                ts.items.len() == us.items.len()
+            }
+            Fact::Att(_) | Fact::Mess(..) | Fact::Ev(..) | Fact::Bad(_) => false,
+        },
+        Fact::Bad(ts) => match special {
+            Fact::Bad(us) => ts.items.len() == us.items.len(),
+            Fact::Att(_) | Fact::Mess(..) | Fact::Ev(..) | Fact::Mev(..) => false,
+        },
+    }
+}
+
+/// Whether the fact may match one of the hypotheses.
+fn some_may_match<B: Bank>(bank: &B, fact: &Fact, hyps: &[Fact]) -> bool
+    requires fact { IsFactIn (B.trees bank.now) (fact_of fact.now) }
+    requires hyps { AreFactsIn (B.trees bank.now) (map fact_of hyps.now) }
+    ensures { result ≡ false →
+        StandsNowhere (B.trees bank.now) (fact_of fact.now) (map fact_of hyps.now) }
+{
+    'each: for hyp in hyps {
+        if may_match(bank, fact, hyp) {
+            return true;
+        }
+    }
+    false
+}
+
+/// Whether the fact is `att` of a variable, or may match one of the hypotheses.
+fn may_stand<B: Bank>(bank: &B, fact: &Fact, hyps: &[Fact]) -> bool
+    requires fact { IsFactIn (B.trees bank.now) (fact_of fact.now) }
+    requires hyps { AreFactsIn (B.trees bank.now) (map fact_of hyps.now) }
+    ensures firm { result ≡ false →
+        is_variable_known_fact (fact_at (B.trees bank.now) (fact_of fact.now)) ≡ false }
+    ensures nowhere { result ≡ false →
+        StandsNowhere (B.trees bank.now) (fact_of fact.now) (map fact_of hyps.now) }
+{
+    if is_variable_known(bank, fact) {
+        return true;
+    }
+    some_may_match(bank, fact, hyps)
+}
+
+/// Whether each of the facts but `att` of a variable may match one of the hypotheses.
+fn all_may_stand<B: Bank>(bank: &B, facts: &[Fact], hyps: &[Fact]) -> bool
+    requires facts { AreFactsIn (B.trees bank.now) (map fact_of facts.now) }
+    requires hyps { AreFactsIn (B.trees bank.now) (map fact_of hyps.now) }
+    ensures { result ≡ false →
+        CannotAllStand (B.trees bank.now) (map fact_of facts.now) (map fact_of hyps.now) }
+{
+    'each: for fact in facts {
+        if !may_stand(bank, fact, hyps) {
+            return false;
+        }
+    }
+    true
+}
+
+/// One where the fact isn't `att` of a variable.
+fn one_if_firm<B: Bank>(bank: &B, fact: &Fact) -> usize
+    requires { IsFactIn (B.trees bank.now) (fact_of fact.now) }
+    ensures is { result ≡
+        length (firm (facts_at (B.trees bank.now) (fact_of fact.now ∷ []))) }
+    ensures at_most { result ≤ 1 }
+{
+    if is_variable_known(bank, fact) { 0 } else { 1 }
+}
+
+/// How many of the facts aren't `att` of a variable.
+fn count_firm<B: Bank>(bank: &B, facts: &[Fact]) -> usize
+    requires { AreFactsIn (B.trees bank.now) (map fact_of facts.now) }
+    ensures { result ≡ length (firm (facts_at (B.trees bank.now) (map fact_of facts.now))) }
+{
+    let mut count = 0usize;
+    'each: for fact in facts {
+        count += one_if_firm(bank, fact);
+    }
+    count
+}
+
+/// Whether it shows at once that these facts, but `att` of a variable, don't all stand at these hypotheses.
+fn too_many<B: Bank>(bank: &B, facts: &[Fact], hyps: &[Fact]) -> bool
+    requires facts { AreFactsIn (B.trees bank.now) (map fact_of facts.now) }
+    requires hyps { AreFactsIn (B.trees bank.now) (map fact_of hyps.now) }
+    ensures { result ≡ true →
+        CannotAllStand (B.trees bank.now) (map fact_of facts.now) (map fact_of hyps.now) }
+{
+    if count_firm(bank, facts) > hyps.len() {
+        return true;
+    }
+    !all_may_stand(bank, facts, hyps)
+}
+
+/// Whether it shows at once that no row holds for the two clauses. Takes no memory.
+pub(crate) fn shows_no_row<B: Bank>(bank: &B, general: &Clause, special: &Clause) -> bool
+    requires general { IsClauseIn (B.trees bank.now) general.now }
+    requires special { IsClauseIn (B.trees bank.now) special.now }
+    ensures { let all = B.trees bank.now in result ≡ true → (row : List ℕ) →
+        RowHolds (clause_at all general.now) (clause_at all special.now) row → ⊥ }
+{
+    if !may_match(bank, &general.concl, &special.concl) {
+        return true;
+    }
+    too_many(bank, &general.hyps.items, &special.hyps.items)
+}
