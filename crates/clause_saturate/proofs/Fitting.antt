@@ -1,0 +1,192 @@
+-- The clauses of a log are normal and within the limit of size, and stay so as the bank grows.
+use Rattle.std.proofs.Common.{◌≡◌, ◌∙◌, ℕ, zero, suc, ◌-◌, ◌<◌, ◌≤◌, ◌^◌, Bool, true, false, cond, Option, Some, None, List, [], ◌∷◌, length, map, get_or, refl, ap, sym, subst, inl, inr, arith}
+use Rattle.std.proofs.lemmas.List.{length-map}
+use Rattle.terms.specs.Term.{Term}
+use Rattle.calculus.specs.Bounds.{most_symbols}
+use Rattle.calculus.specs.Points.{numbered}
+use Rattle.clauses.specs.Fact.{Clause, clause_terms, clause_size}
+use Rattle.clauses.specs.Variables.{leaves, IsBelow}
+use Rattle.clauses.specs.Norm.{IsNormal, norms}
+use Rattle.clauses.specs.Limits.{IsWithinLimit, is_large_raw}
+use Rattle.clauses.specs.Resolvents.{Large, Resolvents, resolved}
+use Rattle.clauses.specs.Inclusion.{here, there, Has}
+use Rattle.clauses.proofs.Limits.{norms-within_limit}
+use Rattle.clauses.proofs.Lists.{all_weaker}
+use Rattle.clauses.proofs.NormAnswers.{norms-normal}
+use Rattle.clauses.proofs.NormNumbers.{norm-below}
+use Rattle.saturation.specs.Key.{Key, below}
+use Rattle.saturation.specs.Key as offered
+use Rattle.saturation.specs.Log.{IsOffered}
+use Rattle.saturation.proofs.Pairs.{has_numbered, offers_normal}
+use Rattle.term_tree.specs.Bank.{Grows}
+use Rattle.term_tree.specs.declared.bank.Id.{Id}
+use Rattle.clause_form.specs.Seen.{clause_at, IsClauseIn, NamesClause, AreClausesIn, NameClauses}
+use Rattle.clause_form.proofs.Copying.{NamesClause-grows}
+use Rattle.clause_resolve.specs.Low.{HasLowVariables}
+use Rattle.clause_saturate.specs.declared.log.Entry.{Entry}
+use Rattle.clause_saturate.specs.declared.walk.Walk.{Walk}
+use Rattle.clause_saturate.specs.Fit.{IsFit, AreFit}
+use Rattle.clause_saturate.specs.Logs.{TellEntries}
+use Rattle.clause_saturate.specs.Beating.{clauses_of}
+use Rattle.clause_saturate.specs.Walked.{Task, IsTask, IsWalked}
+use Rattle.clause_saturate.proofs.Telling.{TellLog-grows, log_length}
+
+-- a clause's ids name what they name
+named_itself : (all : List Term) (c : Clause Id) → IsClauseIn all c → NamesClause all c (clause_at all c)
+named_itself all c known = record { known = known; is = refl }
+
+pub IsFit-grows : (a b : List Term) (c : Clause Id) → Grows a b → IsFit a c → IsFit b c
+IsFit-grows a b c grows fit =
+    let later = NamesClause-grows a b c (clause_at a c) grows (named_itself a c fit.known) in
+    record { known = later.known; normal = subst IsNormal (sym later.is) fit.normal; small = subst IsWithinLimit (sym later.is) fit.small }
+
+pub AreFit-grow : (a b : List Term) (cs : List (Clause Id)) → Grows a b → AreFit a cs → AreFit b cs
+AreFit-grow a b [] grows fit = tt
+AreFit-grow a b (c ∷ cs) grows fit = (IsFit-grows a b c grows fit.0, AreFit-grow a b cs grows fit.1)
+
+-- and name it as the bank grows
+pub given_grow : (a b : List Term) (cs : List (Clause Id)) → Grows a b → AreFit a cs → map (clause_at b) cs ≡ map (clause_at a) cs
+given_grow a b [] grows fit = refl
+given_grow a b (c ∷ cs) grows fit = cc ((NamesClause-grows a b c (clause_at a c) grows (named_itself a c fit.0.known)).is, given_grow a b cs grows fit.1)
+
+fit_in : (all : List Term) (cs : List (Clause Id)) (i : ℕ) (d : Clause Id) → AreFit all cs → i < length cs → IsFit all (get_or cs i d)
+fit_in all [] i d fit within = absurd (omega arith)
+fit_in all (c ∷ cs) zero d fit within = fit.0
+fit_in all (c ∷ cs) (suc i) d fit within = fit_in all cs i d fit.1 (omega arith)
+
+-- a clause among fit ones is fit
+pub clause_fit_at : (all : List Term) (cs : List (Clause Id)) (i : ℕ) (c : Clause Id) → c ≡ get_or cs i c → AreFit all cs → i < length cs → IsFit all c
+clause_fit_at all cs i c is fit within = subst (λ (x : Clause Id). IsFit all x) (sym is) (fit_in all cs i c fit within)
+
+-- the clause at a place has the number behind it
+pub numbered_given : (all : List Term) (cs : List (Clause Id)) (i : ℕ) (c : Clause Id) → c ≡ get_or cs i c → i < length cs → numbered (map (clause_at all) cs) (suc i) ≡ Some (clause_at all c)
+numbered_given all [] i c is within = absurd (omega arith)
+numbered_given all (d ∷ cs) zero c is within = ap (λ x. Some (clause_at all x)) (sym is)
+numbered_given all (d ∷ cs) (suc i) c is within = numbered_given all cs i c is (omega arith)
+
+-- resolvents are within the limit
+made_small : (raw : Option (Clause Term)) (cs : List (Clause Term)) (c : Clause Term) → Resolvents cs ≡ resolved raw → Has cs c → IsWithinLimit c
+made_small None cs c e h = cc
+made_small (Some raw) cs c e h = go (is_large_raw raw) refl e
+  where
+    go : (b : Bool) → is_large_raw raw ≡ b → Resolvents cs ≡ cond b Large (Resolvents (norms raw)) → IsWithinLimit c
+    go true p e = cc
+    go false p e = let same : cs ≡ norms raw = cc in norms-within_limit raw c p (subst (λ xs. Has xs c) same h)
+
+made_normal : (raw : Option (Clause Term)) (cs : List (Clause Term)) (c : Clause Term) → Resolvents cs ≡ resolved raw → Has cs c → IsNormal c
+made_normal None cs c e h = cc
+made_normal (Some raw) cs c e h = go (is_large_raw raw) refl e
+  where
+    go : (b : Bool) → is_large_raw raw ≡ b → Resolvents cs ≡ cond b Large (Resolvents (norms raw)) → IsNormal c
+    go true p e = cc
+    go false p e = let same : cs ≡ norms raw = cc in norms-normal raw c (subst (λ xs. Has xs c) same h)
+
+-- what names resolvents is fit
+pub resolvents_fit : (all : List Term) (clauses : List (Clause Id)) (raw : Option (Clause Term)) (cs : List (Clause Term)) → Resolvents cs ≡ resolved raw → NameClauses all clauses cs → AreFit all clauses
+resolvents_fit all clauses raw cs e names = go clauses cs names.known names.are (λ c h. made_normal raw cs c e h) (λ c h. made_small raw cs c e h)
+  where
+    go : (clauses : List (Clause Id)) (ds : List (Clause Term)) → AreClausesIn all clauses → map (clause_at all) clauses ≡ ds → ((c : Clause Term) → Has ds c → IsNormal c) → ((c : Clause Term) → Has ds c → IsWithinLimit c) → AreFit all clauses
+    go [] ds known are normal small = tt
+    go (c ∷ clauses) [] known are normal small = cc
+    go (c ∷ clauses) (d ∷ ds) known are normal small =
+        let first : clause_at all c ≡ d = cc in
+        let rest : map (clause_at all) clauses ≡ ds = cc in (
+          record { known = known.0; normal = subst IsNormal (sym first) (normal d (ds, here)); small = subst IsWithinLimit (sym first) (small d (ds, here)) },
+          go clauses ds known.1 rest (λ x h. normal x (d ∷ h.0, there h.1)) (λ x h. small x (d ∷ h.0, there h.1)),
+        )
+
+-- what is offered is within the limit
+offers_small : (task : Task) → IsTask task → (log : List offered.Entry) (e : offered.Entry) → IsOffered task.given log e → IsWithinLimit e.clause
+offers_small task is_task log e (inl x) = is_task.small e.clause (has_numbered task.given x.number e.clause x.clause)
+offers_small task is_task log e (inr (inl x)) = made_small x.gives.gives.0 x.resolvents e.clause x.gives.gives.2 (has_numbered x.resolvents e.key.number e.clause x.clause)
+offers_small task is_task log e (inr (inr x)) = is_task.small e.clause (has_numbered task.given (length task.given) e.clause x.clause)
+
+tell_fit : (all : List Term) (log : List offered.Entry) (n : ℕ) (entries : List Entry) (es : List offered.Entry) → TellEntries all log n entries es → ((e : offered.Entry) → Has es e → IsNormal e.clause) → ((e : offered.Entry) → Has es e → IsWithinLimit e.clause) → AreFit all (clauses_of entries)
+tell_fit all log n [] es t normal small = tt
+tell_fit all log n (x ∷ xs) [] t normal small = absurd t
+tell_fit all log n (x ∷ xs) (e ∷ es) t normal small = (
+  record { known = t.0.clause.known; normal = subst IsNormal (sym t.0.clause.is) (normal e (es, here)); small = subst IsWithinLimit (sym t.0.clause.is) (small e (es, here)) },
+  tell_fit all log (suc n) xs es t.2 (λ d h. normal d (e ∷ h.0, there h.1)) (λ d h. small d (e ∷ h.0, there h.1)),
+)
+
+-- the entries that are walked along are fit
+pub walked_fit : (all : List Term) (task : Task) (walk : Walk) (at : Key) → IsWalked all task walk at → AreFit all (clauses_of walk.items.items)
+walked_fit all task walk at (log, w) =
+    tell_fit all log 1 walk.items.items log w.tell
+    (λ e h. offers_normal task.given w.is_task.normal (below e.key log) e (w.up_to.sound e h).offered)
+    (λ e h. offers_small task w.is_task (below e.key log) e (w.up_to.sound e h).offered)
+
+-- there are no more than the budget allows, and as many as the turn's number
+pub walked_within : (all : List Term) (task : Task) (walk : Walk) (at : Key) → IsWalked all task walk at → length walk.items.items ≤ walk.budget
+walked_within all task walk at (log, w) =
+    let count = log_length all walk.items.items log w.tell in
+    let within = w.within in
+    let budget = w.budget in
+    omega (arith, count, within, budget)
+
+pub walked_reached : (all : List Term) (task : Task) (walk : Walk) (at : Key) → IsWalked all task walk at → at.major ≤ length walk.items.items
+walked_reached all task walk at (log, w) =
+    let count = log_length all walk.items.items log w.tell in
+    let reached = w.reached in
+    omega (arith, count, reached)
+
+pub walked_grows : (a b : List Term) (task : Task) (walk : Walk) (at : Key) → Grows a b → IsWalked a task walk at → IsWalked b task walk at
+walked_grows a b task walk at grows (log, w) = (
+  log,
+  record {
+    is_task = w.is_task;
+    budget = w.budget;
+    tell = TellLog-grows a b walk.items.items log grows w.tell;
+    up_to = w.up_to;
+    within = w.within;
+    reached = w.reached;
+    asked = w.asked;
+  },
+)
+
+-- given clauses that are fit make a task
+pub fit_task : (all : List Term) (cs : List (Clause Id)) (budget : ℕ) → 0 < length cs → AreFit all cs → IsTask (record { given = map (clause_at all) cs; budget = budget })
+fit_task all cs budget some fit = record { some = omega (arith, some, length-map cs (clause_at all)); normal = normal cs fit; small = small cs fit }
+  where
+    normal : (cs : List (Clause Id)) → AreFit all cs → (c : Clause Term) → Has (map (clause_at all) cs) c → IsNormal c
+    normal [] fit c h = elim h.1 [ ]
+    normal (d ∷ cs) fit c (rest, here) = fit.0.normal
+    normal (d ∷ cs) fit c (rest, there p) = normal cs fit.1 c (_, p)
+
+    small : (cs : List (Clause Id)) → AreFit all cs → (c : Clause Term) → Has (map (clause_at all) cs) c → IsWithinLimit c
+    small [] fit c h = elim h.1 [ ]
+    small (d ∷ cs) fit c (rest, here) = fit.0.small
+    small (d ∷ cs) fit c (rest, there p) = small cs fit.1 c (_, p)
+
+-- fit clauses have low variables
+pub fit_low : (all : List Term) (c : Clause Id) → IsFit all c → HasLowVariables (clause_at all c)
+fit_low all c fit =
+    let small = fit.small in
+    all_weaker (IsBelow (clause_size (clause_at all c))) (IsBelow most_symbols)
+    (λ t b. all_weaker (λ x. x < clause_size (clause_at all c)) (λ x. x < most_symbols) (λ x h. omega (arith, h, small)) (leaves t) b)
+    (clause_terms (clause_at all c)) (norm-below (clause_at all c) (clause_at all c) fit.normal.own)
+
+pub fit_size : (all : List Term) (c : Clause Id) → IsFit all c → clause_size (clause_at all c) < 2 ^ 63
+fit_size all c fit = let small = fit.small in omega (arith, small)
+
+-- given clause number k, and the goal
+pub number_given : (all : List Term) (cs : List (Clause Id)) (given : List (Clause Term)) (k : ℕ) (c : Clause Id) → map (clause_at all) cs ≡ given → c ≡ get_or cs (k - 1) c → 0 < k → k ≤ length cs → numbered given k ≡ Some (clause_at all c)
+number_given all cs given zero c are is some within = absurd (omega arith)
+number_given all cs given (suc k) c are is some within =
+    let same : suc k - 1 ≡ k = omega arith in
+    subst (λ l. numbered l (suc k) ≡ Some (clause_at all c)) are (numbered_given all cs k c (subst (λ j. c ≡ get_or cs j c) same is) (omega arith))
+
+pub given_length : (all : List Term) (cs : List (Clause Id)) (given : List (Clause Term)) → map (clause_at all) cs ≡ given → length given ≡ length cs
+given_length all cs given are = sym (ap length are) ∙ length-map cs (clause_at all)
+
+pub given_some : (all : List Term) (task : Task) (walk : Walk) (at : Key) → IsWalked all task walk at → 0 < length task.given
+given_some all task walk at (log, w) = w.is_task.some
+
+pub turn_within : (all : List Term) (task : Task) (walk : Walk) (at : Key) → IsWalked all task walk at → length walk.items.items ≤ task.budget
+turn_within all task walk at (log, w) =
+    let count = log_length all walk.items.items log w.tell in let within = w.within in omega (arith, count, within)
+
+pub last_given : (all : List Term) (cs : List (Clause Id)) (given : List (Clause Term)) (c : Clause Id) → map (clause_at all) cs ≡ given → c ≡ get_or cs (length cs - 1) c → 0 < length given → numbered given (length given) ≡ Some (clause_at all c)
+last_given all cs given c are is some =
+    let size = given_length all cs given are in
+    subst (λ n. numbered given n ≡ Some (clause_at all c)) (sym size) (number_given all cs given (length cs) c are is (omega (arith, size, some)) (omega arith))

@@ -1,0 +1,141 @@
+-- Two entries by their numbers: whether they are a due pair.
+use Rattle.std.proofs.Common.{◌≡◌, ◌∙◌, ℕ, zero, suc, ◌-◌, ◌<◌, ◌≤◌, Bool, true, false, Option, Some, None, List, [], ◌∷◌, IsNone, length, take, get_or, refl, ap, sym, subst, true≢false, arith}
+use Rattle.std.specs.Prelude.{slice_get}
+use Rattle.terms.specs.Term.{Term}
+use Rattle.calculus.specs.Points.{numbered}
+use Rattle.clauses.specs.Selection.{select, is_solved}
+use Rattle.clauses.specs.Resolvents.{Resolves}
+use Rattle.clauses.specs.Resolvents as answer
+use Rattle.saturation.proofs.Places.{numbered_within}
+use Rattle.term_tree.specs.Bank.{Grows}
+use Rattle.clause_resolve.specs.declared.resolving.Resolved.{Resolved}
+use Rattle.clause_resolve.specs.declared.resolving.Resolved.TheVariants.{NoUnifier, Large, Clauses}
+use Rattle.clause_resolve.specs.Answers.{Gives, IsAnswerOf}
+use Rattle.clause_form.specs.Seen.{clause_at, IsClauseIn}
+use Rattle.clause_saturate.specs.declared.log.Entry.{Entry}
+use Rattle.clause_saturate.specs.declared.walk.Pair.{Pair}
+use Rattle.clause_saturate.specs.Fit.{IsFit, AreFit}
+use Rattle.clause_saturate.specs.Beating.{clauses_of}
+use Rattle.clause_saturate.specs.Pairs.{major, minor, IsDuePair, NoDuePair, GivesAnswer, IsFoundFor}
+use Rattle.clause_saturate.proofs.Marking.{fit_at}
+
+-- what stands at an index has the number behind it
+pub get_at : {X : Type 0} (xs : List X) (i : ℕ) (x : X) → x ≡ get_or xs i x → i < length xs → slice_get xs i ≡ Some x
+get_at [] i x is within = absurd (omega arith)
+get_at (y ∷ xs) zero x is within = ap Some (sym is)
+get_at (y ∷ xs) (suc i) x is within = get_at xs i x is (omega arith)
+
+pub numbered_at : {X : Type 0} (xs : List X) (n : ℕ) (x : X) → x ≡ get_or xs (n - 1) x → 0 < n → n ≤ length xs → numbered xs n ≡ Some x
+numbered_at xs zero x is some within = absurd (omega arith)
+numbered_at xs (suc k) x is some within = let same : suc k - 1 ≡ k = omega arith in get_at xs k x (subst (λ j. x ≡ get_or xs j x) same is) (omega arith)
+
+-- and is the only one that has
+pub one_entry : (es : List Entry) (n : ℕ) (x y : Entry) → numbered es n ≡ Some x → numbered es n ≡ Some y → x ≡ y
+one_entry es n x y a b = let same : Some x ≡ Some y = sym a ∙ b in cc
+
+pub entry_known : (all : List Term) (es : List Entry) (n : ℕ) (x : Entry) → x ≡ get_or es (n - 1) x → 0 < n → n ≤ length es → AreFit all (clauses_of es) → IsClauseIn all x.clause
+entry_known all es n x is some within fit = (fit_at all es (n - 1) x is fit (omega arith)).known
+
+solved_as : (all : List Term) (es : List Entry) (n : ℕ) (x y : Entry) (b : Bool) → numbered es n ≡ Some x → numbered es n ≡ Some y → is_solved (clause_at all x.clause).hypotheses ≡ b → is_solved (clause_at all y.clause).hypotheses ≡ b
+solved_as all es n x y b p q h = subst (λ (z : Entry). is_solved (clause_at all z.clause).hypotheses ≡ b) (one_entry es n x y p q) h
+
+-- both are solved, or neither is
+pub alike : (all : List Term) (es : List Entry) (later earlier : ℕ) (x y : Entry) (b : Bool) → numbered es later ≡ Some x → numbered es earlier ≡ Some y → is_solved (clause_at all x.clause).hypotheses ≡ b → is_solved (clause_at all y.clause).hypotheses ≡ b → NoDuePair all es later earlier
+alike all es later earlier x y b p q h i = λ last first at there live too. solved_as all es later x last b p at h ∙ sym (solved_as all es earlier y first b q there i)
+
+-- one isn't live
+pub last_dead : (all : List Term) (es : List Entry) (later earlier : ℕ) (x : Entry) → numbered es later ≡ Some x → (x.by ≡ None → ⊥) → NoDuePair all es later earlier
+last_dead all es later earlier x p dead = λ last first at there live too. absurd (dead (ap (λ z. z.by) (one_entry es later x last p at) ∙ live))
+
+pub first_dead : (all : List Term) (es : List Entry) (later earlier : ℕ) (y : Entry) → numbered es earlier ≡ Some y → (y.by ≡ None → ⊥) → NoDuePair all es later earlier
+first_dead all es later earlier y q dead = λ last first at there live too. absurd (dead (ap (λ z. z.by) (one_entry es earlier y first q there) ∙ too))
+
+-- the later one is solved, or the earlier one
+pub later_solved : (all : List Term) (es : List Entry) (later earlier : ℕ) (x y : Entry) → earlier < later → numbered es later ≡ Some x → numbered es earlier ≡ Some y → x.by ≡ None → y.by ≡ None → is_solved (clause_at all x.clause).hypotheses ≡ true → is_solved (clause_at all y.clause).hypotheses ≡ false
+    → IsDuePair all es later earlier (record { solved = later; unsolved = earlier })
+later_solved all es later earlier x y order p q live too h i = record {
+  solved = x;
+  unsolved = y;
+  solved_at = p;
+  unsolved_at = q;
+  is_later = omega (arith, order);
+  is_earlier = omega (arith, order);
+  order = order;
+  solved_live = live;
+  unsolved_live = too;
+  left_solved = h;
+  right_unsolved = i;
+}
+
+pub earlier_solved : (all : List Term) (es : List Entry) (later earlier : ℕ) (x y : Entry) → earlier < later → numbered es later ≡ Some x → numbered es earlier ≡ Some y → x.by ≡ None → y.by ≡ None → is_solved (clause_at all x.clause).hypotheses ≡ false → is_solved (clause_at all y.clause).hypotheses ≡ true
+    → IsDuePair all es later earlier (record { solved = earlier; unsolved = later })
+earlier_solved all es later earlier x y order p q live too h i = record {
+  solved = y;
+  unsolved = x;
+  solved_at = q;
+  unsolved_at = p;
+  is_later = omega (arith, order);
+  is_earlier = omega (arith, order);
+  order = order;
+  solved_live = too;
+  unsolved_live = live;
+  left_solved = i;
+  right_unsolved = h;
+}
+
+-- the entries of a pair, as they stand at its places
+pub solved_is : (all : List Term) (es : List Entry) (m i : ℕ) (pair : Pair) (due : IsDuePair all es m i pair) (x : Entry) → x ≡ get_or es (pair.solved - 1) x → x ≡ due.solved
+solved_is all es m i pair due x is =
+    let w = numbered_within es pair.solved due.solved due.solved_at in
+    one_entry es pair.solved x due.solved (numbered_at es pair.solved x is w.0 w.1) due.solved_at
+
+pub unsolved_is : (all : List Term) (es : List Entry) (m i : ℕ) (pair : Pair) (due : IsDuePair all es m i pair) (x : Entry) → x ≡ get_or es (pair.unsolved - 1) x → x ≡ due.unsolved
+unsolved_is all es m i pair due x is =
+    let w = numbered_within es pair.unsolved due.unsolved due.unsolved_at in
+    one_entry es pair.unsolved x due.unsolved (numbered_at es pair.unsolved x is w.0 w.1) due.unsolved_at
+
+-- and are fit
+pub solved_fit : (all : List Term) (es : List Entry) (m i : ℕ) (pair : Pair) → IsDuePair all es m i pair → (x : Entry) → x ≡ get_or es (pair.solved - 1) x → AreFit all (clauses_of es) → IsFit all x.clause
+solved_fit all es m i pair due x is fit =
+    let w = numbered_within es pair.solved due.solved due.solved_at in
+    fit_at all es (pair.solved - 1) x is fit (omega (arith, w.0, w.1))
+
+pub unsolved_fit : (all : List Term) (es : List Entry) (m i : ℕ) (pair : Pair) → IsDuePair all es m i pair → (x : Entry) → x ≡ get_or es (pair.unsolved - 1) x → AreFit all (clauses_of es) → IsFit all x.clause
+unsolved_fit all es m i pair due x is fit =
+    let w = numbered_within es pair.unsolved due.unsolved due.unsolved_at in
+    fit_at all es (pair.unsolved - 1) x is fit (omega (arith, w.0, w.1))
+
+-- the answer of two clauses is that of their pair
+gives_found : (all : List Term) (es : List Entry) (pair : Pair) (due : IsDuePair all es (major pair) (minor pair) pair) (x y : Entry) (result : answer.Answer) → x ≡ due.solved → y ≡ due.unsolved → Gives (clause_at all x.clause) (clause_at all y.clause) result → GivesAnswer all es pair result
+gives_found all es pair due x y result p q g = record {
+  due = due;
+  at = g.at;
+  selected = subst (λ (z : Entry). select (clause_at all z.clause).hypotheses ≡ Some g.at) q g.is_selected;
+  give = subst (λ (z : Entry). Resolves (clause_at all due.solved.clause) (clause_at all z.clause) g.at result) q (subst (λ (z : Entry). Resolves (clause_at all z.clause) (clause_at all y.clause) g.at result) p g.gives);
+}
+
+pub answer_found : (all now : List Term) (es : List Entry) (pair : Pair) (due : IsDuePair all es (major pair) (minor pair) pair) (x y : Entry) (found : Resolved) → x ≡ get_or es (pair.solved - 1) x → y ≡ get_or es (pair.unsolved - 1) y → IsAnswerOf now (clause_at all x.clause) (clause_at all y.clause) found → IsFoundFor all now es pair found
+answer_found all now es pair due x y found p q h = go found h
+  where
+    left : x ≡ due.solved
+    left = solved_is all es (major pair) (minor pair) pair due x p
+
+    right : y ≡ due.unsolved
+    right = unsolved_is all es (major pair) (minor pair) pair due y q
+
+    go : (found : Resolved) → IsAnswerOf now (clause_at all x.clause) (clause_at all y.clause) found → IsFoundFor all now es pair found
+    go NoUnifier h = gives_found all es pair due x y answer.NoUnifier left right h
+    go Large h = gives_found all es pair due x y answer.Large left right h
+    go (Clauses cs) h = record { resolvents = h.0; name = h.1; gives = gives_found all es pair due x y (answer.Resolvents h.0) left right h.2 }
+
+-- a hypothesis of the unsolved clause is selected
+pub never_none : (all : List Term) (es : List Entry) (pair : Pair) (due : IsDuePair all es (major pair) (minor pair) pair) (y : Entry) (o : Option ℕ) → y ≡ get_or es (pair.unsolved - 1) y → o ≡ None → (IsNone o → is_solved (clause_at all y.clause).hypotheses ≡ true) → ⊥
+never_none all es pair due y o q none solved =
+    let same = unsolved_is all es (major pair) (minor pair) pair due y q in
+    true≢false (sym (solved (subst (λ (p : Option ℕ). IsNone p) (sym none) refl)) ∙ (ap (λ (z : Entry). is_solved (clause_at all z.clause).hypotheses) same ∙ due.right_unsolved))
+
+-- the bank grew from what it was cut back to
+pub front_grows : (n : ℕ) (all : List Term) → Grows (take n all) all
+front_grows zero all = (all, refl)
+front_grows (suc n) [] = ([], refl)
+front_grows (suc n) (t ∷ all) = let rest = front_grows n all in (rest.0, ap (λ xs. t ∷ xs) rest.1)

@@ -1,0 +1,51 @@
+-- What an offer does to the log that the entries tell.
+use Rattle.std.proofs.Common.{◌≡◌, ◌∙◌, ℕ, ◌<◌, Bool, true, false, None, List, length, MatchBool, refl, ap, sym, subst, arith}
+use Rattle.terms.specs.Term.{Term}
+use Rattle.clauses.specs.Fact.{Clause}
+use Rattle.saturation.specs.Key.{Key}
+use Rattle.saturation.specs.Key as offered
+use Rattle.saturation.specs.Log.{IsCoveredBy}
+use Rattle.term_tree.specs.declared.bank.Id.{Id}
+use Rattle.clause_form.specs.Seen.{clause_at}
+use Rattle.clause_saturate.specs.declared.log.Origin.{Origin}
+use Rattle.clause_saturate.specs.declared.log.Entry.{Entry}
+use Rattle.clause_saturate.specs.Fit.{IsFit}
+use Rattle.clause_saturate.specs.Logs.{IsOrigin, TellsEntry, TellLog}
+use Rattle.clause_saturate.specs.Beating.{SomeLiveCovers, IsPushed, IsAdded, IsDueEntry}
+use Rattle.clause_saturate.proofs.Marking.{when_true, when_false}
+use Rattle.clause_saturate.proofs.Telling.{log_length, covered_if_some, some_if_covered, pushed_tells}
+
+-- an entry of a copied clause tells what is offered
+told : (all : List Term) (log : List offered.Entry) (clause copied : Clause Id) (origin : Origin) (at : Key) → IsFit all clause → copied ≡ clause → IsOrigin log origin at → TellsEntry all log (record { clause = copied; origin = origin; by = None }) (record { key = at; clause = clause_at all clause })
+told all log clause copied origin at fit same is_origin = record {
+  clause = record { known = (subst (IsFit all) (sym same) fit).known; is = ap (clause_at all) same };
+  origin = is_origin;
+}
+
+pub covered_offer : (all : List Term) (items xs : List Entry) (c : Clause Term) (found : Bool) → found ≡ true → MatchBool found (SomeLiveCovers all xs c) (SomeLiveCovers all xs c → ⊥) → xs ≡ items → (log : List offered.Entry) → TellLog all items log → IsCoveredBy log c
+covered_offer all items xs c found is h same log tell =
+    covered_if_some all log 1 items log c tell (subst (λ (l : List Entry). SomeLiveCovers all l c) same (when_true (SomeLiveCovers all xs c) (SomeLiveCovers all xs c → ⊥) found is h))
+
+uncovered_offer : (all : List Term) (items xs : List Entry) (c : Clause Term) (found : Bool) → found ≡ false → MatchBool found (SomeLiveCovers all xs c) (SomeLiveCovers all xs c → ⊥) → xs ≡ items → (log : List offered.Entry) → TellLog all items log → IsCoveredBy log c → ⊥
+uncovered_offer all items xs c found is h same log tell covered =
+    when_false (SomeLiveCovers all xs c) (SomeLiveCovers all xs c → ⊥) found is h (subst (λ (l : List Entry). SomeLiveCovers all l c) (sym same) (some_if_covered all log 1 items log c tell covered))
+
+pub due_offer : (all : List Term) (items xs : List Entry) (clause copied : Clause Id) (origin : Origin) (budget : ℕ) (found : Bool) → IsFit all clause → copied ≡ clause → found ≡ false → MatchBool found (SomeLiveCovers all xs (clause_at all clause)) (SomeLiveCovers all xs (clause_at all clause) → ⊥) → xs ≡ items → length items ≡ budget
+    → (log : List offered.Entry) (at : Key) → TellLog all items log → IsOrigin log origin at → IsDueEntry all log items items budget (record { key = at; clause = clause_at all clause }) (record { clause = copied; origin = origin; by = None })
+due_offer all items xs clause copied origin budget found fit same refused h whole full log at tell is_origin = record {
+  uncovered = uncovered_offer all items xs (clause_at all clause) found refused h whole log tell;
+  full = sym (log_length all items log tell) ∙ full;
+  same = refl;
+  tells = told all log clause copied origin at fit same is_origin;
+  unbeaten = refl;
+}
+
+pub new_offer : (all : List Term) (items xs new : List Entry) (clause copied : Clause Id) (origin : Origin) (budget : ℕ) (found : Bool) → IsFit all clause → copied ≡ clause → found ≡ false → MatchBool found (SomeLiveCovers all xs (clause_at all clause)) (SomeLiveCovers all xs (clause_at all clause) → ⊥) → xs ≡ items → length items < budget
+    → IsPushed all items (record { clause = copied; origin = origin; by = None }) new → (log : List offered.Entry) (at : Key) → TellLog all items log → IsOrigin log origin at → IsAdded all log new budget (record { key = at; clause = clause_at all clause })
+new_offer all items xs new clause copied origin budget found fit same refused h whole room pushed log at tell is_origin =
+    let count = log_length all items log tell in
+    record {
+      uncovered = uncovered_offer all items xs (clause_at all clause) found refused h whole log tell;
+      room = omega (arith, count, room);
+      tell = pushed_tells all log items new (record { clause = copied; origin = origin; by = None }) (record { key = at; clause = clause_at all clause }) tell pushed (ap (clause_at all) same) (told all log clause copied origin at fit same is_origin) refl;
+    }

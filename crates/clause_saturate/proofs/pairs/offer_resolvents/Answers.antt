@@ -1,0 +1,48 @@
+use Rattle.std.proofs.Common.{arith}
+use Rattle.clause_saturate.proofs.Fitting.{resolvents_fit, clause_fit_at, walked_fit, walked_within}
+use Rattle.clause_saturate.proofs.Pairing.{offering_begins, offering_walked, offering_step, offering_due, offering_ends, step_made}
+use Rattle.clause_saturate.proofs.pairs.offer_resolvents.Goals as goal
+
+pub each-init : goal.each-init
+each-init g c =
+    let all = g.B.Bank.trees c.args.bank.now in
+    let made = c.requires.1.1 in
+    record {
+      within = omega arith;
+      fit = resolvents_fit all c.args.clauses.now made.gives.give.0 made.resolvents made.gives.give.2 made.name;
+      offering = offering_begins all g.task c.args.walk.now c.args.pair c.args.clauses.now made c.requires.1.0;
+    }
+
+pub offer-requires-clause-entries : goal.offer-requires-clause-entries
+offer-requires-clause-entries g c =
+    let all = g.B.Bank.trees c.args.bank.now in
+    walked_fit all g.task c.each.walk _ (offering_walked all g.task c.each.walk c.args.pair c.args.clauses.now c.each.k c.each.invariant.offering)
+
+pub offer-requires-clause-clause : goal.offer-requires-clause-clause
+offer-requires-clause-clause g c = clause_fit_at (g.B.Bank.trees c.args.bank.now) c.args.clauses.now c.each.k c.index-clauses-k.result c.index-clauses-k.is c.each.invariant.fit c.each-test.true
+
+pub offer-requires-clause-within : goal.offer-requires-clause-within
+offer-requires-clause-within g c =
+    let all = g.B.Bank.trees c.args.bank.now in
+    walked_within all g.task c.each.walk _ (offering_walked all g.task c.each.walk c.args.pair c.args.clauses.now c.each.k c.each.invariant.offering)
+
+pub returns-in-Some : goal.returns-in-Some
+returns-in-Some g c =
+    let all = g.B.Bank.trees c.args.bank.now in
+    offering_due all g.task c.each.walk c.offer.new.walk c.args.pair c.args.clauses.now c.each.k c.index-clauses-k.result c.in-Some.due c.each.invariant.offering c.index-clauses-k.is c.each-test.true
+    (step_made all c.each.walk c.offer.new.walk c.args.pair c.each.k c.index-clauses-k.result c.in_ok-due.field-0 _ c.in-Some.is c.in_ok-due.ensures.made)
+
+pub each-preserved : goal.each-preserved
+each-preserved g c =
+    let all = g.B.Bank.trees c.args.bank.now in
+    record {
+      within = omega arith;
+      fit = c.each.invariant.fit;
+      offering = offering_step all g.task c.each.walk c.offer.new.walk c.args.pair c.args.clauses.now c.each.k c.index-clauses-k.result c.each.invariant.offering c.index-clauses-k.is c.each-test.true c.in_ok-due.ensures.kept
+          (step_made all c.each.walk c.offer.new.walk c.args.pair c.each.k c.index-clauses-k.result c.in_ok-due.field-0 _ c.in-None.is c.in_ok-due.ensures.made);
+    }
+
+pub returns : goal.returns
+returns g c =
+    let all = g.B.Bank.trees c.args.bank.now in
+    offering_ends all g.task c.each.walk c.args.pair c.args.clauses.now c.each.k c.each.invariant.offering (omega (arith, c.each.invariant.within))

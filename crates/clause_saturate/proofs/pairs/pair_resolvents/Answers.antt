@@ -1,0 +1,45 @@
+use Rattle.clause_saturate.specs.Pairs.{major, minor}
+use Rattle.clause_saturate.proofs.Found.{solved_fit, unsolved_fit, answer_found, never_none}
+use Rattle.clause_saturate.proofs.Fitting.{fit_low, fit_size}
+use Rattle.clause_saturate.proofs.pairs.pair_resolvents.Goals as goal
+
+pub selected-requires-clause-known : goal.selected-requires-clause-known
+selected-requires-clause-known g c =
+    let pair = c.args.pair in
+    (unsolved_fit (g.B.Bank.trees c.args.bank.now) c.args.entries.now (major pair) (minor pair) pair c.requires.due c.index-entries-pair-2.result c.index-entries-pair-2.is c.requires.entries).known
+
+pub selected-requires-clause-small : goal.selected-requires-clause-small
+selected-requires-clause-small g c =
+    let pair = c.args.pair in
+    let all = g.B.Bank.trees c.args.bank.now in
+    fit_size all c.index-entries-pair-2.result.clause (unsolved_fit all c.args.entries.now (major pair) (minor pair) pair c.requires.due c.index-entries-pair-2.result c.index-entries-pair-2.is c.requires.entries)
+
+pub resolvents-requires-clause-solved : goal.resolvents-requires-clause-solved
+resolvents-requires-clause-solved g c =
+    let pair = c.args.pair in
+    (solved_fit (g.B.Bank.trees c.args.bank.now) c.args.entries.now (major pair) (minor pair) pair c.requires.due c.index-entries-pair.result c.index-entries-pair.is c.requires.entries).known
+
+pub resolvents-requires-clause-solved_low : goal.resolvents-requires-clause-solved_low
+resolvents-requires-clause-solved_low g c =
+    let pair = c.args.pair in
+    let all = g.B.Bank.trees c.args.bank.now in
+    fit_low all c.index-entries-pair.result.clause (solved_fit all c.args.entries.now (major pair) (minor pair) pair c.requires.due c.index-entries-pair.result c.index-entries-pair.is c.requires.entries)
+
+pub resolvents-requires-clause-unsolved : goal.resolvents-requires-clause-unsolved
+resolvents-requires-clause-unsolved g c =
+    let pair = c.args.pair in
+    (unsolved_fit (g.B.Bank.trees c.args.bank.now) c.args.entries.now (major pair) (minor pair) pair c.requires.due c.index-entries-pair-2.result c.index-entries-pair-2.is c.requires.entries).known
+
+pub resolvents-requires-clause-unsolved_low : goal.resolvents-requires-clause-unsolved_low
+resolvents-requires-clause-unsolved_low g c =
+    let pair = c.args.pair in
+    let all = g.B.Bank.trees c.args.bank.now in
+    fit_low all c.index-entries-pair-2.result.clause (unsolved_fit all c.args.entries.now (major pair) (minor pair) pair c.requires.due c.index-entries-pair-2.result c.index-entries-pair-2.is c.requires.entries)
+
+pub returns-in-None-clause-found : goal.returns-in-None-clause-found
+returns-in-None-clause-found g c =
+    absurd (never_none (g.B.Bank.trees c.args.bank.now) c.args.entries.now c.args.pair c.requires.due c.index-entries-pair-2.result c.selected.result c.index-entries-pair-2.is c.in-None.is c.selected.ensures.none.0)
+
+pub returns-in_ok-found-in-Some-clause-found : goal.returns-in_ok-found-in-Some-clause-found
+returns-in_ok-found-in-Some-clause-found g c =
+    answer_found (g.B.Bank.trees c.args.bank.now) (g.B.Bank.trees c.resolvents.new.bank) c.args.entries.now c.args.pair c.requires.due c.index-entries-pair.result c.index-entries-pair-2.result c.in_ok-found-in-Some.found c.index-entries-pair.is c.index-entries-pair-2.is c.in_ok-found-in-Some.ensures.answer

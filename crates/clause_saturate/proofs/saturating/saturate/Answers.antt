@@ -1,0 +1,19 @@
+use Rattle.std.proofs.Common.{◌≡◌, [], false, map, refl, rules}
+use Rattle.clause_form.specs.Seen.{clause_at}
+use Rattle.clause_saturate.specs.Walked.{Task}
+use Rattle.clause_saturate.proofs.Fitting.{fit_task}
+use Rattle.clause_saturate.proofs.Stepping.{walk_begins}
+use Rattle.clause_saturate.proofs.saturating.saturate.Goals as goal
+
+pub run-requires : goal.run-requires
+run-requires g c = λ κs h. (
+    let all = g.B.Bank.trees c.args.bank.now in
+    let task : Task = record { given = map (clause_at all) c.args.given.now; budget = c.args.budget } in
+    let none : c.new.result.items ≡ [] = search rules in
+    (h, (refl, (c.requires.fit, walk_begins all task (record { alloc = c.args.alloc; items = c.new.result; budget = c.args.budget; asked = false }) (fit_task all c.args.given.now c.args.budget c.requires.some c.requires.fit) none refl refl))))
+
+pub returns-in-Ok-clause-log : goal.returns-in-Ok-clause-log
+returns-in-Ok-clause-log g c =
+    let all = g.B.Bank.trees c.args.bank.now in
+    let task : Task = record { given = map (clause_at all) c.args.given.now; budget = c.args.budget } in
+    c.ended.ensures (g.B.Bank.trees c.run.new.bank) task c.in-Ok.ensures.ended

@@ -1,0 +1,7 @@
+pub mod Codes
+pub mod Fit
+pub mod Logs
+pub mod Beating
+pub mod Walked
+pub mod Pairs
+pub mod Plain

@@ -1,0 +1,63 @@
+-- Pairs of entries, and what they give.
+use Rattle.std.specs.Prelude.{◌≡◌, ℕ, ◌<◌, min, max, true, false, Option, Some, None, List}
+use Rattle.terms.specs.Term.{Term}
+use Rattle.calculus.specs.Points.{numbered}
+use Rattle.clauses.specs.Fact as horn
+use Rattle.clauses.specs.Selection.{Selection, select, is_solved}
+use Rattle.clauses.specs.Resolvents.{Answer, Resolves}
+use Rattle.clauses.specs.Resolvents as answer
+use Rattle.term_tree.specs.declared.bank.Id.{Id}
+use Rattle.clause_form.specs.Seen.{clause_at, NameClauses}
+use Rattle.clause_resolve.specs.declared.resolving.Resolved.{Resolved}
+use Rattle.clause_resolve.specs.declared.resolving.Resolved.TheVariants.{NoUnifier, Large, Clauses}
+use Rattle.clause_saturate.specs.declared.log.Entry.{Entry}
+use Rattle.clause_saturate.specs.declared.walk.Pair.{Pair}
+
+-- the later and the earlier of two entries
+abbrev pub major : Pair → ℕ
+major pair = max pair.solved pair.unsolved
+
+abbrev pub minor : Pair → ℕ
+minor pair = min pair.solved pair.unsolved
+
+-- the pair is that of these two entries, both are live, and the one is solved and the other isn't
+pub record IsDuePair (all : List Term) (entries : List Entry) (later earlier : ℕ) (pair : Pair) : Type 0 where
+  pub solved : Entry
+  pub unsolved : Entry
+  pub solved_at : numbered entries pair.solved ≡ Some solved
+  pub unsolved_at : numbered entries pair.unsolved ≡ Some unsolved
+  pub is_later : major pair ≡ later
+  pub is_earlier : minor pair ≡ earlier
+  pub order : earlier < later
+  pub solved_live : solved.by ≡ None
+  pub unsolved_live : unsolved.by ≡ None
+  pub left_solved : is_solved (clause_at all solved.clause).hypotheses ≡ true
+  pub right_unsolved : is_solved (clause_at all unsolved.clause).hypotheses ≡ false
+
+-- where both are live, both are solved or none is
+abbrev pub NoDuePair : List Term → List Entry → ℕ → ℕ → Type 0
+NoDuePair all entries later earlier = (last first : Entry) → numbered entries later ≡ Some last → numbered entries earlier ≡ Some first → last.by ≡ None → first.by ≡ None
+    → is_solved (clause_at all last.clause).hypotheses ≡ is_solved (clause_at all first.clause).hypotheses
+
+abbrev pub IsPairFound : List Term → List Entry → ℕ → ℕ → Option Pair → Type 0
+IsPairFound all entries later earlier None = NoDuePair all entries later earlier
+IsPairFound all entries later earlier (Some pair) = IsDuePair all entries later earlier pair
+
+-- the due pair gives the answer on the selected hypothesis
+pub record GivesAnswer (all : List Term) (entries : List Entry) (pair : Pair) (answer : Answer) : Type 0 where
+  pub due : IsDuePair all entries (major pair) (minor pair) pair
+  pub at : Selection
+  pub selected : select (clause_at all due.unsolved.clause).hypotheses ≡ Some at
+  pub give : Resolves (clause_at all due.solved.clause) (clause_at all due.unsolved.clause) at answer
+
+-- the clauses name, in a bank that may have grown, the resolvents of the due pair
+pub record IsMadeBy (all now : List Term) (entries : List Entry) (pair : Pair) (clauses : List (horn.Clause Id)) : Type 0 where
+  pub resolvents : List (horn.Clause Term)
+  pub name : NameClauses now clauses resolvents
+  pub gives : GivesAnswer all entries pair (answer.Resolvents resolvents)
+
+-- what was found is the pair's answer
+abbrev pub IsFoundFor : List Term → List Term → List Entry → Pair → Resolved → Type 0
+IsFoundFor all now entries pair NoUnifier = GivesAnswer all entries pair answer.NoUnifier
+IsFoundFor all now entries pair Large = GivesAnswer all entries pair answer.Large
+IsFoundFor all now entries pair (Clauses clauses) = IsMadeBy all now entries pair clauses

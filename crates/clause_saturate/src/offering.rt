@@ -1,0 +1,165 @@
+//! Clauses that are offered to a log.
+
+ghost use Rattle.std.specs.Prelude.{◌≡◌, ◌+◌, ◌<◌, ◌≤◌, Some, None, List, length, IfOk, OnOk, MatchBool};
+ghost use Rattle.clauses.specs.Subsumption.{Subsumes};
+ghost use Rattle.saturation.specs.Key.{Key, Entry as EntryOf};
+ghost use Rattle.clause_form.specs.Seen.{clause_at};
+ghost use Rattle.clause_saturate.specs.Fit.{IsFit, AreFit};
+ghost use Rattle.clause_saturate.specs.Logs.{TellLog, IsOrigin};
+ghost use Rattle.clause_saturate.specs.Beating.{clauses_of, LiveCovers, SomeLiveCovers, BeatsLive, IsMarked, AreMarked, IsPushed, IsOfferMade};
+
+use crate::log::{Entry, Origin};
+use crate::walk::Walk;
+use clause_form::Clause;
+use multiset_subsume::cover_row;
+use std::alloc::{AllocError, Global};
+use term_tree::Bank;
+
+/// Whether the general clause subsumes the special one.
+fn subsumes<B: Bank>(
+    alloc: Global,
+    bank: &B,
+    general: &Clause,
+    special: &Clause,
+) -> Result<bool, AllocError>
+    requires general { IsFit (B.trees bank.now) general.now }
+    requires special { IsFit (B.trees bank.now) special.now }
+    ensures { IfOk result (λ yes. MatchBool yes (Subsumes (clause_at (B.trees bank.now) general.now) (clause_at (B.trees bank.now) special.now)) (Subsumes (clause_at (B.trees bank.now) general.now) (clause_at (B.trees bank.now) special.now) → ⊥)) }
+{
+    let row = cover_row(alloc, bank, general, special)?;
+    Ok(row.is_some())
+}
+
+/// Whether the entry is live and subsumes the clause.
+fn covers<B: Bank>(
+    alloc: Global,
+    bank: &B,
+    entry: &Entry,
+    clause: &Clause,
+) -> Result<bool, AllocError>
+    requires entry { IsFit (B.trees bank.now) entry.now.clause }
+    requires clause { IsFit (B.trees bank.now) clause.now }
+    ensures { IfOk result (λ yes. MatchBool yes (LiveCovers (B.trees bank.now) entry.now (clause_at (B.trees bank.now) clause.now)) (LiveCovers (B.trees bank.now) entry.now (clause_at (B.trees bank.now) clause.now) → ⊥)) }
+{
+    match entry.by {
+        Some(_) => Ok(false),
+        None => subsumes(alloc, bank, &entry.clause, clause),
+    }
+}
+
+/// Whether a live entry subsumes the clause.
+pub(crate) fn is_covered<B: Bank>(
+    alloc: Global,
+    bank: &B,
+    entries: &[Entry],
+    clause: &Clause,
+) -> Result<bool, AllocError>
+    requires entries { AreFit (B.trees bank.now) (clauses_of entries.now) }
+    requires clause { IsFit (B.trees bank.now) clause.now }
+    ensures { IfOk result (λ yes. MatchBool yes (SomeLiveCovers (B.trees bank.now) entries.now (clause_at (B.trees bank.now) clause.now)) (SomeLiveCovers (B.trees bank.now) entries.now (clause_at (B.trees bank.now) clause.now) → ⊥)) }
+{
+    'each: for entry in entries {
+        if covers(alloc, bank, entry, clause)? {
+            return Ok(true);
+        }
+    }
+    Ok(false)
+}
+
+/// Whether the entry is live and the clause subsumes it.
+fn beats<B: Bank>(
+    alloc: Global,
+    bank: &B,
+    clause: &Clause,
+    entry: &Entry,
+) -> Result<bool, AllocError>
+    requires clause { IsFit (B.trees bank.now) clause.now }
+    requires entry { IsFit (B.trees bank.now) entry.now.clause }
+    ensures { IfOk result (λ yes. MatchBool yes (BeatsLive (B.trees bank.now) (clause_at (B.trees bank.now) clause.now) entry.now) (BeatsLive (B.trees bank.now) (clause_at (B.trees bank.now) clause.now) entry.now → ⊥)) }
+{
+    match entry.by {
+        Some(_) => Ok(false),
+        None => subsumes(alloc, bank, clause, &entry.clause),
+    }
+}
+
+/// Marks an entry, if it is live and the clause subsumes it, as subsumed by the entry of that number.
+fn mark<B: Bank>(
+    alloc: Global,
+    bank: &B,
+    clause: &Clause,
+    number: usize,
+    entry: &mut Entry,
+) -> Result<(), AllocError>
+    requires clause { IsFit (B.trees bank.now) clause.now }
+    requires entry { IsFit (B.trees bank.now) entry.old.clause }
+    ensures { OnOk result (IsMarked (B.trees bank.now) (clause_at (B.trees bank.now) clause.now) number entry.old entry.new) }
+{
+    if beats(alloc, bank, clause, entry)? {
+        entry.by = Some(number);
+    }
+    Ok(())
+}
+
+/// Marks each live entry that the clause subsumes as subsumed by the entry of that number.
+fn mark_all<B: Bank>(
+    alloc: Global,
+    bank: &B,
+    clause: &Clause,
+    number: usize,
+    entries: &mut [Entry],
+) -> Result<(), AllocError>
+    requires clause { IsFit (B.trees bank.now) clause.now }
+    requires entries { AreFit (B.trees bank.now) (clauses_of entries.old) }
+    ensures { OnOk result (AreMarked (B.trees bank.now) (clause_at (B.trees bank.now) clause.now) number entries.old entries.new) }
+{
+    let mut i = 0;
+    'each: while i < entries.len() {
+        mark(alloc, bank, clause, number, &mut entries[i])?;
+        i += 1;
+    }
+    Ok(())
+}
+
+/// Adds an entry, and marks those that its clause subsumes.
+fn add<B: Bank>(walk: &mut Walk, bank: &B, entry: Entry) -> Result<(), AllocError>
+    requires entries { AreFit (B.trees bank.now) (clauses_of walk.old.items.items) }
+    requires entry { IsFit (B.trees bank.now) entry.clause }
+    ensures kept { (walk.new.budget ≡ walk.old.budget) × (walk.new.asked ≡ walk.old.asked) }
+    ensures pushed { OnOk result (IsPushed (B.trees bank.now) walk.old.items.items entry walk.new.items.items) }
+{
+    let number = walk.items.len() + 1;
+    mark_all(walk.alloc, bank, &entry.clause, number, &mut walk.items)?;
+    walk.items.push(entry)?;
+    Ok(())
+}
+
+/// Offers a clause: where a live entry subsumes it, nothing happens; else it is added, and the live entries that it
+/// subsumes are live no more. Where there are as many entries as the budget allows, it is handed back instead.
+pub(crate) fn offer<B: Bank>(
+    walk: &mut Walk,
+    bank: &B,
+    clause: &Clause,
+    origin: Origin,
+) -> Result<Option<Entry>, AllocError>
+    requires entries { AreFit (B.trees bank.now) (clauses_of walk.old.items.items) }
+    requires clause { IsFit (B.trees bank.now) clause.now }
+    requires within { length walk.old.items.items ≤ walk.old.budget }
+    ensures kept { (walk.new.budget ≡ walk.old.budget) × (walk.new.asked ≡ walk.old.asked) }
+    ensures made { (log : List EntryOf) (at : Key) → TellLog (B.trees bank.now) walk.old.items.items log → IsOrigin log origin at → IfOk result (λ due. IsOfferMade (B.trees bank.now) log walk.old.items.items walk.new.items.items walk.old.budget record { key = at; clause = clause_at (B.trees bank.now) clause.now } due) }
+{
+    if is_covered(walk.alloc, bank, &walk.items, clause)? {
+        return Ok(None);
+    }
+    let clause = clause.copy(walk.alloc)?;
+    let entry = Entry {
+        clause,
+        origin,
+        by: None,
+    };
+    if walk.items.len() as u64 == walk.budget {
+        return Ok(Some(entry));
+    }
+    add(walk, bank, entry)?;
+    Ok(None)
+}

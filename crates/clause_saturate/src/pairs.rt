@@ -1,0 +1,196 @@
+//! Pairs of entries, and what they give.
+
+ghost use Rattle.std.specs.Prelude.{◌≡◌, ◌+◌, ◌<◌, ◌≤◌, true, false, Some, None, List, length, take, IfOk, MatchBool};
+ghost use Rattle.std.specs.List.{AllByRecursion};
+ghost use Rattle.terms.specs.Term.{Term};
+ghost use Rattle.clauses.specs.Fact.{Clause as ClauseOf};
+ghost use Rattle.saturation.specs.Key.{key};
+ghost use Rattle.term_tree.specs.Bank.{Grows};
+ghost use Rattle.clause_form.specs.Seen.{clause_at};
+ghost use Rattle.clause_resolve.specs.Answers.{LeavesBank};
+ghost use Rattle.clause_saturate.specs.Fit.{AreFit};
+ghost use Rattle.clause_saturate.specs.Beating.{clauses_of, SomeLiveCovers};
+ghost use Rattle.clause_saturate.specs.Pairs.{major, minor, IsPairFound, IsDuePair, IsMadeBy, IsFoundFor};
+ghost use Rattle.clause_saturate.specs.Walked.{Task, IsWalked, HasOffered, HasPassed};
+
+use crate::log::{Entry, Origin};
+use crate::offering::{is_covered, offer};
+use crate::walk::{Pair, Stop, Walk};
+use clause_form::Clause;
+use clause_resolve::{Resolved, resolvents};
+use literal_selection::{is_solved, selected};
+use std::alloc::{AllocError, Global};
+use term_tree::{Bank, Mark};
+
+/// The solved and the unsolved one of two live entries, if one is and the other isn't.
+fn due_pair<B: Bank>(bank: &B, entries: &[Entry], later: usize, earlier: usize) -> Option<Pair>
+    requires entries { AreFit (B.trees bank.now) (clauses_of entries.now) }
+    requires some { 0 < earlier }
+    requires order { earlier < later }
+    requires within { later ≤ length entries.now }
+    ensures { IsPairFound (B.trees bank.now) entries.now later earlier result }
+{
+    let last = &entries[later - 1];
+    let first = &entries[earlier - 1];
+    if last.by.is_some() {
+        return None;
+    }
+    if first.by.is_some() {
+        return None;
+    }
+    if is_solved(bank, &last.clause) {
+        if is_solved(bank, &first.clause) {
+            return None;
+        }
+        return Some(Pair {
+            solved: later,
+            unsolved: earlier,
+        });
+    }
+    if is_solved(bank, &first.clause) {
+        return Some(Pair {
+            solved: earlier,
+            unsolved: later,
+        });
+    }
+    None
+}
+
+/// Whether live entries subsume all the clauses.
+fn are_covered<B: Bank>(
+    alloc: Global,
+    bank: &B,
+    entries: &[Entry],
+    clauses: &[Clause],
+) -> Result<bool, AllocError>
+    requires entries { AreFit (B.trees bank.now) (clauses_of entries.now) }
+    requires clauses { AreFit (B.trees bank.now) clauses.now }
+    ensures { IfOk result (λ yes. yes ≡ true → AllByRecursion (λ c. SomeLiveCovers (B.trees bank.now) entries.now (clause_at (B.trees bank.now) c)) clauses.now) }
+{
+    'each: for clause in clauses {
+        if !is_covered(alloc, bank, entries, clause)? {
+            return Ok(false);
+        }
+    }
+    Ok(true)
+}
+
+/// Offers the resolvents of a due pair in order.
+fn offer_resolvents<B: Bank>(
+    walk: &mut Walk,
+    bank: &B,
+    pair: Pair,
+    clauses: &[Clause],
+) -> Result<Option<Entry>, AllocError>
+    ghost task: { Task }
+    requires walked { IsWalked (B.trees bank.now) task walk.old (key (major pair) (minor pair) 1) }
+    requires made { IsMadeBy (B.trees bank.now) (B.trees bank.now) walk.old.items.items pair clauses.now }
+    ensures { IfOk result (λ due. HasOffered (B.trees bank.now) task walk.new (key (major pair) (minor pair + 1) 1) due) }
+{
+    let mut k = 0;
+    'each: while k < clauses.len() {
+        let origin = Origin::Resolvent {
+            k: k + 1,
+            solved: pair.solved,
+            unsolved: pair.unsolved,
+        };
+        match offer(walk, bank, &clauses[k], origin)? {
+            Some(due) => return Ok(Some(due)),
+            None => {}
+        }
+        k += 1;
+    }
+    Ok(None)
+}
+
+/// Offers the resolvents of a due pair; where all are covered, the bank is taken back to the mark.
+fn keep<B: Bank>(
+    walk: &mut Walk,
+    bank: &mut B,
+    mark: Mark,
+    pair: Pair,
+    clauses: &[Clause],
+) -> Result<Option<Stop>, AllocError>
+    ghost task: { Task }
+    requires mark { mark.len ≤ length (B.trees bank.old) }
+    requires walked { IsWalked (take mark.len (B.trees bank.old)) task walk.old (key (major pair) (minor pair) 1) }
+    requires made { IsMadeBy (take mark.len (B.trees bank.old)) (B.trees bank.old) walk.old.items.items pair clauses.now }
+    ensures grows { Grows (take mark.len (B.trees bank.old)) (B.trees bank.new) }
+    ensures passed { IfOk result (λ stop. HasPassed (B.trees bank.new) task walk.new (key (major pair) (minor pair + 1) 1) stop) }
+{
+    if are_covered(walk.alloc, bank, &walk.items, clauses)? {
+        bank.back(mark);
+        return Ok(None);
+    }
+    match offer_resolvents(walk, bank, pair, clauses)? {
+        Some(due) => Ok(Some(Stop::Spent(due))),
+        None => Ok(None),
+    }
+}
+
+/// What a due pair gives on the selected hypothesis.
+fn pair_resolvents<B: Bank>(
+    alloc: Global,
+    bank: &mut B,
+    entries: &[Entry],
+    pair: Pair,
+) -> Result<Resolved, AllocError>
+    requires entries { AreFit (B.trees bank.old) (clauses_of entries.now) }
+    requires due { IsDuePair (B.trees bank.old) entries.now (major pair) (minor pair) pair }
+    ensures grows { Grows (B.trees bank.old) (B.trees bank.new) }
+    ensures found { IfOk result (λ found. IsFoundFor (B.trees bank.old) (B.trees bank.new) entries.now pair found) }
+    ensures as_before { IfOk result (λ found. LeavesBank (B.trees bank.old) (B.trees bank.new) found) }
+{
+    let solved = &entries[pair.solved - 1];
+    let unsolved = &entries[pair.unsolved - 1];
+    match selected(bank, &unsolved.clause) {
+        Some(at) => {
+            let found = resolvents(alloc, bank, &solved.clause, &unsolved.clause, at)?;
+            Ok(found)
+        }
+        None => Ok(Resolved::NoUnifier),
+    }
+}
+
+/// Resolves a due pair, and offers the resolvents. On `Err` the bank may have grown.
+fn resolve<B: Bank>(walk: &mut Walk, bank: &mut B, pair: Pair) -> Result<Option<Stop>, AllocError>
+    ghost task: { Task }
+    requires walked { IsWalked (B.trees bank.old) task walk.old (key (major pair) (minor pair) 1) }
+    requires due { IsDuePair (B.trees bank.old) walk.old.items.items (major pair) (minor pair) pair }
+    ensures grows { Grows (B.trees bank.old) (B.trees bank.new) }
+    ensures passed { IfOk result (λ stop. HasPassed (B.trees bank.new) task walk.new (key (major pair) (minor pair + 1) 1) stop) }
+{
+    let mark = bank.mark();
+    match pair_resolvents(walk.alloc, bank, &walk.items, pair)? {
+        Resolved::NoUnifier => Ok(None),
+        Resolved::Large => Ok(Some(Stop::Large(pair.solved, pair.unsolved))),
+        Resolved::Clauses(clauses) => {
+            let stop = keep(walk, bank, mark, pair, &clauses.items)?;
+            Ok(stop)
+        }
+    }
+}
+
+/// Goes on from a pair of entries to the next: where it is due, its resolvents are offered. On `Err` the bank may
+/// have grown.
+pub(crate) fn try_pair<B: Bank>(
+    walk: &mut Walk,
+    bank: &mut B,
+    later: usize,
+    earlier: usize,
+) -> Result<Option<Stop>, AllocError>
+    ghost task: { Task }
+    requires walked { IsWalked (B.trees bank.old) task walk.old (key later earlier 1) }
+    requires some { 0 < earlier }
+    requires order { earlier < later }
+    ensures grows { Grows (B.trees bank.old) (B.trees bank.new) }
+    ensures passed { IfOk result (λ stop. HasPassed (B.trees bank.new) task walk.new (key later (earlier + 1) 1) stop) }
+{
+    match due_pair(bank, &walk.items, later, earlier) {
+        Some(pair) => {
+            let stop = resolve(walk, bank, pair)?;
+            Ok(stop)
+        }
+        None => Ok(None),
+    }
+}
