@@ -1,0 +1,33 @@
+-- What of a text is still to be put where so many of its items were.
+use Rattle.std.specs.Prelude.{◌≡◌, ℕ, zero, suc, List, ◌++◌, drop}
+use Rattle.trees.specs.Tree.{trees}
+use Rattle.calculus.specs.Syntax.{Protocol}
+use Rattle.terms.specs.Term.{Term}
+use Rattle.clauses.specs.Fact.{Fact, Clause}
+use Rattle.certificate_text.specs.Loose.{row, behind}
+use Rattle.certificate_text.specs.Written.{written_row}
+use Rattle.certificate_text.specs.Text.{later_hypotheses, hypotheses_text, clause_lines, numbers_text, row_lines}
+
+-- of the items, whose text from a place on is as told, those before the place were put
+pub record HasPut {X : Type 0} (from : ℕ → List X → List ℕ → List ℕ) (place : ℕ) (items : List X) (before after : List ℕ) : Type 0 where
+  pub is : (rest : List ℕ) → after ++ from place (drop place items) rest ≡ before ++ from 0 items rest
+
+-- arguments from a place on
+abbrev pub arguments_from : Protocol → ℕ → List Term → List ℕ → List ℕ
+arguments_from P zero ts rest = row (written_row P (trees ts)) rest
+arguments_from P (suc n) ts rest = behind (written_row P (trees ts)) rest
+
+-- hypotheses from a place on
+abbrev pub hypotheses_from : Protocol → ℕ → List (Fact Term) → List ℕ → List ℕ
+hypotheses_from P zero fs rest = hypotheses_text P fs rest
+hypotheses_from P (suc n) fs rest = later_hypotheses P fs rest
+
+-- lines of clauses, numbers, and lines of rows, which are the same wherever they begin
+abbrev pub clauses_from : Protocol → ℕ → List (Clause Term) → List ℕ → List ℕ
+clauses_from P place cs rest = clause_lines P cs rest
+
+abbrev pub numbers_from : ℕ → List ℕ → List ℕ → List ℕ
+numbers_from place ns rest = numbers_text ns rest
+
+abbrev pub rows_from : ℕ → ℕ → List (List ℕ) → List ℕ → List ℕ
+rows_from letter place rows rest = row_lines letter rows rest

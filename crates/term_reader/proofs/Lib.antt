@@ -1,0 +1,6 @@
+pub mod Digits
+pub mod Stack
+pub mod Points
+pub mod Variables
+pub mod Closing
+pub mod Walk

@@ -1,0 +1,8 @@
+-- How many names a protocol may declare for its texts to be read.
+use Rattle.std.specs.Prelude.{◌≤◌, length}
+use Rattle.calculus.specs.Syntax.{Protocol}
+
+-- at most 1,024 free names, and as many constructors
+pub record HasFewNames (P : Protocol) : Type 0 where
+  pub frees : length P.frees ≤ 1024
+  pub constructors : length P.constructors ≤ 1024

@@ -1,0 +1,62 @@
+//! Reading a term.
+
+ghost use Rattle.std.specs.Prelude.{◌≡◌, ℕ, List, ◌≤◌, length, drop, IfOk};
+ghost use Rattle.pi_tree.specs.Protocols.{protocol_of};
+ghost use Rattle.certificate_reading.specs.Runs.{at_end, read_term};
+ghost use Rattle.term_reader.specs.Few.{HasFewNames};
+ghost use Rattle.term_reader.specs.SeenSteps.{step_of, read_of};
+
+use crate::state::{Code, Mode, Reading, Step, no_heads};
+use crate::steps::step;
+use clause_form::Tree;
+use pi_tree::Protocol;
+use std::alloc::{AllocError, Global};
+
+/// What came of reading: a term, with the place behind it; or the place and the code of a refusal.
+#[derive(Debug, Drop)]
+pub enum Read {
+    Done(Tree, usize),
+    Refused(usize, Code),
+}
+
+#[tactic(auto, using(crate::proofs::Walk::walk))]
+/// What comes of the end of the bytes: they go on as with a line feed, with which no term goes on.
+fn at_end(place: usize, step: Step) -> Read
+    ensures { (bytes : List ℕ) → place ≡ length bytes → read_of bytes result ≡ at_end place (step_of step) }
+{
+    match step {
+        Step::Goes(_) => Read::Refused(place, Code::Syntax),
+        Step::Ends(term) => Read::Done(term, place),
+        Step::Fault(at, code) => Read::Refused(at, code),
+    }
+}
+
+/// The term that stands at the place.
+///
+/// `Err` comes only for want of memory.
+#[tactic(auto, using(crate::proofs::Walk::walk))]
+pub fn read_term(
+    alloc: Global,
+    protocol: &Protocol,
+    bytes: &[u8],
+    at: usize,
+) -> Result<Read, AllocError>
+    requires few { HasFewNames (protocol_of protocol.now) }
+    requires within { at ≤ length bytes.now }
+    ensures { IfOk result (λ read. read_of bytes.now read ≡ read_term (protocol_of protocol.now) (drop at bytes.now) at) }
+{
+    let mut reading = Reading {
+        heads: no_heads(alloc),
+        mode: Mode::Begins,
+        from: at,
+    };
+    for place in at..bytes.len() {
+        reading = match step(alloc, protocol, place, reading, bytes[place])? {
+            Step::Goes(next) => next,
+            Step::Ends(term) => return Ok(Read::Done(term, place)),
+            Step::Fault(at, code) => return Ok(Read::Refused(at, code)),
+        };
+    }
+    let last = step(alloc, protocol, bytes.len(), reading, b'\n')?;
+    Ok(at_end(bytes.len(), last))
+}
