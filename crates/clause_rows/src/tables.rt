@@ -1,0 +1,179 @@
+//! The tables of single clauses, and what a row of each shows.
+
+ghost use Rattle.clause_form.specs.Seen.{IsClauseIn, AreClausesIn};
+
+use crate::writing::clause_text;
+use clause_form::{
+    Clause, Normal, PlainClause, copy_into, flatten, is_normal, norm, read_out, size_of,
+};
+use literal_selection::{is_solved, selected};
+use std::alloc::{AllocError, Global};
+use term_tree::{Bank, SIZE_LIMIT, TreeBank};
+
+/// A table of single clauses.
+#[derive(Clone, Copy, Debug, PartialEq, Eq)]
+pub enum ClauseTable {
+    /// The norms of clauses.
+    Norms,
+    /// The flat parts of clauses.
+    Parts,
+    /// The sizes of clauses.
+    Sizes,
+    /// What is selected in clauses.
+    Selected,
+    /// Which clauses are their own norms.
+    Normal,
+    /// Clauses that are read out of a bank, copied into another one and read out of that.
+    Copies,
+}
+
+impl ClauseTable {
+    /// The table in the file with this name.
+    pub fn named(file: &str) -> Option<ClauseTable> {
+        match file.as_bytes() {
+            b"norms.txt" => Some(ClauseTable::Norms),
+            b"parts.txt" => Some(ClauseTable::Parts),
+            b"sizes.txt" => Some(ClauseTable::Sizes),
+            b"selected.txt" => Some(ClauseTable::Selected),
+            b"normal.txt" => Some(ClauseTable::Normal),
+            b"copies.txt" => Some(ClauseTable::Copies),
+            _ => None,
+        }
+    }
+
+    /// What a row with this clause shows.
+    pub fn shown(self, alloc: Global, plain: &PlainClause) -> Result<String, AllocError> {
+        let mut bank = TreeBank::new(alloc)?;
+        let clause = copy_into(alloc, &mut bank, plain)?;
+        self.shown_in(alloc, &mut bank, clause)
+    }
+
+    /// The same of a clause over ids of a bank.
+    fn shown_in(
+        self,
+        alloc: Global,
+        bank: &mut TreeBank,
+        clause: Clause,
+    ) -> Result<String, AllocError>
+        requires { IsClauseIn bank.old clause }
+    {
+        match self {
+            ClauseTable::Norms => norm_text(alloc, bank, clause),
+            ClauseTable::Parts => parts_text(alloc, bank, &clause),
+            ClauseTable::Sizes => size_text(alloc, bank, &clause),
+            ClauseTable::Selected => selected_text(alloc, bank, &clause),
+            ClauseTable::Normal => normal_text(alloc, bank, &clause),
+            ClauseTable::Copies => copied_text(alloc, bank, &clause),
+        }
+    }
+}
+
+/// The text of a clause over ids.
+fn text_of<B: Bank>(alloc: Global, bank: &B, clause: &Clause) -> Result<String, AllocError>
+    requires { IsClauseIn (B.trees bank.now) clause.now }
+{
+    let plain = read_out(alloc, bank, clause)?;
+    clause_text(alloc, &plain)
+}
+
+/// Adds the text of a clause behind those of others.
+fn add_text<B: Bank>(
+    alloc: Global,
+    bank: &B,
+    clause: &Clause,
+    texts: &mut String,
+) -> Result<(), AllocError>
+    requires { IsClauseIn (B.trees bank.now) clause.now }
+{
+    let text = text_of(alloc, bank, clause)?;
+    if !texts.is_empty() {
+        texts.push_str(" | ")?;
+    }
+    texts.push_str(text.as_str())?;
+    Ok(())
+}
+
+/// The texts of clauses, one behind the other.
+pub fn texts_of<B: Bank>(alloc: Global, bank: &B, clauses: &[Clause]) -> Result<String, AllocError>
+    requires { AreClausesIn (B.trees bank.now) clauses.now }
+{
+    let mut texts = String::new(alloc);
+    for clause in clauses {
+        add_text(alloc, bank, clause, &mut texts)?;
+    }
+    Ok(texts)
+}
+
+/// The norm of a clause.
+fn norm_text(alloc: Global, bank: &mut TreeBank, clause: Clause) -> Result<String, AllocError>
+    requires { IsClauseIn bank.old clause }
+{
+    match norm(alloc, bank, clause)? {
+        Normal::Tautology => String::from_str(alloc, "tautology"),
+        Normal::Clause(made) => text_of(alloc, bank, &made),
+    }
+}
+
+/// The flat parts of a clause.
+fn parts_text(alloc: Global, bank: &TreeBank, clause: &Clause) -> Result<String, AllocError>
+    requires { IsClauseIn bank.now clause.now }
+{
+    let parts = flatten(alloc, bank, clause)?;
+    texts_of(alloc, bank, &parts.items)
+}
+
+/// The size of a clause.
+fn size_text(alloc: Global, bank: &TreeBank, clause: &Clause) -> Result<String, AllocError>
+    requires { IsClauseIn bank.now clause.now }
+{
+    let size = size_of(bank, clause);
+    format!(in alloc; "{size}")
+}
+
+/// The place of the selected hypothesis, from 0, or `solved`.
+fn selected_text(alloc: Global, bank: &TreeBank, clause: &Clause) -> Result<String, AllocError>
+    requires { IsClauseIn bank.now clause.now }
+{
+    if size_of(bank, clause) == SIZE_LIMIT {
+        return String::from_str(alloc, "too large");
+    }
+    place_text(alloc, selected(bank, clause), is_solved(bank, clause))
+}
+
+/// The place that was selected, or `solved`; `wrong` where these disagree.
+fn place_text(alloc: Global, place: Option<usize>, solved: bool) -> Result<String, AllocError> {
+    match place {
+        Some(place) => {
+            if solved {
+                return String::from_str(alloc, "wrong");
+            }
+            format!(in alloc; "{place}")
+        }
+        None => String::from_str(alloc, solved_name(solved)),
+    }
+}
+
+/// `solved`, or `wrong` for a clause that isn't.
+fn solved_name(solved: bool) -> &'static str {
+    if solved { "solved" } else { "wrong" }
+}
+
+/// Whether a clause is its own norm.
+fn normal_text(alloc: Global, bank: &TreeBank, clause: &Clause) -> Result<String, AllocError>
+    requires { IsClauseIn bank.now clause.now }
+{
+    if is_normal(bank, clause) {
+        return String::from_str(alloc, "yes");
+    }
+    String::from_str(alloc, "no")
+}
+
+/// The clause that is read out of the bank, copied into another one and read out of that.
+fn copied_text(alloc: Global, bank: &TreeBank, clause: &Clause) -> Result<String, AllocError>
+    requires { IsClauseIn bank.now clause.now }
+{
+    let plain = read_out(alloc, bank, clause)?;
+    let mut other = TreeBank::new(alloc)?;
+    let copied = copy_into(alloc, &mut other, &plain)?;
+    text_of(alloc, &other, &copied)
+}
