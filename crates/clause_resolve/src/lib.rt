@@ -35,6 +35,3 @@ pub fn what_is_apart_outlasts_growth()
 pub fn normal_clauses_have_low_variables()
     ensures { (c : ClauseOf Term) → IsNormal c → IsWithinLimit c → HasLowVariables c }
 {}
-
-#[cfg(test)]
-mod tests;

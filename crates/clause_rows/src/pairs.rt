@@ -83,7 +83,7 @@ impl PairTable {
 }
 
 /// Whether a clause has no more symbols than the limit.
-fn is_small(bank: &TreeBank, clause: &Clause) -> bool
+pub fn is_small(bank: &TreeBank, clause: &Clause) -> bool
     requires { IsClauseIn bank.now clause.now }
     ensures { result ≡ true → IsWithinLimit (clause_at bank.now clause.now) }
 {
@@ -198,7 +198,7 @@ fn row_text(alloc: Global, row: &[u32]) -> Result<String, AllocError> {
 }
 
 /// Adds a position behind others.
-fn add_position(alloc: Global, position: u32, text: &mut String) -> Result<(), AllocError> {
+pub fn add_position(alloc: Global, position: u32, text: &mut String) -> Result<(), AllocError> {
     if !text.is_empty() {
         text.push(' ')?;
     }

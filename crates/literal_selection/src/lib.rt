@@ -76,6 +76,3 @@ pub fn selected<B: Bank>(bank: &B, clause: &Clause) -> Option<usize>
         None => None,
     }
 }
-
-#[cfg(test)]
-mod tests;

@@ -28,6 +28,3 @@ pub fn rows_show_satisfaction()
     ensures first { (P : Protocol) (q : Query) (c : Clause Term) (row other : List ℕ) →
         IsFirstGoalRow P q c row → IsFirstGoalRow P q c other → row ≡ other }
 {}
-
-#[cfg(test)]
-mod tests;
