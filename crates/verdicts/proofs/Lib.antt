@@ -1,0 +1,9 @@
+pub mod Rows
+pub mod Goals
+pub mod Uniqueness
+pub mod Entries
+pub mod Accepting
+pub mod Showing
+pub mod Building
+pub mod Finding
+pub mod Example

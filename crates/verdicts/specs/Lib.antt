@@ -1,0 +1,4 @@
+pub mod FirstRows
+pub mod First
+pub mod Verdict
+pub mod Example
