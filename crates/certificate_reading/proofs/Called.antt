@@ -1,5 +1,5 @@
 -- The word of a symbol names that symbol.
-use Rattle.std.proofs.Common.{◌≡◌, ℕ, zero, suc, ◌+◌, Bool, true, false, List, [], ◌∷◌, Option, Some, None, slice_get, option_map, option_and_then, unwrap_or, refl, sym, ◌∙◌, ap}
+use Rattle.std.proofs.Common.{◌≡◌, ℕ, zero, suc, ◌+◌, Bool, true, false, List, [], ◌∷◌, Option, Some, None, slice_get, option_map, option_and_then, unwrap_or, refl, sym, ◌∙◌, ap, subst}
 use Rattle.std.specs.Option.{option_or}
 use Rattle.std.specs.Str.{bytes_eq}
 use Rattle.std.proofs.lemmas.Slice.Eq.{bytes_eq-Decides}
@@ -8,10 +8,10 @@ use Rattle.calculus.specs.Points.{numbered, name_arguments}
 use Rattle.well_formed.specs.Words as declared
 use Rattle.terms.specs.Term.{Free, Point}
 use Rattle.certificate_text.specs.Words.{declared_word, word_of_process, word_at}
-use Rattle.certificate_text.specs.OfProtocol.{IsDeclared, IsConstructor, IsRestriction, HasNames}
-use Rattle.certificate_text.proofs.Names.{word_is, one_name, constructor_named, free_named}
+use Rattle.certificate_text.specs.OfProtocol.{IsDeclared, IsConstructor, IsEvent, IsRestriction, HasNames}
+use Rattle.certificate_text.proofs.Names.{word_is, one_name, constructor_named, free_named, event_named}
 use Rattle.certificate_reading.specs.Names as called
-use Rattle.certificate_reading.specs.Names.{Found, find_from, Named, constructor_symbol, symbol_called, is_restriction_of, if_restriction, name_called}
+use Rattle.certificate_reading.specs.Names.{Found, find_from, Named, constructor_symbol, symbol_called, is_restriction_of, if_restriction, name_called, CalledEvent, event_called}
 use Rattle.certificate_reading.proofs.Named.{found_at, numbered_is}
 
 -- where nothing was found no declaration has the word
@@ -28,16 +28,16 @@ none_there n (c ∷ ds) word i d none there same = by (bytes_eq c.word word) ref
     by false differs zero at later = let yes : bytes_eq c.word word ≡ true = (bytes_eq-Decides c.word word).1 (let first : c ≡ d = cc in ap (λ x. x.word) first ∙ same) in cc
     by false differs (suc j) at later = let rest : find_from (n + 1) ds word ≡ None = rw differs at none in later j d rest at same
 
-none_numbered : (ds : List Declared) (word : List ℕ) (number : ℕ) (d : Declared) → find_from 1 ds word ≡ None → numbered ds number ≡ Some d → d.word ≡ word → ⊥
+pub none_numbered : (ds : List Declared) (word : List ℕ) (number : ℕ) (d : Declared) → find_from 1 ds word ≡ None → numbered ds number ≡ Some d → d.word ≡ word → ⊥
 none_numbered ds word zero d none there same = cc
 none_numbered ds word (suc i) d none there same = none_there 1 ds word i d none there same
 
 -- what was found of the word is declared with it
-record IsThere (ds : List Declared) (word : List ℕ) (f : Found) : Type 0 where
-  there : numbered ds f.number ≡ Some f.declared
-  has_word : declared_word ds f.number ≡ word
+pub record IsThere (ds : List Declared) (word : List ℕ) (f : Found) : Type 0 where
+  pub there : numbered ds f.number ≡ Some f.declared
+  pub has_word : declared_word ds f.number ≡ word
 
-found_there : (ds : List Declared) (word : List ℕ) (f : Found) → find_from 1 ds word ≡ Some f → IsThere ds word f
+pub found_there : (ds : List Declared) (word : List ℕ) (f : Found) → find_from 1 ds word ≡ Some f → IsThere ds word f
 found_there ds word f e =
     let at = found_at 1 ds word f e in
     let there = numbered_is ds word f at in
@@ -90,3 +90,40 @@ point_called P point n is =
     let found : if_restriction (word_at P point) point (New is.word is.next) (Some n) ≡ Some record { symbol = Point point; arity = n } = rw equal refl in
     ap (option_and_then (λ node. if_restriction (word_at P point) point node (numbered (name_arguments 0 P.main) point))) is.there
     ∙ (ap (if_restriction (word_at P point) point (New is.word is.next)) is.arity ∙ found)
+
+abbrev event_of : Found → CalledEvent
+event_of f = record { number = f.number; arity = f.declared.arity }
+
+-- the word of an event names that event
+pub event_word_called : (P : Protocol) → HasNames P → (e n : ℕ) → IsEvent P e n → event_called P (declared_word P.events e) ≡ Some record { number = e; arity = n }
+event_word_called P names e n is = by (find_from 1 P.events (declared_word P.events e)) refl
+  where
+    by : (found : Option Found) → find_from 1 P.events (declared_word P.events e) ≡ found → event_called P (declared_word P.events e) ≡ Some record { number = e; arity = n }
+    by None none = absurd (none_numbered P.events (declared_word P.events e) e is.declared none is.there (sym (word_is P.events e is.declared is.there)))
+    by (Some f) some =
+        let here = found_there P.events (declared_word P.events e) f some in
+        let other : IsEvent P f.number f.declared.arity = record { declared = f.declared; there = here.there; arity = refl } in
+        let one : declared.Event f.number ≡ declared.Event e = one_name P names (declared.Event f.number) (declared.Event e) (declared_word P.events f.number) (declared_word P.events e) (event_named P f.number f.declared.arity other) (event_named P e n is) here.has_word in
+        let same : f.number ≡ e = cc in
+        let both : Some f.declared ≡ Some is.declared = sym here.there ∙ (ap (numbered P.events) same ∙ is.there) in
+        let one_declared : f.declared ≡ is.declared = cc in
+        ap (option_map event_of) some
+        ∙ (ap (λ d. Some record { number = f.number; arity = d.arity }) one_declared
+        ∙ (ap (λ m. Some record { number = m; arity = is.declared.arity }) same
+        ∙ ap (λ m. Some record { number = e; arity = m }) is.arity))
+
+-- what a word names as an event has that word
+pub record IsCalled (P : Protocol) (word : List ℕ) (called : CalledEvent) : Type 0 where
+  pub has_word : declared_word P.events called.number ≡ word
+  pub is_of : IsEvent P called.number called.arity
+
+pub event_called_is : (P : Protocol) (word : List ℕ) (called : CalledEvent) → event_called P word ≡ Some called → IsCalled P word called
+event_called_is P word called e = by (find_from 1 P.events word) refl e
+  where
+    by : (found : Option Found) → find_from 1 P.events word ≡ found → option_map event_of found ≡ Some called → IsCalled P word called
+    by None is none = absurd (cc)
+    by (Some f) is some =
+        let here = found_there P.events word f is in
+        let same : event_of f ≡ called = cc in
+        let told : IsCalled P word (event_of f) = record { has_word = here.has_word; is_of = record { declared = f.declared; there = here.there; arity = refl } } in
+        subst (IsCalled P word) same told

@@ -6,3 +6,10 @@ pub mod Complete
 pub mod Called
 pub mod Read
 pub mod Kept
+pub mod Parts
+pub mod Things
+pub mod FactsThere
+pub mod Long
+pub mod FactsFound
+pub mod ClausesRead
+pub mod CertificatesRead

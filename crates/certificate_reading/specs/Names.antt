@@ -46,3 +46,12 @@ if_restriction word point node arguments = if is_restriction_of word node then o
 -- the name of the restriction with this word at the point
 abbrev pub name_called : Protocol → List ℕ → ℕ → Option Named
 name_called P word point = option_and_then (λ node. if_restriction word point node (numbered (name_arguments 0 P.main) point)) (numbered (nodes P.main) point)
+
+-- an event, and how many arguments it takes
+pub record CalledEvent : Type 0 where
+  pub number : ℕ
+  pub arity : ℕ
+
+-- the event of the word
+abbrev pub event_called : Protocol → List ℕ → Option CalledEvent
+event_called P word = option_map (λ f. record { number = f.number; arity = f.declared.arity }) (find_from 1 P.events word)

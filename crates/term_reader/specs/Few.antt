@@ -2,7 +2,8 @@
 use Rattle.std.specs.Prelude.{◌≤◌, length}
 use Rattle.calculus.specs.Syntax.{Protocol}
 
--- at most 1,024 free names, and as many constructors
+-- at most 1,024 free names, and as many constructors and events
 pub record HasFewNames (P : Protocol) : Type 0 where
   pub frees : length P.frees ≤ 1024
   pub constructors : length P.constructors ≤ 1024
+  pub events : length P.events ≤ 1024

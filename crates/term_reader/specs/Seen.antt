@@ -5,6 +5,7 @@ use Rattle.clause_form.specs.Plain.{term_of}
 use Rattle.certificate_reading.specs.Names as names
 use Rattle.certificate_reading.specs.Terms as terms
 use Rattle.term_reader.specs.declared.names.Named.{Named}
+use Rattle.term_reader.specs.declared.names.CalledEvent.{CalledEvent}
 use Rattle.term_reader.specs.declared.state.Open.{Open}
 use Rattle.term_reader.specs.declared.state.Heads.{Heads}
 use Rattle.term_reader.specs.declared.state.Mode.{Mode}
@@ -17,6 +18,13 @@ named_of n = record { symbol = symbol_of n.symbol; arity = n.arity }
 abbrev pub found_of : Option Named → Option names.Named
 found_of None = None
 found_of (Some n) = Some (named_of n)
+
+abbrev pub called_of : CalledEvent → names.CalledEvent
+called_of e = record { number = e.number; arity = e.arity }
+
+abbrev pub event_of : Option CalledEvent → Option names.CalledEvent
+event_of None = None
+event_of (Some e) = Some (called_of e)
 
 abbrev pub open_of : Open → terms.Open
 open_of o = record { symbol = symbol_of o.symbol; arity = o.arity; place = o.place; arguments = o.arguments }

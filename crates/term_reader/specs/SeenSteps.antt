@@ -1,5 +1,5 @@
 -- What contracts see of steps, and of what was read.
-use Rattle.std.specs.Prelude.{◌≡◌, ℕ, List, [], ◌∷◌, drop}
+use Rattle.std.specs.Prelude.{◌≡◌, ℕ, ◌≤◌, List, [], ◌∷◌, drop}
 use Rattle.clause_form.specs.Plain.{term_of}
 use Rattle.certificate_reading.specs.Terms as terms
 use Rattle.certificate_reading.specs.Runs as runs
@@ -34,3 +34,8 @@ IsPopped heads (Top o h) = heads ≡ open_of o ∷ heads_of h
 abbrev pub read_of : List ℕ → Read → runs.Read
 read_of bytes (Done t place) = runs.Done (term_of t) place (drop place bytes)
 read_of bytes (Refused place code) = runs.Refused place (code_of code)
+
+-- what was read ends within so many bytes
+abbrev pub EndsWithin : ℕ → Read → Type 0
+EndsWithin size (Done t place) = place ≤ size
+EndsWithin size (Refused place code) = Unit {0}

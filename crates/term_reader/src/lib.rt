@@ -1,4 +1,4 @@
-//! A reader of the texts of terms.
+//! A reader of the texts of terms, and of the words and numbers in texts.
 #![tactic(auto)]
 
 mod classes;
@@ -8,5 +8,8 @@ mod reading;
 mod state;
 mod steps;
 
+pub use crate::classes::{begins_word, is_in_word};
+pub use crate::names::{CalledEvent, event_called, has_few_names};
+pub use crate::numbers::number;
 pub use crate::reading::{Read, read_term};
 pub use crate::state::Code;

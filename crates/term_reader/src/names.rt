@@ -1,12 +1,12 @@
 //! What words name in a protocol.
 
-ghost use Rattle.std.specs.Prelude.{◌≡◌, ◌≤◌, length, map, option_map};
+ghost use Rattle.std.specs.Prelude.{◌≡◌, ◌≤◌, true, false, length, map, option_map};
 ghost use Rattle.pi_tree.specs.Names.{declared_of};
 ghost use Rattle.pi_tree.specs.Processes.{process_of};
 ghost use Rattle.pi_tree.specs.Protocols.{protocol_of};
-ghost use Rattle.certificate_reading.specs.Names.{find_from, symbol_called, is_restriction_of, name_called};
+ghost use Rattle.certificate_reading.specs.Names.{find_from, symbol_called, is_restriction_of, name_called, event_called};
 ghost use Rattle.term_reader.specs.Few.{HasFewNames};
-ghost use Rattle.term_reader.specs.Seen.{found_of};
+ghost use Rattle.term_reader.specs.Seen.{found_of, event_of};
 
 use pi_tree::{Declared, Kind, Process, Protocol};
 use term_tree::Sym;
@@ -16,6 +16,23 @@ use term_tree::Sym;
 pub struct Named {
     pub symbol: Sym,
     pub arity: u32,
+}
+
+/// An event, and how many arguments it takes.
+#[derive(Clone, Copy, Debug)]
+pub struct CalledEvent {
+    pub number: u32,
+    pub arity: u32,
+}
+
+/// Whether the protocol declares so few names that its texts can be read: at most 1,024 of each kind.
+pub fn has_few_names(protocol: &Protocol) -> bool
+    ensures few { result ≡ true → HasFewNames (protocol_of protocol.now) }
+    ensures many { result ≡ false → HasFewNames (protocol_of protocol.now) → ⊥ }
+{
+    protocol.frees.items.len() <= 1024
+        && protocol.ctors.items.len() <= 1024
+        && protocol.events.items.len() <= 1024
 }
 
 /// The first declaration with this word, and its number.
@@ -82,5 +99,19 @@ pub fn name_called(protocol: &Protocol, word: &[u8], point: u32) -> Option<Named
         })
     } else {
         None
+    }
+}
+
+/// The event of the word.
+pub fn event_called(protocol: &Protocol, word: &[u8]) -> Option<CalledEvent>
+    requires { HasFewNames (protocol_of protocol.now) }
+    ensures { event_of result ≡ event_called (protocol_of protocol.now) word.now }
+{
+    match find_declared(&protocol.events.items, word) {
+        Some((number, declared)) => Some(CalledEvent {
+            number,
+            arity: declared.arity,
+        }),
+        None => None,
     }
 }

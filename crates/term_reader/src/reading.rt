@@ -4,7 +4,7 @@ ghost use Rattle.std.specs.Prelude.{◌≡◌, ℕ, List, ◌≤◌, length, dro
 ghost use Rattle.pi_tree.specs.Protocols.{protocol_of};
 ghost use Rattle.certificate_reading.specs.Runs.{at_end, read_term};
 ghost use Rattle.term_reader.specs.Few.{HasFewNames};
-ghost use Rattle.term_reader.specs.SeenSteps.{step_of, read_of};
+ghost use Rattle.term_reader.specs.SeenSteps.{step_of, read_of, EndsWithin};
 
 use crate::state::{Code, Mode, Reading, Step, no_heads};
 use crate::steps::step;
@@ -19,10 +19,11 @@ pub enum Read {
     Refused(usize, Code),
 }
 
-#[tactic(auto, using(crate::proofs::Walk::walk))]
 /// What comes of the end of the bytes: they go on as with a line feed, with which no term goes on.
+#[tactic(auto, using(crate::proofs::Walk::walk))]
 fn at_end(place: usize, step: Step) -> Read
-    ensures { (bytes : List ℕ) → place ≡ length bytes → read_of bytes result ≡ at_end place (step_of step) }
+    ensures read { (bytes : List ℕ) → place ≡ length bytes → read_of bytes result ≡ at_end place (step_of step) }
+    ensures within { EndsWithin place result }
 {
     match step {
         Step::Goes(_) => Read::Refused(place, Code::Syntax),
@@ -43,7 +44,8 @@ pub fn read_term(
 ) -> Result<Read, AllocError>
     requires few { HasFewNames (protocol_of protocol.now) }
     requires within { at ≤ length bytes.now }
-    ensures { IfOk result (λ read. read_of bytes.now read ≡ read_term (protocol_of protocol.now) (drop at bytes.now) at) }
+    ensures read { IfOk result (λ read. read_of bytes.now read ≡ read_term (protocol_of protocol.now) (drop at bytes.now) at) }
+    ensures within { IfOk result (λ read. EndsWithin (length bytes.now) read) }
 {
     let mut reading = Reading {
         heads: no_heads(alloc),

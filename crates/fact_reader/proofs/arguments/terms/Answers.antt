@@ -1,0 +1,15 @@
+use Rattle.clause_form.specs.Plain.{term_of}
+use Rattle.pi_tree.specs.Protocols.{protocol_of}
+use Rattle.certificate_reading.specs.Facts.{argument}
+use Rattle.fact_reader.proofs.Things.{viewed_on, viewed_end}
+use Rattle.fact_reader.proofs.arguments.terms.Goals as goal
+
+pub returns-then-not-more-clause-read : goal.returns-then-not-more-clause-read
+returns-then-not-more-clause-read c =
+    viewed_end term_of (argument (protocol_of c.args.protocol.now)) c.args.bytes.now c.args.at c.loop-round.round c.loop-round.place c.in_ok-next.behind
+    c.loop-round.items.items c.push.new.self.items c.in_ok-next.next c.in_ok-next.more c.in_ok-push.ensures.items c.if-not-more.true c.loop-round.invariant c.loop-round-test.true c.in_ok-next.ensures.read
+
+pub loop-round-preserved : goal.loop-round-preserved
+loop-round-preserved c =
+    viewed_on term_of (argument (protocol_of c.args.protocol.now)) c.args.bytes.now c.args.at c.loop-round.round c.loop-round.place c.in_ok-next.behind
+    c.loop-round.items.items c.push.new.self.items c.in_ok-next.next c.in_ok-next.more c.in_ok-push.ensures.items c.if-not-more.false c.loop-round.invariant c.loop-round-test.true c.in_ok-next.ensures.read c.in_ok-next.ensures.within

@@ -1,0 +1,3 @@
+pub mod Errors
+pub mod Gives
+pub mod Seen
