@@ -1,0 +1,12 @@
+pub mod Composing
+pub mod Walking
+pub mod Leftovers
+pub mod GoalArguments
+pub mod Nexts
+pub mod Fitting
+pub mod Pairing
+pub mod CoverRows
+pub mod Looking
+pub mod Passing
+pub mod Reaching
+pub mod Linear

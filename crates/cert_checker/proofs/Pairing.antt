@@ -1,0 +1,46 @@
+-- What a pair's answer is to the stage of the pairs.
+use Rattle.std.proofs.Common.{◌≡◌, ℕ, ◌<◌, None, List, refl, inl, arith}
+use Rattle.terms.specs.Term.{Term}
+use Rattle.calculus.specs.Bounds.{most_symbols}
+use Rattle.clauses.specs.Fact.{Clause, clause_terms, clause_size}
+use Rattle.clauses.specs.Variables.{leaves, IsBelow}
+use Rattle.clauses.proofs.Lists.{all_weaker}
+use Rattle.clauses.proofs.NormNumbers.{norm-below}
+use Rattle.clauses.specs.Selection.{select}
+use Rattle.clauses.specs.Resolvents.{NoUnifier, Large, Resolvents}
+use Rattle.certificates.specs.Certificate.{CoverRowHolds, Numbered, numbered_from, Pair, pairs_with}
+use Rattle.certificates.specs.Ruling.{Closure}
+use Rattle.term_tree.specs.declared.bank.Id.{Id}
+use Rattle.clause_form.specs.Seen.{clause_at}
+use Rattle.clause_resolve.specs.Low.{HasLowVariables}
+use Rattle.clause_resolve.specs.Answers.{Gives}
+use Rattle.cert_checker.specs.Answers.{IsFit}
+use Rattle.cert_checker.specs.Stages.{AreShown, FirstUnshown, AreClosed, FirstOpen}
+
+module _ (clauses : List (Clause Term)) (i j : Numbered) where
+  -- the pair, if the second clause is unsolved
+  abbrev pub Two : List Pair
+  Two = pairs_with i (select j.clause.hypotheses) j
+
+  pub none_due : (rows : List (List ℕ)) → select j.clause.hypotheses ≡ None → AreClosed clauses Two rows rows
+  none_due rows none = rw none refl
+
+  pub no_unifier : (rows : List (List ℕ)) → Gives i.clause j.clause NoUnifier → AreClosed clauses Two rows rows
+  no_unifier rows g = rw g.is_selected (rows, record { answer = NoUnifier; gives = g.gives; covered = refl }, refl)
+
+  pub too_large : (rows : List (List ℕ)) → Gives i.clause j.clause Large → FirstOpen clauses Two rows (Closure i.number j.number 0)
+  too_large rows g = rw g.is_selected (inl (0, record { answer = Large; gives = g.gives; uncovered = refl }, refl))
+
+  pub all_covered : (rows left : List (List ℕ)) (cs : List (Clause Term)) → Gives i.clause j.clause (Resolvents cs) → AreShown (CoverRowHolds clauses) (numbered_from 1 cs) rows left → AreClosed clauses Two rows left
+  all_covered rows left cs g shown = rw g.is_selected (left, record { answer = Resolvents cs; gives = g.gives; covered = shown }, refl)
+
+  pub one_uncovered : (rows : List (List ℕ)) (cs : List (Clause Term)) (number : ℕ) → Gives i.clause j.clause (Resolvents cs) → FirstUnshown (CoverRowHolds clauses) (numbered_from 1 cs) rows number → FirstOpen clauses Two rows (Closure i.number j.number number)
+  one_uncovered rows cs number g fails = rw g.is_selected (inl (number, record { answer = Resolvents cs; gives = g.gives; uncovered = fails }, refl))
+
+-- fit clauses have low variables
+pub fit_low : (all : List Term) (c : Clause Id) → IsFit all c → HasLowVariables (clause_at all c)
+fit_low all c fit =
+    let small = fit.small in
+    all_weaker (IsBelow (clause_size (clause_at all c))) (IsBelow most_symbols)
+    (λ t b. all_weaker (λ x. x < clause_size (clause_at all c)) (λ x. x < most_symbols) (λ x h. omega (arith, h, small)) (leaves t) b)
+    (clause_terms (clause_at all c)) (norm-below (clause_at all c) (clause_at all c) fit.normal.own)

@@ -1,0 +1,218 @@
+-- Pairs of a certificate's clauses by their places: what comes of each, and of all that were passed.
+use Rattle.std.proofs.Common.{◌≡◌, ◌∙◌, ℕ, zero, suc, ◌+◌, ◌<◌, ◌≤◌, true, false, Option, Some, None, List, [], ◌∷◌, ◌++◌, length, get_or, drop, refl, ap, sym, subst, arith, add-one}
+use Rattle.std.specs.Prelude.{slice_get, option_map}
+use Rattle.std.proofs.lemmas.Bool.{false≢true}
+use Rattle.std.proofs.lemmas.List.{length-map}
+use Rattle.std.proofs.lemmas.Option.{slice_get-map, slice_get-get_or}
+use Rattle.terms.specs.Term.{Term}
+use Rattle.terms.proofs.Replace.{some_same}
+use Rattle.clauses.specs.Fact.{Fact, Clause}
+use Rattle.clauses.specs.Selection.{Selection, select, is_solved}
+use Rattle.clauses.proofs.Selection.{select-none}
+use Rattle.clauses.specs.Resolvents.{Resolvents}
+use Rattle.certificates.specs.Certificate.{CoverRowHolds, Numbered, numbered_from, Pair, pairs_with, pairs_of_solved, pairs_of}
+use Rattle.term_tree.specs.declared.bank.Id.{Id}
+use Rattle.clause_form.specs.Seen.{clause_at}
+use Rattle.literal_selection.specs.Best.{selected_place}
+use Rattle.clause_resolve.specs.Apart.{IsSelectedAt}
+use Rattle.clause_resolve.specs.Answers.{Gives, IsAnswerOf}
+use Rattle.clause_resolve.specs.declared.resolving.Resolved.{Resolved}
+use Rattle.clause_resolve.specs.declared.resolving.Resolved.TheVariants as resolved_so
+use Rattle.cert_checker.specs.Stages.{AreShown, FirstUnshown, AreClosed, FirstOpen}
+use Rattle.cert_checker.specs.Rulings.{ruling_of}
+use Rattle.cert_checker.specs.Answers.{AreFit, clauses_at, numbered_at, where_shown, IsShownSo, IsClosedSo, pairs_of_two, pairs_with_all, pairs_if_solved, pair_at, pairs_at, pairs_at_solved}
+use Rattle.cert_checker.specs.declared.ruling.Ruling.{Ruling}
+use Rattle.cert_checker.specs.declared.ruling.Ruling.TheVariants as rulings
+use Rattle.cert_checker.specs.declared.ruling.Shown as shown
+use Rattle.cert_checker.specs.declared.ruling.Shown.TheVariants as shown_so
+use Rattle.cert_checker.specs.declared.ruling.Closed as closed
+use Rattle.cert_checker.specs.declared.ruling.Closed.TheVariants as closed_so
+use Rattle.cert_checker.proofs.Fitting.{resolvents_fit}
+use Rattle.cert_checker.proofs.Pairing.{none_due, no_unifier, too_large, all_covered, one_uncovered}
+use Rattle.cert_checker.proofs.Walking.{with_number, clause_at_place, none_ahead, IsPassed, pass_begins, pass_goes_on, pass_fails, pass_ends}
+
+-- the clause at a place, with its number
+pub numbered_place : (all : List Term) (cs : List (Clause Id)) (i : ℕ) (d : Clause Id) → i < length cs → slice_get (numbered_at all cs) i ≡ Some (with_number (i + 1) (clause_at all (get_or cs i d)))
+numbered_place all cs i d within =
+    let number : 1 + i ≡ i + 1 = omega arith in
+    let there : slice_get (clauses_at all cs) i ≡ Some (clause_at all (get_or cs i d)) = slice_get-map (clause_at all) cs i ∙ ap (option_map (clause_at all)) (slice_get-get_or cs i d within) in
+    clause_at_place 1 (clauses_at all cs) i (clause_at all (get_or cs i d)) there ∙ ap (λ n. Some (with_number n (clause_at all (get_or cs i d)))) number
+
+-- the hypothesis that is found is the selected one; and where none is, nothing is selected
+pub selected_as : (all : List Term) (cs : List (Clause Id)) (j at : ℕ) (e : Clause Id) (o : Option ℕ) → j < length cs → o ≡ Some at → o ≡ selected_place (clause_at all (get_or cs j e)).hypotheses → (c : Clause Id) → slice_get cs j ≡ Some c → IsSelectedAt (clause_at all c) at
+selected_as all cs j at e o within found told c there =
+    let same : get_or cs j e ≡ c = some_same (sym (slice_get-get_or cs j e within) ∙ there) in
+    subst (λ (x : Clause Id). IsSelectedAt (clause_at all x) at) same (sym told ∙ found)
+
+pub selected_at : (all : List Term) (cs : List (Clause Id)) (j at : ℕ) (e : Clause Id) → j < length cs → ((c : Clause Id) → slice_get cs j ≡ Some c → IsSelectedAt (clause_at all c) at) → IsSelectedAt (clause_at all (get_or cs j e)) at
+selected_at all cs j at e within each = each (get_or cs j e) (slice_get-get_or cs j e within)
+
+pub none_selected : (hs : List (Fact Term)) (o : Option ℕ) → o ≡ None → o ≡ selected_place hs → select hs ≡ None
+none_selected hs o none told = go (select hs) (sym told ∙ none) where
+  go : (s : Option Selection) → option_map (λ (at : Selection). at.index) s ≡ None → s ≡ None
+  go None e = refl
+  go (Some at) e = cc
+
+-- resolvents are fit
+pub made_fit : (new : List Term) (solved unsolved : Clause Term) (found : Resolved) (made : List (Clause Id)) → found ≡ resolved_so.Clauses made → IsAnswerOf new solved unsolved found → AreFit new made
+made_fit new solved unsolved found made e answer =
+    let told = subst (λ (r : Resolved). IsAnswerOf new solved unsolved r) e answer in
+    resolvents_fit new made told.2.gives.0 told.0 told.2.gives.2 told.1
+
+-- The pair of the clauses at two places.
+module _ (all : List Term) (cs : List (Clause Id)) (rows : List (List ℕ)) (from i j : ℕ) (d e : Clause Id) (solved_within : i < length cs) (unsolved_within : j < length cs) where
+  abbrev A : Numbered
+  A = with_number (i + 1) (clause_at all (get_or cs i d))
+
+  abbrev B : Numbered
+  B = with_number (j + 1) (clause_at all (get_or cs j e))
+
+  two : pair_at (numbered_at all cs) i j ≡ pairs_with A (select (clause_at all (get_or cs j e)).hypotheses) B
+  two = cc (ap (λ o. pairs_of_two o (slice_get (numbered_at all cs) j)) (numbered_place all cs i d solved_within), ap (λ o. pairs_of_two (Some A) o) (numbered_place all cs j e unsolved_within))
+
+  closed_by : (left : ℕ) → AreClosed (clauses_at all cs) (pairs_with A (select (clause_at all (get_or cs j e)).hypotheses) B) (drop from rows) (drop left rows) → IsClosedSo (clauses_at all cs) (pair_at (numbered_at all cs) i j) rows from (closed_so.All left)
+  closed_by left x = subst (λ ps. AreClosed (clauses_at all cs) ps (drop from rows) (drop left rows)) (sym two) x
+
+  open_by : (ruling : Ruling) → FirstOpen (clauses_at all cs) (pairs_with A (select (clause_at all (get_or cs j e)).hypotheses) B) (drop from rows) (ruling_of ruling) → IsClosedSo (clauses_at all cs) (pair_at (numbered_at all cs) i j) rows from (closed_so.Except ruling)
+  open_by ruling x = subst (λ ps. FirstOpen (clauses_at all cs) ps (drop from rows) (ruling_of ruling)) (sym two) x
+
+  -- the second clause is solved
+  pub pair_not_due : select (clause_at all (get_or cs j e)).hypotheses ≡ None → IsClosedSo (clauses_at all cs) (pair_at (numbered_at all cs) i j) rows from (closed_so.All from)
+  pair_not_due none = closed_by from (none_due (clauses_at all cs) A B (drop from rows) none)
+
+  pub pair_apart : (new : List Term) (found : Resolved) → found ≡ resolved_so.NoUnifier → IsAnswerOf new (clause_at all (get_or cs i d)) (clause_at all (get_or cs j e)) found → IsClosedSo (clauses_at all cs) (pair_at (numbered_at all cs) i j) rows from (closed_so.All from)
+  pair_apart new found same answer = closed_by from (no_unifier (clauses_at all cs) A B (drop from rows) (subst (λ (r : Resolved). IsAnswerOf new (clause_at all (get_or cs i d)) (clause_at all (get_or cs j e)) r) same answer))
+
+  pub pair_large : (new : List Term) (found : Resolved) → found ≡ resolved_so.Large → IsAnswerOf new (clause_at all (get_or cs i d)) (clause_at all (get_or cs j e)) found → IsClosedSo (clauses_at all cs) (pair_at (numbered_at all cs) i j) rows from (where_shown i j (shown_so.Except 0))
+  pair_large new found same answer = open_by (rulings.Closure (i + 1) (j + 1) 0) (too_large (clauses_at all cs) A B (drop from rows) (subst (λ (r : Resolved). IsAnswerOf new (clause_at all (get_or cs i d)) (clause_at all (get_or cs j e)) r) same answer))
+
+  -- what is shown of the resolvents
+  by_rows : (made : List (Clause Term)) (given : List (Clause Term)) (o : shown.Shown) → made ≡ given → Gives (clause_at all (get_or cs i d)) (clause_at all (get_or cs j e)) (Resolvents given) → IsShownSo (CoverRowHolds (clauses_at all cs)) (numbered_from 1 made) rows from o → IsClosedSo (clauses_at all cs) (pair_at (numbered_at all cs) i j) rows from (where_shown i j o)
+  by_rows made given (shown_so.All next) same gives x =
+      closed_by next (all_covered (clauses_at all cs) A B (drop from rows) (drop next rows) given gives (subst (λ (l : List (Clause Term)). AreShown (CoverRowHolds (clauses_at all cs)) (numbered_from 1 l) (drop from rows) (drop next rows)) same x))
+  by_rows made given (shown_so.Except number) same gives x =
+      open_by (rulings.Closure (i + 1) (j + 1) number) (one_uncovered (clauses_at all cs) A B (drop from rows) given number gives (subst (λ (l : List (Clause Term)). FirstUnshown (CoverRowHolds (clauses_at all cs)) (numbered_from 1 l) (drop from rows) number) same x))
+
+  pub pair_shown : (new : List Term) (made : List (Clause Id)) (o : shown.Shown) → clauses_at new cs ≡ clauses_at all cs → IsAnswerOf new (clause_at all (get_or cs i d)) (clause_at all (get_or cs j e)) (resolved_so.Clauses made) → IsShownSo (CoverRowHolds (clauses_at new cs)) (numbered_from 1 (clauses_at new made)) rows from o
+      → IsClosedSo (clauses_at all cs) (pair_at (numbered_at all cs) i j) rows from (where_shown i j o)
+  pair_shown new made o same answer x =
+      by_rows (clauses_at new made) answer.0 o answer.1.are answer.2 (subst (λ (l : List (Clause Term)). IsShownSo (CoverRowHolds l) (numbered_from 1 (clauses_at new made)) rows from o) same x)
+
+-- what is at a place is the first of what is ahead there
+ahead : (xs : List Numbered) (k : ℕ) → k < length xs → (x : Numbered) × (slice_get xs k ≡ Some x) × (drop k xs ≡ x ∷ drop (suc k) xs)
+ahead [] k within = absurd (omega (arith, within))
+ahead (x ∷ xs) zero within = (x, refl, refl)
+ahead (x ∷ xs) (suc k) within = ahead xs k (omega (arith, within))
+
+numbered_length : (n : ℕ) (cs : List (Clause Term)) → length (numbered_from n cs) ≡ length cs
+numbered_length n [] = refl
+numbered_length n (c ∷ cs) = ap suc (numbered_length (n + 1) cs)
+
+at_length : (all : List Term) (cs : List (Clause Id)) → length (numbered_at all cs) ≡ length cs
+at_length all cs = numbered_length 1 (clauses_at all cs) ∙ length-map cs (clause_at all)
+
+-- of a clause with those ahead, the pair with the next one comes first
+pairs_step : (i : Option Numbered) (x : Numbered) (xs : List Numbered) → pairs_with_all i (x ∷ xs) ≡ pairs_of_two i (Some x) ++ pairs_with_all i xs
+pairs_step None x xs = refl
+pairs_step (Some i) x xs = refl
+
+pairs_none : (i : Option Numbered) → pairs_with_all i [] ≡ []
+pairs_none None = refl
+pairs_none (Some i) = refl
+
+pairs_next : (i : Option Numbered) (xs : List Numbered) (k : ℕ) → k < length xs → pairs_with_all i (drop k xs) ≡ pairs_of_two i (slice_get xs k) ++ pairs_with_all i (drop (k + 1) xs)
+pairs_next i xs k within =
+    let next = ahead xs k within in
+    ap (pairs_with_all i) next.2 ∙ (pairs_step i next.0 (drop (suc k) xs) ∙ λ t. pairs_of_two i (sym next.1 t) ++ pairs_with_all i (drop (sym (add-one k) t) xs))
+
+solved_next : (xs : List Numbered) (k : ℕ) → k < length xs → pairs_of (drop k xs) xs ≡ pairs_at_solved xs k ++ pairs_of (drop (k + 1) xs) xs
+solved_next xs k within =
+    let next = ahead xs k within in
+    ap (λ l. pairs_of l xs) next.2 ∙ λ t. pairs_if_solved (sym next.1 t) xs ++ pairs_of (drop (sym (add-one k) t) xs) xs
+
+-- the clause at a place is solved: its pairs are those with all; and where it isn't, it has none
+pub solved_pairs : (all : List Term) (cs : List (Clause Id)) (i : ℕ) (d : Clause Id) → i < length cs → is_solved (clause_at all (get_or cs i d)).hypotheses ≡ true → pairs_at (numbered_at all cs) i ≡ pairs_at_solved (numbered_at all cs) i
+solved_pairs all cs i d within solved =
+    let each = numbered_at all cs in
+    let here = with_number (i + 1) (clause_at all (get_or cs i d)) in
+    let place = numbered_place all cs i d within in
+    ap (λ o. pairs_with_all o each) place ∙ (ap (λ s. pairs_of_solved s here each) (sym ((select-none (clause_at all (get_or cs i d)).hypotheses).1 solved)) ∙ ap (λ o. pairs_if_solved o each) (sym place))
+
+no_pairs : (o : Option Selection) (i : Numbered) (each : List Numbered) → (o ≡ None → ⊥) → pairs_of_solved o i each ≡ []
+no_pairs None i each never = absurd (never refl)
+no_pairs (Some at) i each never = refl
+
+unsolved_pairs : (all : List Term) (cs : List (Clause Id)) (i : ℕ) (d : Clause Id) → i < length cs → is_solved (clause_at all (get_or cs i d)).hypotheses ≡ false → pairs_at_solved (numbered_at all cs) i ≡ []
+unsolved_pairs all cs i d within unsolved =
+    let each = numbered_at all cs in
+    let c = clause_at all (get_or cs i d) in
+    ap (λ o. pairs_if_solved o each) (numbered_place all cs i d within)
+    ∙ no_pairs (select c.hypotheses) (with_number (i + 1) c) each (λ e. false≢true (sym unsolved ∙ (select-none c.hypotheses).0 e))
+
+pub passed_none : (all : List Term) (cs : List (Clause Id)) (rows : List (List ℕ)) (from i : ℕ) (d : Clause Id) → i < length cs → is_solved (clause_at all (get_or cs i d)).hypotheses ≡ false → IsClosedSo (clauses_at all cs) (pairs_at_solved (numbered_at all cs) i) rows from (closed_so.All from)
+passed_none all cs rows from i d within unsolved = subst (λ ps. AreClosed (clauses_at all cs) ps (drop from rows) (drop from rows)) (sym (unsolved_pairs all cs i d within unsolved)) refl
+
+-- Pairs that are passed one after the other, over a bank that comes back each time.
+module _ (all : List Term) (cs : List (Clause Id)) (rows : List (List ℕ)) (from : ℕ) where
+  -- of a solved clause, those with the clauses before the place
+  pub record PassedWith (i : ℕ) (now : List Term) (k next : ℕ) : Type 0 where
+    pub passed : IsPassed (clauses_at all cs) (pairs_at (numbered_at all cs) i) rows from (pairs_with_all (slice_get (numbered_at all cs) i) (drop k (numbered_at all cs))) next
+    pub same : now ≡ all
+
+  pub with_begins : (i : ℕ) → PassedWith i all 0 from
+  with_begins i = record { passed = pass_begins (clauses_at all cs) (pairs_at (numbered_at all cs) i) rows from; same = refl }
+
+  with_next : (i k : ℕ) → k < length cs → pairs_with_all (slice_get (numbered_at all cs) i) (drop k (numbered_at all cs)) ≡ pair_at (numbered_at all cs) i k ++ pairs_with_all (slice_get (numbered_at all cs) i) (drop (k + 1) (numbered_at all cs))
+  with_next i k within = pairs_next (slice_get (numbered_at all cs) i) (numbered_at all cs) k (omega (arith, within, at_length all cs))
+
+  back_in : (now : List Term) (ps : List (Clause Id) → List Term → List Pair) (next : ℕ) (o : closed.Closed) → now ≡ all → IsClosedSo (clauses_at now cs) (ps cs now) rows next o → IsClosedSo (clauses_at all cs) (ps cs all) rows next o
+  back_in now ps next o same x = subst (λ (t : List Term). IsClosedSo (clauses_at t cs) (ps cs t) rows next o) same x
+
+  pub with_goes_on : (i k next left : ℕ) (now later : List Term) (o : closed.Closed) → PassedWith i now k next → k < length cs → later ≡ now → o ≡ closed_so.All left → IsClosedSo (clauses_at now cs) (pair_at (numbered_at now cs) i k) rows next o → PassedWith i later (k + 1) left
+  with_goes_on i k next left now later o was within kept e x = record {
+    passed = pass_goes_on (clauses_at all cs) (pairs_at (numbered_at all cs) i) rows from (pairs_with_all (slice_get (numbered_at all cs) i) (drop k (numbered_at all cs))) (pair_at (numbered_at all cs) i k)
+        (pairs_with_all (slice_get (numbered_at all cs) i) (drop (k + 1) (numbered_at all cs))) next left (with_next i k within)
+        (subst (λ (r : closed.Closed). IsClosedSo (clauses_at all cs) (pair_at (numbered_at all cs) i k) rows next r) e (back_in now (λ c t. pair_at (numbered_at t c) i k) next o was.same x)) was.passed;
+    same = kept ∙ was.same;
+  }
+
+  pub with_fails : (i k next : ℕ) (ruling : Ruling) (now : List Term) (o : closed.Closed) → PassedWith i now k next → k < length cs → o ≡ closed_so.Except ruling → IsClosedSo (clauses_at now cs) (pair_at (numbered_at now cs) i k) rows next o → IsClosedSo (clauses_at all cs) (pairs_at (numbered_at all cs) i) rows from (closed_so.Except ruling)
+  with_fails i k next ruling now o was within e x =
+      pass_fails (clauses_at all cs) (pairs_at (numbered_at all cs) i) rows from (pairs_with_all (slice_get (numbered_at all cs) i) (drop k (numbered_at all cs))) (pair_at (numbered_at all cs) i k)
+      (pairs_with_all (slice_get (numbered_at all cs) i) (drop (k + 1) (numbered_at all cs))) next (ruling_of ruling) (with_next i k within)
+      (subst (λ (r : closed.Closed). IsClosedSo (clauses_at all cs) (pair_at (numbered_at all cs) i k) rows next r) e (back_in now (λ c t. pair_at (numbered_at t c) i k) next o was.same x)) was.passed
+
+  pub with_ends : (i k next : ℕ) (now : List Term) → PassedWith i now k next → length cs ≤ k → IsClosedSo (clauses_at all cs) (pairs_at (numbered_at all cs) i) rows from (closed_so.All next)
+  with_ends i k next now was past =
+      pass_ends (clauses_at all cs) (pairs_at (numbered_at all cs) i) rows from (pairs_with_all (slice_get (numbered_at all cs) i) (drop k (numbered_at all cs))) next
+      (ap (pairs_with_all (slice_get (numbered_at all cs) i)) (none_ahead 1 (clauses_at all cs) k (omega (arith, past, length-map cs (clause_at all)))) ∙ pairs_none (slice_get (numbered_at all cs) i)) was.passed
+
+  -- of all clauses, those before the place
+  pub record PassedAll (now : List Term) (k next : ℕ) : Type 0 where
+    pub passed : IsPassed (clauses_at all cs) (pairs_of (numbered_at all cs) (numbered_at all cs)) rows from (pairs_of (drop k (numbered_at all cs)) (numbered_at all cs)) next
+    pub same : now ≡ all
+
+  pub all_begin : PassedAll all 0 from
+  all_begin = record { passed = pass_begins (clauses_at all cs) (pairs_of (numbered_at all cs) (numbered_at all cs)) rows from; same = refl }
+
+  all_next : (k : ℕ) → k < length cs → pairs_of (drop k (numbered_at all cs)) (numbered_at all cs) ≡ pairs_at_solved (numbered_at all cs) k ++ pairs_of (drop (k + 1) (numbered_at all cs)) (numbered_at all cs)
+  all_next k within = solved_next (numbered_at all cs) k (omega (arith, within, at_length all cs))
+
+  pub all_go_on : (k next left : ℕ) (now later : List Term) (o : closed.Closed) → PassedAll now k next → k < length cs → later ≡ now → o ≡ closed_so.All left → IsClosedSo (clauses_at now cs) (pairs_at_solved (numbered_at now cs) k) rows next o → PassedAll later (k + 1) left
+  all_go_on k next left now later o was within kept e x = record {
+    passed = pass_goes_on (clauses_at all cs) (pairs_of (numbered_at all cs) (numbered_at all cs)) rows from (pairs_of (drop k (numbered_at all cs)) (numbered_at all cs)) (pairs_at_solved (numbered_at all cs) k)
+        (pairs_of (drop (k + 1) (numbered_at all cs)) (numbered_at all cs)) next left (all_next k within)
+        (subst (λ (r : closed.Closed). IsClosedSo (clauses_at all cs) (pairs_at_solved (numbered_at all cs) k) rows next r) e (back_in now (λ c t. pairs_at_solved (numbered_at t c) k) next o was.same x)) was.passed;
+    same = kept ∙ was.same;
+  }
+
+  pub all_fail : (k next : ℕ) (ruling : Ruling) (now : List Term) (o : closed.Closed) → PassedAll now k next → k < length cs → o ≡ closed_so.Except ruling → IsClosedSo (clauses_at now cs) (pairs_at_solved (numbered_at now cs) k) rows next o → IsClosedSo (clauses_at all cs) (pairs_of (numbered_at all cs) (numbered_at all cs)) rows from (closed_so.Except ruling)
+  all_fail k next ruling now o was within e x =
+      pass_fails (clauses_at all cs) (pairs_of (numbered_at all cs) (numbered_at all cs)) rows from (pairs_of (drop k (numbered_at all cs)) (numbered_at all cs)) (pairs_at_solved (numbered_at all cs) k)
+      (pairs_of (drop (k + 1) (numbered_at all cs)) (numbered_at all cs)) next (ruling_of ruling) (all_next k within)
+      (subst (λ (r : closed.Closed). IsClosedSo (clauses_at all cs) (pairs_at_solved (numbered_at all cs) k) rows next r) e (back_in now (λ c t. pairs_at_solved (numbered_at t c) k) next o was.same x)) was.passed
+
+  pub all_end : (k next : ℕ) (now : List Term) → PassedAll now k next → length cs ≤ k → IsClosedSo (clauses_at all cs) (pairs_of (numbered_at all cs) (numbered_at all cs)) rows from (closed_so.All next)
+  all_end k next now was past =
+      pass_ends (clauses_at all cs) (pairs_of (numbered_at all cs) (numbered_at all cs)) rows from (pairs_of (drop k (numbered_at all cs)) (numbered_at all cs)) next
+      (ap (λ l. pairs_of l (numbered_at all cs)) (none_ahead 1 (clauses_at all cs) k (omega (arith, past, length-map cs (clause_at all))))) was.passed

@@ -1,0 +1,103 @@
+-- How far a check has come by what is answered of each stage, and what is ruled where a stage ends it.
+use Rattle.std.proofs.Common.{◌≡◌, ◌∙◌, ℕ, Some, List, drop, sym, subst}
+use Rattle.calculus.specs.Syntax.{Query, Protocol}
+use Rattle.calculus.specs.Points.{numbered}
+use Rattle.well_formed.specs.Limits.{IsWithinLimits}
+use Rattle.terms.specs.Term.{Term}
+use Rattle.terms.proofs.Replace.{some_same}
+use Rattle.clauses.specs.Fact.{Clause}
+use Rattle.translation.specs.Translation.{Clauses, LargeAt, IsTranslation}
+use Rattle.translation.proofs.Goal.{clauses_normal}
+use Rattle.translation.proofs.Sizes.{clauses_within}
+use Rattle.certificates.specs.Certificate.{Certificate, bad_arguments, CoverRowHolds, numbered_from, pairs_of}
+use Rattle.certificates.specs.Ruling.{IsRuled}
+use Rattle.certificates.specs.Ruling as certificates
+use Rattle.term_tree.specs.declared.bank.Id.{Id}
+use Rattle.clause_form.specs.Seen.{NameClauses}
+use Rattle.query_derive.proofs.Deciding.{small_query}
+use Rattle.clause_translate.specs.Whole.{Translates, TranslatesTo, EndsAt}
+use Rattle.clause_translate.specs.declared.whole.Translated.{Translated}
+use Rattle.clause_translate.specs.declared.whole.Translated.TheVariants as made
+use Rattle.cert_checker.specs.Stages.{AreInShape, FirstMisshapen}
+use Rattle.cert_checker.specs.Reached.{clauses_of, HasShapes, IsTranslatedTo, HasCovered, HasClosed}
+use Rattle.cert_checker.specs.Rulings.{ruling_of}
+use Rattle.cert_checker.specs.Shaping.{AreShaped}
+use Rattle.cert_checker.specs.Answers.{AreFit, clauses_at, numbered_at, IsShownSo, IsClosedSo}
+use Rattle.cert_checker.specs.declared.ruling.Ruling.{Ruling}
+use Rattle.cert_checker.specs.declared.ruling.Shown as shown
+use Rattle.cert_checker.specs.declared.ruling.Shown.TheVariants as shown_so
+use Rattle.cert_checker.specs.declared.ruling.Closed as closed
+use Rattle.cert_checker.specs.declared.ruling.Closed.TheVariants as closed_so
+use Rattle.cert_checker.specs.declared.shaping.Shaped.{Shaped}
+use Rattle.cert_checker.specs.declared.shaping.Shaped.TheVariants as shaped_so
+use Rattle.cert_checker.proofs.Composing.{shape_fails, translation_large, cover_fails, closure_fails}
+use Rattle.cert_checker.proofs.Fitting.{named_fit, shaped_fit}
+
+-- The clauses of a certificate over a bank.
+module _ (P : Protocol) (q : Query) (cert : Certificate) (all : List Term) (cs : List (Clause Id)) (are : clauses_at all cs ≡ cert.clauses) where
+  closed_as : (rows : List (List ℕ)) (from : ℕ) (o o' : closed.Closed) → o ≡ o' → IsClosedSo (clauses_at all cs) (pairs_of (numbered_at all cs) (numbered_at all cs)) rows from o → IsClosedSo cert.clauses (pairs_of (clauses_of cert) (clauses_of cert)) rows from o'
+  closed_as rows from o o' e x =
+      subst (λ (l : List (Clause Term)). IsClosedSo l (pairs_of (numbered_from 1 l) (numbered_from 1 l)) rows from o') are
+      (subst (λ (r : closed.Closed). IsClosedSo (clauses_at all cs) (pairs_of (numbered_at all cs) (numbered_at all cs)) rows from r) e x)
+
+  pub pairs_reached : (row next : ℕ) (o : closed.Closed) → o ≡ closed_so.All next → IsClosedSo (clauses_at all cs) (pairs_of (numbered_at all cs) (numbered_at all cs)) cert.rows row o → HasCovered P q cert (drop row cert.rows) → HasClosed P q cert (drop next cert.rows)
+  pairs_reached row next o e x reached = record { between = drop row cert.rows; covered = reached; closed = closed_as cert.rows row o (closed_so.All next) e x }
+
+  pub pairs_rule : (row : ℕ) (ruling : Ruling) (o : closed.Closed) → o ≡ closed_so.Except ruling → IsClosedSo (clauses_at all cs) (pairs_of (numbered_at all cs) (numbered_at all cs)) cert.rows row o → HasCovered P q cert (drop row cert.rows) → IsRuled P q cert (ruling_of ruling)
+  pairs_rule row ruling o e x reached = closure_fails P q cert (drop row cert.rows) (ruling_of ruling) reached (closed_as cert.rows row o (closed_so.Except ruling) e x)
+
+  shown_as : (given : List (Clause Term)) (from : ℕ) (o o' : shown.Shown) → o ≡ o' → IsShownSo (CoverRowHolds (clauses_at all cs)) (numbered_from 1 given) cert.rows from o → IsShownSo (CoverRowHolds cert.clauses) (numbered_from 1 given) cert.rows from o'
+  shown_as given from o o' e x =
+      subst (λ (l : List (Clause Term)). IsShownSo (CoverRowHolds l) (numbered_from 1 given) cert.rows from o') are
+      (subst (λ (r : shown.Shown). IsShownSo (CoverRowHolds (clauses_at all cs)) (numbered_from 1 given) cert.rows from r) e x)
+
+  pub covers_reached : (given : List (Clause Term)) (next : ℕ) (o : shown.Shown) → o ≡ shown_so.All next → IsShownSo (CoverRowHolds (clauses_at all cs)) (numbered_from 1 given) cert.rows 0 o → IsTranslatedTo P q cert given → HasCovered P q cert (drop next cert.rows)
+  covers_reached given next o e x reached = record { given = given; translated = reached; covered = shown_as given 0 o (shown_so.All next) e x }
+
+  pub covers_rule : (given : List (Clause Term)) (number : ℕ) (o : shown.Shown) → o ≡ shown_so.Except number → IsShownSo (CoverRowHolds (clauses_at all cs)) (numbered_from 1 given) cert.rows 0 o → IsTranslatedTo P q cert given → IsRuled P q cert (certificates.Cover number)
+  covers_rule given number o e x reached = cover_fails P q cert given number reached (shown_as given 0 o (shown_so.Except number) e x)
+
+-- The translation of a protocol and the query of a number.
+module _ (P : Protocol) (number : ℕ) (all : List Term) (found : Translated) (translates : Translates P number all found) where
+  pub made_to : (clauses : List (Clause Id)) → found ≡ made.Clauses clauses → TranslatesTo P number all clauses
+  made_to clauses e = subst (λ (t : Translated). Translates P number all t) e translates
+
+  ends_at : (point : ℕ) → found ≡ made.Large point → EndsAt P number point
+  ends_at point e = subst (λ (t : Translated). Translates P number all t) e translates
+
+  pub given_fit : (clauses : List (Clause Id)) → found ≡ made.Clauses clauses → IsWithinLimits P → AreFit all clauses
+  given_fit clauses e limits =
+      let to = made_to clauses e in
+      named_fit all clauses to.list to.names (λ c h. clauses_normal P to.query to.list to.translates c h) (λ c h. clauses_within P to.query to.list c limits (small_query P number to.query limits to.is) to.translates h)
+
+  pub given_reached : (clauses : List (Clause Id)) → found ≡ made.Clauses clauses → (q : Query) → numbered P.queries number ≡ Some q → (cert : Certificate) → HasShapes q cert → IsTranslatedTo P q cert (clauses_at all clauses)
+  given_reached clauses e q there cert shaped =
+      let to = made_to clauses e in
+      let same : to.query ≡ q = some_same (sym to.is ∙ there) in
+      record {
+        shaped = shaped;
+        translated = subst (λ (l : List (Clause Term)). IsTranslation P q (Clauses l)) (sym to.names.are) (subst (λ (p : Query). IsTranslation P p (Clauses to.list)) same to.translates);
+      }
+
+  pub large_rules : (point : ℕ) → found ≡ made.Large point → (q : Query) → numbered P.queries number ≡ Some q → (cert : Certificate) → HasShapes q cert → IsRuled P q cert (certificates.Translation point)
+  large_rules point e q there cert shaped =
+      let at = ends_at point e in
+      let same : at.query ≡ q = some_same (sym at.is ∙ there) in
+      translation_large P q cert point shaped (subst (λ (p : Query). IsTranslation P p (LargeAt point)) same at.translates)
+
+-- The shapes of a certificate's clauses.
+module _ (cert : Certificate) (n : ℕ) (all : List Term) (found : Shaped) (told : AreShaped n all cert.clauses found) where
+  pub shapes_are : (cs : List (Clause Id)) → found ≡ shaped_so.All cs → NameClauses all cs cert.clauses × AreInShape n (clauses_of cert)
+  shapes_are cs e = subst (λ (s : Shaped). AreShaped n all cert.clauses s) e told
+
+  pub shapes_fit : (cs : List (Clause Id)) → found ≡ shaped_so.All cs → AreFit all cs
+  shapes_fit cs e = let both = shapes_are cs e in shaped_fit all n 1 cs cert.clauses both.0 both.1
+
+  pub shapes_seen : (cs : List (Clause Id)) → found ≡ shaped_so.All cs → clauses_at all cs ≡ cert.clauses
+  shapes_seen cs e = (shapes_are cs e).0.are
+
+  pub shapes_met : (q : Query) (cs : List (Clause Id)) → found ≡ shaped_so.All cs → n ≡ bad_arguments q → HasShapes q cert
+  shapes_met q cs e same = subst (λ m. AreInShape m (clauses_of cert)) same (shapes_are cs e).1
+
+  pub shapes_rule : (P : Protocol) (q : Query) (number : ℕ) → found ≡ shaped_so.Except number → n ≡ bad_arguments q → IsRuled P q cert (certificates.Shape number)
+  shapes_rule P q number e same = shape_fails P q cert number (subst (λ m. FirstMisshapen m (clauses_of cert) number) same (subst (λ (s : Shaped). AreShaped n all cert.clauses s) e told))

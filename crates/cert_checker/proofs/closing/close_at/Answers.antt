@@ -1,0 +1,70 @@
+use Rattle.std.proofs.Common.{◌≡◌, List, get_or, sym, subst, rules}
+use Rattle.clauses.specs.Fact.{Clause}
+use Rattle.certificates.specs.Certificate.{CoverRowHolds, numbered_from}
+use Rattle.term_tree.specs.declared.bank.Id.{Id}
+use Rattle.clause_form.specs.Seen.{clause_at}
+use Rattle.clause_resolve.specs.Answers.{IsAnswerOf}
+use Rattle.clause_resolve.specs.declared.resolving.Resolved.{Resolved}
+use Rattle.cert_checker.specs.Answers.{AreFit, clauses_at, numbered_at, pair_at, IsShownSo, IsClosedSo}
+use Rattle.cert_checker.specs.declared.ruling.Closed as closed
+use Rattle.cert_checker.proofs.Fitting.{AreFit-grow, clauses_grow, fit_in}
+use Rattle.cert_checker.proofs.Pairing.{fit_low}
+use Rattle.cert_checker.proofs.Passing.{selected_at, made_fit, pair_apart, pair_large, pair_shown}
+use Rattle.cert_checker.proofs.closing.close_at.Goals as goal
+
+pub resolvents-requires-clause-solved : goal.resolvents-requires-clause-solved
+resolvents-requires-clause-solved g c = (fit_in (g.B.Bank.trees c.args.bank.now) c.args.checker.now.clauses.now c.args.pair.solved c.index-checker-pair.result c.requires.fit c.requires.solved).known
+
+pub resolvents-requires-clause-solved_low : goal.resolvents-requires-clause-solved_low
+resolvents-requires-clause-solved_low g c =
+    let all = g.B.Bank.trees c.args.bank.now in
+    fit_low all _ (fit_in all c.args.checker.now.clauses.now c.args.pair.solved c.index-checker-pair.result c.requires.fit c.requires.solved)
+
+pub resolvents-requires-clause-unsolved : goal.resolvents-requires-clause-unsolved
+resolvents-requires-clause-unsolved g c = (fit_in (g.B.Bank.trees c.args.bank.now) c.args.checker.now.clauses.now c.args.pair.unsolved c.index-checker-pair-2.result c.requires.fit c.requires.unsolved).known
+
+pub resolvents-requires-clause-unsolved_low : goal.resolvents-requires-clause-unsolved_low
+resolvents-requires-clause-unsolved_low g c =
+    let all = g.B.Bank.trees c.args.bank.now in
+    fit_low all _ (fit_in all c.args.checker.now.clauses.now c.args.pair.unsolved c.index-checker-pair-2.result c.requires.fit c.requires.unsolved)
+
+pub resolvents-requires-clause-selected : goal.resolvents-requires-clause-selected
+resolvents-requires-clause-selected g c = selected_at (g.B.Bank.trees c.args.bank.now) c.args.checker.now.clauses.now c.args.pair.unsolved c.args.at c.index-checker-pair-2.result c.requires.unsolved c.requires.selected
+
+pub are_covered-requires-clause-fit : goal.are_covered-requires-clause-fit
+are_covered-requires-clause-fit g c = AreFit-grow (g.B.Bank.trees c.args.bank.now) (g.B.Bank.trees c.resolvents.new.bank) c.args.checker.now.clauses.now c.resolvents.ensures.grows c.requires.fit
+
+pub are_covered-requires-clause-clauses : goal.are_covered-requires-clause-clauses
+are_covered-requires-clause-clauses g c =
+    let new = g.B.Bank.trees c.resolvents.new.bank in
+    let same : c.deref.result.now ≡ c.in-Clauses.made = search rules in
+    subst (λ (cs : List (Clause Id)). AreFit new cs) (sym same) (made_fit new _ _ c.in_ok-resolvents.field-0 c.in-Clauses.made c.in-Clauses.is c.in_ok-resolvents.ensures.answer)
+
+pub returns-in-NoUnifier-clause-closed : goal.returns-in-NoUnifier-clause-closed
+returns-in-NoUnifier-clause-closed g c =
+    pair_apart (g.B.Bank.trees c.args.bank.now) c.args.checker.now.clauses.now c.args.checker.now.cert.now.rows c.args.from c.args.pair.solved c.args.pair.unsolved c.index-checker-pair.result c.index-checker-pair-2.result c.requires.solved c.requires.unsolved
+    (g.B.Bank.trees c.resolvents.new.bank) c.in_ok-resolvents.field-0 c.in-NoUnifier.is c.in_ok-resolvents.ensures.answer
+
+pub returns-in-Large-clause-closed : goal.returns-in-Large-clause-closed
+returns-in-Large-clause-closed g c =
+    let all = g.B.Bank.trees c.args.bank.now in
+    let cs = c.args.checker.now.clauses.now in
+    let rows = c.args.checker.now.cert.now.rows in
+    subst (λ (o : closed.Closed). IsClosedSo (clauses_at all cs) (pair_at (numbered_at all cs) c.args.pair.solved c.args.pair.unsolved) rows c.args.from o) (sym c.uncovered.ensures)
+    (pair_large all cs rows c.args.from c.args.pair.solved c.args.pair.unsolved c.index-checker-pair.result c.index-checker-pair-2.result c.requires.solved c.requires.unsolved
+    (g.B.Bank.trees c.resolvents.new.bank) c.in_ok-resolvents.field-0 c.in-Large.is c.in_ok-resolvents.ensures.answer)
+
+pub returns-in_ok-shown-in-Clauses-clause-closed : goal.returns-in_ok-shown-in-Clauses-clause-closed
+returns-in_ok-shown-in-Clauses-clause-closed g c =
+    let all = g.B.Bank.trees c.args.bank.now in
+    let new = g.B.Bank.trees c.resolvents.new.bank in
+    let cs = c.args.checker.now.clauses.now in
+    let rows = c.args.checker.now.cert.now.rows in
+    let same : c.deref.result.now ≡ c.in-Clauses.made = search rules in
+    let first = get_or cs c.args.pair.solved c.index-checker-pair.result in
+    let second = get_or cs c.args.pair.unsolved c.index-checker-pair-2.result in
+    let answer = subst (λ (r : Resolved). IsAnswerOf new (clause_at all first) (clause_at all second) r) c.in-Clauses.is c.in_ok-resolvents.ensures.answer in
+    let shown = subst (λ (made : List (Clause Id)). IsShownSo (CoverRowHolds (clauses_at new cs)) (numbered_from 1 (clauses_at new made)) rows c.args.from c.in_ok-shown-in-Clauses.shown) same c.in_ok-shown-in-Clauses.ensures in
+    subst (λ (o : closed.Closed). IsClosedSo (clauses_at all cs) (pair_at (numbered_at all cs) c.args.pair.solved c.args.pair.unsolved) rows c.args.from o) (sym c.closed_where.ensures)
+    (pair_shown all cs rows c.args.from c.args.pair.solved c.args.pair.unsolved c.index-checker-pair.result c.index-checker-pair-2.result c.requires.solved c.requires.unsolved
+    new c.in-Clauses.made c.in_ok-shown-in-Clauses.shown (clauses_grow all new cs c.resolvents.ensures.grows c.requires.fit) answer shown)

@@ -1,0 +1,10 @@
+use Rattle.std.proofs.Common.{drop}
+use Rattle.certificates.specs.Certificate.{CoverRowHolds, numbered_from}
+use Rattle.cert_checker.specs.Answers.{clauses_at}
+use Rattle.cert_checker.proofs.Walking.{IsWalked}
+use Rattle.cert_checker.proofs.covering.are_covered.Given as goal
+
+abbrev pub invariant-each : goal.invariant-each
+invariant-each g l =
+    IsWalked (CoverRowHolds (clauses_at (g.B.Bank.trees l.bank) l.checker.clauses.now)) (numbered_from 1 (clauses_at (g.B.Bank.trees l.bank) l.clauses)) l.checker.cert.now.rows l.from
+    (drop l.k (numbered_from 1 (clauses_at (g.B.Bank.trees l.bank) l.clauses))) l.next

@@ -1,0 +1,6 @@
+pub mod Stages
+pub mod Reached
+pub mod Arguments
+pub mod Rulings
+pub mod Answers
+pub mod Shaping

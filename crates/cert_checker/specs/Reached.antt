@@ -1,0 +1,33 @@
+-- How far the check of a certificate has come.
+use Rattle.std.specs.Prelude.{ℕ, List}
+use Rattle.calculus.specs.Syntax.{Query, Protocol}
+use Rattle.terms.specs.Term.{Term}
+use Rattle.clauses.specs.Fact.{Clause}
+use Rattle.translation.specs.Translation.{Clauses, IsTranslation}
+use Rattle.certificates.specs.Certificate.{Certificate, bad_arguments, CoverRowHolds, Numbered, numbered_from, pairs_of}
+use Rattle.cert_checker.specs.Stages.{AreShown, AreClosed, AreInShape}
+
+-- a certificate's clauses with their numbers
+abbrev pub clauses_of : Certificate → List Numbered
+clauses_of cert = numbered_from 1 cert.clauses
+
+-- the certificate's clauses have their shape
+abbrev pub HasShapes : Query → Certificate → Type 0
+HasShapes q cert = AreInShape (bad_arguments q) (clauses_of cert)
+
+-- and these are what the protocol and the query are translated into
+pub record IsTranslatedTo (P : Protocol) (q : Query) (cert : Certificate) (given : List (Clause Term)) : Type 0 where
+  pub shaped : HasShapes q cert
+  pub translated : IsTranslation P q (Clauses given)
+
+-- and they are covered by cover rows, of which these are left
+pub record HasCovered (P : Protocol) (q : Query) (cert : Certificate) (left : List (List ℕ)) : Type 0 where
+  pub given : List (Clause Term)
+  pub translated : IsTranslatedTo P q cert given
+  pub covered : AreShown (CoverRowHolds cert.clauses) (numbered_from 1 given) cert.rows left
+
+-- and the certificate's pairs are closed by cover rows, of which these are left
+pub record HasClosed (P : Protocol) (q : Query) (cert : Certificate) (left : List (List ℕ)) : Type 0 where
+  pub between : List (List ℕ)
+  pub covered : HasCovered P q cert between
+  pub closed : AreClosed cert.clauses (pairs_of (clauses_of cert) (clauses_of cert)) between left

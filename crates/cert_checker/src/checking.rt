@@ -1,0 +1,109 @@
+//! The check of a certificate, from its text's data to its ruling.
+
+ghost use Rattle.std.specs.Prelude.{◌≡◌, IfOk};
+ghost use Rattle.calculus.specs.Secrecy.{Holds};
+ghost use Rattle.well_formed.specs.Limits.{IsWithinLimits};
+ghost use Rattle.well_formed.specs.Rules.{HasProperRules};
+ghost use Rattle.well_formed.specs.Queries.{HasProperQueries};
+ghost use Rattle.well_formed.specs.WellFormed.{IsWellScoped};
+ghost use Rattle.certificates.specs.Ruling.{IsRuled};
+ghost use Rattle.pi_tree.specs.Protocols.{protocol_of};
+ghost use Rattle.pi_tree.specs.Accessors.{IsThere};
+ghost use Rattle.pi_tree.specs.declared.accessors.Kind.TheVariants.{Query as OfQueries};
+ghost use Rattle.query_derive.specs.GoalRows.{OfQuery};
+ghost use Rattle.cert_checker.specs.Reached.{HasShapes};
+ghost use Rattle.cert_checker.specs.declared.ruling.Ruling.TheVariants.{Accepted};
+ghost use Rattle.cert_checker.specs.Rulings.{ruling_of};
+ghost use Rattle.cert_checker.specs.Answers.{AreFit, clauses_at};
+
+use crate::arguments::goal_arguments;
+use crate::checker::Checker;
+use crate::judging::judge;
+use crate::ruling::Ruling;
+use crate::shaping::{Shaped, look_at_shapes};
+use cert_text::Cert;
+use certificates::accepted_queries_hold;
+use clause_translate::{Translated, translate};
+use pi_tree::Protocol;
+use std::alloc::{AllocError, Global};
+use term_tree::{Bank, TreeBank};
+
+/// What is ruled behind the shapes: the protocol and the query are translated, never the certificate's clauses taken for it.
+fn check_shaped<B: Bank>(bank: &mut B, checker: &Checker<'_>) -> Result<Ruling, AllocError>
+    requires fit { AreFit (B.trees bank.old) checker.now.clauses.now }
+    requires clauses { clauses_at (B.trees bank.old) checker.now.clauses.now ≡
+        checker.now.cert.now.clauses }
+    requires limits { IsWithinLimits (protocol_of checker.now.protocol.now) }
+    requires rules { HasProperRules (protocol_of checker.now.protocol.now) }
+    requires scoped { IsWellScoped (protocol_of checker.now.protocol.now) }
+    requires queries { HasProperQueries (protocol_of checker.now.protocol.now) }
+    requires there { IsThere (protocol_of checker.now.protocol.now) OfQueries checker.now.query }
+    ensures { let P = protocol_of checker.now.protocol.now in let cert = checker.now.cert.now in
+        IfOk result (λ ruling. OfQuery P checker.now.query (λ q.
+        HasShapes q cert → IsRuled P q cert (ruling_of ruling))) }
+{
+    match translate(checker.alloc, bank, checker.protocol, checker.query)? {
+        Translated::Large(point) => Ok(Ruling::Translation(point)),
+        Translated::Clauses(given) => judge(bank, checker, &given.items),
+    }
+}
+
+/// What is ruled of a certificate, whose clauses are copied into the bank.
+fn check_in_bank<B: Bank>(
+    alloc: Global,
+    bank: &mut B,
+    protocol: &Protocol,
+    query: u32,
+    cert: &Cert,
+) -> Result<Ruling, AllocError>
+    requires limits { IsWithinLimits (protocol_of protocol.now) }
+    requires rules { HasProperRules (protocol_of protocol.now) }
+    requires scoped { IsWellScoped (protocol_of protocol.now) }
+    requires queries { HasProperQueries (protocol_of protocol.now) }
+    requires there { IsThere (protocol_of protocol.now) OfQueries query }
+    ensures { IfOk result (λ ruling. OfQuery (protocol_of protocol.now) query (λ q.
+        IsRuled (protocol_of protocol.now) q cert.now (ruling_of ruling))) }
+{
+    let arguments = goal_arguments(alloc, bank, protocol, query)?;
+    match look_at_shapes(alloc, bank, &cert.clauses, arguments)? {
+        Shaped::Except(number) => Ok(Ruling::Shape(number)),
+        Shaped::All(clauses) => {
+            let checker = Checker {
+                alloc,
+                protocol,
+                query,
+                cert,
+                clauses: &clauses.items,
+            };
+            check_shaped(bank, &checker)
+        }
+    }
+}
+
+/// What is ruled of a certificate of the protocol's query of that number: that it is accepted, or the first obligation that
+/// isn't met. Where it is accepted, no run of the protocol beside the attacker violates the query. Nothing is searched for:
+/// each row is looked at once. The memory taken is bounded by the sizes of the certificate and the translation, since what a
+/// pair of clauses gives is dropped before the next.
+///
+/// The conditions hold of each protocol that is read. Nothing is asked of the certificate: a symbol of it that the protocol
+/// doesn't declare is like any other. `Err` comes only for want of memory.
+pub fn check_cert(
+    alloc: Global,
+    protocol: &Protocol,
+    query: u32,
+    cert: &Cert,
+) -> Result<Ruling, AllocError>
+    requires limits { IsWithinLimits (protocol_of protocol.now) }
+    requires rules { HasProperRules (protocol_of protocol.now) }
+    requires scoped { IsWellScoped (protocol_of protocol.now) }
+    requires queries { HasProperQueries (protocol_of protocol.now) }
+    requires there { IsThere (protocol_of protocol.now) OfQueries query }
+    ensures ruled { IfOk result (λ ruling. OfQuery (protocol_of protocol.now) query (λ q.
+        IsRuled (protocol_of protocol.now) q cert.now (ruling_of ruling))) }
+    ensures holds { IfOk result (λ ruling. ruling ≡ Accepted →
+        OfQuery (protocol_of protocol.now) query (λ q. Holds (protocol_of protocol.now) q)) }
+{
+    accepted_queries_hold();
+    let mut bank = TreeBank::new(alloc)?;
+    check_in_bank(alloc, &mut bank, protocol, query, cert)
+}

@@ -1,0 +1,172 @@
+//! Pairs of a solved clause with an unsolved one: each resolvent is covered by the next row.
+
+ghost use Rattle.std.specs.Prelude.{◌≡◌, ◌<◌, ◌+◌, ◌^◌, Some, length, slice_get, IfOk};
+ghost use Rattle.clauses.specs.Fact.{Clause};
+ghost use Rattle.certificates.specs.Certificate.{pairs_of};
+ghost use Rattle.term_tree.specs.declared.bank.Id.{Id};
+ghost use Rattle.clause_resolve.specs.Apart.{IsSelectedAt};
+ghost use Rattle.clause_form.specs.Seen.{clause_at};
+ghost use Rattle.cert_checker.specs.declared.ruling.Shown.TheVariants as shown_so;
+ghost use Rattle.cert_checker.specs.Answers.{AreFit, clauses_at, numbered_at, where_shown};
+ghost use Rattle.cert_checker.specs.Answers.{IsClosedSo, pair_at, pairs_at, pairs_at_solved};
+
+use crate::checker::Checker;
+use crate::covering::are_covered;
+use crate::ruling::{Closed, Ruling, Shown};
+use clause_resolve::{Resolved, resolvents};
+use literal_selection::{is_solved, selected};
+use std::alloc::AllocError;
+use term_tree::Bank;
+
+/// The places, from 0, of a solved clause and of an unsolved one.
+#[derive(Clone, Copy, Debug)]
+pub(crate) struct Pair {
+    pub solved: usize,
+    pub unsolved: usize,
+}
+
+/// What is ruled where the resolvent of that number isn't covered.
+fn uncovered(pair: Pair, resolvent: u64) -> Closed
+    requires solved { pair.solved + 1 < 2 ^ 64 }
+    requires unsolved { pair.unsolved + 1 < 2 ^ 64 }
+    ensures { result ≡ where_shown pair.solved pair.unsolved (shown_so.Except resolvent) }
+{
+    Closed::Except(Ruling::Closure(pair.solved as u64 + 1, pair.unsolved as u64 + 1, resolvent))
+}
+
+/// What comes of a pair where that is shown of its resolvents.
+fn closed_where(pair: Pair, shown: Shown) -> Closed
+    requires solved { pair.solved + 1 < 2 ^ 64 }
+    requires unsolved { pair.unsolved + 1 < 2 ^ 64 }
+    ensures { result ≡ where_shown pair.solved pair.unsolved shown }
+{
+    match shown {
+        Shown::All(next) => Closed::All(next),
+        Shown::Except(number) => uncovered(pair, number),
+    }
+}
+
+/// Whether the resolvents of a pair, on the hypothesis at that place, are covered by the rows from a place on. On Ok the bank
+/// is as before.
+fn close_at<B: Bank>(
+    bank: &mut B,
+    checker: &Checker<'_>,
+    pair: Pair,
+    at: usize,
+    from: usize,
+) -> Result<Closed, AllocError>
+    requires fit { AreFit (B.trees bank.old) checker.now.clauses.now }
+    requires solved { pair.solved < length checker.now.clauses.now }
+    requires unsolved { pair.unsolved < length checker.now.clauses.now }
+    requires selected { (c : Clause Id) → slice_get checker.now.clauses.now pair.unsolved ≡ Some c →
+        IsSelectedAt (clause_at (B.trees bank.old) c) at }
+    ensures closed { let all = B.trees bank.old in IfOk result (λ closed.
+        IsClosedSo (clauses_at all checker.now.clauses.now)
+        (pair_at (numbered_at all checker.now.clauses.now) pair.solved pair.unsolved)
+        checker.now.cert.now.rows from closed) }
+    ensures bank { IfOk result (λ _. B.trees bank.new ≡ B.trees bank.old) }
+{
+    let mark = bank.mark();
+    let solved = &checker.clauses[pair.solved];
+    let unsolved = &checker.clauses[pair.unsolved];
+    match resolvents(checker.alloc, bank, solved, unsolved, at)? {
+        Resolved::NoUnifier => Ok(Closed::All(from)),
+        Resolved::Large => Ok(uncovered(pair, 0)),
+        Resolved::Clauses(made) => {
+            let shown = are_covered(bank, checker, &made.items, from)?;
+            bank.back(mark);
+            Ok(closed_where(pair, shown))
+        }
+    }
+}
+
+/// The same where the second clause is unsolved; where it isn't, no row is used.
+fn close_pair<B: Bank>(
+    bank: &mut B,
+    checker: &Checker<'_>,
+    pair: Pair,
+    from: usize,
+) -> Result<Closed, AllocError>
+    requires fit { AreFit (B.trees bank.old) checker.now.clauses.now }
+    requires solved { pair.solved < length checker.now.clauses.now }
+    requires unsolved { pair.unsolved < length checker.now.clauses.now }
+    ensures closed { let all = B.trees bank.old in IfOk result (λ closed.
+        IsClosedSo (clauses_at all checker.now.clauses.now)
+        (pair_at (numbered_at all checker.now.clauses.now) pair.solved pair.unsolved)
+        checker.now.cert.now.rows from closed) }
+    ensures bank { IfOk result (λ _. B.trees bank.new ≡ B.trees bank.old) }
+{
+    match selected(bank, &checker.clauses[pair.unsolved]) {
+        None => Ok(Closed::All(from)),
+        Some(at) => close_at(bank, checker, pair, at, from),
+    }
+}
+
+/// Whether the resolvents of a solved clause with each unsolved one are covered.
+fn close_solved<B: Bank>(
+    bank: &mut B,
+    checker: &Checker<'_>,
+    solved: usize,
+    from: usize,
+) -> Result<Closed, AllocError>
+    requires fit { AreFit (B.trees bank.old) checker.now.clauses.now }
+    requires solved { solved < length checker.now.clauses.now }
+    ensures closed { let all = B.trees bank.old in IfOk result (λ closed.
+        IsClosedSo (clauses_at all checker.now.clauses.now)
+        (pairs_at (numbered_at all checker.now.clauses.now) solved)
+        checker.now.cert.now.rows from closed) }
+    ensures bank { IfOk result (λ _. B.trees bank.new ≡ B.trees bank.old) }
+{
+    let mut next = from;
+    'each: for unsolved in 0..checker.clauses.len() {
+        match close_pair(bank, checker, Pair { solved, unsolved }, next)? {
+            Closed::All(left) => next = left,
+            Closed::Except(ruling) => return Ok(Closed::Except(ruling)),
+        }
+    }
+    Ok(Closed::All(next))
+}
+
+/// The same where the clause is solved; where it isn't, no row is used.
+fn close_one<B: Bank>(
+    bank: &mut B,
+    checker: &Checker<'_>,
+    solved: usize,
+    from: usize,
+) -> Result<Closed, AllocError>
+    requires fit { AreFit (B.trees bank.old) checker.now.clauses.now }
+    requires solved { solved < length checker.now.clauses.now }
+    ensures closed { let all = B.trees bank.old in IfOk result (λ closed.
+        IsClosedSo (clauses_at all checker.now.clauses.now)
+        (pairs_at_solved (numbered_at all checker.now.clauses.now) solved)
+        checker.now.cert.now.rows from closed) }
+    ensures bank { IfOk result (λ _. B.trees bank.new ≡ B.trees bank.old) }
+{
+    if !is_solved(bank, &checker.clauses[solved]) {
+        return Ok(Closed::All(from));
+    }
+    close_solved(bank, checker, solved, from)
+}
+
+/// Whether the resolvents of all pairs are covered, by the rows from a place on in order. On Ok the bank is as before.
+pub(crate) fn are_closed<B: Bank>(
+    bank: &mut B,
+    checker: &Checker<'_>,
+    from: usize,
+) -> Result<Closed, AllocError>
+    requires fit { AreFit (B.trees bank.old) checker.now.clauses.now }
+    ensures closed { let all = B.trees bank.old in IfOk result (λ closed.
+        IsClosedSo (clauses_at all checker.now.clauses.now)
+        (let each = numbered_at all checker.now.clauses.now in pairs_of each each)
+        checker.now.cert.now.rows from closed) }
+    ensures bank { IfOk result (λ _. B.trees bank.new ≡ B.trees bank.old) }
+{
+    let mut next = from;
+    'each: for solved in 0..checker.clauses.len() {
+        match close_one(bank, checker, solved, next)? {
+            Closed::All(left) => next = left,
+            Closed::Except(ruling) => return Ok(Closed::Except(ruling)),
+        }
+    }
+    Ok(Closed::All(next))
+}

@@ -1,0 +1,85 @@
+//! The stages of a check, one after the other.
+
+ghost use Rattle.std.specs.Prelude.{◌≡◌, List, drop, IfOk};
+ghost use Rattle.terms.specs.Term.{Term};
+ghost use Rattle.clauses.specs.Fact.{Clause};
+ghost use Rattle.well_formed.specs.Limits.{IsWithinLimits};
+ghost use Rattle.certificates.specs.Ruling.{IsRuled};
+ghost use Rattle.pi_tree.specs.Protocols.{protocol_of};
+ghost use Rattle.pi_tree.specs.Accessors.{IsThere};
+ghost use Rattle.pi_tree.specs.declared.accessors.Kind.TheVariants.{Query as OfQueries};
+ghost use Rattle.query_derive.specs.GoalRows.{OfQuery};
+ghost use Rattle.cert_checker.specs.Reached.{IsTranslatedTo, HasCovered, HasClosed};
+ghost use Rattle.cert_checker.specs.Rulings.{ruling_of};
+ghost use Rattle.cert_checker.specs.Answers.{AreFit, clauses_at};
+
+use crate::checker::Checker;
+use crate::closing::are_closed;
+use crate::covering::are_covered;
+use crate::left_over::left_over;
+use crate::ruling::{Closed, Ruling, Shown};
+use crate::satisfying::are_satisfied;
+use clause_form::Clause;
+use std::alloc::AllocError;
+use term_tree::Bank;
+
+/// What is ruled behind the pairs, where the cover rows before the place were used.
+fn judge_goals<B: Bank>(bank: &B, checker: &Checker<'_>, row: usize) -> Result<Ruling, AllocError>
+    requires fit { AreFit (B.trees bank.now) checker.now.clauses.now }
+    requires clauses { clauses_at (B.trees bank.now) checker.now.clauses.now ≡
+        checker.now.cert.now.clauses }
+    requires limits { IsWithinLimits (protocol_of checker.now.protocol.now) }
+    requires there { IsThere (protocol_of checker.now.protocol.now) OfQueries checker.now.query }
+    ensures { let P = protocol_of checker.now.protocol.now in let cert = checker.now.cert.now in
+        IfOk result (λ ruling. OfQuery P checker.now.query (λ q.
+        HasClosed P q cert (drop row cert.rows) → IsRuled P q cert (ruling_of ruling))) }
+{
+    match are_satisfied(bank, checker)? {
+        Shown::All(goal) => Ok(left_over(checker, row, goal)),
+        Shown::Except(number) => Ok(Ruling::Goal(number)),
+    }
+}
+
+/// What is ruled behind the translation, where the cover rows before the place were used.
+fn judge_pairs<B: Bank>(
+    bank: &mut B,
+    checker: &Checker<'_>,
+    row: usize,
+) -> Result<Ruling, AllocError>
+    requires fit { AreFit (B.trees bank.old) checker.now.clauses.now }
+    requires clauses { clauses_at (B.trees bank.old) checker.now.clauses.now ≡
+        checker.now.cert.now.clauses }
+    requires limits { IsWithinLimits (protocol_of checker.now.protocol.now) }
+    requires there { IsThere (protocol_of checker.now.protocol.now) OfQueries checker.now.query }
+    ensures { let P = protocol_of checker.now.protocol.now in let cert = checker.now.cert.now in
+        IfOk result (λ ruling. OfQuery P checker.now.query (λ q.
+        HasCovered P q cert (drop row cert.rows) → IsRuled P q cert (ruling_of ruling))) }
+{
+    match are_closed(bank, checker, row)? {
+        Closed::All(next) => judge_goals(bank, checker, next),
+        Closed::Except(ruling) => Ok(ruling),
+    }
+}
+
+/// What is ruled behind the shapes, where the protocol and the query are translated into these clauses.
+pub(crate) fn judge<B: Bank>(
+    bank: &mut B,
+    checker: &Checker<'_>,
+    given: &[Clause],
+) -> Result<Ruling, AllocError>
+    requires fit { AreFit (B.trees bank.old) checker.now.clauses.now }
+    requires clauses { clauses_at (B.trees bank.old) checker.now.clauses.now ≡
+        checker.now.cert.now.clauses }
+    requires limits { IsWithinLimits (protocol_of checker.now.protocol.now) }
+    requires there { IsThere (protocol_of checker.now.protocol.now) OfQueries checker.now.query }
+    requires given { AreFit (B.trees bank.old) given.now }
+    ensures { let P = protocol_of checker.now.protocol.now in let cert = checker.now.cert.now in
+        IfOk result (λ ruling. OfQuery P checker.now.query (λ q.
+        IsTranslatedTo P q cert (clauses_at (B.trees bank.old) given.now) →
+        IsRuled P q cert (ruling_of ruling))) }
+{
+    match are_covered(bank, checker, given, 0)? {
+        Shown::All(next) => judge_pairs(bank, checker, next),
+        Shown::Except(number) => Ok(Ruling::Cover(number)),
+    }
+}

@@ -1,0 +1,57 @@
+//! The check of a certificate: whether each of its obligations is met by its rows, or which is the first that isn't.
+//! Nothing is searched for.
+#![tactic(auto)]
+
+ghost use Rattle.std.specs.Prelude.{◌≡◌, ℕ, List};
+ghost use Rattle.calculus.specs.Syntax.{Query, Protocol};
+ghost use Rattle.terms.specs.Term.{Term};
+ghost use Rattle.clauses.specs.Fact.{Clause};
+ghost use Rattle.translation.specs.Translation.{LargeAt, IsTranslation};
+ghost use Rattle.certificates.specs.Certificate.{Certificate, bad_arguments, numbered_from, pairs_of};
+ghost use Rattle.certificates.specs.Certificate.{CoverRowHolds, GoalHolds};
+ghost use Rattle.certificates.specs.Ruling as certificates;
+ghost use Rattle.certificates.specs.Ruling.{NoneLeft, bad_ones, IsRuled};
+ghost use Rattle.cert_checker.specs.Stages.{FirstMisshapen, FirstUnshown, AreShown, FirstOpen};
+ghost use Rattle.cert_checker.specs.Reached.{clauses_of, HasShapes, IsTranslatedTo};
+ghost use Rattle.cert_checker.specs.Reached.{HasCovered, HasClosed};
+
+mod arguments;
+mod checker;
+mod checking;
+mod closing;
+mod covering;
+mod judging;
+mod left_over;
+pub mod ruling;
+mod satisfying;
+mod shaping;
+
+pub use crate::checking::check_cert;
+pub use crate::ruling::Ruling;
+
+/// What is ruled of a certificate, by how far its check comes: the first stage that fails says it, and where none does, the
+/// rows that are left.
+pub fn stages_make_rulings()
+    ensures shape { (P : Protocol) (q : Query) (cert : Certificate) (number : ℕ) →
+        FirstMisshapen (bad_arguments q) (clauses_of cert) number →
+        IsRuled P q cert (certificates.Shape number) }
+    ensures translation { (P : Protocol) (q : Query) (cert : Certificate) (point : ℕ) →
+        HasShapes q cert → IsTranslation P q (LargeAt point) →
+        IsRuled P q cert (certificates.Translation point) }
+    ensures cover { (P : Protocol) (q : Query) (cert : Certificate) (given : List (Clause Term))
+        (number : ℕ) → IsTranslatedTo P q cert given →
+        FirstUnshown (CoverRowHolds cert.clauses) (numbered_from 1 given) cert.rows number →
+        IsRuled P q cert (certificates.Cover number) }
+    ensures closure { (P : Protocol) (q : Query) (cert : Certificate) (left : List (List ℕ))
+        (ruling : certificates.Ruling) → HasCovered P q cert left →
+        FirstOpen cert.clauses (pairs_of (clauses_of cert) (clauses_of cert)) left ruling →
+        IsRuled P q cert ruling }
+    ensures goal { (P : Protocol) (q : Query) (cert : Certificate) (left : List (List ℕ))
+        (number : ℕ) → HasClosed P q cert left →
+        FirstUnshown (GoalHolds P q) (bad_ones (clauses_of cert)) cert.goals number →
+        IsRuled P q cert (certificates.Goal number) }
+    ensures met { (P : Protocol) (q : Query) (cert : Certificate) (left goals : List (List ℕ))
+        (ruling : certificates.Ruling) → HasClosed P q cert left →
+        AreShown (GoalHolds P q) (bad_ones (clauses_of cert)) cert.goals goals →
+        NoneLeft cert left goals ruling → IsRuled P q cert ruling }
+{}
