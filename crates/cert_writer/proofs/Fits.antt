@@ -1,0 +1,39 @@
+-- The entries of a closed log of a query's translation, its live clauses and the given ones are fit.
+use Rattle.std.proofs.Common.{◌≡◌, ℕ, Some, List}
+use Rattle.calculus.specs.Syntax.{Query, Protocol}
+use Rattle.calculus.specs.Points.{numbered}
+use Rattle.well_formed.specs.Limits.{IsWithinLimits}
+use Rattle.terms.specs.Term.{Term}
+use Rattle.translation.specs.Translation.{Clauses, IsTranslation}
+use Rattle.pi_tree.specs.Accessors.{IsThere}
+use Rattle.pi_tree.specs.declared.accessors.Kind.TheVariants.{Query as OfQueries}
+use Rattle.term_tree.specs.declared.bank.Id.{Id}
+use Rattle.clauses.specs.Fact.{Clause}
+use Rattle.clause_form.specs.Seen.{AreClausesIn}
+use Rattle.query_derive.specs.GoalRows.{OfQuery}
+use Rattle.clause_saturate.specs.declared.log.Entry.{Entry}
+use Rattle.clause_saturate.specs.Fit.{AreFit}
+use Rattle.clause_saturate.specs.Logs.{IsClosedLog}
+use Rattle.clause_saturate.specs.Beating.{clauses_of}
+use Rattle.cert_writer.specs.Living.{live_ids}
+use Rattle.cert_writer.specs.Adding.{clauses_at}
+use Rattle.cert_writer.proofs.Telling.{translation_fit, log_fit, live_fit}
+use Rattle.cert_writer.proofs.Verdicts.{query_there, query_small}
+
+module _ (all : List Term) (P : Protocol) (n : ℕ) (given : List (Clause Id)) (limits : IsWithinLimits P) (there : IsThere P OfQueries n) (translation : OfQuery P n (λ q. IsTranslation P q (Clauses (clauses_at all given)))) where
+  pub asked : (q : Query) × (numbered P.queries n ≡ Some q)
+  asked = query_there P n there.0 there.1
+
+  pub asked_fit : AreClausesIn all given → AreFit all given
+  asked_fit known =
+      let (q, at) = query_there P n there.0 there.1 in
+      translation_fit all P q limits (query_small P n q limits at) given (translation q at) known
+
+  pub entries_fit : (entries : List Entry) → (budget : ℕ) × IsClosedLog all (clauses_at all given) budget entries → AreFit all (clauses_of entries)
+  entries_fit entries closed =
+      let (q, at) = query_there P n there.0 there.1 in
+      let (budget, c) = closed in
+      log_fit all P q limits (query_small P n q limits at) given (translation q at) budget c.log entries c.tell c.is_log
+
+  pub lives_fit : (entries : List Entry) → (budget : ℕ) × IsClosedLog all (clauses_at all given) budget entries → AreFit all (live_ids entries)
+  lives_fit entries closed = live_fit all entries (entries_fit entries closed)

@@ -1,0 +1,26 @@
+use Rattle.std.proofs.Common.{List, take, sym, subst}
+use Rattle.std.specs.Prelude.{OnOk}
+use Rattle.terms.specs.Term.{Term}
+use Rattle.clauses.specs.Fact.{Clause}
+use Rattle.saturation.specs.Live.{MustBeCovered}
+use Rattle.clause_saturate.proofs.Found.{front_grows}
+use Rattle.clause_saturate.proofs.Fitting.{AreFit-grow, given_grow}
+use Rattle.cert_writer.specs.Adding.{clauses_at, AddsRows}
+use Rattle.cert_writer.proofs.closing.cover_made.Goals as goal
+
+pub cover_all-covered-requires-clause-fit : goal.cover_all-covered-requires-clause-fit
+cover_all-covered-requires-clause-fit g c =
+    let now = g.B.Bank.trees c.args.bank.now in
+    AreFit-grow (take c.args.mark.len now) now c.args.writer.now.live.now (front_grows c.args.mark.len now) c.requires.fit
+
+pub cover_all-covered-requires-clause-covered : goal.cover_all-covered-requires-clause-covered
+cover_all-covered-requires-clause-covered g c =
+    let now = g.B.Bank.trees c.args.bank.now in
+    let same = given_grow (take c.args.mark.len now) now c.args.writer.now.live.now (front_grows c.args.mark.len now) c.requires.fit in
+    λ d h. subst (λ (cs : List (Clause Term)). MustBeCovered cs d) (sym same) (c.requires.covered d h)
+
+pub returns-clause-rows : goal.returns-clause-rows
+returns-clause-rows g c =
+    let now = g.B.Bank.trees c.args.bank.now in
+    let same = given_grow (take c.args.mark.len now) now c.args.writer.now.live.now (front_grows c.args.mark.len now) c.requires.fit in
+    subst (λ (cs : List (Clause Term)). OnOk c.cover_all-covered.result (AddsRows cs (clauses_at now c.args.made.now) c.args.rows.now c.cover_all-covered.new.rows)) same c.cover_all-covered.ensures

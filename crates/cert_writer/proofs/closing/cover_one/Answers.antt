@@ -1,0 +1,29 @@
+use Rattle.std.proofs.Common.{◌≡◌, ◌∙◌, ℕ, true, false, sym}
+use Rattle.std.proofs.lemmas.Result.{IfOk-weaker}
+use Rattle.clauses.specs.Selection.{is_solved}
+use Rattle.clauses.proofs.Selection.{select-none}
+use Rattle.certificates.specs.Certificate.{numbered_from}
+use Rattle.clause_form.specs.Seen.{clause_at}
+use Rattle.cert_writer.specs.Adding.{clauses_at, AddsPairs, pairs_of_one, pairs_if_solved}
+use Rattle.cert_writer.proofs.Adding.{unless_solved, if_solved}
+use Rattle.cert_writer.proofs.closing.cover_one.Goals as goal
+
+pub returns-then-not-is_solved-clause-rows : goal.returns-then-not-is_solved-clause-rows
+returns-then-not-is_solved-clause-rows g c =
+    let all = g.B.Bank.trees c.args.bank.now in
+    let live = clauses_at all c.args.writer.now.live.now in
+    let solved = clause_at all c.args.solved.now in
+    let no : is_solved solved.hypotheses ≡ false = sym c.is_solved.ensures ∙ c.if-not-is_solved.true in
+    λ i. unless_solved live i solved (numbered_from 1 live) c.args.rows.now no
+
+pub returns-clause-rows : goal.returns-clause-rows
+returns-clause-rows g c =
+    let all = g.B.Bank.trees c.args.bank.now in
+    let live = clauses_at all c.args.writer.now.live.now in
+    let solved = clause_at all c.args.solved.now in
+    let each = numbered_from 1 live in
+    let old = c.args.rows.now in
+    let new = c.cover_solved.new.rows in
+    let yes : is_solved solved.hypotheses ≡ true = sym c.is_solved.ensures ∙ c.if-not-is_solved.false in
+    IfOk-weaker c.cover_solved.result (λ _. (i : ℕ) → AddsPairs live (pairs_of_one i solved each) old new) (λ _. (i : ℕ) → AddsPairs live (pairs_if_solved i solved each) old new)
+    (λ _ adds i. if_solved live i solved each old new ((select-none solved.hypotheses).1 yes) (adds i)) c.cover_solved.ensures.rows

@@ -1,0 +1,75 @@
+use Rattle.std.proofs.Common.{◌≡◌, ◌∙◌, ℕ, List, take, ap, sym, subst}
+use Rattle.std.proofs.lemmas.Result.{IfOk-weaker}
+use Rattle.terms.specs.Term.{Term}
+use Rattle.clauses.specs.Fact.{Clause}
+use Rattle.clauses.specs.Inclusion.{Has}
+use Rattle.saturation.specs.Live.{MustBeCovered}
+use Rattle.term_tree.specs.declared.bank.Id.{Id}
+use Rattle.term_tree.proofs.BankLaws.{take-grows}
+use Rattle.clause_form.specs.Seen.{clause_at}
+use Rattle.clause_saturate.specs.Fit.{AreFit}
+use Rattle.clause_saturate.proofs.Fitting.{fit_low}
+use Rattle.cert_writer.specs.Adding.{clauses_at, AddsRows, AddsPairs, pairs_of_two}
+use Rattle.cert_writer.proofs.Pairing.{found_apart, found_large, made_fit, made_covered, made_added}
+use Rattle.cert_writer.proofs.closing.cover_pair.Goals as goal
+
+pub resolvents-requires-clause-solved_low : goal.resolvents-requires-clause-solved_low
+resolvents-requires-clause-solved_low g c = fit_low (g.B.Bank.trees c.args.bank.now) c.args.solved.now c.requires.solved_fit
+
+pub resolvents-requires-clause-unsolved_low : goal.resolvents-requires-clause-unsolved_low
+resolvents-requires-clause-unsolved_low g c = fit_low (g.B.Bank.trees c.args.bank.now) c.args.unsolved.now c.requires.unsolved_fit
+
+pub cover_made-requires-clause-made : goal.cover_made-requires-clause-made
+cover_made-requires-clause-made g c =
+    let all = g.B.Bank.trees c.args.bank.now in
+    let now = g.B.Bank.trees c.resolvents.new.bank in
+    let same : c.deref.result.now ≡ c.in-Clauses.made = c.deref.ensures.value ∙ c.made.view_is in
+    subst (λ (cs : List (Clause Id)). AreFit now cs) (sym same)
+    (made_fit now (clauses_at all c.args.writer.now.live.now) (clause_at all c.args.solved.now) (clause_at all c.args.unsolved.now) c.in_ok-resolvents-in-Some.field-0 c.in_ok-resolvents-in-Some.ensures.answer c.in-Clauses.made c.in-Clauses.is)
+
+pub cover_made-requires-clause-covered : goal.cover_made-requires-clause-covered
+cover_made-requires-clause-covered g c =
+    let all = g.B.Bank.trees c.args.bank.now in
+    let now = g.B.Bank.trees c.resolvents.new.bank in
+    let live = c.args.writer.now.live.now in
+    let same : c.deref.result.now ≡ c.in-Clauses.made = c.deref.ensures.value ∙ c.made.view_is in
+    let back : take c.mark-mark.result.len now ≡ all = ap (λ n. take n now) c.mark-mark.ensures ∙ take-grows all now c.resolvents.ensures.grows in
+    λ d h. subst (λ (before : List Term). MustBeCovered (clauses_at before live) d) (sym back)
+    (made_covered now (clauses_at all live) (clause_at all c.args.solved.now) (clause_at all c.args.unsolved.now) c.in_ok-resolvents-in-Some.field-0 c.in_ok-resolvents-in-Some.ensures.answer c.in-Clauses.made
+    c.requires.closed c.requires.solved_live c.requires.unsolved_live c.requires.is_solved c.in-Clauses.is d (subst (λ (cs : List (Clause Id)). Has (clauses_at now cs) d) same h))
+
+pub returns-in-NoUnifier-clause-rows : goal.returns-in-NoUnifier-clause-rows
+returns-in-NoUnifier-clause-rows g c =
+    let all = g.B.Bank.trees c.args.bank.now in
+    let now = g.B.Bank.trees c.resolvents.new.bank in
+    λ i j. found_apart now (clauses_at all c.args.writer.now.live.now) (clause_at all c.args.solved.now) (clause_at all c.args.unsolved.now) c.in_ok-resolvents-in-Some.field-0 c.in_ok-resolvents-in-Some.ensures.answer i j c.args.rows.now c.in-NoUnifier.is
+
+pub returns-in-Large-clause-rows : goal.returns-in-Large-clause-rows
+returns-in-Large-clause-rows g c =
+    let all = g.B.Bank.trees c.args.bank.now in
+    let now = g.B.Bank.trees c.resolvents.new.bank in
+    λ i j. absurd (found_large now (clauses_at all c.args.writer.now.live.now) (clause_at all c.args.solved.now) (clause_at all c.args.unsolved.now) c.in_ok-resolvents-in-Some.field-0 c.in_ok-resolvents-in-Some.ensures.answer
+    c.requires.closed c.requires.solved_live c.requires.unsolved_live c.requires.is_solved c.in-Large.is)
+
+pub returns-in-Clauses-clause-rows : goal.returns-in-Clauses-clause-rows
+returns-in-Clauses-clause-rows g c =
+    let all = g.B.Bank.trees c.args.bank.now in
+    let now = g.B.Bank.trees c.resolvents.new.bank in
+    let live = c.args.writer.now.live.now in
+    let solved = clause_at all c.args.solved.now in
+    let unsolved = clause_at all c.args.unsolved.now in
+    let made = c.in-Clauses.made in
+    let old = c.args.rows.now in
+    let new = c.cover_made.new.rows in
+    let same : c.deref.result.now ≡ made = c.deref.ensures.value ∙ c.made.view_is in
+    let back : take c.mark-mark.result.len now ≡ all = ap (λ n. take n now) c.mark-mark.ensures ∙ take-grows all now c.resolvents.ensures.grows in
+    IfOk-weaker c.cover_made.result (λ _. AddsRows (clauses_at (take c.mark-mark.result.len now) live) (clauses_at now c.deref.result.now) old new) (λ _. (i j : ℕ) → AddsPairs (clauses_at all live) (pairs_of_two i solved j unsolved) old new)
+    (λ _ adds i j. made_added now (clauses_at all live) solved unsolved c.in_ok-resolvents-in-Some.field-0 c.in_ok-resolvents-in-Some.ensures.answer made i j old new c.in-Clauses.is
+    (subst (λ (cs : List (Clause Id)). AddsRows (clauses_at all live) (clauses_at now cs) old new) same (subst (λ (before : List Term). AddsRows (clauses_at before live) (clauses_at now c.deref.result.now) old new) back adds)))
+    c.cover_made.ensures.rows
+
+pub returns-in-Clauses-clause-bank : goal.returns-in-Clauses-clause-bank
+returns-in-Clauses-clause-bank g c =
+    let all = g.B.Bank.trees c.args.bank.now in
+    let now = g.B.Bank.trees c.resolvents.new.bank in
+    c.cover_made.ensures.bank ∙ (ap (λ n. take n now) c.mark-mark.ensures ∙ take-grows all now c.resolvents.ensures.grows)

@@ -1,0 +1,11 @@
+use Rattle.std.proofs.Common.{◌≡◌, take}
+use Rattle.certificates.specs.Certificate.{numbered_from, pairs_of}
+use Rattle.cert_writer.specs.Adding.{clauses_at, AddsPairs}
+use Rattle.cert_writer.proofs.closing.cover_pairs.Given as goal
+
+abbrev pub invariant-each : goal.invariant-each
+invariant-each g l = record {
+  bank : g.B.Bank.trees l.bank ≡ g.B.Bank.trees l.fn.bank;
+  rows : AddsPairs (clauses_at (g.B.Bank.trees l.fn.bank) l.writer.live.now)
+      (pairs_of (take l.solved-index (numbered_from 1 (clauses_at (g.B.Bank.trees l.fn.bank) l.writer.live.now))) (numbered_from 1 (clauses_at (g.B.Bank.trees l.fn.bank) l.writer.live.now))) l.fn.rows l.rows;
+}

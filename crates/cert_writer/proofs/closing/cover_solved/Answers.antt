@@ -1,0 +1,47 @@
+use Rattle.std.proofs.Common.{◌≡◌, ◌∙◌, ◌+◌, ℕ, List, take, sym, subst}
+use Rattle.terms.specs.Term.{Term}
+use Rattle.clauses.specs.Inclusion.{Has}
+use Rattle.certificates.specs.Certificate.{Numbered, numbered_from}
+use Rattle.verdicts.proofs.Building.{take_past}
+use Rattle.clause_form.specs.Seen.{clause_at}
+use Rattle.clause_saturate.specs.Fit.{IsFit}
+use Rattle.clause_saturate.proofs.Fitting.{clause_fit_at}
+use Rattle.cert_writer.specs.Adding.{clauses_at, AddsPairs, pairs_of_two, pairs_of_one}
+use Rattle.cert_writer.proofs.Items.{item_at, item_has, numbers_past}
+use Rattle.cert_writer.proofs.Adding.{one_next}
+use Rattle.cert_writer.proofs.closing.cover_solved.Goals as goal
+
+pub cover_pair-requires-clause-solved_fit : goal.cover_pair-requires-clause-solved_fit
+cover_pair-requires-clause-solved_fit g c = subst (λ (all : List Term). IsFit all c.args.solved.now) (sym c.each.invariant.bank) c.requires.solved_fit
+
+pub cover_pair-requires-clause-unsolved_fit : goal.cover_pair-requires-clause-unsolved_fit
+cover_pair-requires-clause-unsolved_fit g c =
+    subst (λ (all : List Term). IsFit all c.unsolved-item.result) (sym c.each.invariant.bank)
+    (clause_fit_at (g.B.Bank.trees c.args.bank.now) c.args.writer.now.live.now c.each.unsolved-index c.unsolved-item.result c.unsolved-item.is c.requires.fit c.each-test.true)
+
+pub cover_pair-requires-clause-unsolved_live : goal.cover_pair-requires-clause-unsolved_live
+cover_pair-requires-clause-unsolved_live g c =
+    subst (λ (all : List Term). Has (clauses_at all c.args.writer.now.live.now) (clause_at all c.unsolved-item.result)) (sym c.each.invariant.bank)
+    (item_has (g.B.Bank.trees c.args.bank.now) c.args.writer.now.live.now c.each.unsolved-index c.unsolved-item.result c.unsolved-item.is c.each-test.true)
+
+pub each-preserved : goal.each-preserved
+each-preserved g c =
+    let all = g.B.Bank.trees c.args.bank.now in
+    let live = c.args.writer.now.live.now in
+    let solved = c.args.solved.now in
+    let unsolved = c.unsolved-item.result in
+    let old = c.each.rows in
+    let new = c.cover_pair.new.rows in
+    let pairs = subst (λ (all : List Term). (i j : ℕ) → AddsPairs (clauses_at all live) (pairs_of_two i (clause_at all solved) j (clause_at all unsolved)) old new) c.each.invariant.bank c.in_ok-cover_pair.ensures.rows in
+    record {
+      bank = c.cover_pair.ensures.bank ∙ c.each.invariant.bank;
+      rows = λ i. one_next (clauses_at all live) i (clause_at all solved) (clauses_at all live) c.each.unsolved-index (clause_at all unsolved) c.args.rows.now old new
+          (item_at all live c.each.unsolved-index unsolved c.unsolved-item.is c.each-test.true) (c.each.invariant.rows i) (pairs i);
+    }
+
+pub returns-clause-rows : goal.returns-clause-rows
+returns-clause-rows g c =
+    let all = g.B.Bank.trees c.args.bank.now in
+    let clauses = clauses_at all c.args.writer.now.live.now in
+    λ i. subst (λ (ns : List Numbered). AddsPairs clauses (pairs_of_one i (clause_at all c.args.solved.now) ns) c.args.rows.now c.each.rows)
+    (take_past (numbered_from 1 clauses) c.each.unsolved-index (numbers_past all c.args.writer.now.live.now c.each.unsolved-index c.each-test.false)) (c.each.invariant.rows i)

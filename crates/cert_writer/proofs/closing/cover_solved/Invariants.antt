@@ -1,0 +1,12 @@
+use Rattle.std.proofs.Common.{◌≡◌, ℕ, take}
+use Rattle.certificates.specs.Certificate.{numbered_from}
+use Rattle.clause_form.specs.Seen.{clause_at}
+use Rattle.cert_writer.specs.Adding.{clauses_at, AddsPairs, pairs_of_one}
+use Rattle.cert_writer.proofs.closing.cover_solved.Given as goal
+
+abbrev pub invariant-each : goal.invariant-each
+invariant-each g l = record {
+  bank : g.B.Bank.trees l.bank ≡ g.B.Bank.trees l.fn.bank;
+  rows : (i : ℕ) → AddsPairs (clauses_at (g.B.Bank.trees l.fn.bank) l.writer.live.now)
+      (pairs_of_one i (clause_at (g.B.Bank.trees l.fn.bank) l.solved) (take l.unsolved-index (numbered_from 1 (clauses_at (g.B.Bank.trees l.fn.bank) l.writer.live.now)))) l.fn.rows l.rows;
+}

@@ -1,0 +1,4 @@
+pub mod Living
+pub mod Adding
+pub mod Goals
+pub mod Certifying

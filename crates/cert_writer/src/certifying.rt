@@ -1,0 +1,129 @@
+//! The certificate of a closed log.
+
+ghost use Rattle.std.specs.Prelude.{◌≡◌, ◌<◌, ◌^◌, ℕ, length, IfOk};
+ghost use Rattle.well_formed.specs.Limits.{IsWithinLimits};
+ghost use Rattle.terms.specs.Term.{Term};
+ghost use Rattle.clauses.specs.Fact.{Clause as ClauseOf};
+ghost use Rattle.clauses.specs.Inclusion.{Has};
+ghost use Rattle.translation.specs.Translation.{Clauses as TranslatedTo, IsTranslation};
+ghost use Rattle.saturation.specs.Live.{MustBeCovered};
+ghost use Rattle.pi_tree.specs.Protocols.{protocol_of};
+ghost use Rattle.pi_tree.specs.Accessors.{IsThere};
+ghost use Rattle.pi_tree.specs.declared.accessors.Kind.TheVariants.{Query as OfQueries};
+ghost use Rattle.clause_form.specs.Seen.{AreClausesIn};
+ghost use Rattle.query_derive.specs.GoalRows.{OfQuery};
+ghost use Rattle.clause_saturate.specs.Fit.{AreFit};
+ghost use Rattle.clause_saturate.specs.Logs.{IsClosedLog};
+ghost use Rattle.cert_writer.specs.Adding.{clauses_at, MustClose, AreRowsOf};
+ghost use Rattle.cert_writer.specs.Certifying.{IsWritten, IsVerdictOf, IsAcceptedIfCert, HoldsIfCert};
+
+use crate::certified::Certified;
+use crate::closing::cover_pairs;
+use crate::covering::cover_all;
+use crate::living::{live_of, plain_of};
+use crate::satisfying::{Goals, goal_rows};
+use crate::writer::Writer;
+use cert_text::{Cert, Rows};
+use clause_form::Clause;
+use clause_saturate::Log;
+use pi_tree::Protocol;
+use std::alloc::{AllocError, Global};
+use term_tree::Bank;
+use verdicts::proved_queries_hold;
+
+/// The first rows of the given clauses, and then of what all pairs of live clauses give. The bank is as before.
+fn rows_of<B: Bank>(bank: &mut B, writer: &Writer<'_>, given: &[Clause]) -> Result<Rows, AllocError>
+    requires fit { AreFit (B.trees bank.old) writer.now.live.now }
+    requires few { length writer.now.live.now < 2 ^ 32 }
+    requires given { AreFit (B.trees bank.old) given.now }
+    requires covered { let all = B.trees bank.old in (c : ClauseOf Term) →
+        Has (clauses_at all given.now) c → MustBeCovered (clauses_at all writer.now.live.now) c }
+    requires closed { MustClose (clauses_at (B.trees bank.old) writer.now.live.now) }
+    ensures rows { let all = B.trees bank.old in IfOk result (λ rows.
+        AreRowsOf (clauses_at all writer.now.live.now) (clauses_at all given.now) rows) }
+    ensures bank { B.trees bank.new ≡ B.trees bank.old }
+{
+    let mut rows = Rows {
+        items: Vec::new(writer.alloc),
+    };
+    cover_all(bank, writer, given, &mut rows)?;
+    cover_pairs(bank, writer, &mut rows)?;
+    Ok(rows)
+}
+
+/// The certificate of the live clauses, with these goal rows. The bank is as before.
+fn cert_of<B: Bank>(
+    bank: &mut B,
+    writer: &Writer<'_>,
+    given: &[Clause],
+    goals: Rows,
+) -> Result<Cert, AllocError>
+    requires fit { AreFit (B.trees bank.old) writer.now.live.now }
+    requires few { length writer.now.live.now < 2 ^ 32 }
+    requires given { AreFit (B.trees bank.old) given.now }
+    requires covered { let all = B.trees bank.old in (c : ClauseOf Term) →
+        Has (clauses_at all given.now) c → MustBeCovered (clauses_at all writer.now.live.now) c }
+    requires closed { MustClose (clauses_at (B.trees bank.old) writer.now.live.now) }
+    ensures cert { let all = B.trees bank.old in IfOk result (λ cert.
+        IsWritten (clauses_at all writer.now.live.now) (clauses_at all given.now) goals cert) }
+    ensures bank { B.trees bank.new ≡ B.trees bank.old }
+{
+    let rows = rows_of(bank, writer, given)?;
+    let clauses = plain_of(writer.alloc, bank, writer.live)?;
+    Ok(Cert {
+        clauses,
+        rows,
+        goals,
+    })
+}
+
+/// The certificate of a closed log of a query's translation: its live clauses, to each obligation the first row that shows it,
+/// and to each solved clause that concludes `bad` the first goal row; or the first live solved entry that concludes `bad`
+/// and doesn't satisfy the query. So the verdict of the query, with any budget that the log is closed with, is that it is proved
+/// by this certificate, or that this entry is unmet.
+///
+/// The time is that of the search of rows, which is hard; see `multiset_subsume`.
+///
+/// `Err` comes only for want of memory. The bank is as before.
+pub fn certify<B: Bank>(
+    alloc: Global,
+    bank: &mut B,
+    protocol: &Protocol,
+    query: u32,
+    given: &[Clause],
+    log: &Log,
+) -> Result<Certified, AllocError>
+    requires limits { IsWithinLimits (protocol_of protocol.now) }
+    requires there { IsThere (protocol_of protocol.now) OfQueries query }
+    requires known { AreClausesIn (B.trees bank.old) given.now }
+    requires translation { let P = protocol_of protocol.now in OfQuery P query (λ q.
+        IsTranslation P q (TranslatedTo (clauses_at (B.trees bank.old) given.now))) }
+    requires closed { let all = B.trees bank.old in
+        (budget : ℕ) × IsClosedLog all (clauses_at all given.now) budget log.now }
+    requires few { length log.now < 2 ^ 32 }
+    ensures verdict { let P = protocol_of protocol.now in let all = B.trees bank.old in
+        IfOk result (λ certified. OfQuery P query (λ q. (budget : ℕ) →
+        IsClosedLog all (clauses_at all given.now) budget log.now →
+        IsVerdictOf P q budget all log.now certified)) }
+    ensures accepted { let P = protocol_of protocol.now in
+        IfOk result (λ certified. OfQuery P query (λ q. IsAcceptedIfCert P q certified)) }
+    ensures holds { let P = protocol_of protocol.now in
+        IfOk result (λ certified. OfQuery P query (λ q. HoldsIfCert P q certified)) }
+    ensures bank { B.trees bank.new ≡ B.trees bank.old }
+{
+    let live = live_of(alloc, log)?;
+    let writer = Writer {
+        alloc,
+        protocol,
+        query,
+        live: &live.items,
+    };
+    match goal_rows(bank, &writer, log)? {
+        Goals::Unsatisfied(number) => Ok(Certified::Unsatisfied(number)),
+        Goals::Rows(goals) => {
+            proved_queries_hold();
+            let cert = cert_of(bank, &writer, given, goals)?;
+            Ok(Certified::Cert(cert))
+        }
+    }
+}

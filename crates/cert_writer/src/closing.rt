@@ -1,0 +1,157 @@
+//! The rows of what pairs of a solved clause with an unsolved one give.
+
+ghost use Rattle.std.specs.Prelude.{◌≡◌, ◌<◌, ◌≤◌, ◌^◌, ℕ, true, length, take, OnOk};
+ghost use Rattle.terms.specs.Term.{Term};
+ghost use Rattle.clauses.specs.Fact.{Clause as ClauseOf};
+ghost use Rattle.clauses.specs.Selection.{select, is_solved as is_solved_list};
+ghost use Rattle.clauses.specs.Inclusion.{Has};
+ghost use Rattle.saturation.specs.Live.{MustBeCovered};
+ghost use Rattle.certificates.specs.Certificate.{numbered_from, pairs_of};
+ghost use Rattle.clause_form.specs.Seen.{clause_at};
+ghost use Rattle.clause_saturate.specs.Fit.{IsFit, AreFit};
+ghost use Rattle.cert_writer.specs.Adding.{clauses_at, AddsRows, AddsPairs, MustClose};
+ghost use Rattle.cert_writer.specs.Adding.{pairs_of_two, pairs_of_one, pairs_if_solved};
+
+use crate::covering::cover_all;
+use crate::writer::Writer;
+use cert_text::Rows;
+use clause_form::Clause;
+use clause_resolve::{Resolved, resolvents};
+use literal_selection::{is_solved, selected};
+use std::alloc::AllocError;
+use term_tree::{Bank, Mark};
+
+/// Adds the rows of resolvents, and takes the bank back to the mark.
+fn cover_made<B: Bank>(
+    bank: &mut B,
+    writer: &Writer<'_>,
+    mark: Mark,
+    made: &[Clause],
+    rows: &mut Rows,
+) -> Result<(), AllocError>
+    requires mark { mark.len ≤ length (B.trees bank.old) }
+    requires fit { AreFit (take mark.len (B.trees bank.old)) writer.now.live.now }
+    requires few { length writer.now.live.now < 2 ^ 32 }
+    requires made { AreFit (B.trees bank.old) made.now }
+    requires covered { (c : ClauseOf Term) → Has (clauses_at (B.trees bank.old) made.now) c →
+        MustBeCovered (clauses_at (take mark.len (B.trees bank.old)) writer.now.live.now) c }
+    ensures rows { OnOk result
+        (AddsRows (clauses_at (take mark.len (B.trees bank.old)) writer.now.live.now)
+        (clauses_at (B.trees bank.old) made.now) rows.old rows.new) }
+    ensures bank { B.trees bank.new ≡ take mark.len (B.trees bank.old) }
+{
+    let covered = cover_all(bank, writer, made, rows);
+    bank.back(mark);
+    covered
+}
+
+/// Adds the rows of what a solved clause gives with another one, if that is unsolved. The bank is as before.
+fn cover_pair<B: Bank>(
+    bank: &mut B,
+    writer: &Writer<'_>,
+    solved: &Clause,
+    unsolved: &Clause,
+    rows: &mut Rows,
+) -> Result<(), AllocError>
+    requires fit { AreFit (B.trees bank.old) writer.now.live.now }
+    requires few { length writer.now.live.now < 2 ^ 32 }
+    requires solved_fit { IsFit (B.trees bank.old) solved.now }
+    requires unsolved_fit { IsFit (B.trees bank.old) unsolved.now }
+    requires solved_live { let all = B.trees bank.old in
+        Has (clauses_at all writer.now.live.now) (clause_at all solved.now) }
+    requires unsolved_live { let all = B.trees bank.old in
+        Has (clauses_at all writer.now.live.now) (clause_at all unsolved.now) }
+    requires is_solved { is_solved_list (clause_at (B.trees bank.old) solved.now).hypotheses
+        ≡ true }
+    requires closed { MustClose (clauses_at (B.trees bank.old) writer.now.live.now) }
+    ensures rows { let all = B.trees bank.old in
+        OnOk result ((i j : ℕ) → AddsPairs (clauses_at all writer.now.live.now)
+        (pairs_of_two i (clause_at all solved.now) j (clause_at all unsolved.now))
+        rows.old rows.new) }
+    ensures bank { B.trees bank.new ≡ B.trees bank.old }
+{
+    match selected(bank, unsolved) {
+        None => Ok(()),
+        Some(at) => {
+            let mark = bank.mark();
+            match resolvents(writer.alloc, bank, solved, unsolved, at)? {
+                Resolved::NoUnifier => Ok(()),
+                Resolved::Large => Ok(()),
+                Resolved::Clauses(made) => cover_made(bank, writer, mark, &made.items, rows),
+            }
+        }
+    }
+}
+
+/// Adds the rows of what a solved clause gives with each unsolved one. The bank is as before.
+fn cover_solved<B: Bank>(
+    bank: &mut B,
+    writer: &Writer<'_>,
+    solved: &Clause,
+    rows: &mut Rows,
+) -> Result<(), AllocError>
+    requires fit { AreFit (B.trees bank.old) writer.now.live.now }
+    requires few { length writer.now.live.now < 2 ^ 32 }
+    requires solved_fit { IsFit (B.trees bank.old) solved.now }
+    requires solved_live { let all = B.trees bank.old in
+        Has (clauses_at all writer.now.live.now) (clause_at all solved.now) }
+    requires is_solved { is_solved_list (clause_at (B.trees bank.old) solved.now).hypotheses
+        ≡ true }
+    requires closed { MustClose (clauses_at (B.trees bank.old) writer.now.live.now) }
+    ensures rows { let live = clauses_at (B.trees bank.old) writer.now.live.now in
+        OnOk result ((i : ℕ) → AddsPairs live
+        (pairs_of_one i (clause_at (B.trees bank.old) solved.now) (numbered_from 1 live))
+        rows.old rows.new) }
+    ensures bank { B.trees bank.new ≡ B.trees bank.old }
+{
+    'each: for unsolved in writer.live {
+        cover_pair(bank, writer, solved, unsolved, rows)?;
+    }
+    Ok(())
+}
+
+/// The same, if the clause is solved.
+fn cover_one<B: Bank>(
+    bank: &mut B,
+    writer: &Writer<'_>,
+    solved: &Clause,
+    rows: &mut Rows,
+) -> Result<(), AllocError>
+    requires fit { AreFit (B.trees bank.old) writer.now.live.now }
+    requires few { length writer.now.live.now < 2 ^ 32 }
+    requires solved_fit { IsFit (B.trees bank.old) solved.now }
+    requires solved_live { let all = B.trees bank.old in
+        Has (clauses_at all writer.now.live.now) (clause_at all solved.now) }
+    requires closed { MustClose (clauses_at (B.trees bank.old) writer.now.live.now) }
+    ensures rows { let live = clauses_at (B.trees bank.old) writer.now.live.now in
+        OnOk result ((i : ℕ) → AddsPairs live
+        (pairs_if_solved i (clause_at (B.trees bank.old) solved.now) (numbered_from 1 live))
+        rows.old rows.new) }
+    ensures bank { B.trees bank.new ≡ B.trees bank.old }
+{
+    if !is_solved(bank, solved) {
+        return Ok(());
+    }
+    cover_solved(bank, writer, solved, rows)
+}
+
+/// Adds the rows of what all pairs give, solved clauses ascending, and for each the unsolved ones ascending. The bank is as
+/// before.
+pub(crate) fn cover_pairs<B: Bank>(
+    bank: &mut B,
+    writer: &Writer<'_>,
+    rows: &mut Rows,
+) -> Result<(), AllocError>
+    requires fit { AreFit (B.trees bank.old) writer.now.live.now }
+    requires few { length writer.now.live.now < 2 ^ 32 }
+    requires closed { MustClose (clauses_at (B.trees bank.old) writer.now.live.now) }
+    ensures rows { let live = clauses_at (B.trees bank.old) writer.now.live.now in
+        OnOk result (AddsPairs live (pairs_of (numbered_from 1 live) (numbered_from 1 live))
+        rows.old rows.new) }
+    ensures bank { B.trees bank.new ≡ B.trees bank.old }
+{
+    'each: for solved in writer.live {
+        cover_one(bank, writer, solved, rows)?;
+    }
+    Ok(())
+}

@@ -1,0 +1,4 @@
+pub mod Telling
+pub mod Fitting
+pub mod Answering
+pub mod Each

@@ -1,0 +1,31 @@
+use Rattle.std.proofs.Common.{List, sym, subst}
+use Rattle.terms.specs.Term.{Term}
+use Rattle.clauses.specs.Fact.{Clause}
+use Rattle.clause_saturate.specs.Logs.{IsLogOf}
+use Rattle.query_verify.specs.Asked.{protocol_at}
+use Rattle.query_verify.proofs.Fitting.{small_query, named_fit, named_some, same_later, translates_later}
+use Rattle.query_verify.proofs.deciding.decided.Goals as goal
+
+pub saturate-requires-clause-some : goal.saturate-requires-clause-some
+saturate-requires-clause-some g c =
+    let t = c.requires.given in
+    let last = c.translations_have_one_goal.ensures.last (protocol_at c.args.question.now) t.query t.list t.translates in
+    named_some (g.B.Bank.trees c.args.bank.now) c.args.given.now t.list last.0 last.1 t.names last.2
+
+pub saturate-requires-clause-fit : goal.saturate-requires-clause-fit
+saturate-requires-clause-fit g c =
+    let P = protocol_at c.args.question.now in
+    let t = c.requires.given in
+    let limits = c.requires.question.limits in
+    named_fit (g.B.Bank.trees c.args.bank.now) c.args.given.now t.list t.names (λ d has. c.translations_are_normal.ensures.normal P t.query t.list d t.translates has)
+    (λ d has. c.translations_are_within_the_limit.ensures.all P t.query t.list d limits (small_query P c.args.question.now.query t.query limits t.is) t.translates has)
+
+pub ended-requires-clause-given : goal.ended-requires-clause-given
+ended-requires-clause-given g c =
+    translates_later (protocol_at c.args.question.now) c.args.question.now.query (g.B.Bank.trees c.args.bank.now) (g.B.Bank.trees c.saturate.new.bank) c.args.given.now c.saturate.ensures.grows c.requires.given
+
+pub ended-requires-clause-log : goal.ended-requires-clause-log
+ended-requires-clause-log g c =
+    let old = g.B.Bank.trees c.args.bank.now in
+    let new = g.B.Bank.trees c.saturate.new.bank in
+    subst (λ (cs : List (Clause Term)). IsLogOf new cs c.args.question.now.budget c.in_ok-saturated.saturated) (sym (same_later old new c.args.given.now c.saturate.ensures.grows c.requires.given.names.known)) c.in_ok-saturated.ensures.log

@@ -1,0 +1,39 @@
+//! Verdicts of queries.
+
+use cert_text::Cert;
+use clause_saturate::{PlainEntry, PlainLog};
+use std::marker::Model;
+
+/// The verdict of a query. Entries of logs are counted from 1.
+#[derive(Debug, Drop)]
+pub enum Verdict {
+    /// No run violates the query; this certificate shows it.
+    Proved(Cert),
+    /// The log has as many entries as the budget allows, and this one is due.
+    Budget(PlainLog, PlainEntry),
+    /// The pair of this solved entry and this unsolved one is too large.
+    SizePair(PlainLog, usize, usize),
+    /// The visit of this point is too large.
+    SizePoint(u32),
+    /// The log is closed, and this is the first of its live solved entries with the conclusion `bad` that doesn't satisfy
+    /// the query.
+    Unmet(PlainLog, usize),
+}
+
+/// Verdicts in order.
+#[derive(Debug, Drop)]
+pub struct Verdicts {
+    pub items: Vec<Verdict>,
+}
+
+impl Model for Verdicts {
+    ghost use Rattle.std.specs.Prelude.{List};
+    ghost use Rattle.query_verify.specs.declared.answers.Verdict.{Verdict};
+    ghost use Rattle.query_verify.specs.Codes.{coded_verdicts};
+
+    ghost Value = { List Verdict };
+
+    ghost coded = { coded_verdicts };
+
+    ghost view = { λ a. a.items.items };
+}

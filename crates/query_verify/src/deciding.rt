@@ -1,0 +1,160 @@
+//! Queries decided: the translation, the log of its clauses, and what that comes to.
+
+ghost use Rattle.std.specs.Prelude.{◌≤◌, IfOk, map};
+ghost use Rattle.well_formed.specs.Limits.{IsWithinLimits};
+ghost use Rattle.well_formed.specs.Rules.{HasProperRules};
+ghost use Rattle.well_formed.specs.Queries.{HasProperQueries};
+ghost use Rattle.well_formed.specs.WellFormed.{IsWellScoped};
+ghost use Rattle.pi_tree.specs.Protocols.{protocol_of};
+ghost use Rattle.pi_tree.specs.Accessors.{IsThere};
+ghost use Rattle.pi_tree.specs.declared.accessors.Kind.TheVariants.{Query as OfQueries};
+ghost use Rattle.clause_form.specs.Seen.{clause_at};
+ghost use Rattle.query_derive.specs.GoalRows.{OfQuery};
+ghost use Rattle.clause_saturate.specs.Logs.{IsLogOf, IsClosedLog};
+ghost use Rattle.query_verify.specs.Asked.{CanBeAsked, AreAskedOf, Answers};
+ghost use Rattle.query_verify.specs.Told.{IsAnswer, AnswerQueries};
+
+use crate::answers::{Verdict, Verdicts};
+use crate::due::read_entry;
+use crate::question::{MOST_BUDGET, Question};
+use cert_writer::{Certified, certify};
+use clause_form::Clause;
+use clause_saturate::{Log, Saturated, entries_tell_logs, read_log, saturate};
+use clause_translate::{Translated, translate};
+use pi_tree::{Kind, Protocol};
+use std::alloc::{AllocError, Global};
+use term_tree::{Bank, TreeBank};
+use translation::{
+    translations_are_normal, translations_are_within_the_limit, translations_have_one_goal,
+};
+
+/// The verdict where the log is closed.
+fn closed<B: Bank>(
+    question: &Question<'_>,
+    bank: &mut B,
+    given: &[Clause],
+    log: &Log,
+) -> Result<Verdict, AllocError>
+    requires question { CanBeAsked question.now }
+    requires given { AreAskedOf question.now (B.trees bank.old) given.now }
+    requires log { let all = B.trees bank.old in
+        IsClosedLog all (map (clause_at all) given.now) question.now.budget log.now }
+    ensures { IfOk result (λ answer. Answers question.now answer) }
+{
+    entries_tell_logs();
+    match certify(
+        question.alloc,
+        bank,
+        question.protocol,
+        question.query,
+        given,
+        log,
+    )? {
+        Certified::Cert(cert) => Ok(Verdict::Proved(cert)),
+        Certified::Unsatisfied(number) => {
+            let entries = read_log(question.alloc, bank, log)?;
+            Ok(Verdict::Unmet(entries, number))
+        }
+    }
+}
+
+/// The verdict by the log of the given clauses, and its end.
+fn ended<B: Bank>(
+    question: &Question<'_>,
+    bank: &mut B,
+    given: &[Clause],
+    saturated: &Saturated,
+) -> Result<Verdict, AllocError>
+    requires question { CanBeAsked question.now }
+    requires given { AreAskedOf question.now (B.trees bank.old) given.now }
+    requires log { let all = B.trees bank.old in
+        IsLogOf all (map (clause_at all) given.now) question.now.budget saturated.now }
+    ensures { IfOk result (λ answer. Answers question.now answer) }
+{
+    entries_tell_logs();
+    match saturated {
+        Saturated::Closed(log) => closed(question, bank, given, log),
+        Saturated::Spent(log, due) => {
+            let entries = read_log(question.alloc, bank, log)?;
+            let entry = read_entry(question.alloc, bank, due)?;
+            Ok(Verdict::Budget(entries, entry))
+        }
+        Saturated::Large(log, solved, unsolved) => {
+            let entries = read_log(question.alloc, bank, log)?;
+            Ok(Verdict::SizePair(entries, *solved, *unsolved))
+        }
+    }
+}
+
+/// The verdict by the clauses that the protocol and the query are translated into.
+fn decided<B: Bank>(
+    question: &Question<'_>,
+    bank: &mut B,
+    given: &[Clause],
+) -> Result<Verdict, AllocError>
+    requires question { CanBeAsked question.now }
+    requires given { AreAskedOf question.now (B.trees bank.old) given.now }
+    ensures { IfOk result (λ answer. Answers question.now answer) }
+{
+    translations_are_normal();
+    translations_are_within_the_limit();
+    translations_have_one_goal();
+    let saturated = saturate(question.alloc, bank, given, question.budget)?;
+    ended(question, bank, given, &saturated)
+}
+
+/// The verdict of the query of that number with the budget: exactly the one that the definitions give. A new bank is made
+/// for it.
+///
+/// The conditions hold of each protocol that is read, and of each budget that a command may name. `Err` comes only for want
+/// of memory.
+pub fn verdict(
+    alloc: Global,
+    protocol: &Protocol,
+    query: u32,
+    budget: u64,
+) -> Result<Verdict, AllocError>
+    requires limits { IsWithinLimits (protocol_of protocol.now) }
+    requires rules { HasProperRules (protocol_of protocol.now) }
+    requires scoped { IsWellScoped (protocol_of protocol.now) }
+    requires queries { HasProperQueries (protocol_of protocol.now) }
+    requires there { IsThere (protocol_of protocol.now) OfQueries query }
+    requires budget { budget ≤ MOST_BUDGET }
+    ensures { let P = protocol_of protocol.now in
+        IfOk result (λ answer. OfQuery P query (λ q. IsAnswer P q budget answer)) }
+{
+    let mut bank = TreeBank::new(alloc)?;
+    match translate(alloc, &mut bank, protocol, query)? {
+        Translated::Large(point) => Ok(Verdict::SizePoint(point)),
+        Translated::Clauses(given) => {
+            let question = Question {
+                alloc,
+                protocol,
+                query,
+                budget,
+            };
+            decided(&question, &mut bank, &given.items)
+        }
+    }
+}
+
+/// The verdicts of all queries with the budget, one for each, in order.
+///
+/// The conditions hold of each protocol that is read, and of each budget that a command may name. `Err` comes only for want
+/// of memory.
+pub fn verdicts(alloc: Global, protocol: &Protocol, budget: u64) -> Result<Verdicts, AllocError>
+    requires limits { IsWithinLimits (protocol_of protocol.now) }
+    requires rules { HasProperRules (protocol_of protocol.now) }
+    requires scoped { IsWellScoped (protocol_of protocol.now) }
+    requires queries { HasProperQueries (protocol_of protocol.now) }
+    requires budget { budget ≤ MOST_BUDGET }
+    ensures { let P = protocol_of protocol.now in
+        IfOk result (λ answers. AnswerQueries P budget P.queries answers) }
+{
+    let mut items = Vec::new(alloc);
+    'each: for index in 0..protocol.count(Kind::Query) {
+        let answer = verdict(alloc, protocol, index + 1, budget)?;
+        items.push(answer)?;
+    }
+    Ok(Verdicts { items })
+}

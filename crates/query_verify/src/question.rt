@@ -1,0 +1,16 @@
+//! What is asked.
+
+use pi_tree::Protocol;
+use std::alloc::Global;
+
+/// The greatest budget: a log has no more entries.
+pub const MOST_BUDGET: u64 = 1_000_000;
+
+/// A query of a protocol, and how many entries its log may have.
+#[derive(Clone, Copy)]
+pub struct Question<'a> {
+    pub alloc: Global,
+    pub protocol: &'a Protocol,
+    pub query: u32,
+    pub budget: u64,
+}
