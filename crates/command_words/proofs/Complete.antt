@@ -16,8 +16,8 @@ use Rattle.clap.specs.declared.parser.matches.ValueSource.TheVariants.{CommandLi
 use Rattle.std.proofs.lemmas.Slice.Eq.{bytes_eq-Decides}
 use Rattle.clap.proofs.SimpleLemmas.{is_nil}
 use Rattle.clap.proofs.ValueTestLemmas.{Accepts-accepts, accepts-Accepts}
-use Rattle.command_words.specs.Commands.{budget_rule, name_rule, program_app}
-use Rattle.command_words.specs.Request.{Replay, Verify, asked, is_taken, number_of, replay_in, request_of, request_seen, verify_in}
+use Rattle.command_words.specs.Commands.{budget_rule, name_rule, program_app, query_rule}
+use Rattle.command_words.specs.Request.{ListOf, Replay, Verify, asked, is_taken, list_in, number_of, replay_in, request_of, request_seen, verify_in}
 use Rattle.command_words.specs.declared.Request.{Request as Request'}
 use Rattle.command_words.proofs.Rows.{default_good, default_there, first_there, given_there, good, is_number_id, kept_rows, row_from, number_there, one_keeps}
 use Rattle.command_words.proofs.Stopping.{StopsElsewhere, walk_stops}
@@ -30,6 +30,9 @@ name_at i id = with_index i (filled (name_rule id))
 
 abbrev budget : Rule
 budget = filled budget_rule
+
+abbrev query : Rule
+query = with_index 2 (filled query_rule)
 
 abbrev help : Rule
 help = filled help_rule
@@ -65,6 +68,22 @@ budget_fits = record {
   default_keeps = λ rows g. default_good budget (codes "10000") rows refl g;
 }
 
+pub small_query : (v : Text) → is_unsigned_in 1 256 v ≡ true → is_unsigned_in 0 (2 ^ 64 - 1) v ≡ true
+small_query v e =
+    let h = accepts-Accepts false (Unsigned 1 256) v e in
+    Accepts-accepts false (Unsigned 0 (2 ^ 64 - 1)) v (h.0, h.1, omega arith, omega (arith, h.3))
+
+query_passes : (v : Text) → values_fault query (v ∷ []) ≡ [] → good (row_from query CommandLine v) ≡ true
+query_passes v e =
+    let parts = neither (value_kinds false (Unsigned 1 256) v) [] e in
+    rw (small_query v (accepted (is_unsigned_in 1 256 v) parts.0)) refl
+
+query_fits : Fits good query
+query_fits = record {
+  keeps = one_keeps query query_passes;
+  default_keeps = λ rows g. kept_rows (has_row (codes "query") rows) rows g;
+}
+
 help_fits : Fits good help
 help_fits = record {
   keeps = λ values rows e g.
@@ -81,11 +100,17 @@ program = built program_app
 abbrev verify : Shape
 verify = unwrap_or (slice_get program.subs 0) program.top
 
+abbrev list : Shape
+list = unwrap_or (slice_get program.subs 1) program.top
+
 abbrev replay : Shape
-replay = unwrap_or (slice_get program.subs 1) program.top
+replay = unwrap_or (slice_get program.subs 2) program.top
 
 verify_fits : AllFit good verify.rules
 verify_fits = (name_fits 1 (codes "file") refl, (budget_fits, (help_fits, tt)))
+
+list_fits : AllFit good list.rules
+list_fits = (name_fits 1 (codes "file") refl, (query_fits, (help_fits, tt)))
 
 replay_fits : AllFit good replay.rules
 replay_fits = (name_fits 1 (codes "file") refl, (name_fits 2 (codes "run") refl, (help_fits, tt)))
@@ -120,6 +145,14 @@ verify_some words e =
     some_both Verify (first_of (codes "file") rows) (option_and_then number_of (one_of (codes "budget") rows))
     (first_there rows (codes "file") level.0 file) (number_there rows (codes "budget") refl level.0 number)
 
+list_some : (words : List Text) → level_fault list [] nothing_held words false [] ≡ [] → is_some (list_in (rows_after list.rules [] words)) ≡ true
+list_some words e =
+    let level = level_good good list refl list_fits [] words false [] e in
+    let rows = rows_after list.rules [] words in
+    let given = both_given (is_given (codes "file") rows) (is_given (codes "query") rows) level.1 in
+    some_both ListOf (first_of (codes "file") rows) (option_and_then number_of (one_of (codes "query") rows))
+    (first_there rows (codes "file") level.0 (given_there _ given.0)) (number_there rows (codes "query") refl level.0 (given_there _ given.1))
+
 replay_some : (words : List Text) → level_fault replay [] nothing_held words false [] ≡ [] → is_some (replay_in (rows_after replay.rules [] words)) ≡ true
 replay_some words e =
     let level = level_good good replay refl replay_fits [] words false [] e in
@@ -131,29 +164,31 @@ replay_some words e =
 -- ---- the program
 
 -- the subcommand at which a parse stopped, by the tests of its name
-abbrev met : Bool → Bool → Bool → Option Shape
-met is_verify is_replay is_help =
-    cond (is_verify || false) (Some verify) (cond (is_replay || false) (Some replay) (cond (is_help || false) (slice_get program.subs 2) None))
+abbrev met : Bool → Bool → Bool → Bool → Option Shape
+met is_verify is_list is_replay is_help =
+    cond (is_verify || false) (Some verify) (cond (is_list || false) (Some list)
+    (cond (is_replay || false) (Some replay) (cond (is_help || false) (slice_get program.subs 3) None)))
 
 -- a command is wanted
 command_met : (b : Bool) (rows : List Row) → check_fault program.top rows b ≡ [] → b ≡ true
 command_met true rows e = refl
 command_met false rows e = cc
 
-command_some : (is_verify is_replay is_help : Bool) (words : List Text) → is_help ≡ false
-    → option_map_or (λ s. level_fault s [] nothing_held words false []) (met is_verify is_replay is_help) [] ≡ []
-    → is_some (option_map (λ s. rows_at s words) (met is_verify is_replay is_help)) ≡ true
-    → is_some (asked (option_map (λ s. rows_at s words) (met is_verify is_replay is_help))) ≡ true
-command_some true r h words no_help e there = verify_some words e
-command_some false true h words no_help e there = replay_some words e
-command_some false false true words no_help e there = cc
-command_some false false false words no_help e there = cc
+command_some : (is_verify is_list is_replay is_help : Bool) (words : List Text) → is_help ≡ false
+    → option_map_or (λ s. level_fault s [] nothing_held words false []) (met is_verify is_list is_replay is_help) [] ≡ []
+    → is_some (option_map (λ s. rows_at s words) (met is_verify is_list is_replay is_help)) ≡ true
+    → is_some (asked (option_map (λ s. rows_at s words) (met is_verify is_list is_replay is_help))) ≡ true
+command_some true l r h words no_help e there = verify_some words e
+command_some false true r h words no_help e there = list_some words e
+command_some false false true h words no_help e there = replay_some words e
+command_some false false false true words no_help e there = cc
+command_some false false false false words no_help e there = cc
 
 stopped_some : (stop : Option (Text × List Text)) → StopsElsewhere stop → entered_fault program stop ≡ [] → is_some (entered program stop) ≡ true
     → is_some (asked (entered program stop)) ≡ true
 stopped_some None elsewhere e there = cc
 stopped_some (Some p) elsewhere e there =
-    command_some (bytes_eq (codes "verify") p.0) (bytes_eq (codes "replay") p.0) (bytes_eq (codes "help") p.0) p.1 (other p.0 elsewhere) e there
+    command_some (bytes_eq (codes "verify") p.0) (bytes_eq (codes "list") p.0) (bytes_eq (codes "replay") p.0) (bytes_eq (codes "help") p.0) p.1 (other p.0 elsewhere) e there
   where
     other : (name : Text) → bytes_eq name (codes "help") ≡ false → bytes_eq (codes "help") name ≡ false
     other name not_help = go (bytes_eq (codes "help") name) refl

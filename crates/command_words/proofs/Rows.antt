@@ -20,7 +20,7 @@ use Rattle.command_words.proofs.Walking.{neither}
 
 -- the argument's values are read as numbers
 abbrev pub is_number_id : Text → Bool
-is_number_id id = bytes_eq id (codes "budget")
+is_number_id id = bytes_eq id (codes "budget") || bytes_eq id (codes "query")
 
 -- the row has a value, which is a number where one is wanted
 abbrev pub good : Row → Bool

@@ -21,6 +21,19 @@ verify_shape =
     let named = with_rule (new_app (codes "verify")) (name_rule (codes "file")) in
     (with_rule named budget_rule).top
 
+-- a query's number, from 1 to 256
+abbrev pub query_rule : Rule
+query_rule = record (new_rule (codes "query")) {
+  required = true;
+  parser = Some (Unsigned 1 256);
+}
+
+-- `list FILE QUERY`
+abbrev pub list_shape : Shape
+list_shape =
+    let named = with_rule (new_app (codes "list")) (name_rule (codes "file")) in
+    (with_rule named query_rule).top
+
 -- `replay FILE RUN`
 abbrev pub replay_shape : Shape
 replay_shape =
@@ -32,4 +45,4 @@ abbrev pub program_app : App
 program_app =
     let bare = new_app (codes "hv") in
     let program = record bare { top = record bare.top { subcommand_required = true } } in
-    with_subcommand (with_subcommand program verify_shape) replay_shape
+    with_subcommand (with_subcommand (with_subcommand program verify_shape) list_shape) replay_shape

@@ -13,11 +13,13 @@ use Rattle.command_words.specs.declared.Request.TheVariants as declared
 -- a request, with the texts of its names
 pub data Request : Type 0 where
   Verify : (file : Text) → (budget : ℕ) → Request
+  ListOf : (file : Text) → (query : ℕ) → Request
   Replay : (file : Text) → (run : Text) → Request
 
 -- the request that a value of the program stands for
 abbrev pub request_seen : Request' → Request
 request_seen (declared.Verify file budget) = Verify file.now budget
+request_seen (declared.List file query) = ListOf file.now query
 request_seen (declared.Replay file run) = Replay file.now run.now
 
 -- the number that a text of decimal digits spells, where 64 bits hold it
@@ -31,6 +33,12 @@ verify_in rows = option_and_then (λ file. option_map (Verify file)
     (option_and_then number_of (one_of (codes "budget") rows)))
     (first_of (codes "file") rows)
 
+-- what `list` was given
+abbrev pub list_in : List Row → Option Request
+list_in rows = option_and_then (λ file. option_map (ListOf file)
+    (option_and_then number_of (one_of (codes "query") rows)))
+    (first_of (codes "file") rows)
+
 -- what `replay` was given
 abbrev pub replay_in : List Row → Option Request
 replay_in rows = option_and_then (λ file. option_map (Replay file)
@@ -39,7 +47,8 @@ replay_in rows = option_and_then (λ file. option_map (Replay file)
 -- what the command was given, by its name and its matches
 abbrev pub command_in : Text × List Row → Option Request
 command_in command = if bytes_eq command.0 (codes "verify") then verify_in command.1
-    else (if bytes_eq command.0 (codes "replay") then replay_in command.1 else None)
+    else (if bytes_eq command.0 (codes "list") then list_in command.1
+    else (if bytes_eq command.0 (codes "replay") then replay_in command.1 else None))
 
 -- what the program was asked, by the subcommand that the words name
 abbrev pub asked : Option (Text × List Row) → Option Request

@@ -2,7 +2,7 @@
 ghost use Rattle.std.specs.Prelude.{◌≡◌, IfOk, false};
 ghost use Rattle.clap.specs.Words.{app_of, rule_of, shape_of};
 ghost use Rattle.clap.specs.declared.builder.command.Command.TheViews.{out-Command as fields_of};
-ghost use Rattle.command_words.specs.Commands.{name_rule, program_app, replay_shape, verify_shape};
+ghost use Rattle.command_words.specs.Commands.{list_shape, name_rule, program_app, replay_shape, verify_shape};
 
 use clap::builder::ValueParser;
 use clap::{Arg, Command};
@@ -10,17 +10,23 @@ use std::alloc::{AllocError, Global};
 
 pub const VERIFY: &str = "verify";
 
+pub const LIST: &str = "list";
+
 pub const REPLAY: &str = "replay";
 
 pub const FILE: &str = "file";
 
 pub const BUDGET: &str = "budget";
 
+pub const QUERY: &str = "query";
+
 pub const RUN: &str = "run";
 
 const MOST_BUDGET: u64 = 1_000_000;
 
 const DEFAULT_BUDGET: &str = "10000";
+
+const MOST_QUERIES: u64 = 256;
 
 /// The program: one of its commands has to be given.
 pub fn program<'a>(alloc: Global) -> Result<Command<'a>, AllocError>
@@ -29,6 +35,7 @@ pub fn program<'a>(alloc: Global) -> Result<Command<'a>, AllocError>
     Command::new(alloc, "hv")
         .subcommand_required(true)
         .subcommand(verify(alloc)?)?
+        .subcommand(list(alloc)?)?
         .subcommand(replay(alloc)?)
 }
 
@@ -44,6 +51,19 @@ fn verify<'a>(alloc: Global) -> Result<Command<'a>, AllocError>
     Command::new(alloc, VERIFY)
         .arg(required_name(alloc, FILE))?
         .arg(budget)
+}
+
+/// `list FILE QUERY`
+fn list<'a>(alloc: Global) -> Result<Command<'a>, AllocError>
+    ensures shape { IfOk result (λ c. shape_of c ≡ list_shape) }
+    ensures local { IfOk result (λ c. (fields_of c).has_globals ≡ false) }
+{
+    let query = Arg::new(alloc, QUERY)
+        .required(true)
+        .value_parser(ValueParser::unsigned(1, MOST_QUERIES));
+    Command::new(alloc, LIST)
+        .arg(required_name(alloc, FILE))?
+        .arg(query)
 }
 
 /// `replay FILE RUN`

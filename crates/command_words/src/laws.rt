@@ -3,7 +3,7 @@ ghost use Rattle.std.specs.Prelude.{◌≡◌, ◌≢◌, ◌↔◌, ◌∷◌, 
 ghost use Rattle.std.specs.Prelude.{false, IsSome, IsTrue, codes, slice_index};
 ghost use Rattle.std.specs.Str.Parse.{digits_value, without_leading_plus};
 ghost use Rattle.clap.specs.ValueTests.{is_unsigned_in};
-ghost use Rattle.command_words.specs.Request.{Replay, Verify, is_taken, request_of};
+ghost use Rattle.command_words.specs.Request.{ListOf, Replay, Verify, is_taken, request_of};
 
 /// The words that `clap` takes are those that make a request.
 pub fn taken_words()
@@ -39,6 +39,17 @@ pub fn budgets()
         → is_unsigned_in 0 1000000 number ≡ false
         → request_of (program ∷ codes "verify" ∷ file ∷ (codes "--budget=" ++ number) ∷ [])
         ≡ None }
+{}
+
+/// `list` takes a query's number from 1 to 256, and nothing else.
+pub fn query_numbers()
+    ensures taken { (program file number : List ℕ) → slice_index file 0 ≢ 45
+        → slice_index number 0 ≢ 45 → is_unsigned_in 1 256 number ≡ true
+        → request_of (program ∷ codes "list" ∷ file ∷ number ∷ [])
+        ≡ Some (ListOf file (digits_value 10 (without_leading_plus number))) }
+    ensures refused { (program file number : List ℕ) → slice_index file 0 ≢ 45
+        → slice_index number 0 ≢ 45 → is_unsigned_in 1 256 number ≡ false
+        → request_of (program ∷ codes "list" ∷ file ∷ number ∷ []) ≡ None }
 {}
 
 /// A request for help or for the version is refused, whatever follows it.

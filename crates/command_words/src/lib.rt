@@ -9,7 +9,7 @@
 ghost use Rattle.std.specs.Prelude.{◌≡◌, ◌↔◌, IfOk, IsSome, IsTrue, map, option_map};
 ghost use Rattle.std.specs.Prelude.{string_bytes};
 ghost use Rattle.clap.specs.Words.{found_of, rows_of, subcommand_rows_of};
-ghost use Rattle.command_words.specs.Request.{asked, is_taken, replay_in, request_of};
+ghost use Rattle.command_words.specs.Request.{asked, is_taken, list_in, replay_in, request_of};
 ghost use Rattle.command_words.specs.Request.{request_seen, verify_in};
 
 mod commands;
@@ -28,6 +28,13 @@ pub enum Request<'a> {
         file: &'a str,
         /// How many clauses the saturation may keep for each query, from 0 to 1,000,000.
         budget: u64,
+    },
+    /// `list FILE QUERY`: list the clauses that the protocol in `file` and a query of it are translated into.
+    List {
+        /// The name of the protocol's file.
+        file: &'a str,
+        /// The number of the query, from 1 to 256.
+        query: u64,
     },
     /// `replay FILE RUN`: replay a run of the protocol in `file`.
     Replay {
@@ -62,6 +69,7 @@ fn requested<'a>(matches: &ArgMatches<'a>) -> Option<Request<'a>>
 {
     match matches.subcommand()? {
         (commands::VERIFY, given) => verify_requested(given),
+        (commands::LIST, given) => list_requested(given),
         (commands::REPLAY, given) => replay_requested(given),
         _ => None,
     }
@@ -73,6 +81,15 @@ fn verify_requested<'a>(given: &ArgMatches<'a>) -> Option<Request<'a>>
     Some(Request::Verify {
         file: given.get_str(commands::FILE)?,
         budget: given.get_one(commands::BUDGET)?,
+    })
+}
+
+fn list_requested<'a>(given: &ArgMatches<'a>) -> Option<Request<'a>>
+    ensures { option_map request_seen result ≡ list_in (rows_of (found_of given.now)) }
+{
+    Some(Request::List {
+        file: given.get_str(commands::FILE)?,
+        query: given.get_one(commands::QUERY)?,
     })
 }
 

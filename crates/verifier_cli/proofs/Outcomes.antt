@@ -2,8 +2,10 @@
 use Rattle.std.proofs.Common.{◌≡◌, ◌≢◌, ℕ, List, Option, inl, inr, sym, subst, ◌∙◌}
 use Rattle.verifier_cli.specs.Outcome.{Outcome, ReadFault, Memory}
 use Rattle.verifier_cli.specs.Command.{OfFile, Verifies, Becomes}
+use Rattle.verifier_cli.specs.Listing.{Lists}
 use Rattle.verifier_cli.specs.Replaying.{Replays}
 use Rattle.verifier_cli.proofs.Verifying.{memory_verified}
+use Rattle.verifier_cli.proofs.Listing.{memory_listed}
 use Rattle.verifier_cli.proofs.Replaying.{memory_replayed}
 
 -- what was wanted, and then replaced at most
@@ -22,10 +24,14 @@ said_after : (Said : Outcome → Type 0) (found after : Outcome) → Becomes fou
 said_after Said found after (inl e) memory h = let F : Outcome → Type 0 = λ x. x ≢ ReadFault → Said x in subst F (sym e) h
 said_after Said found after (inr e) memory h = λ _. subst Said (sym e) memory
 
-pub verified_after : (held : Option (List ℕ)) (found after : Outcome) → Becomes found after
-    → (found ≢ ReadFault → OfFile held (λ bytes. Verifies bytes found)) → after ≢ ReadFault → OfFile held (λ bytes. Verifies bytes after)
-verified_after held found after b h = said_after (λ x. OfFile held (λ bytes. Verifies bytes x)) found after b (memory_verified held) h
+pub verified_after : (held : Option (List ℕ)) (budget : ℕ) (found after : Outcome) → Becomes found after
+    → (found ≢ ReadFault → OfFile held (λ bytes. Verifies bytes budget found)) → after ≢ ReadFault → OfFile held (λ bytes. Verifies bytes budget after)
+verified_after held budget found after b h = said_after (λ x. OfFile held (λ bytes. Verifies bytes budget x)) found after b (memory_verified held budget) h
 
 pub replayed_after : (held other : Option (List ℕ)) (found after : Outcome) → Becomes found after
     → (found ≢ ReadFault → OfFile held (λ bytes. Replays bytes other found)) → after ≢ ReadFault → OfFile held (λ bytes. Replays bytes other after)
 replayed_after held other found after b h = said_after (λ x. OfFile held (λ bytes. Replays bytes other x)) found after b (memory_replayed held other) h
+
+pub listed_after : (held : Option (List ℕ)) (number : ℕ) (found after : Outcome) → Becomes found after
+    → (found ≢ ReadFault → OfFile held (λ bytes. Lists bytes number found)) → after ≢ ReadFault → OfFile held (λ bytes. Lists bytes number after)
+listed_after held number found after b h = said_after (λ x. OfFile held (λ bytes. Lists bytes number x)) found after b (memory_listed held number) h

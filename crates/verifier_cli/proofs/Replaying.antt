@@ -1,16 +1,17 @@
 -- From the text of a run to what is said of its replay.
-use Rattle.std.proofs.Common.{◌≡◌, ◌≢◌, ℕ, ◌≤◌, List, Option, inl, inr, refl, sym, ap, subst, ◌∙◌, arith}
+use Rattle.std.proofs.Common.{◌≡◌, ◌≢◌, false, ℕ, ◌≤◌, List, Option, inl, inr, refl, sym, ap, subst, ◌∙◌, arith}
 use Rattle.calculus.specs.Syntax as syntax
 use Rattle.calculus.specs.Runs.{Step}
 use Rattle.hv_io.specs.Faults.{IsFaultCounted}
 use Rattle.protocol_scope.specs.Spells.{Spells}
 use Rattle.run_text.specs.Faults.{Fault}
 use Rattle.run_text.specs.Text.{SpellsRun, IsRefused}
-use Rattle.verifier_cli.specs.Outcome.{RunRefusal, Faulty, LongRun, Refusal, Protocol, Run, Outcome, Usage, Verified, Replayed, Refused, ReadFault, Memory}
+use Rattle.verifier_cli.specs.Outcome.{RunRefusal, Faulty, LongRun, Refusal, Protocol, Run, Outcome, Usage, Verified, Listed, ListLarge, NoQuery, Replayed, Refused, ReadFault, Memory}
 use Rattle.verifier_cli.specs.Command.{OfFile, IsRefusalOf}
 use Rattle.verifier_cli.specs.Reading.{IsUnread}
 use Rattle.verifier_cli.specs.Replaying.{SpellsSteps, RefusesRun, IsReplayOf, IsOutcomeOfRun, RunsOn, IsReplayOutcome, Replays}
 use Rattle.verifier_cli.specs.RunReading.{IsUnreadRun, IsOfRun}
+use Rattle.verifier_cli.specs.Text.{prints_clauses}
 use Rattle.verifier_cli.proofs.Held.{of_any, of_file}
 use Rattle.verifier_cli.proofs.Verifying.{Laws, same_refusal}
 
@@ -41,6 +42,9 @@ replay_answers P bytes steps (Refused refusal) shown spelled = absurd shown
 replay_answers P bytes steps (Verified verdicts) shown spelled = absurd shown
 replay_answers P bytes steps Usage shown spelled = absurd shown
 replay_answers P bytes steps ReadFault shown spelled = absurd shown
+replay_answers P bytes steps (Listed clauses) shown spelled = absurd shown
+replay_answers P bytes steps (ListLarge point) shown spelled = absurd shown
+replay_answers P bytes steps (NoQuery number) shown spelled = absurd shown
 
 replay_runs : RunLaws → (P : syntax.Protocol) (bytes : List ℕ) (steps : List Step) (outcome : Outcome) → IsReplayOf P steps outcome → SpellsSteps bytes steps → RunsOn P bytes outcome
 replay_runs laws P bytes steps outcome shown spelled = record {
@@ -74,6 +78,9 @@ unread_run_said laws Counted held P ReadFault is other = absurd (other refl)
 unread_run_said laws Counted held P (Replayed replay) is other = absurd is
 unread_run_said laws Counted held P Usage is other = absurd is
 unread_run_said laws Counted held P (Verified verdicts) is other = absurd is
+unread_run_said laws Counted held P (Listed clauses) is other = absurd is
+unread_run_said laws Counted held P (ListLarge point) is other = absurd is
+unread_run_said laws Counted held P (NoQuery number) is other = absurd is
 
 -- what is said of a protocol's file where it is refused
 refusal_outcome : (bytes : List ℕ) (refusal : Refusal) → IsRefusalOf bytes refusal → IsReplayOutcome bytes (Refused refusal)
@@ -104,6 +111,9 @@ unread_replayed laws Counted held other ReadFault is read = absurd (read refl)
 unread_replayed laws Counted held other Usage is read = absurd is
 unread_replayed laws Counted held other (Replayed replay) is read = absurd is
 unread_replayed laws Counted held other (Verified verdicts) is read = absurd is
+unread_replayed laws Counted held other (Listed clauses) is read = absurd is
+unread_replayed laws Counted held other (ListLarge point) is read = absurd is
+unread_replayed laws Counted held other (NoQuery number) is read = absurd is
 
 -- and where it is accepted
 run_outcome : (bytes : List ℕ) (P : syntax.Protocol) (outcome : Outcome) → Spells bytes P → IsOfRun outcome → outcome ≢ ReadFault → IsReplayOutcome bytes outcome
@@ -114,6 +124,9 @@ run_outcome bytes P Memory spelled is read = tt
 run_outcome bytes P ReadFault spelled is read = absurd (read refl)
 run_outcome bytes P Usage spelled is read = absurd is
 run_outcome bytes P (Verified verdicts) spelled is read = absurd is
+run_outcome bytes P (Listed clauses) spelled is read = absurd is
+run_outcome bytes P (ListLarge point) spelled is read = absurd is
+run_outcome bytes P (NoQuery number) spelled is read = absurd is
 
 run_replays : Laws → (bytes : List ℕ) (held : Option (List ℕ)) (P : syntax.Protocol) (outcome : Outcome) → IsReplayOutcome bytes outcome → OfFile held (λ text. RunsOn P text outcome) → Spells bytes P → Replays bytes held outcome
 run_replays laws bytes held P outcome is said spelled = record {
@@ -130,3 +143,15 @@ run_replayed laws held other P outcome is read said spelled =
 pub counted_later : (a b c : ℕ) → a ≤ b → IsFaultCounted b c → IsFaultCounted a c
 counted_later a b c h (inl r) = inl (omega (arith, h, r))
 counted_later a b c h (inr e) = inr e
+
+-- what is about a run prints no clause
+pub run_words : (outcome : Outcome) → IsOfRun outcome → prints_clauses outcome ≡ false
+run_words (Replayed replay) is = refl
+run_words (Refused refusal) is = refl
+run_words Memory is = refl
+run_words ReadFault is = refl
+run_words Usage is = absurd is
+run_words (Verified verdicts) is = absurd is
+run_words (Listed clauses) is = absurd is
+run_words (ListLarge point) is = absurd is
+run_words (NoQuery number) is = absurd is

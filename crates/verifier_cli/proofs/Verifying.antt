@@ -1,18 +1,27 @@
 -- From what was read to what is said of the outcome, and the headline.
-use Rattle.std.proofs.Common.{◌≡◌, ◌≢◌, ℕ, zero, suc, List, [], ◌∷◌, map, Bool, true, false, Option, Some, IfSome, slice_get, inl, inr, refl, sym, ap, subst, ◌∙◌, if◌then◌else◌}
+use Rattle.std.proofs.Common.{◌≡◌, ◌≢◌, arith, ℕ, zero, suc, List, [], ◌∷◌, false, Option, Some, IfSome, slice_get, inl, inr, refl, sym, ap, subst, ◌∙◌}
+use Rattle.std.specs.Prelude.{Contains}
 use Rattle.calculus.specs.Syntax as syntax
-use Rattle.calculus.specs.Absence.{is_absent, IsAbsent}
 use Rattle.calculus.specs.Secrecy.{Holds}
+use Rattle.soundness.specs.Shown.{IsProper}
+use Rattle.certificates.specs.Certificate.{Certificate}
+use Rattle.verdicts.specs.Verdict as defined
+use Rattle.verdicts.specs.Verdict.{IsVerdict}
+use Rattle.query_verify.specs.declared.answers.Verdict.{Verdict}
+use Rattle.query_verify.specs.declared.answers.Verdict.TheVariants.{Proved}
+use Rattle.query_verify.specs.Told.{Tells, IsAnswer, AnswerQueries}
 use Rattle.protocol_scope.specs.Spells as spells
 use Rattle.protocol_scope.specs.Spells.{Spells, Refuses}
-use Rattle.verifier_cli.specs.Outcome.{Verdict, Proved, Occurs, Refusal, Outcome, Usage, Verified, Replayed, Refused, ReadFault, Memory}
-use Rattle.verifier_cli.specs.Command.{OfFile, IsRefusalOf, Verifies, NoneViolated, verdict_on, verdicts_on, refusal_at}
+use Rattle.verifier_cli.specs.Outcome.{Refusal, Outcome, Usage, Verified, Listed, ListLarge, NoQuery, Replayed, Refused, ReadFault, Memory}
+use Rattle.verifier_cli.specs.Command.{OfFile, IsRefusalOf, Verifies, NoneViolated, IsDecidedBy, IsOutcomeOf, budget_of, refusal_at}
 use Rattle.verifier_cli.specs.Reading.{IsUnread}
+use Rattle.verifier_cli.specs.Text.{prints_clauses}
 use Rattle.verifier_cli.proofs.Held.{of_any, of_file}
 
--- the law that the headline rests on
-abbrev pub AbsenceIsSecrecy : Type 0
-AbsenceIsSecrecy = (P : syntax.Protocol) (q : syntax.Query) → IsAbsent P q → Holds P q
+-- the laws that the headline rests on: queries of protocols that were read are proper, and what is proved of those holds
+pub record Soundness : Type 0 where
+  pub proper : (bytes : List ℕ) (P : syntax.Protocol) (q : syntax.Query) → Spells bytes P → Contains P.queries q → IsProper P q
+  pub hold : (P : syntax.Protocol) (q : syntax.Query) (budget : ℕ) (cert : Certificate) → IsProper P q → IsVerdict P q budget (defined.Proved cert) → Holds P q
 
 -- the laws of the texts of protocols
 pub record Laws : Type 0 where
@@ -20,46 +29,88 @@ pub record Laws : Type 0 where
   pub one_refusal : (bytes : List ℕ) (r s : spells.Refusal) (i j : ℕ) → Refuses bytes r i → Refuses bytes s j → (r ≡ s) × (i ≡ j)
   pub never_both : (bytes : List ℕ) (P : syntax.Protocol) (r : spells.Refusal) (i : ℕ) → Spells bytes P → Refuses bytes r i → ⊥
 
--- a query that is answered by `proved` asks for an absent name
-absent_where_proved : (P : syntax.Protocol) (q : syntax.Query) → verdict_on P q ≡ Proved → IsAbsent P q
-absent_where_proved P q = by_test (is_absent P q)
+-- an answer that is a certificate is the verdict that the query is proved
+verdict_where_proved : (P : syntax.Protocol) (q : syntax.Query) (budget : ℕ) (cert : Certificate) → IsAnswer P q budget (Proved cert) → IsVerdict P q budget (defined.Proved cert)
+verdict_where_proved P q budget cert answer = by_verdict answer.verdict answer.tells answer.is
   where
-    by_test : (b : Bool) → (if b then Proved else Occurs) ≡ Proved → b ≡ true
-    by_test true e = refl
-    by_test false e = cc
+    by_verdict : (v : defined.Verdict) → Tells (Proved cert) v → IsVerdict P q budget v → IsVerdict P q budget (defined.Proved cert)
+    by_verdict (defined.Proved c) same is = subst (λ (x : Certificate). IsVerdict P q budget (defined.Proved x)) (sym same) is
+    by_verdict (defined.Budget log due) same is = absurd same
+    by_verdict (defined.SizePair log i j) same is = absurd same
+    by_verdict (defined.SizePoint point) same is = absurd same
+    by_verdict (defined.Unmet log number) same is = absurd same
 
--- each query at whose place `proved` stands holds
-hold_where_proved : AbsenceIsSecrecy → (P : syntax.Protocol) (qs : List syntax.Query) (k : ℕ) → slice_get (map (verdict_on P) qs) k ≡ Some Proved → IfSome (slice_get qs k) (λ q. Holds P q)
-hold_where_proved secrecy P [] k e = tt
-hold_where_proved secrecy P (q ∷ qs) zero e = secrecy P q (absent_where_proved P q (cc))
-hold_where_proved secrecy P (q ∷ qs) (suc k) e = hold_where_proved secrecy P qs k e
+-- each query at whose place there is a certificate holds
+hold_where_proved : (P : syntax.Protocol) → (budget : ℕ) (qs : List syntax.Query) (answers : List Verdict)
+    → ((q : syntax.Query) (cert : Certificate) → Contains qs q → IsVerdict P q budget (defined.Proved cert) → Holds P q)
+    → AnswerQueries P budget qs answers → (k : ℕ) (cert : Certificate) → slice_get answers k ≡ Some (Proved cert) → IfSome (slice_get qs k) (λ q. Holds P q)
+hold_where_proved P budget [] answers sound are k cert e = tt
+hold_where_proved P budget (q ∷ qs) [] sound are k cert e = absurd are
+hold_where_proved P budget (q ∷ qs) (answer ∷ answers) sound are zero cert e =
+    let same : answer ≡ Proved cert = cc in
+    sound q cert (zero, omega arith, refl) (verdict_where_proved P q budget cert (subst (IsAnswer P q budget) same are.0))
+hold_where_proved P budget (q ∷ qs) (answer ∷ answers) sound are (suc k) cert e =
+    hold_where_proved P budget qs answers (λ x c has is. sound x c (suc has.0, omega (arith, has.1), has.2) is) are.1 k cert e
 
--- the answers of a protocol violate nothing
-none_violated : AbsenceIsSecrecy → Laws → (bytes : List ℕ) (Q : syntax.Protocol) (verdicts : List Verdict) → Spells bytes Q → verdicts ≡ verdicts_on Q → NoneViolated bytes (Verified verdicts)
-none_violated secrecy laws bytes Q verdicts spelled are P spells k proved =
-    let same : P ≡ Q = laws.one_protocol bytes P Q spells spelled in
-    let here : slice_get (verdicts_on Q) k ≡ Some Proved = ap (λ vs. slice_get vs k) (sym are) ∙ proved in
+-- the verdicts of a protocol violate nothing
+none_violated : Soundness → Laws → (bytes : List ℕ) (Q : syntax.Protocol) (budget : ℕ) (answers : List Verdict) → Spells bytes Q → AnswerQueries Q budget Q.queries answers → NoneViolated bytes (Verified answers)
+none_violated sound laws bytes Q budget answers spelled are P spells k proved =
     let F : syntax.Protocol → Type 0 = λ X. IfSome (slice_get X.queries k) (λ q. Holds X q) in
-    subst F (sym same) (hold_where_proved secrecy Q Q.queries k here)
+    subst F (sym (laws.one_protocol bytes P Q spells spelled))
+    (hold_where_proved Q budget Q.queries answers (λ q cert has is. sound.hold Q q budget cert (sound.proper bytes Q q spelled has) is) are k proved.0 proved.1)
 
--- what is said of a protocol's answers
-verdicts_verify : AbsenceIsSecrecy → Laws → (bytes : List ℕ) (P : syntax.Protocol) (verdicts : List Verdict) → verdicts ≡ verdicts_on P → Spells bytes P → Verifies bytes (Verified verdicts)
-verdicts_verify secrecy laws bytes P verdicts are spelled = record {
-  answers = record { protocol = P; spelled = spelled; answered = are };
-  accepts = λ Q spells. inl (ap Verified (are ∙ ap verdicts_on (laws.one_protocol bytes P Q spelled spells)));
+-- what is said of a protocol's verdicts
+decided_outcome : (bytes : List ℕ) (P : syntax.Protocol) (budget : ℕ) (outcome : Outcome) → Spells bytes P → IsDecidedBy P budget outcome → IsOutcomeOf bytes outcome
+decided_outcome bytes P budget (Verified verdicts) spelled is = (P, spelled)
+decided_outcome bytes P budget Memory spelled is = tt
+decided_outcome bytes P budget (Listed clauses) spelled is = absurd is
+decided_outcome bytes P budget (ListLarge point) spelled is = absurd is
+decided_outcome bytes P budget (NoQuery number) spelled is = absurd is
+decided_outcome bytes P budget (Replayed replay) spelled is = absurd is
+decided_outcome bytes P budget (Refused refusal) spelled is = absurd is
+decided_outcome bytes P budget Usage spelled is = absurd is
+decided_outcome bytes P budget ReadFault spelled is = absurd is
+
+decided_violates_none : Soundness → Laws → (bytes : List ℕ) (P : syntax.Protocol) (budget : ℕ) (outcome : Outcome) → Spells bytes P → IsDecidedBy P budget outcome → NoneViolated bytes outcome
+decided_violates_none sound laws bytes P budget (Verified verdicts) spelled is = none_violated sound laws bytes P (budget_of budget) verdicts spelled is
+decided_violates_none sound laws bytes P budget Memory spelled is = λ Q spells k proved. absurd proved
+decided_violates_none sound laws bytes P budget (Listed clauses) spelled is = absurd is
+decided_violates_none sound laws bytes P budget (ListLarge point) spelled is = absurd is
+decided_violates_none sound laws bytes P budget (NoQuery number) spelled is = absurd is
+decided_violates_none sound laws bytes P budget (Replayed replay) spelled is = absurd is
+decided_violates_none sound laws bytes P budget (Refused refusal) spelled is = absurd is
+decided_violates_none sound laws bytes P budget Usage spelled is = absurd is
+decided_violates_none sound laws bytes P budget ReadFault spelled is = absurd is
+
+decided_verifies : Soundness → Laws → (bytes : List ℕ) (P : syntax.Protocol) (budget : ℕ) (outcome : Outcome) → IsDecidedBy P budget outcome → Spells bytes P → Verifies bytes budget outcome
+decided_verifies sound laws bytes P budget outcome is spelled = record {
+  answers = decided_outcome bytes P budget outcome spelled is;
+  accepts = λ Q spells. subst (λ (X : syntax.Protocol). IsDecidedBy X budget outcome) (laws.one_protocol bytes P Q spelled spells) is;
   refuses = λ why place refused. absurd (laws.never_both bytes P why place spelled refused);
-  none_violated = none_violated secrecy laws bytes P verdicts spelled are;
+  none_violated = decided_violates_none sound laws bytes P budget outcome spelled is;
 }
 
-pub answers_verified : AbsenceIsSecrecy → Laws → (held : Option (List ℕ)) (P : syntax.Protocol) (verdicts : List Verdict) → verdicts ≡ verdicts_on P → OfFile held (λ bytes. Spells bytes P) → OfFile held (λ bytes. Verifies bytes (Verified verdicts))
-answers_verified secrecy laws held P verdicts are spelled = of_file held (λ bytes. Spells bytes P) (λ bytes. Verifies bytes (Verified verdicts)) (λ bytes s. verdicts_verify secrecy laws bytes P verdicts are s) spelled
+pub decided_said : Soundness → Laws → (held : Option (List ℕ)) (P : syntax.Protocol) (budget : ℕ) (outcome : Outcome) → IsDecidedBy P budget outcome → OfFile held (λ bytes. Spells bytes P) → OfFile held (λ bytes. Verifies bytes budget outcome)
+decided_said sound laws held P budget outcome is spelled = of_file held (λ bytes. Spells bytes P) (λ bytes. Verifies bytes budget outcome) (λ bytes s. decided_verifies sound laws bytes P budget outcome is s) spelled
+
+-- what the queries come to is neither a call for nothing nor a fault of reading
+pub decided_used : (P : syntax.Protocol) (budget : ℕ) (outcome : Outcome) → IsDecidedBy P budget outcome → (outcome ≢ Usage) × (outcome ≢ ReadFault)
+decided_used P budget (Verified verdicts) is = (λ e. cc, λ e. cc)
+decided_used P budget Memory is = (λ e. cc, λ e. cc)
+decided_used P budget (Listed clauses) is = absurd is
+decided_used P budget (ListLarge point) is = absurd is
+decided_used P budget (NoQuery number) is = absurd is
+decided_used P budget (Replayed replay) is = absurd is
+decided_used P budget (Refused refusal) is = absurd is
+decided_used P budget Usage is = absurd is
+decided_used P budget ReadFault is = absurd is
 
 -- of a refusal
 pub same_refusal : (bytes : List ℕ) (r s : spells.Refusal) (i j : ℕ) → (r ≡ s) × (i ≡ j) → refusal_at bytes r i ≡ refusal_at bytes s j
 same_refusal bytes r s i j (e, h) = ap (λ (why : spells.Refusal). refusal_at bytes why i) e ∙ ap (λ (place : ℕ). refusal_at bytes s place) h
 
-refusal_verifies : Laws → (bytes : List ℕ) (refusal : Refusal) → IsRefusalOf bytes refusal → Verifies bytes (Refused refusal)
-refusal_verifies laws bytes refusal is = record {
+refusal_verifies : Laws → (bytes : List ℕ) (budget : ℕ) (refusal : Refusal) → IsRefusalOf bytes refusal → Verifies bytes budget (Refused refusal)
+refusal_verifies laws bytes budget refusal is = record {
   answers = is;
   accepts = λ P spells. absurd (laws.never_both bytes P is.why is.place spells is.refused);
   refuses = λ why place refused. inl (ap Refused (is.shown ∙ same_refusal bytes is.why why is.place place (laws.one_refusal bytes is.why why is.place place is.refused refused)));
@@ -67,22 +118,37 @@ refusal_verifies laws bytes refusal is = record {
 }
 
 -- and of want of memory, which claims nothing
-memory_verifies : (bytes : List ℕ) → Verifies bytes Memory
-memory_verifies bytes = record {
+memory_verifies : (budget : ℕ) (bytes : List ℕ) → Verifies bytes budget Memory
+memory_verifies budget bytes = record {
   answers = tt;
-  accepts = λ P spells. inr refl;
+  accepts = λ P spells. tt;
   refuses = λ why place refused. inr refl;
   none_violated = λ P spells k proved. absurd proved;
 }
 
-pub memory_verified : (held : Option (List ℕ)) → OfFile held (λ bytes. Verifies bytes Memory)
-memory_verified held = of_any held (λ bytes. Verifies bytes Memory) memory_verifies
+pub memory_verified : (held : Option (List ℕ)) (budget : ℕ) → OfFile held (λ bytes. Verifies bytes budget Memory)
+memory_verified held budget = of_any held (λ bytes. Verifies bytes budget Memory) (memory_verifies budget)
 
 -- a call without a protocol
-pub unread_verified : Laws → (Counted : Type 0) (held : Option (List ℕ)) (outcome : Outcome) → IsUnread Counted held outcome → outcome ≢ ReadFault → OfFile held (λ bytes. Verifies bytes outcome)
-unread_verified laws Counted held (Refused refusal) is other = of_file held (λ bytes. IsRefusalOf bytes refusal) (λ bytes. Verifies bytes (Refused refusal)) (λ bytes r. refusal_verifies laws bytes refusal r) is
-unread_verified laws Counted held Memory is other = memory_verified held
-unread_verified laws Counted held ReadFault is other = absurd (other refl)
-unread_verified laws Counted held (Replayed replay) is other = absurd is
-unread_verified laws Counted held Usage is other = absurd is
-unread_verified laws Counted held (Verified verdicts) is other = absurd is
+pub unread_verified : Laws → (Counted : Type 0) (held : Option (List ℕ)) (budget : ℕ) (outcome : Outcome) → IsUnread Counted held outcome → outcome ≢ ReadFault → OfFile held (λ bytes. Verifies bytes budget outcome)
+unread_verified laws Counted held budget (Refused refusal) is other = of_file held (λ bytes. IsRefusalOf bytes refusal) (λ bytes. Verifies bytes budget (Refused refusal)) (λ bytes r. refusal_verifies laws bytes budget refusal r) is
+unread_verified laws Counted held budget Memory is other = memory_verified held budget
+unread_verified laws Counted held budget ReadFault is other = absurd (other refl)
+unread_verified laws Counted held budget (Replayed replay) is other = absurd is
+unread_verified laws Counted held budget Usage is other = absurd is
+unread_verified laws Counted held budget (Verified verdicts) is other = absurd is
+unread_verified laws Counted held budget (Listed clauses) is other = absurd is
+unread_verified laws Counted held budget (ListLarge point) is other = absurd is
+unread_verified laws Counted held budget (NoQuery number) is other = absurd is
+
+-- it prints no clause
+pub unread_words : (Counted : Type 0) (held : Option (List ℕ)) (outcome : Outcome) → IsUnread Counted held outcome → prints_clauses outcome ≡ false
+unread_words Counted held (Refused refusal) is = refl
+unread_words Counted held Memory is = refl
+unread_words Counted held ReadFault is = refl
+unread_words Counted held (Replayed replay) is = absurd is
+unread_words Counted held Usage is = absurd is
+unread_words Counted held (Verified verdicts) is = absurd is
+unread_words Counted held (Listed clauses) is = absurd is
+unread_words Counted held (ListLarge point) is = absurd is
+unread_words Counted held (NoQuery number) is = absurd is

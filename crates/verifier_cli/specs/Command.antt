@@ -1,21 +1,27 @@
 -- What the words, the file and the protocol that it spells have to do with the outcome.
-use Rattle.std.specs.Prelude.{◌≡◌, ℕ, ◌⊎◌, List, map, Option, Some, None, IfSome, if◌then◌else◌, slice_get}
+use Rattle.std.specs.Prelude.{◌≡◌, ℕ, min, ◌⊎◌, List, Option, Some, None, IfSome, slice_get}
 use Rattle.calculus.specs.Syntax as syntax
-use Rattle.calculus.specs.Absence.{is_absent}
 use Rattle.calculus.specs.Secrecy.{Holds}
-use Rattle.command_words.specs.Request.{Request, Verify, Replay, request_of}
+use Rattle.command_words.specs.Request.{Request, Verify, ListOf, Replay, request_of}
 use Rattle.hv_io.specs.Place.{line_at, column_at}
 use Rattle.protocol_scope.specs.Spells as spells
 use Rattle.protocol_scope.specs.Spells.{Spells, Refuses}
-use Rattle.verifier_cli.specs.Outcome.{Verdict, Proved, Occurs, Refusal, Protocol, Outcome, Usage, Verified, Replayed, Refused, ReadFault, Memory}
+use Rattle.certificates.specs.Certificate.{Certificate}
+use Rattle.query_verify.specs.declared.answers.Verdict.TheVariants.{Proved}
+use Rattle.query_verify.specs.Told.{AnswerQueries}
+use Rattle.verifier_cli.specs.Outcome.{Refusal, Protocol, Outcome, Usage, Verified, Listed, ListLarge, NoQuery, Replayed, Refused, ReadFault, Memory}
 
--- the words ask that the queries of this file's protocol be answered
-abbrev pub IsVerify : List (List ℕ) → List ℕ → Type 0
-IsVerify words file = (budget : ℕ) × (request_of words ≡ Some (Verify file budget))
+-- the words ask for the verdicts of this file's protocol with that budget
+abbrev pub IsVerify : List (List ℕ) → List ℕ → ℕ → Type 0
+IsVerify words file budget = request_of words ≡ Some (Verify file budget)
 
 -- the words ask that a run of this file's protocol be replayed
 abbrev pub IsReplay : List (List ℕ) → List ℕ → List ℕ → Type 0
 IsReplay words file run = request_of words ≡ Some (Replay file run)
+
+-- the words ask for the clauses of this query of the file's protocol
+abbrev pub IsList : List (List ℕ) → List ℕ → ℕ → Type 0
+IsList words file query = request_of words ≡ Some (ListOf file query)
 
 -- the words ask for nothing
 abbrev pub IsNoCommand : List (List ℕ) → Type 0
@@ -42,27 +48,33 @@ pub record IsRefusalOf (bytes : List ℕ) (refusal : Refusal) : Type 0 where
 abbrev pub IsUnreadable : Option Request → (List ℕ → Option (List ℕ)) → (List ℕ → Type 0) → Type 0
 IsUnreadable None held Counted = ⊥
 IsUnreadable (Some (Verify file budget)) held Counted = Counted file
+IsUnreadable (Some (ListOf file query)) held Counted = Counted file
 IsUnreadable (Some (Replay file run)) held Counted = Counted file ⊎ (OfFile (held file) (λ bytes. (P : syntax.Protocol) × Spells bytes P) × Counted run)
 
--- the answer to a query: proved exactly where it asks for a message with a private free name that no term of the process holds
-abbrev pub verdict_on : syntax.Protocol → syntax.Query → Verdict
-verdict_on P query = if is_absent P query then Proved else Occurs
+-- a budget that words ask for; they take none above 1,000,000
+abbrev pub budget_of : ℕ → ℕ
+budget_of budget = min budget 1000000
 
--- the answers to all queries of a protocol
-abbrev pub verdicts_on : syntax.Protocol → List Verdict
-verdicts_on P = map (verdict_on P) P.queries
+-- what the queries of the protocol come to: the verdict of each with the budget, in order, or want of memory in their place
+abbrev pub IsDecidedBy : syntax.Protocol → ℕ → Outcome → Type 0
+IsDecidedBy P budget (Verified verdicts) = AnswerQueries P (budget_of budget) P.queries verdicts
+IsDecidedBy P budget Memory = Unit {0}
+IsDecidedBy P budget (Listed clauses) = ⊥
+IsDecidedBy P budget (ListLarge point) = ⊥
+IsDecidedBy P budget (NoQuery query) = ⊥
+IsDecidedBy P budget (Replayed replay) = ⊥
+IsDecidedBy P budget (Refused refusal) = ⊥
+IsDecidedBy P budget Usage = ⊥
+IsDecidedBy P budget ReadFault = ⊥
 
--- the answers are those of the protocol that the bytes spell
-pub record AreVerdictsOf (bytes : List ℕ) (verdicts : List Verdict) : Type 0 where
-  pub protocol : syntax.Protocol
-  pub spelled : Spells bytes protocol
-  pub answered : verdicts ≡ verdicts_on protocol
-
--- what the queries of a file with these bytes come to
+-- what the queries of a file with these bytes may come to
 abbrev pub IsOutcomeOf : List ℕ → Outcome → Type 0
-IsOutcomeOf bytes (Verified verdicts) = AreVerdictsOf bytes verdicts
+IsOutcomeOf bytes (Verified verdicts) = (P : syntax.Protocol) × Spells bytes P
 IsOutcomeOf bytes (Refused refusal) = IsRefusalOf bytes refusal
 IsOutcomeOf bytes Memory = Unit {0}
+IsOutcomeOf bytes (Listed clauses) = ⊥
+IsOutcomeOf bytes (ListLarge point) = ⊥
+IsOutcomeOf bytes (NoQuery query) = ⊥
 IsOutcomeOf bytes (Replayed replay) = ⊥
 IsOutcomeOf bytes Usage = ⊥
 IsOutcomeOf bytes ReadFault = ⊥
@@ -71,27 +83,30 @@ IsOutcomeOf bytes ReadFault = ⊥
 abbrev pub Becomes : Outcome → Outcome → Type 0
 Becomes wanted outcome = (outcome ≡ wanted) ⊎ (outcome ≡ Memory)
 
--- whether this query, counted from 0, is answered by `proved`
+-- this query, counted from 0, is proved
 abbrev pub IsProvedAt : Outcome → ℕ → Type 0
-IsProvedAt (Verified verdicts) k = slice_get verdicts k ≡ Some Proved
+IsProvedAt (Verified verdicts) k = (certificate : Certificate) × (slice_get verdicts k ≡ Some (Proved certificate))
 IsProvedAt (Refused refusal) k = ⊥
 IsProvedAt Memory k = ⊥
+IsProvedAt (Listed clauses) k = ⊥
+IsProvedAt (ListLarge point) k = ⊥
+IsProvedAt (NoQuery query) k = ⊥
 IsProvedAt (Replayed replay) k = ⊥
 IsProvedAt Usage k = ⊥
 IsProvedAt ReadFault k = ⊥
 
--- no run of the protocol that the bytes spell violates a query that is answered by `proved`
+-- no run of the protocol that the bytes spell violates a query that is proved
 abbrev pub NoneViolated : List ℕ → Outcome → Type 0
 NoneViolated bytes outcome =
     (P : syntax.Protocol) → Spells bytes P → (k : ℕ) → IsProvedAt outcome k → IfSome (slice_get P.queries k) (λ query. Holds P query)
 
 -- what `verify` comes to where the file has these bytes
-pub record Verifies (bytes : List ℕ) (outcome : Outcome) : Type 0 where
-  -- the outcome is a protocol's answers or a refusal's, or want of memory, and nothing else
+pub record Verifies (bytes : List ℕ) (budget : ℕ) (outcome : Outcome) : Type 0 where
+  -- the outcome is a protocol's verdicts or a refusal, or want of memory, and nothing else
   pub answers : IsOutcomeOf bytes outcome
-  -- bytes that spell a protocol get its answers
-  pub accepts : (P : syntax.Protocol) → Spells bytes P → Becomes (Verified (verdicts_on P)) outcome
-  -- and those that are refused get this refusal, at this place
+  -- where the bytes spell a protocol, they are that protocol's verdicts
+  pub accepts : (P : syntax.Protocol) → Spells bytes P → IsDecidedBy P budget outcome
+  -- and where they are refused, it is this refusal, at this place
   pub refuses : (why : spells.Refusal) (place : ℕ) → Refuses bytes why place → Becomes (Refused (refusal_at bytes why place)) outcome
   -- the headline
   pub none_violated : NoneViolated bytes outcome

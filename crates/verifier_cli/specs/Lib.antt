@@ -2,6 +2,8 @@ pub mod Command
 pub mod Outcome
 pub mod Reading
 pub mod Replaying
+pub mod Listing
+pub mod Loaded
 pub mod RunReading
 pub mod Seen
 pub mod SeenOutcome

@@ -4,11 +4,9 @@ use Rattle.calculus.specs.Runs.{Configuration}
 use Rattle.calculus.specs.Refusals as steps
 use Rattle.protocol_scope.specs.Spells as spells
 use Rattle.run_text.specs.Faults.{Fault}
-
--- what is answered to one query
-pub data Verdict : Type 0 where
-  Proved : Verdict
-  Occurs : Verdict
+use Rattle.terms.specs.Term.{Term}
+use Rattle.clauses.specs.Fact.{Clause}
+use Rattle.query_verify.specs.declared.answers.Verdict.{Verdict}
 
 -- why the text of a run is refused
 pub data RunRefusal : Type 0 where
@@ -32,7 +30,14 @@ pub data Replay : Type 0 where
 -- what a call of the program comes to
 pub data Outcome : Type 0 where
   Usage : Outcome
+  -- the verdicts of the queries, in order
   Verified : (verdicts : List Verdict) → Outcome
+  -- the clauses of a translation
+  Listed : (clauses : List (Clause Term)) → Outcome
+  -- the point at which a translation is too large
+  ListLarge : (point : ℕ) → Outcome
+  -- there is no query of that number
+  NoQuery : (query : ℕ) → Outcome
   Replayed : (replay : Replay) → Outcome
   Refused : (refusal : Refusal) → Outcome
   ReadFault : Outcome

@@ -5,7 +5,7 @@ use Rattle.run_replay.specs.declared.error.RunError.{RunError}
 use Rattle.run_replay.specs.declared.error.RunError.TheVariants as error
 use Rattle.verifier_cli.specs.declared.loading.Unloaded.{Unloaded}
 use Rattle.verifier_cli.specs.declared.loading.Unloaded.TheVariants as unloaded
-use Rattle.verifier_cli.specs.Outcome.{Faulty, LongRun, Protocol, Run, Outcome, Usage, Verified, Replayed, Refused, ReadFault, Memory}
+use Rattle.verifier_cli.specs.Outcome.{Faulty, LongRun, Protocol, Run, Outcome, Usage, Verified, Listed, ListLarge, NoQuery, Replayed, Refused, ReadFault, Memory}
 use Rattle.verifier_cli.specs.Command.{OfFile}
 use Rattle.verifier_cli.specs.Replaying.{RefusesRun}
 
@@ -29,6 +29,9 @@ IsUnreadRun Counted held (Refused (Run line why)) = OfFile held (λ bytes. Refus
 IsUnreadRun Counted held (Refused (Protocol line column why)) = ⊥
 IsUnreadRun Counted held Memory = Unit {0}
 IsUnreadRun Counted held (Replayed replay) = ⊥
+IsUnreadRun Counted held (Listed clauses) = ⊥
+IsUnreadRun Counted held (ListLarge point) = ⊥
+IsUnreadRun Counted held (NoQuery query) = ⊥
 IsUnreadRun Counted held Usage = ⊥
 IsUnreadRun Counted held (Verified verdicts) = ⊥
 
@@ -39,5 +42,8 @@ IsOfRun (Refused (Run line why)) = Unit {0}
 IsOfRun (Refused (Protocol line column why)) = ⊥
 IsOfRun Memory = Unit {0}
 IsOfRun (Replayed replay) = Unit {0}
+IsOfRun (Listed clauses) = ⊥
+IsOfRun (ListLarge point) = ⊥
+IsOfRun (NoQuery query) = ⊥
 IsOfRun Usage = ⊥
 IsOfRun (Verified verdicts) = ⊥

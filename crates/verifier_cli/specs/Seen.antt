@@ -1,4 +1,4 @@
--- What contracts see of verdicts, of the codes of refused texts, and of replays.
+-- What contracts see of the codes of refused texts, and of replays.
 use Rattle.protocol_tokens.specs.Piece as lexical
 use Rattle.protocol_scope.specs.Answers as scope
 use Rattle.protocol_scope.specs.Spells.{Refusal, Lexical, Scoped}
@@ -10,15 +10,9 @@ use Rattle.run_replay.specs.declared.replaying.Replayed.TheVariants.{Done, Stuck
 use Rattle.run_text.specs.Faults as run
 use Rattle.verifier_cli.specs.declared.outcome.RunCode.{RunCode}
 use Rattle.verifier_cli.specs.declared.outcome.RunCode.TheVariants as line
-use Rattle.verifier_cli.specs.declared.outcome.Verdict.{Verdict}
-use Rattle.verifier_cli.specs.declared.outcome.Verdict.TheVariants.{Proved, Occurs}
 use Rattle.verifier_cli.specs.declared.outcome.ProtocolCode.{ProtocolCode}
 use Rattle.verifier_cli.specs.declared.outcome.ProtocolCode.TheVariants as code
 use Rattle.verifier_cli.specs.Outcome as own
-
-abbrev pub verdict_of : Verdict → own.Verdict
-verdict_of Proved = own.Proved
-verdict_of Occurs = own.Occurs
 
 -- why a protocol is refused, by its code
 abbrev pub refusal_by : ProtocolCode → Refusal

@@ -2,7 +2,7 @@
 use Rattle.verifier_cli.specs.declared.outcome.Refusal.{Refusal}
 use Rattle.verifier_cli.specs.declared.outcome.Refusal.TheVariants.{Protocol, Run}
 use Rattle.verifier_cli.specs.declared.outcome.Outcome.{Outcome}
-use Rattle.verifier_cli.specs.declared.outcome.Outcome.TheVariants.{Usage, Verified, Replayed, Refused, ReadFault, Memory}
+use Rattle.verifier_cli.specs.declared.outcome.Outcome.TheVariants.{Usage, Verified, Listed, ListLarge, NoQuery, Replayed, Refused, ReadFault, Memory}
 use Rattle.verifier_cli.specs.Seen.{refusal_by, run_refusal_by, replay_of}
 use Rattle.verifier_cli.specs.Outcome as own
 
@@ -13,6 +13,9 @@ refusal_of (Run row code) = own.Run row (run_refusal_by code)
 abbrev pub outcome_of : Outcome → own.Outcome
 outcome_of Usage = own.Usage
 outcome_of (Verified verdicts) = own.Verified verdicts
+outcome_of (Listed clauses) = own.Listed clauses
+outcome_of (ListLarge point) = own.ListLarge point
+outcome_of (NoQuery query) = own.NoQuery query
 outcome_of (Replayed replayed) = own.Replayed (replay_of replayed)
 outcome_of (Refused refusal) = own.Refused (refusal_of refusal)
 outcome_of ReadFault = own.ReadFault

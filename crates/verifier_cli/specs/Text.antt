@@ -1,29 +1,45 @@
 -- The text that a call of the program writes, and the status that it ends with.
-use Rattle.std.specs.Prelude.{ℕ, ◌+◌, List, [], ◌∷◌, ◌++◌, codes, Bool, true, false, if◌then◌else◌, Option, Some, None, is_none}
+use Rattle.std.specs.Prelude.{◌≡◌, ℕ, ◌+◌, List, [], ◌∷◌, ◌++◌, length, codes, Bool, true, false, if◌then◌else◌, Option, Some, None, is_none}
 use Rattle.std.specs.Fmt.{decimal}
 use Rattle.std.specs.List.{list_all}
+use Rattle.calculus.specs.Syntax as syntax
+use Rattle.calculus.specs.Points.{numbered}
 use Rattle.calculus.specs.Refusals as step
 use Rattle.run_text.specs.Faults as run
 use Rattle.protocol_tokens.specs.Piece as lexical
 use Rattle.protocol_scope.specs.Answers as scope
 use Rattle.protocol_scope.specs.Spells as spells
 use Rattle.protocol_scope.specs.Spells.{Lexical, Scoped}
-use Rattle.verifier_cli.specs.Outcome.{Verdict, Proved, Occurs, RunRefusal, Faulty, LongRun, Refusal, Protocol, Run, Replay, Done, Stuck, Outcome, Usage, Verified, Replayed, Refused, ReadFault, Memory}
+use Rattle.terms.specs.Term.{Term}
+use Rattle.clauses.specs.Fact.{Clause}
+use Rattle.certificate_text.specs.Text.{clause_text, certificate_text}
+use Rattle.clause_saturate.specs.declared.log.PlainEntry.{PlainEntry}
+use Rattle.query_verify.specs.declared.answers.Verdict.{Verdict}
+use Rattle.query_verify.specs.declared.answers.Verdict.TheVariants.{Proved, Budget, SizePair, SizePoint, Unmet}
+use Rattle.verifier_cli.specs.Outcome.{RunRefusal, Faulty, LongRun, Refusal, Protocol, Run, Replay, Done, Stuck, Outcome, Usage, Verified, Listed, ListLarge, NoQuery, Replayed, Refused, ReadFault, Memory}
 
 -- a text with its line's end
 abbrev pub line : List ℕ → List ℕ
 line text = text ++ codes "\n"
 
--- how an answer to a query is spelled
-abbrev pub verdict_text : Verdict → List ℕ
-verdict_text Proved = codes "proved"
-verdict_text Occurs = codes "unknown occurs"
+-- the text of the clause of an entry
+abbrev pub entry_text : syntax.Protocol → Option PlainEntry → List ℕ
+entry_text P None = []
+entry_text P (Some entry) = clause_text P entry.clause []
 
--- a line for each query, the first of which has this number
-abbrev pub verdict_lines : ℕ → List Verdict → List ℕ
-verdict_lines number [] = []
-verdict_lines number (verdict ∷ verdicts) =
-    line (codes "query " ++ decimal number ++ codes " " ++ verdict_text verdict) ++ verdict_lines (number + 1) verdicts
+-- how a verdict is spelled, behind the query's number; a certificate follows its line
+abbrev pub verdict_text : syntax.Protocol → Verdict → List ℕ
+verdict_text P (Proved certificate) = line (codes "proved") ++ certificate_text P certificate []
+verdict_text P (Budget log due) = line (codes "unknown budget " ++ decimal (length log))
+verdict_text P (SizePair log solved unsolved) = line (codes "unknown size pair " ++ decimal solved ++ codes " " ++ decimal unsolved)
+verdict_text P (SizePoint point) = line (codes "unknown size point " ++ decimal point)
+verdict_text P (Unmet log number) = line (codes "unknown clause " ++ entry_text P (numbered log number))
+
+-- the verdicts of the queries, the first of which has this number
+abbrev pub verdict_lines : ℕ → List Verdict → syntax.Protocol → List ℕ
+verdict_lines number [] P = []
+verdict_lines number (verdict ∷ verdicts) P =
+    codes "query " ++ decimal number ++ codes " " ++ verdict_text P verdict ++ verdict_lines (number + 1) verdicts P
 
 -- the code of a refused protocol, and its name
 abbrev pub code_text : spells.Refusal → List ℕ
@@ -85,18 +101,43 @@ abbrev pub replay_text : Replay → List ℕ
 replay_text (Done end steps firsts) = done_text steps firsts
 replay_text (Stuck number refusal) = line (codes "stuck " ++ decimal number ++ codes " " ++ step_text refusal)
 
--- all that a call writes
-abbrev pub outcome_bytes : Outcome → List ℕ
-outcome_bytes Usage = line (codes "usage: verify FILE [--budget N] | check FILE REPORT | list FILE QUERY | replay FILE RUN | ring N")
-outcome_bytes (Verified verdicts) = verdict_lines 1 verdicts
-outcome_bytes (Replayed replay) = replay_text replay
-outcome_bytes (Refused refusal) = line (refusal_text refusal)
-outcome_bytes ReadFault = line (codes "read fault")
-outcome_bytes Memory = line (codes "want of memory")
+-- a line for each clause, in the words of the protocol
+abbrev pub clause_lines : syntax.Protocol → List (Clause Term) → List ℕ
+clause_lines P [] = []
+clause_lines P (c ∷ cs) = line (clause_text P c []) ++ clause_lines P cs
 
+-- what is printed in the words of a protocol: nothing where there is none
+abbrev pub in_words : (syntax.Protocol → List ℕ) → Option syntax.Protocol → List ℕ
+in_words text None = []
+in_words text (Some P) = text P
+
+-- the outcome prints clauses, which want the words of a protocol
+abbrev pub prints_clauses : Outcome → Bool
+prints_clauses (Verified verdicts) = true
+prints_clauses (Listed clauses) = true
+prints_clauses _ = false
+
+-- where the outcome prints clauses, there is a protocol
+abbrev pub HasWords : Option syntax.Protocol → Outcome → Type 0
+HasWords None outcome = prints_clauses outcome ≡ false
+HasWords (Some P) outcome = Unit {0}
+
+-- all that a call writes, in the words of its protocol
+abbrev pub outcome_bytes : Option syntax.Protocol → Outcome → List ℕ
+outcome_bytes P Usage = line (codes "usage: verify FILE [--budget N] | check FILE REPORT | list FILE QUERY | replay FILE RUN | ring N")
+outcome_bytes P (Verified verdicts) = in_words (verdict_lines 1 verdicts) P
+outcome_bytes P (Listed clauses) = in_words (λ own. clause_lines own clauses) P
+outcome_bytes P (ListLarge point) = line (codes "size point " ++ decimal point)
+outcome_bytes P (NoQuery query) = line (codes "no query " ++ decimal query)
+outcome_bytes P (Replayed replay) = replay_text replay
+outcome_bytes P (Refused refusal) = line (refusal_text refusal)
+outcome_bytes P ReadFault = line (codes "read fault")
+outcome_bytes P Memory = line (codes "want of memory")
+
+-- whether the verdict is that the query is proved
 abbrev pub is_proved : Verdict → Bool
-is_proved Proved = true
-is_proved Occurs = false
+is_proved (Proved certificate) = true
+is_proved _ = false
 
 -- a replay to its end that violates no query
 abbrev pub is_without_violation : Replay → Bool
@@ -107,6 +148,9 @@ is_without_violation (Stuck number refusal) = false
 abbrev pub status_of : Outcome → ℕ
 status_of Usage = 2
 status_of (Verified verdicts) = if list_all is_proved verdicts then 0 else 1
+status_of (Listed clauses) = 0
+status_of (ListLarge point) = 1
+status_of (NoQuery query) = 1
 status_of (Replayed replay) = if is_without_violation replay then 0 else 1
 status_of (Refused (Protocol row column why)) = 3
 status_of (Refused (Run row why)) = 4

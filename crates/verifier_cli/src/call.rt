@@ -1,54 +1,70 @@
 //! The call that the program makes: words and a file in, an answer and its text out.
 
-ghost use Rattle.std.specs.Prelude.{◌≡◌, ◌≢◌, ◌≤◌, ℕ, List, map};
+ghost use Rattle.std.specs.Prelude.{◌≡◌, ◌≢◌, ◌≤◌, ℕ, List, None, map, option_map};
+ghost use Rattle.pi_tree.specs.Protocols.{protocol_of};
 ghost use Rattle.std.specs.String.{string_bytes};
 ghost use Rattle.hv_io.specs.Faults.{IsFaultCounted};
 ghost use Rattle.hv_io.specs.Sink.{appended, AppendsPart};
-ghost use Rattle.verifier_cli.specs.Command.{IsVerify, IsReplay, IsNoCommand, IsUnreadable, OfFile, Verifies, Becomes};
+ghost use Rattle.verifier_cli.specs.Command.{IsVerify, IsList, IsReplay, IsNoCommand, IsUnreadable, OfFile, Verifies, Becomes};
 ghost use Rattle.command_words.specs.Request.{request_of};
+ghost use Rattle.verifier_cli.specs.Listing.{Lists, IsSource, IsTextOf, words_of};
 ghost use Rattle.verifier_cli.specs.Outcome as own;
 ghost use Rattle.verifier_cli.specs.Replaying.{Replays};
 ghost use Rattle.verifier_cli.specs.SeenOutcome.{outcome_of};
-ghost use Rattle.verifier_cli.specs.Text.{outcome_bytes, status_of};
+ghost use Rattle.verifier_cli.specs.Text.{HasWords, outcome_bytes, status_of};
 
-use crate::outcome::{Answer, Outcome};
+use crate::list::list_file;
+use crate::outcome::{Answer, Decision, Outcome};
 use crate::replay::replay_file;
 use crate::text::{READ_FAULT, USAGE, WANT_OF_MEMORY, outcome_text, status};
 use crate::verify::verify_file;
 use command_words::{Request, read_words};
 use hv_io::{Files, Sink, put_all};
+use pi_tree::Protocol;
 use std::alloc::Global;
 
 /// The status of a call whose text could not all be written.
 const NOT_WRITTEN: u8 = 6;
 
 /// What the words and the files that they name come to.
-fn decide<F: Files>(alloc: Global, words: &[String], files: &mut F) -> Outcome
+fn decide<F: Files>(alloc: Global, words: &[String], files: &mut F) -> Decision
     ensures held_stays { (name : List ℕ) → F.held files.new name ≡ F.held files.old name }
     ensures read_faults_rise { (name : List ℕ) → F.faults files.old name ≤ F.faults files.new name }
-    ensures unused { IsNoCommand (map string_bytes words.now) → Becomes own.Usage (outcome_of result) }
-    ensures used { outcome_of result ≡ own.Usage → IsNoCommand (map string_bytes words.now) }
-    ensures fault { outcome_of result ≡ own.ReadFault → IsUnreadable (request_of (map string_bytes words.now)) (F.held files.old) (λ name. IsFaultCounted (F.faults files.old name) (F.faults files.new name)) }
-    ensures verified { (file : List ℕ) → IsVerify (map string_bytes words.now) file → outcome_of result ≢ own.ReadFault → OfFile (F.held files.old file) (λ bytes. Verifies bytes (outcome_of result)) }
-    ensures replayed { (file run : List ℕ) → IsReplay (map string_bytes words.now) file run → outcome_of result ≢ own.ReadFault → OfFile (F.held files.old file) (λ bytes. Replays bytes (F.held files.old run) (outcome_of result)) }
+    ensures source { IsSource (request_of (map string_bytes words.now)) (F.held files.old) (option_map protocol_of result.protocol) }
+    ensures words { HasWords (option_map protocol_of result.protocol) (outcome_of result.outcome) }
+    ensures unused { IsNoCommand (map string_bytes words.now) → Becomes own.Usage (outcome_of result.outcome) }
+    ensures used { outcome_of result.outcome ≡ own.Usage → IsNoCommand (map string_bytes words.now) }
+    ensures fault { outcome_of result.outcome ≡ own.ReadFault → IsUnreadable (request_of (map string_bytes words.now)) (F.held files.old) (λ name. IsFaultCounted (F.faults files.old name) (F.faults files.new name)) }
+    ensures verified { (file : List ℕ) (budget : ℕ) → IsVerify (map string_bytes words.now) file budget → outcome_of result.outcome ≢ own.ReadFault → OfFile (F.held files.old file) (λ bytes. Verifies bytes budget (outcome_of result.outcome)) }
+    ensures listed { (file : List ℕ) (query : ℕ) → IsList (map string_bytes words.now) file query → outcome_of result.outcome ≢ own.ReadFault → OfFile (F.held files.old file) (λ bytes. Lists bytes query (outcome_of result.outcome)) }
+    ensures replayed { (file run : List ℕ) → IsReplay (map string_bytes words.now) file run → outcome_of result.outcome ≢ own.ReadFault → OfFile (F.held files.old file) (λ bytes. Replays bytes (F.held files.old run) (outcome_of result.outcome)) }
 {
     match read_words(alloc, words) {
-        Ok(Some(Request::Verify { file, .. })) => verify_file(alloc, file, files),
-        Ok(Some(Request::Replay { file, run })) => replay_file(alloc, file, run, files),
-        Ok(None) => Outcome::Usage,
-        Err(_) => Outcome::Memory,
+        Ok(Some(Request::Verify { file, budget })) => verify_file(alloc, file, budget, files),
+        Ok(Some(Request::List { file, query })) => list_file(alloc, file, query, files),
+        Ok(Some(Request::Replay { file, run })) => Decision {
+            protocol: None,
+            outcome: replay_file(alloc, file, run, files),
+        },
+        Ok(None) => Decision {
+            protocol: None,
+            outcome: Outcome::Usage,
+        },
+        Err(_) => Decision {
+            protocol: None,
+            outcome: Outcome::Memory,
+        },
     }
 }
 
-/// Writes an outcome's text, and answers with its status, or with 6 where a part could not be written.
+/// Writes a text, and answers with the outcome and its status, or with 6 where a part could not be written.
 fn finish<S: Sink>(outcome: Outcome, text: &[u8], out: &mut S) -> Answer
-    requires { text.now ≡ outcome_bytes (outcome_of outcome) }
     ensures outcome { result.outcome ≡ outcome }
     ensures faults_rise { S.faults out.old ≤ S.faults out.new }
     ensures fault { result.status ≡ 6 → IsFaultCounted (S.faults out.old) (S.faults out.new) }
     ensures status { result.status ≢ 6 → result.status ≡ status_of (outcome_of outcome) }
-    ensures whole { result.status ≢ 6 → S.written out.new ≡ appended (S.written out.old) (outcome_bytes (outcome_of outcome)) }
-    ensures part { result.status ≡ 6 → AppendsPart (S.written out.old) (S.written out.new) (outcome_bytes (outcome_of outcome)) }
+    ensures whole { result.status ≢ 6 → S.written out.new ≡ appended (S.written out.old) text.now }
+    ensures part { result.status ≡ 6 → AppendsPart (S.written out.old) (S.written out.new) text.now }
 {
     let status = match put_all(out, text) {
         Ok(()) => status(&outcome),
@@ -59,19 +75,26 @@ fn finish<S: Sink>(outcome: Outcome, text: &[u8], out: &mut S) -> Answer
 
 /// Makes an outcome's text and writes it. The text of `Usage`, `ReadFault` and `Memory` takes no memory; where there is
 /// none for another, the outcome is `Memory`.
-fn respond<S: Sink>(alloc: Global, outcome: Outcome, out: &mut S) -> Answer
+fn respond<S: Sink>(
+    alloc: Global,
+    protocol: Option<&Protocol>,
+    outcome: Outcome,
+    out: &mut S,
+) -> Answer
+    requires { HasWords (words_of protocol) (outcome_of outcome) }
     ensures outcome { Becomes (outcome_of outcome) (outcome_of result.outcome) }
+    ensures words { HasWords (words_of protocol.entry) (outcome_of result.outcome) }
     ensures faults_rise { S.faults out.old ≤ S.faults out.new }
     ensures fault { result.status ≡ 6 → IsFaultCounted (S.faults out.old) (S.faults out.new) }
     ensures status { result.status ≢ 6 → result.status ≡ status_of (outcome_of result.outcome) }
-    ensures whole { result.status ≢ 6 → S.written out.new ≡ appended (S.written out.old) (outcome_bytes (outcome_of result.outcome)) }
-    ensures part { result.status ≡ 6 → AppendsPart (S.written out.old) (S.written out.new) (outcome_bytes (outcome_of result.outcome)) }
+    ensures whole { result.status ≢ 6 → S.written out.new ≡ appended (S.written out.old) (outcome_bytes (words_of protocol.entry) (outcome_of result.outcome)) }
+    ensures part { result.status ≡ 6 → AppendsPart (S.written out.old) (S.written out.new) (outcome_bytes (words_of protocol.entry) (outcome_of result.outcome)) }
 {
     match outcome {
         Outcome::Usage => finish(Outcome::Usage, USAGE, out),
         Outcome::ReadFault => finish(Outcome::ReadFault, READ_FAULT, out),
         Outcome::Memory => finish(Outcome::Memory, WANT_OF_MEMORY, out),
-        outcome => match outcome_text(alloc, None, &outcome) {
+        outcome => match outcome_text(alloc, protocol, &outcome) {
             Ok(text) => finish(outcome, &text, out),
             Err(_) => finish(Outcome::Memory, WANT_OF_MEMORY, out),
         },
@@ -82,8 +105,8 @@ fn respond<S: Sink>(alloc: Global, outcome: Outcome, out: &mut S) -> Answer
 ///
 /// The outcome is `Usage` exactly where the words ask for nothing. Else the protocol's file is loaded. Where that fails, the
 /// outcome is `ReadFault`, and else it is about the bytes that were read: `Refused` where they spell no protocol, with the
-/// reason and the place. Where they spell one, `verify` comes to `Verified` with an answer to each query, and `replay` loads
-/// the run's file: that comes to `ReadFault`, to `Refused`, or to `Replayed` with what the steps show. `Memory` may come in
+/// reason and the place. Where they spell one, `verify` comes to `Verified` with the verdict of each query, `list` to `Listed`
+/// with the clauses of a query, to `ListLarge` or to `NoQuery`, and `replay` loads the run's file: that comes to `ReadFault`, to `Refused`, or to `Replayed` with what the steps show. `Memory` may come in
 /// place of any of these.
 pub fn top<F: Files, S: Sink>(alloc: Global, words: &[String], files: &mut F, out: &mut S) -> Answer
     ensures usage { IsNoCommand (map string_bytes words.now) → Becomes own.Usage (outcome_of result.outcome) }
@@ -92,9 +115,12 @@ pub fn top<F: Files, S: Sink>(alloc: Global, words: &[String], files: &mut F, ou
     // Only with a fault that was counted for the protocol's file, or where that is accepted, for the run's.
     ensures read_fault { outcome_of result.outcome ≡ own.ReadFault → IsUnreadable (request_of (map string_bytes words.now)) (F.held files.old) (λ name. IsFaultCounted (F.faults files.old name) (F.faults files.new name)) }
 
-    // Which answers and refusals there are, exactly, of the bytes that the file holds; the headline is the field
+    // Which verdicts and refusals there are, exactly, of the bytes that the file holds; the headline is the field
     // `none_violated`.
-    ensures headline { (file : List ℕ) → IsVerify (map string_bytes words.now) file → outcome_of result.outcome ≢ own.ReadFault → OfFile (F.held files.old file) (λ bytes. Verifies bytes (outcome_of result.outcome)) }
+    ensures headline { (file : List ℕ) (budget : ℕ) → IsVerify (map string_bytes words.now) file budget → outcome_of result.outcome ≢ own.ReadFault → OfFile (F.held files.old file) (λ bytes. Verifies bytes budget (outcome_of result.outcome)) }
+
+    // The clauses that a query of the protocol is translated into, exactly, or the point at which they are too large.
+    ensures list { (file : List ℕ) (query : ℕ) → IsList (map string_bytes words.now) file query → outcome_of result.outcome ≢ own.ReadFault → OfFile (F.held files.old file) (λ bytes. Lists bytes query (outcome_of result.outcome)) }
 
     // What the steps of a run show, exactly, and which refusals there are.
     ensures replay { (file run : List ℕ) → IsReplay (map string_bytes words.now) file run → outcome_of result.outcome ≢ own.ReadFault → OfFile (F.held files.old file) (λ bytes. Replays bytes (F.held files.old run) (outcome_of result.outcome)) }
@@ -107,10 +133,11 @@ pub fn top<F: Files, S: Sink>(alloc: Global, words: &[String], files: &mut F, ou
     ensures status { result.status ≢ 6 → result.status ≡ status_of (outcome_of result.outcome) }
     ensures write_fault { result.status ≡ 6 → IsFaultCounted (S.faults out.old) (S.faults out.new) }
 
-    // What was written: all of the outcome's text, or with status 6 a part of it, from its start.
-    ensures whole { result.status ≢ 6 → S.written out.new ≡ appended (S.written out.old) (outcome_bytes (outcome_of result.outcome)) }
-    ensures part { result.status ≡ 6 → AppendsPart (S.written out.old) (S.written out.new) (outcome_bytes (outcome_of result.outcome)) }
+    // What was written: all of the outcome's text, or with status 6 a part of it, from its start. Clauses are written in
+    // the words of the protocol that the file spells.
+    ensures whole { result.status ≢ 6 → (text : List ℕ) × IsTextOf (request_of (map string_bytes words.now)) (F.held files.old) (outcome_of result.outcome) text × (S.written out.new ≡ appended (S.written out.old) text) }
+    ensures part { result.status ≡ 6 → (text : List ℕ) × IsTextOf (request_of (map string_bytes words.now)) (F.held files.old) (outcome_of result.outcome) text × AppendsPart (S.written out.old) (S.written out.new) text }
 {
-    let outcome = decide(alloc, words, files);
-    respond(alloc, outcome, out)
+    let Decision { protocol, outcome } = decide(alloc, words, files);
+    respond(alloc, protocol.as_ref(), outcome, out)
 }

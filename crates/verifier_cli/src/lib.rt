@@ -4,6 +4,7 @@
 #![tactic(auto)]
 
 mod call;
+mod list;
 mod loading;
 mod outcome;
 mod reading;
@@ -12,5 +13,6 @@ mod text;
 mod verify;
 
 pub use crate::call::top;
-pub use crate::outcome::{Answer, Outcome, ProtocolCode, Refusal, RunCode, Verdict, Verdicts};
+pub use crate::outcome::{Answer, Outcome, ProtocolCode, Refusal, RunCode};
 pub use crate::text::{outcome_text, status};
+pub use query_verify::{Verdict, Verdicts};

@@ -7,6 +7,7 @@ ghost use Rattle.protocol_scope.specs.Spells.{Spells};
 ghost use Rattle.run_replay.specs.Limits.{IsLimited};
 ghost use Rattle.verifier_cli.specs.declared.loading.Unloaded.TheVariants as unloaded;
 ghost use Rattle.verifier_cli.specs.Command.{OfFile};
+ghost use Rattle.verifier_cli.specs.Loaded.{IsLoaded};
 ghost use Rattle.verifier_cli.specs.Reading.{IsStopOf, IsNoReading, IsUnread, not_loaded};
 ghost use Rattle.verifier_cli.specs.SeenOutcome.{outcome_of};
 
@@ -14,7 +15,7 @@ use crate::outcome::{Outcome, ProtocolCode, Refusal};
 use crate::reading::{Stop, read_protocol};
 use hv_io::{Files, LoadError, place};
 use pi_tree::{MOST_BYTES, Protocol};
-use protocol_scope::within_limits;
+use protocol_scope::{proper_rules, query_leaves, well_scoped, within_limits};
 use std::alloc::Global;
 
 /// Why a text was not loaded.
@@ -93,10 +94,14 @@ pub(crate) fn load_protocol<F: Files>(
     ensures held_stays { (name : List ℕ) → F.held files.new name ≡ F.held files.old name }
     ensures read_faults_rise { (name : List ℕ) → F.faults files.old name ≤ F.faults files.new name }
     ensures limited { IfOk result (λ protocol. IsLimited (protocol_of protocol)) }
+    ensures loaded { IfOk result (λ protocol. IsLoaded (protocol_of protocol)) }
     ensures spelled { IfOk result (λ protocol. OfFile (F.held files.old file.now) (λ bytes. Spells bytes (protocol_of protocol))) }
     ensures unread { IfErr result (λ outcome. IsUnread (IsFaultCounted (F.faults files.old file.now) (F.faults files.new file.now)) (F.held files.old file.now) (outcome_of outcome)) }
 {
     within_limits();
+    proper_rules();
+    well_scoped();
+    query_leaves();
     match load_text(file, MOST_BYTES, files) {
         Err(why) => Err(not_loaded(why)),
         Ok(bytes) => match read_protocol(alloc, &bytes) {

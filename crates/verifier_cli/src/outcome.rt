@@ -1,47 +1,9 @@
 //! What a call of the program comes to.
 
-ghost use Rattle.std.specs.Prelude.{◌≡◌};
-
+use cert_text::PlainClauses;
+use pi_tree::Protocol;
+use query_verify::Verdicts;
 use run_replay::Replayed;
-use std::marker::Model;
-
-/// The answer to one query.
-#[derive(Clone, Copy, Debug, PartialEq, Eq)]
-pub enum Verdict {
-    /// No run of the protocol beside the attacker violates the query.
-    Proved,
-    /// Not decided: the query asks for another thing than a message, or a term of the process holds each private free
-    /// name of the message.
-    Occurs,
-}
-
-impl Verdict {
-    ghost use Rattle.verifier_cli.specs.Seen.{verdict_of};
-    ghost use Rattle.verifier_cli.specs.Text.{is_proved};
-
-    /// Whether the query is proved.
-    pub fn is_proved(self) -> bool
-        ensures { result ≡ is_proved (verdict_of self) }
-    {
-        matches!(self, Verdict::Proved)
-    }
-}
-
-/// The answers to a protocol's queries, in the order of its file.
-#[derive(Debug, Drop)]
-pub struct Verdicts {
-    pub items: Vec<Verdict>,
-}
-
-impl Model for Verdicts {
-    ghost use Rattle.std.specs.Prelude.{List, map};
-    ghost use Rattle.verifier_cli.specs.Outcome as own;
-    ghost use Rattle.verifier_cli.specs.Seen.{verdict_of};
-
-    ghost Value = { List own.Verdict };
-
-    ghost view = { λ a. map verdict_of a.items.items };
-}
 
 /// Why the bytes of a protocol's file are refused. The printed code of each is its number here, from 1.
 #[derive(Clone, Copy, Debug, PartialEq, Eq)]
@@ -109,8 +71,14 @@ pub enum Refusal {
 pub enum Outcome {
     /// The words are no command.
     Usage,
-    /// The protocol was read, and each query answered.
+    /// The protocol was read, and these are the verdicts of its queries, in their order.
     Verified(Verdicts),
+    /// The protocol was read, and these are the clauses that it and the query are translated into.
+    Listed(PlainClauses),
+    /// The protocol was read, and its translation is too large at this point.
+    ListLarge(u32),
+    /// The protocol was read, and has no query of this number.
+    NoQuery(u64),
     /// The protocol and the run were read, and the run replayed.
     Replayed(Replayed),
     /// A text was refused.
@@ -119,6 +87,13 @@ pub enum Outcome {
     ReadFault,
     /// There was no memory.
     Memory,
+}
+
+/// What a command comes to, with the protocol in whose words clauses and certificates are printed, if there is one.
+#[derive(Debug, Drop)]
+pub(crate) struct Decision {
+    pub(crate) protocol: Option<Protocol>,
+    pub(crate) outcome: Outcome,
 }
 
 /// What a call ends with: the outcome, and the program's exit status.

@@ -1,6 +1,6 @@
 //! The command `replay`: what the steps of a run show.
 
-ghost use Rattle.std.specs.Prelude.{◌≡◌, ◌≢◌, ◌<◌, ◌≤◌, ◌^◌, ◌⊎◌, ℕ, List, length, IfOk, IfErr};
+ghost use Rattle.std.specs.Prelude.{◌≡◌, ◌≢◌, ◌<◌, ◌≤◌, ◌^◌, ◌⊎◌, ℕ, List, None, length, IfOk, IfErr};
 ghost use Rattle.calculus.specs.Syntax as syntax;
 ghost use Rattle.hv_io.specs.Faults.{IsFaultCounted};
 ghost use Rattle.pi_tree.specs.Protocols.{protocol_of};
@@ -11,6 +11,7 @@ ghost use Rattle.verifier_cli.specs.Outcome as own;
 ghost use Rattle.verifier_cli.specs.Replaying.{SpellsSteps, IsReplayOf, RunsOn, Replays};
 ghost use Rattle.verifier_cli.specs.RunReading.{run_not_loaded, run_not_read, IsUnreadRun, IsOfRun};
 ghost use Rattle.verifier_cli.specs.SeenOutcome.{outcome_of};
+ghost use Rattle.verifier_cli.specs.Text.{HasWords};
 
 use crate::loading::{Unloaded, load_protocol, load_text};
 use crate::outcome::{Outcome, Refusal, RunCode};
@@ -101,6 +102,7 @@ pub(crate) fn replay_file<F: Files>(alloc: Global, file: &str, run: &str, files:
     ensures held_stays { (name : List ℕ) → F.held files.new name ≡ F.held files.old name }
     ensures read_faults_rise { (name : List ℕ) → F.faults files.old name ≤ F.faults files.new name }
     ensures used { outcome_of result ≢ own.Usage }
+    ensures words { HasWords None (outcome_of result) }
     ensures fault { outcome_of result ≡ own.ReadFault → IsFaultCounted (F.faults files.old file.now) (F.faults files.new file.now) ⊎ (OfFile (F.held files.old file.now) (λ bytes. (P : syntax.Protocol) × Spells bytes P) × IsFaultCounted (F.faults files.old run.now) (F.faults files.new run.now)) }
     ensures replayed { outcome_of result ≢ own.ReadFault → OfFile (F.held files.old file.now) (λ bytes. Replays bytes (F.held files.old run.now) (outcome_of result)) }
 {

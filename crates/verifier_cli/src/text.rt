@@ -1,17 +1,24 @@
 //! The text of an outcome, and the status that the program ends with.
 
-ghost use Rattle.std.specs.Prelude.{◌≡◌, is_none, IfOk};
+ghost use Rattle.std.specs.Prelude.{◌≡◌, ◌++◌, codes, decimal, is_none, option_copied, IfOk, []};
 ghost use Rattle.std.specs.List.{list_all};
 ghost use Rattle.std.specs.String.{string_bytes};
+ghost use Rattle.calculus.specs.Points.{numbered};
+ghost use Rattle.certificate_text.specs.Text.{certificate_text};
 ghost use Rattle.verifier_cli.specs.SeenOutcome.{outcome_of, refusal_of};
 ghost use Rattle.pi_model.specs.Errors as errors;
 ghost use Rattle.verifier_cli.specs.Outcome as own;
 ghost use Rattle.verifier_cli.specs.Seen.{refusal_by, run_refusal_by, replay_of};
-ghost use Rattle.verifier_cli.specs.Text.{line, outcome_bytes, status_of, refusal_text, verdict_lines, is_proved, first_text, first_lines, done_text, replay_text, is_without_violation};
+ghost use Rattle.pi_tree.specs.Protocols.{protocol_of};
+ghost use Rattle.verifier_cli.specs.Listing.{words_of};
+ghost use Rattle.verifier_cli.specs.Text.{line, clause_lines, in_words, outcome_bytes, status_of, refusal_text, entry_text, verdict_text, verdict_lines, is_proved, first_text, first_lines, done_text, replay_text, is_without_violation};
 
-use crate::outcome::{Outcome, ProtocolCode, Refusal, RunCode, Verdict, Verdicts};
+use crate::outcome::{Outcome, ProtocolCode, Refusal, RunCode};
+use cert_text::{Cert, PlainClauses, write_cert, write_clause};
+use clause_saturate::{PlainEntry, PlainLog};
 use pi_model::StepError;
 use pi_tree::Protocol;
+use query_verify::{Verdict, Verdicts};
 use run_replay::{Firsts, Replayed};
 use std::alloc::{AllocError, Global};
 use std::fmt;
@@ -26,21 +33,6 @@ pub(crate) const READ_FAULT: &[u8] = b"read fault\n";
 
 /// What is written where there was no memory.
 pub(crate) const WANT_OF_MEMORY: &[u8] = b"want of memory\n";
-
-impl fmt::Display for Verdict {
-    ghost use Rattle.std.specs.Prelude.{Some};
-    ghost use Rattle.verifier_cli.specs.Seen.{verdict_of};
-    ghost use Rattle.verifier_cli.specs.Text.{verdict_text};
-
-    ghost output = { λ v. Some (verdict_text (verdict_of v)) };
-
-    fn fmt<W: fmt::Write>(&self, f: &mut fmt::Formatter<W>) -> fmt::Result {
-        match self {
-            Verdict::Proved => f.write_str("proved"),
-            Verdict::Occurs => f.write_str("unknown occurs"),
-        }
-    }
-}
 
 impl fmt::Display for ProtocolCode {
     ghost use Rattle.std.specs.Prelude.{Some};
@@ -110,14 +102,115 @@ impl fmt::Display for StepCode {
     }
 }
 
-/// The text of the answers to a protocol's queries, a line for each.
-fn verdicts_text(alloc: Global, verdicts: &Verdicts) -> Result<String, AllocError>
-    ensures { IfOk result (λ text. string_bytes text ≡ verdict_lines 1 verdicts.now) }
+/// The entry of that number, counted from 1.
+fn entry_at(log: &PlainLog, number: usize) -> Option<&PlainEntry>
+    ensures { option_copied result ≡ numbered log.now number }
+{
+    if number == 0 {
+        return None;
+    }
+    log.items.get(number - 1)
+}
+
+/// What is written behind the number of a query that is proved: its line's end, and the certificate.
+fn proved_text(alloc: Global, protocol: &Protocol, cert: &Cert) -> Result<Vec<u8>, AllocError>
+    ensures { IfOk result (λ text. text.items ≡ line (codes "proved") ++ certificate_text (protocol_of protocol.now) cert.now []) }
+{
+    let mut text = b"proved\n".to_vec(alloc)?;
+    let words = write_cert(alloc, protocol, cert)?;
+    text.extend_from_slice(&words)?;
+    Ok(text)
+}
+
+/// The same of a query with a clause that is not satisfied.
+fn unmet_text(
+    alloc: Global,
+    protocol: &Protocol,
+    log: &PlainLog,
+    number: usize,
+) -> Result<Vec<u8>, AllocError>
+    ensures { IfOk result (λ text. text.items ≡ line (codes "unknown clause " ++ entry_text (protocol_of protocol.now) (numbered log.now number))) }
+{
+    let mut text = b"unknown clause ".to_vec(alloc)?;
+    match entry_at(log, number) {
+        Some(entry) => {
+            let words = write_clause(alloc, protocol, &entry.clause)?;
+            text.extend_from_slice(&words)?;
+        }
+        None => {}
+    }
+    text.push(b'\n')?;
+    Ok(text)
+}
+
+/// The same where the budget is spent on so many entries.
+fn budget_line(alloc: Global, entries: usize) -> Result<String, AllocError>
+    ensures { IfOk result (λ text. string_bytes text ≡ line (codes "unknown budget " ++ decimal entries)) }
 {
     let mut text = String::new(alloc);
-    for (place, verdict) in verdicts.items.iter().enumerate() {
-        let number = place as u64 + 1;
-        writeln!(text, "query {number} {verdict}")?;
+    writeln!(text, "unknown budget {entries}")?;
+    Ok(text)
+}
+
+/// The same where a pair of entries is too large.
+fn pair_line(alloc: Global, solved: usize, unsolved: usize) -> Result<String, AllocError>
+    ensures { IfOk result (λ text. string_bytes text ≡ line (codes "unknown size pair " ++ decimal solved ++ codes " " ++ decimal unsolved)) }
+{
+    let mut text = String::new(alloc);
+    write!(text, "unknown size pair {solved}")?;
+    writeln!(text, " {unsolved}")?;
+    Ok(text)
+}
+
+/// The same where the visit of a point is too large.
+fn visit_line(alloc: Global, point: u32) -> Result<String, AllocError>
+    ensures { IfOk result (λ text. string_bytes text ≡ line (codes "unknown size point " ++ decimal point)) }
+{
+    let mut text = String::new(alloc);
+    writeln!(text, "unknown size point {point}")?;
+    Ok(text)
+}
+
+/// What is written behind the number of a query, its line and a certificate.
+fn verdict_text(
+    alloc: Global,
+    protocol: &Protocol,
+    verdict: &Verdict,
+) -> Result<Vec<u8>, AllocError>
+    ensures { IfOk result (λ text. text.items ≡ verdict_text (protocol_of protocol.now) verdict.now) }
+{
+    match verdict {
+        Verdict::Proved(cert) => proved_text(alloc, protocol, cert),
+        Verdict::Budget(log, _) => Ok(budget_line(alloc, log.items.len())?.into_bytes()),
+        Verdict::SizePair(_, solved, unsolved) => {
+            Ok(pair_line(alloc, *solved, *unsolved)?.into_bytes())
+        }
+        Verdict::SizePoint(point) => Ok(visit_line(alloc, *point)?.into_bytes()),
+        Verdict::Unmet(log, number) => unmet_text(alloc, protocol, log, *number),
+    }
+}
+
+/// What begins the line of a query.
+fn query_words(alloc: Global, number: u64) -> Result<String, AllocError>
+    ensures { IfOk result (λ text. string_bytes text ≡ codes "query " ++ decimal number ++ codes " ") }
+{
+    format!(in alloc; "query {number} ")
+}
+
+/// The text of the verdicts of a protocol's queries.
+fn verdicts_text(
+    alloc: Global,
+    protocol: &Protocol,
+    verdicts: &Verdicts,
+) -> Result<Vec<u8>, AllocError>
+    ensures { IfOk result (λ text. text.items ≡ verdict_lines 1 verdicts.now (protocol_of protocol.now)) }
+{
+    let mut text = Vec::new(alloc);
+    'each: for (place, verdict) in verdicts.items.iter().enumerate() {
+        let number = query_words(alloc, place as u64 + 1)?;
+        text.extend_from_slice(number.as_bytes())?;
+        let words = verdict_text(alloc, protocol, verdict)?;
+        text.extend_from_slice(&words)?;
     }
     Ok(text)
 }
@@ -211,18 +304,84 @@ fn replayed_text(alloc: Global, replayed: &Replayed) -> Result<String, AllocErro
     }
 }
 
-/// All that a call writes whose outcome is this, each line ended by LF. An outcome that prints a clause would want its
-/// protocol; none does yet.
+/// A line for each clause, in the words of the protocol.
+fn clauses_text(
+    alloc: Global,
+    protocol: &Protocol,
+    clauses: &PlainClauses,
+) -> Result<Vec<u8>, AllocError>
+    ensures { IfOk result (λ text. text.items ≡ clause_lines (protocol_of protocol.now) clauses.now) }
+{
+    let mut text = Vec::new(alloc);
+    'each: for clause in &clauses.items {
+        let words = write_clause(alloc, protocol, clause)?;
+        text.extend_from_slice(&words)?;
+        text.push(b'\n')?;
+    }
+    Ok(text)
+}
+
+/// The line that tells at which point a translation is too large.
+fn point_line(alloc: Global, point: u32) -> Result<String, AllocError>
+    ensures { IfOk result (λ text. string_bytes text ≡ line (codes "size point " ++ decimal point)) }
+{
+    let mut text = String::new(alloc);
+    writeln!(text, "size point {point}")?;
+    Ok(text)
+}
+
+/// The line that tells that there is no such query.
+fn query_line(alloc: Global, query: u64) -> Result<String, AllocError>
+    ensures { IfOk result (λ text. string_bytes text ≡ line (codes "no query " ++ decimal query)) }
+{
+    let mut text = String::new(alloc);
+    writeln!(text, "no query {query}")?;
+    Ok(text)
+}
+
+/// The verdicts' text, where there is a protocol in whose words to write it.
+fn verified_text(
+    alloc: Global,
+    protocol: Option<&Protocol>,
+    verdicts: &Verdicts,
+) -> Result<Vec<u8>, AllocError>
+    ensures { IfOk result (λ text. text.items ≡ in_words (verdict_lines 1 verdicts.now) (words_of protocol.entry)) }
+{
+    match protocol {
+        Some(protocol) => verdicts_text(alloc, protocol, verdicts),
+        None => Ok(Vec::new(alloc)),
+    }
+}
+
+/// The clauses' lines, where there is a protocol in whose words to write them.
+fn listed_text(
+    alloc: Global,
+    protocol: Option<&Protocol>,
+    clauses: &PlainClauses,
+) -> Result<Vec<u8>, AllocError>
+    ensures { IfOk result (λ text. text.items ≡ in_words (λ own. clause_lines own clauses.now) (words_of protocol.entry)) }
+{
+    match protocol {
+        Some(protocol) => clauses_text(alloc, protocol, clauses),
+        None => Ok(Vec::new(alloc)),
+    }
+}
+
+/// All that a call writes whose outcome is this, each line ended by LF. Verdicts and clauses are written in the words of
+/// the protocol, and not at all where none is given.
 pub fn outcome_text(
     alloc: Global,
-    _protocol: Option<&Protocol>,
+    protocol: Option<&Protocol>,
     outcome: &Outcome,
 ) -> Result<Vec<u8>, AllocError>
-    ensures { IfOk result (λ text. text.items ≡ outcome_bytes (outcome_of outcome.now)) }
+    ensures { IfOk result (λ text. text.items ≡ outcome_bytes (words_of protocol.entry) (outcome_of outcome.now)) }
 {
     match outcome {
         Outcome::Usage => USAGE.to_vec(alloc),
-        Outcome::Verified(verdicts) => Ok(verdicts_text(alloc, verdicts)?.into_bytes()),
+        Outcome::Verified(verdicts) => verified_text(alloc, protocol, verdicts),
+        Outcome::Listed(clauses) => listed_text(alloc, protocol, clauses),
+        Outcome::ListLarge(point) => Ok(point_line(alloc, *point)?.into_bytes()),
+        Outcome::NoQuery(query) => Ok(query_line(alloc, *query)?.into_bytes()),
         Outcome::Replayed(replayed) => Ok(replayed_text(alloc, replayed)?.into_bytes()),
         Outcome::Refused(refusal) => Ok(refusal_line(alloc, *refusal)?.into_bytes()),
         Outcome::ReadFault => READ_FAULT.to_vec(alloc),
@@ -230,12 +389,19 @@ pub fn outcome_text(
     }
 }
 
-/// Whether each answer is that its query is proved.
+/// Whether the verdict is that the query is proved.
+fn is_proved(verdict: &Verdict) -> bool
+    ensures { result ≡ is_proved verdict.now }
+{
+    matches!(verdict, Verdict::Proved(_))
+}
+
+/// Whether each verdict is that its query is proved.
 fn are_proved(verdicts: &Verdicts) -> bool
     ensures { result ≡ list_all is_proved verdicts.now }
 {
     for verdict in &verdicts.items {
-        if !verdict.is_proved() {
+        if !is_proved(verdict) {
             return false;
         }
     }
@@ -271,6 +437,8 @@ pub fn status(outcome: &Outcome) -> u8
     match outcome {
         Outcome::Usage => 2,
         Outcome::Verified(verdicts) => { if are_proved(verdicts) { 0 } else { 1 } }
+        Outcome::Listed(_) => 0,
+        Outcome::ListLarge(_) | Outcome::NoQuery(_) => 1,
         Outcome::Replayed(replayed) => { if is_without_violation(replayed) { 0 } else { 1 } }
         Outcome::Refused(Refusal::Protocol { .. }) => 3,
         Outcome::Refused(Refusal::Run { .. }) => 4,

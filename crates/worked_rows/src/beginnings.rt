@@ -7,8 +7,8 @@ use verifier_cli::top;
 
 /// What comes of a beginning of a file.
 enum Answered {
-    /// An answer to its query, which is not decided.
-    Occurs,
+    /// A verdict of its query.
+    Verdict,
     /// A refusal.
     Refused,
     /// Something else.
@@ -21,8 +21,8 @@ fn call_on(alloc: Global, words: &[String], file: &[u8]) -> Result<Answered, All
     files.add("first.pi", file)?;
     let mut out = MemSink::new(alloc, 1000)?;
     let status = top(alloc, words, &mut files, &mut out).status;
-    if status == 1 && out.written() == b"query 1 unknown occurs\n".as_slice() {
-        Ok(Answered::Occurs)
+    if status <= 1 && out.written().starts_with(b"query 1 ") {
+        Ok(Answered::Verdict)
     } else if status == 3 && out.written().starts_with(b"refused ") {
         Ok(Answered::Refused)
     } else {
@@ -30,19 +30,19 @@ fn call_on(alloc: Global, words: &[String], file: &[u8]) -> Result<Answered, All
     }
 }
 
-/// How many beginnings of the file, all of it among them, have a query that is not decided, how many are refused, and
-/// of how many something else comes.
+/// How many beginnings of the file, all of it among them, have a verdict of their query, how many are refused, and of how
+/// many something else comes.
 pub fn beginnings(alloc: Global, setting: &Setting) -> Result<String, AllocError> {
     let file = setting.source();
-    let mut occurs = 0u64;
+    let mut decided = 0u64;
     let mut refused = 0u64;
     let mut other = 0u64;
     for end in 0..file.len() + 1 {
         match call_on(alloc, &setting.words, &file[..end])? {
-            Answered::Occurs => occurs = occurs.saturating_add(1),
+            Answered::Verdict => decided = decided.saturating_add(1),
             Answered::Refused => refused = refused.saturating_add(1),
             Answered::Other => other = other.saturating_add(1),
         }
     }
-    format!(in alloc; "{occurs} {refused} {other}")
+    format!(in alloc; "{decided} {refused} {other}")
 }

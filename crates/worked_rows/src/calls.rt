@@ -3,6 +3,7 @@
 use crate::settings::Setting;
 use hv_io::{CalmSink, MemSink};
 use std::alloc::{AllocError, Global};
+use std::fmt::Write;
 use verifier_cli::{Outcome, top};
 
 /// What an outcome is called.
@@ -10,6 +11,9 @@ fn name(outcome: &Outcome) -> &'static str {
     match outcome {
         Outcome::Usage => "Usage",
         Outcome::Verified(_) => "Verified",
+        Outcome::Listed(_) => "Listed",
+        Outcome::ListLarge(_) => "ListLarge",
+        Outcome::NoQuery(_) => "NoQuery",
         Outcome::Replayed(_) => "Replayed",
         Outcome::Refused(_) => "Refused",
         Outcome::ReadFault => "ReadFault",
@@ -42,6 +46,26 @@ pub fn call(alloc: Global, setting: &Setting) -> Result<String, AllocError> {
     )?;
     shown.push_str(text(out.written()))?;
     Ok(shown)
+}
+
+/// The lines of a text that begin with `query`.
+fn query_lines(alloc: Global, text: &str) -> Result<String, AllocError> {
+    let mut shown = String::new(alloc);
+    for line in text.lines() {
+        if line.starts_with("query") {
+            writeln!(shown, "{line}")?;
+        }
+    }
+    Ok(shown)
+}
+
+/// The status of a call, and of what it writes the lines that tell a verdict.
+pub fn verdicts(alloc: Global, setting: &Setting) -> Result<String, AllocError> {
+    let mut files = setting.files(alloc)?;
+    let mut out = sink(alloc, setting)?;
+    let answer = top(alloc, &setting.words, &mut files, &mut out);
+    let lines = query_lines(alloc, text(out.written()))?;
+    format!(in alloc; "{} {lines}", answer.status)
 }
 
 /// The same of files that never fail: the status and the outcome, and what is written.

@@ -6,8 +6,8 @@ use Rattle.verifier_cli.specs.SeenOutcome.{outcome_of}
 use Rattle.verifier_cli.specs.Command.{OfFile}
 use Rattle.verifier_cli.specs.Replaying.{RunsOn}
 use Rattle.verifier_cli.proofs.Held.{of_file}
-use Rattle.verifier_cli.proofs.Verifying.{Laws}
-use Rattle.verifier_cli.proofs.Replaying.{run_replayed, unread_replayed, counted_later}
+use Rattle.verifier_cli.proofs.Verifying.{Laws, unread_words}
+use Rattle.verifier_cli.proofs.Replaying.{run_replayed, run_words, unread_replayed, counted_later}
 use Rattle.verifier_cli.proofs.replay.replay_file.Goals as goal
 
 pub returns-in-Err-clause-replayed : goal.returns-in-Err-clause-replayed
@@ -29,3 +29,9 @@ returns-in-Ok-clause-replayed g c =
     λ read.
     let said : F (g.F.Files.held c.args.files.now c.args.run.now) = subst F (c.load_protocol.ensures.held_stays c.args.run.now) (c.replay_run.ensures.shown read) in
     run_replayed laws _ _ P _ c.replay_run.ensures.kind read said c.in-Ok.ensures.spelled
+
+pub returns-in-Err-clause-words : goal.returns-in-Err-clause-words
+returns-in-Err-clause-words g c = unread_words _ _ _ c.in-Err.ensures.unread
+
+pub returns-in-Ok-clause-words : goal.returns-in-Ok-clause-words
+returns-in-Ok-clause-words g c = run_words _ c.replay_run.ensures.kind

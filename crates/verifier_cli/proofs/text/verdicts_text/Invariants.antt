@@ -1,10 +1,9 @@
--- The lines so far, and those of the answers that are left, are the lines of all.
-use Rattle.std.proofs.Common.{◌≡◌, ◌+◌, ◌++◌, map, drop}
-use Rattle.std.specs.String.{string_bytes}
-use Rattle.verifier_cli.specs.Seen.{verdict_of}
+-- The text so far, and that of the verdicts that are left, are the text of all.
+use Rattle.std.proofs.Common.{◌≡◌, ◌+◌, ◌++◌, drop}
+use Rattle.pi_tree.specs.Protocols.{protocol_of}
 use Rattle.verifier_cli.specs.Text.{verdict_lines}
 use Rattle.verifier_cli.proofs.text.verdicts_text.Given as goal
 
-abbrev pub invariant-loop-place : goal.invariant-loop-place
-invariant-loop-place l =
-    string_bytes l.text ++ verdict_lines (l.place + 1) (map verdict_of (drop l.place l.verdict-items)) ≡ verdict_lines 1 (map verdict_of l.verdict-items)
+abbrev pub invariant-each : goal.invariant-each
+invariant-each l =
+    l.text.items ++ verdict_lines (l.place + 1) (drop l.place l.verdict-items) (protocol_of l.protocol) ≡ verdict_lines 1 l.verdict-items (protocol_of l.protocol)

@@ -1,0 +1,23 @@
+use Rattle.std.proofs.Common.{codes, refl, ◌∙◌}
+use Rattle.clap.specs.Words.{found_of}
+use Rattle.command_words.proofs.Reading.{number_read, text_read}
+use Rattle.command_words.proofs.list_requested.Goals as goal
+
+pub returns-in_err-get_str : goal.returns-in_err-get_str
+returns-in_err-get_str c =
+    let file = text_read (found_of c.args.given.now) (codes "file") _ _ c.get_str.ensures (c.in_err-get_str.was) in
+    rw (c.from_residual.ensures, file) refl
+
+pub returns-in_err-get_one : goal.returns-in_err-get_one
+returns-in_err-get_one c =
+    let file = text_read (found_of c.args.given.now) (codes "file") _ _ c.get_str.ensures (c.in_ok-get_str.was) in
+    let query = number_read (found_of c.args.given.now) (codes "query") c.get_one.result c.get_one.ensures.none c.get_one.ensures.value in
+    let none = query ∙ c.in_err-get_one.was in
+    rw (c.from_residual-in_err-get_one.ensures, file, none) refl
+
+pub returns : goal.returns
+returns c =
+    let file = text_read (found_of c.args.given.now) (codes "file") _ _ c.get_str.ensures (c.in_ok-get_str.was) in
+    let query = number_read (found_of c.args.given.now) (codes "query") c.get_one.result c.get_one.ensures.none c.get_one.ensures.value in
+    let given = query ∙ c.in_ok-get_one.was in
+    rw (file, given) refl
