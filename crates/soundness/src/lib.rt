@@ -29,7 +29,7 @@ pub fn secrets_are_kept()
 
 /// Correspondences hold: where it is shown, each event that is an instance of the left side is
 /// preceded, in every run beside the attacker, by all events of an alternative (Blanchet 2016,
-/// section 3.2, theorem 2).
+/// section 3.2).
 pub fn correspondences_hold()
     ensures { (P : Protocol) (left : EventTerm) (alternatives : List (List EventTerm))
         (all clauses : List (Clause Term)) → IsProper P (Correspondence left alternatives) →

@@ -1,5 +1,5 @@
 -- Satisfied clauses: a solved clause with conclusion `bad` that shows no violation of the query, since events that must have run
--- are those that the query asks for (Blanchet 2016, section 3.2: correspondences; theorem 2).
+-- are those that the query asks for (Blanchet 2016, section 3.2: correspondences).
 use Rattle.std.specs.Prelude.{◌≡◌, ℕ, Bool, true, false, Some, List, map}
 use Rattle.std.specs.List.{AllByRecursion}
 use Rattle.calculus.specs.Syntax.{EventTerm, Query, Secret, SecretNew, Correspondence, Protocol}
