@@ -1,0 +1,11 @@
+pub mod Chunks
+pub mod Lines
+pub mod Sketch
+pub mod Follow
+pub mod Found
+pub mod Rules
+pub mod Spelled
+pub mod Declared
+pub mod Running
+pub mod Sizes
+pub mod Whole
