@@ -1,5 +1,5 @@
 -- The chunks of the lines of a ring: their bytes, and that each stands there.
-use Rattle.std.proofs.Common.{◌≡◌, ℕ, ◌+◌, ◌<◌, Bool, true, false, ◌==◌, ◌&&◌, ◌||◌, cond, List, [], ◌∷◌, ◌++◌, length, refl, ap, ◌∙◌, arith}
+use Rattle.std.proofs.Common.{◌≡◌, ℕ, ◌+◌, ◌<◌, Bool, true, false, ◌==◌, ◌&&◌, ◌||◌, cond, List, [], ◌∷◌, ◌++◌, length, inl, inr, refl, ap, ◌∙◌, arith}
 use Rattle.std.specs.Prelude.{zero, suc, codes}
 use Rattle.std.specs.Char.{is_ascii_digit}
 use Rattle.std.specs.Fmt.{decimal}
@@ -8,6 +8,7 @@ use Rattle.std.specs.List.{prefix_len}
 use Rattle.std.specs.Str.{all_ascii_digits}
 use Rattle.std.specs.Str.Parse.{digits_value}
 use Rattle.std.proofs.Math.Seq.{take-append_seam}
+use Rattle.std.proofs.lemmas.Bool.Decides.{eqb_tells}
 use Rattle.std.proofs.lemmas.Fmt.{digits_decimal}
 use Rattle.std.proofs.lemmas.Str.Parse.{IsNumeralModel, numerals_by_value, tells_all_ascii_digits}
 use Rattle.protocol_tokens.specs.Token.{Identifier, Reserved, Number, Symbol}
@@ -174,11 +175,11 @@ pass_stand i j cs small_i small_j h =
     (key_stands j 41 _ small_j refl, (refl, refl)) ⨾ (refl, (refl, refl)) ⨾ (refl, (refl, refl)) ⨾ (refl, tt) ⨾ h
 
 successor_small : (n i : ℕ) → i < 999 → successor n i < 1000
-successor_small n i small = by (i == n)
-  where
-    by : (b : Bool) → cond b 1 (i + 1) < 1000
-    by true = omega arith
-    by false = omega arith
+successor_small n i small =
+    elim (eqb_tells i n) [
+      | inl h ↦ (let same : (i == n) ≡ true = h.0 in rw same (omega arith))
+      | inr h ↦ (let other : (i == n) ≡ false = h.0 in rw other (omega arith))
+    ]
 
 passes_stand : (n i m : ℕ) → i + m < 999 → Stand (pass_chunks n i m)
 passes_stand n i zero small = tt

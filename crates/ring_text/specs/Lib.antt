@@ -2,3 +2,4 @@
 pub mod Text
 pub mod Meaning
 pub mod Size
+pub mod Example

@@ -4,7 +4,7 @@
 //! functions below, which do nothing.
 #![tactic(auto)]
 
-ghost use Rattle.std.specs.Prelude.{◌≡◌, ◌≤◌, ◌+◌, ◌*◌, ℕ, [], ◌∷◌, length, codes};
+ghost use Rattle.std.specs.Prelude.{◌≡◌, ◌≤◌, ◌+◌, ◌*◌, ℕ, [], ◌∷◌, length};
 ghost use Rattle.trees.specs.Tree.{Leaf};
 ghost use Rattle.calculus.specs.Syntax.{Free, Secret};
 ghost use Rattle.calculus.specs.Points.{nodes};
@@ -12,6 +12,7 @@ ghost use Rattle.protocol_scope.specs.Spells.{Spells};
 ghost use Rattle.ring_text.specs.Text.{ring_text};
 ghost use Rattle.ring_text.specs.Meaning.{ring_protocol};
 ghost use Rattle.ring_text.specs.Size.{digit_count};
+ghost use Rattle.ring_text.specs.Example.{two_keys};
 
 /// The text of each ring of 2 to 400 keys spells its protocol, and so is never refused.
 pub fn rings_are_protocols()
@@ -20,7 +21,7 @@ pub fn rings_are_protocols()
 
 /// The ring of two keys, to the letter.
 pub fn ring_of_two()
-    ensures { ring_text 2 ≡ codes "free c.\nprivate free s.\nfun enc/2.\nreduc dec(enc(x,y),y) -> x.\nprivate free k1.\nprivate free k2.\nquery attacker(s).\nprocess\nout(c,enc(s,k1))\n| !in(c,x); let y = dec(x,k1) in out(c,enc(y,k2))\n| !in(c,x); let y = dec(x,k2) in out(c,enc(y,k1))\n" }
+    ensures { ring_text 2 ≡ two_keys }
 {}
 
 /// The text of a ring has 107 bytes, 64 for each key, and each digit of the keys' numbers three times.
