@@ -1,0 +1,2 @@
+-- The texts of reports.
+pub mod Text
