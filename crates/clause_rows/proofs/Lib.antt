@@ -1,1 +1,3 @@
 pub mod First
+pub mod Moving
+pub mod Rules

@@ -25,7 +25,7 @@ const BEFORE: &str = "free c, d, k. fun f/1. fun g/1. fun h/2. fun enc/2. data b
 const BEHIND: &str = ". process new a; !in(c,x); new b";
 
 /// The protocol that the bytes spell, if they are not too many and spell one.
-fn read_protocol(alloc: Global, bytes: &[u8]) -> Option<Protocol>
+pub fn read_protocol(alloc: Global, bytes: &[u8]) -> Option<Protocol>
     ensures { IfSome result (λ protocol. Spells bytes.now (protocol_of protocol)) }
 {
     if bytes.len() > MOST_BYTES {

@@ -1,9 +1,11 @@
 //! The tables, by the names of their files.
 
+use crate::declarations::DeclarationTable;
 use crate::goals::GoalTable;
 use crate::pairs::PairTable;
 use crate::reading::clause_of;
 use crate::tables::ClauseTable;
+use crate::term_lists::TermTable;
 use clause_form::PlainClause;
 use std::alloc::{AllocError, Global};
 
@@ -14,8 +16,12 @@ pub enum Table {
     Single(ClauseTable),
     /// One whose rows have two.
     Pair(PairTable),
+    /// One whose rows have two, for the lists of terms in them.
+    Terms(TermTable),
     /// One whose rows begin with a query.
     Goal(GoalTable),
+    /// One whose rows are declarations.
+    Declarations(DeclarationTable),
 }
 
 impl Table {
@@ -27,8 +33,14 @@ impl Table {
         if let Some(table) = PairTable::named(file) {
             return Some(Table::Pair(table));
         }
-        match GoalTable::named(file) {
-            Some(table) => Some(Table::Goal(table)),
+        if let Some(table) = TermTable::named(file) {
+            return Some(Table::Terms(table));
+        }
+        if let Some(table) = GoalTable::named(file) {
+            return Some(Table::Goal(table));
+        }
+        match DeclarationTable::named(file) {
+            Some(table) => Some(Table::Declarations(table)),
             None => None,
         }
     }
@@ -37,8 +49,16 @@ impl Table {
     pub fn shown(self, alloc: Global, texts: &str) -> Result<String, AllocError> {
         match self {
             Table::Single(table) => single_shown(alloc, table, texts),
-            Table::Pair(table) => pair_shown(alloc, table, texts),
+            Table::Pair(table) => match pair_of(alloc, texts)? {
+                Some((first, second)) => table.shown(alloc, &first, &second),
+                None => String::from_str(alloc, "no pair"),
+            },
+            Table::Terms(table) => match pair_of(alloc, texts)? {
+                Some((first, second)) => table.shown(alloc, &first, &second),
+                None => String::from_str(alloc, "no pair"),
+            },
             Table::Goal(table) => table.shown(alloc, texts),
+            Table::Declarations(table) => table.shown(alloc, texts),
         }
     }
 }
@@ -51,14 +71,14 @@ fn single_shown(alloc: Global, table: ClauseTable, text: &str) -> Result<String,
     }
 }
 
-/// What a row with two clauses shows.
-fn pair_shown(alloc: Global, table: PairTable, texts: &str) -> Result<String, AllocError> {
+/// The two clauses that texts spell, if each spells one.
+fn pair_of(alloc: Global, texts: &str) -> Result<Option<(PlainClause, PlainClause)>, AllocError> {
     let (first, second) = texts.split_once(';').unwrap_or((texts, ""));
     let Some(first) = clause_of(alloc, first)? else {
-        return String::from_str(alloc, "no clause");
+        return Ok(None);
     };
     let Some(second) = clause_of(alloc, second)? else {
-        return String::from_str(alloc, "no clause");
+        return Ok(None);
     };
-    table.shown(alloc, &first, &second)
+    Ok(Some((first, second)))
 }

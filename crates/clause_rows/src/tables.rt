@@ -44,8 +44,11 @@ impl ClauseTable {
     /// What a row with this clause shows.
     pub fn shown(self, alloc: Global, plain: &PlainClause) -> Result<String, AllocError> {
         let mut bank = TreeBank::new(alloc)?;
-        let clause = copy_into(alloc, &mut bank, plain)?;
-        self.shown_in(alloc, &mut bank, clause)
+        let mark = bank.mark();
+        match copy_into(alloc, &mut bank, plain) {
+            Ok(clause) => self.shown_in(alloc, &mut bank, clause),
+            Err(error) => refused_text(alloc, bank.mark() == mark, error),
+        }
     }
 
     /// The same of a clause over ids of a bank.
@@ -66,6 +69,16 @@ impl ClauseTable {
             ClauseTable::Copies => copied_text(alloc, bank, &clause),
         }
     }
+}
+
+/// What is shown where memory was refused: nothing where the bank is as it was, and else `grown`.
+///
+/// `rt try --fail-alloc` tries it: a row that shows `grown` ends the program with another status than the refusal does.
+fn refused_text(alloc: Global, is_kept: bool, error: AllocError) -> Result<String, AllocError> {
+    if is_kept {
+        return Err(error);
+    }
+    String::from_str(alloc, "grown")
 }
 
 /// The text of a clause over ids.
@@ -104,13 +117,15 @@ pub fn texts_of<B: Bank>(alloc: Global, bank: &B, clauses: &[Clause]) -> Result<
     Ok(texts)
 }
 
-/// The norm of a clause.
+/// The norm of a clause; `grown` where memory was refused, and the bank isn't as it was.
 fn norm_text(alloc: Global, bank: &mut TreeBank, clause: Clause) -> Result<String, AllocError>
     requires { IsClauseIn bank.old clause }
 {
-    match norm(alloc, bank, clause)? {
-        Normal::Tautology => String::from_str(alloc, "tautology"),
-        Normal::Clause(made) => text_of(alloc, bank, &made),
+    let mark = bank.mark();
+    match norm(alloc, bank, clause) {
+        Ok(Normal::Tautology) => String::from_str(alloc, "tautology"),
+        Ok(Normal::Clause(made)) => text_of(alloc, bank, &made),
+        Err(error) => refused_text(alloc, bank.mark() == mark, error),
     }
 }
 

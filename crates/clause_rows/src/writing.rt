@@ -158,7 +158,7 @@ fn write_fact(alloc: Global, fact: &PlainFact, text: &mut String) -> Result<(), 
 }
 
 /// Writes this, unless nothing is written yet.
-fn write_behind(between: &str, text: &mut String) -> Result<(), AllocError> {
+pub fn write_behind(between: &str, text: &mut String) -> Result<(), AllocError> {
     if !text.is_empty() {
         text.push_str(between)?;
     }
@@ -186,5 +186,12 @@ fn write_clause(alloc: Global, clause: &PlainClause, text: &mut String) -> Resul
 pub fn clause_text(alloc: Global, clause: &PlainClause) -> Result<String, AllocError> {
     let mut text = String::new(alloc);
     write_clause(alloc, clause, &mut text)?;
+    Ok(text)
+}
+
+/// The text of a term.
+pub fn term_text(alloc: Global, term: &Tree) -> Result<String, AllocError> {
+    let mut text = String::new(alloc);
+    write_term(alloc, term, &mut text)?;
     Ok(text)
 }

@@ -70,6 +70,3 @@ pub fn extensions_add_up()
     ensures twice { (a b c : List Bound) → Extends a b → Extends b c → Extends a c }
     ensures undone { (a b : List Bound) → Extends a b → drop (length b - length a) b ≡ a }
 {}
-
-#[cfg(test)]
-mod tests;
