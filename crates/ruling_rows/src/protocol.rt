@@ -1,0 +1,49 @@
+//! The protocols that rows are about.
+
+ghost use Rattle.std.specs.Prelude.{◌≡◌, true, IfSome};
+ghost use Rattle.protocol_scope.specs.Spells.{Spells};
+ghost use Rattle.pi_tree.specs.Protocols.{protocol_of};
+ghost use Rattle.pi_tree.specs.Accessors.{IsThere};
+ghost use Rattle.pi_tree.specs.declared.accessors.Kind.TheVariants.{Query};
+ghost use Rattle.ruling_rows.specs.Read.{IsRead};
+
+use pi_lexer::lex;
+use pi_parser::parse;
+use pi_tree::{MOST_BYTES, Protocol};
+use protocol_scope::{proper_rules, query_leaves, well_scoped, within_limits};
+use scope_check::check_scope;
+use std::alloc::Global;
+
+/// The protocol that the bytes spell, if they are not too many and spell one.
+fn spelled(alloc: Global, bytes: &[u8]) -> Option<Protocol>
+    ensures { IfSome result (λ protocol. Spells bytes.now (protocol_of protocol)) }
+{
+    if bytes.len() > MOST_BYTES {
+        return None;
+    }
+    let tokens = lex(alloc, bytes).ok()?;
+    let sketch = parse(alloc, bytes, &tokens).ok()?;
+    match check_scope(alloc, bytes, &sketch) {
+        Ok(protocol) => Some(protocol),
+        Err(_) => None,
+    }
+}
+
+/// The protocol that the text spells, if it spells one: one whose certificates can be checked.
+pub fn read_protocol(alloc: Global, text: &str) -> Option<Protocol>
+    ensures { IfSome result (λ protocol. IsRead (protocol_of protocol)) }
+{
+    within_limits();
+    proper_rules();
+    well_scoped();
+    query_leaves();
+    let protocol = spelled(alloc, text.as_bytes())?;
+    Some(protocol)
+}
+
+/// Whether the protocol has a query of that number, from 1.
+pub fn asks(protocol: &Protocol, query: u32) -> bool
+    ensures { result ≡ true → IsThere (protocol_of protocol.now) Query query }
+{
+    query > 0 && query as usize <= protocol.queries.items.len()
+}
