@@ -6,4 +6,3 @@ pub mod Fitting
 pub mod Pairing
 pub mod Found
 pub mod Living
-pub mod Preparing

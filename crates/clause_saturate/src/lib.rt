@@ -29,6 +29,3 @@ pub fn entries_tell_logs()
     ensures grown { (old new : List Term) (entries : List ToldEntry) (log : List OfferedEntry) → Grows old new → TellLog old entries log → TellLog new entries log }
     ensures live { (all : List Term) (entries : List ToldEntry) (log : List OfferedEntry) → TellLog all entries log → AreLive log (live_clauses all entries) }
 {}
-
-#[cfg(test)]
-mod tests;

@@ -1,0 +1,231 @@
+//! Reads clauses, as `att(v0), mess(c,(v0,d)) => ev(e(f(v0)))`.
+//!
+//! A clause is read byte by byte, without recursion: what is open stands on a stack.
+
+use crate::signature::{event_of, symbol_of, variable_of};
+use clause_form::{PlainClause, PlainFact, PlainFacts, Tree, Trees};
+use std::alloc::{AllocError, Global};
+use std::mem;
+
+/// A name whose bracket is open, and the terms within it that are read.
+#[derive(Drop)]
+struct Open {
+    name: Vec<u8>,
+    items: Vec<Tree>,
+}
+
+/// A clause as far as it is read.
+#[derive(Drop)]
+struct Reader {
+    name: Vec<u8>,
+    open: Vec<Open>,
+    facts: Vec<PlainFact>,
+    /// How many facts are hypotheses, once that is known.
+    hyps: Option<usize>,
+    /// Whether all could be read.
+    is_right: bool,
+}
+
+impl Reader {
+    /// Reads all bytes.
+    fn read_all(&mut self, alloc: Global, bytes: &[u8]) -> Result<(), AllocError> {
+        for byte in bytes {
+            self.read(alloc, *byte)?;
+        }
+        self.end_name(alloc)
+    }
+
+    /// Reads the next byte.
+    fn read(&mut self, alloc: Global, byte: u8) -> Result<(), AllocError> {
+        match byte {
+            b' ' | b'>' => Ok(()),
+            b',' => self.end_name(alloc),
+            b'(' | b'[' => self.begin(alloc),
+            b')' | b']' => self.end(alloc),
+            b'=' => self.conclude(alloc),
+            _ => {
+                self.name.push(byte)?;
+                Ok(())
+            }
+        }
+    }
+
+    /// What stands until here are the hypotheses.
+    fn conclude(&mut self, alloc: Global) -> Result<(), AllocError> {
+        self.end_name(alloc)?;
+        self.hyps = Some(self.facts.len());
+        Ok(())
+    }
+
+    /// Ends a name, and closes the bracket that was opened last.
+    fn end(&mut self, alloc: Global) -> Result<(), AllocError> {
+        self.end_name(alloc)?;
+        self.close()
+    }
+
+    /// Opens a bracket behind a name.
+    fn begin(&mut self, alloc: Global) -> Result<(), AllocError> {
+        let name = mem::replace(&mut self.name, Vec::new(alloc));
+        self.open.push(Open {
+            name,
+            items: Vec::new(alloc),
+        })?;
+        Ok(())
+    }
+
+    /// Ends a name without a bracket, if there is one.
+    fn end_name(&mut self, alloc: Global) -> Result<(), AllocError> {
+        if self.name.is_empty() {
+            return Ok(());
+        }
+        let name = mem::replace(&mut self.name, Vec::new(alloc));
+        self.put(&name, Vec::new(alloc))
+    }
+
+    /// Closes the bracket that was opened last.
+    fn close(&mut self) -> Result<(), AllocError> {
+        match self.open.pop() {
+            Some(open) => {
+                let Open { name, items } = open;
+                self.put(&name, items)
+            }
+            None => {
+                self.is_right = false;
+                Ok(())
+            }
+        }
+    }
+
+    /// Adds what stands so: a fact where no bracket is open, and else a term.
+    fn put(&mut self, name: &[u8], items: Vec<Tree>) -> Result<(), AllocError> {
+        if self.open.is_empty() {
+            self.put_fact(fact_of(name, items))
+        } else {
+            self.put_term(term_of(name, items))
+        }
+    }
+
+    /// Adds a fact, if there is one.
+    fn put_fact(&mut self, fact: Option<PlainFact>) -> Result<(), AllocError> {
+        match fact {
+            Some(fact) => self.facts.push(fact)?,
+            None => self.is_right = false,
+        }
+        Ok(())
+    }
+
+    /// Adds a term, if there is one, to those of the bracket that was opened last.
+    fn put_term(&mut self, term: Option<Tree>) -> Result<(), AllocError> {
+        match term {
+            Some(term) => self.put_item(term),
+            None => {
+                self.is_right = false;
+                Ok(())
+            }
+        }
+    }
+
+    /// Adds a term to those of the bracket that was opened last.
+    fn put_item(&mut self, term: Tree) -> Result<(), AllocError> {
+        match self.open.last_mut() {
+            Some(open) => open.items.push(term)?,
+            None => self.is_right = false,
+        }
+        Ok(())
+    }
+
+    /// The clause that was read, if one was.
+    fn finish(self) -> Option<PlainClause> {
+        let Reader {
+            mut facts,
+            open,
+            hyps,
+            is_right,
+            ..
+        } = self;
+        let hyps = hyps?;
+        let concl = facts.pop()?;
+        if facts.len() != hyps || !open.is_empty() || !is_right {
+            return None;
+        }
+        Some(PlainClause {
+            hyps: PlainFacts { items: facts },
+            concl,
+        })
+    }
+}
+
+/// The term with this name over these terms.
+fn term_of(name: &[u8], items: Vec<Tree>) -> Option<Tree> {
+    match variable_of(name) {
+        Some(number) => Some(Tree::Var(number)),
+        None => match symbol_of(name, items.len()) {
+            Some(symbol) => Some(Tree::App(symbol, Trees { items })),
+            None => None,
+        },
+    }
+}
+
+/// The fact with this predicate over these terms.
+fn fact_of(name: &[u8], items: Vec<Tree>) -> Option<PlainFact> {
+    match name {
+        b"att" => known(items),
+        b"mess" => message(items),
+        b"ev" => event(false, items),
+        b"mev" => event(true, items),
+        b"bad" => Some(PlainFact::Bad(Trees { items })),
+        _ => None,
+    }
+}
+
+/// `att` of one term.
+fn known(mut items: Vec<Tree>) -> Option<PlainFact> {
+    match items.pop() {
+        Some(term) => Some(PlainFact::Att(term)),
+        None => None,
+    }
+}
+
+/// `mess` of two terms.
+fn message(mut items: Vec<Tree>) -> Option<PlainFact> {
+    match items.pop() {
+        Some(message) => match items.pop() {
+            Some(channel) => Some(PlainFact::Mess(channel, message)),
+            None => None,
+        },
+        None => None,
+    }
+}
+
+/// `mev` or `ev` of an event.
+fn event(must: bool, mut items: Vec<Tree>) -> Option<PlainFact> {
+    match items.pop() {
+        Some(Tree::App(symbol, arguments)) => match event_of(symbol) {
+            Some(event) => Some(event_fact(must, event, arguments)),
+            None => None,
+        },
+        _ => None,
+    }
+}
+
+/// The same of the event with this number and these arguments.
+fn event_fact(must: bool, event: u32, arguments: Trees) -> PlainFact {
+    if must {
+        PlainFact::Mev(event, arguments)
+    } else {
+        PlainFact::Ev(event, arguments)
+    }
+}
+
+/// The clause that a text spells, if it spells one.
+pub fn clause_of(alloc: Global, text: &str) -> Result<Option<PlainClause>, AllocError> {
+    let mut reader = Reader {
+        name: Vec::new(alloc),
+        open: Vec::new(alloc),
+        facts: Vec::new(alloc),
+        hyps: None,
+        is_right: true,
+    };
+    reader.read_all(alloc, text.as_bytes())?;
+    Ok(reader.finish())
+}

@@ -1,0 +1,190 @@
+//! Writes clauses as tables spell them.
+
+use crate::signature::{event_name, symbol_name};
+use clause_form::{PlainClause, PlainFact, Tree};
+use std::alloc::{AllocError, Global};
+use term_tree::Sym;
+
+/// A comma, unless a bracket was just opened.
+fn separate(text: &mut String) -> Result<(), AllocError> {
+    if text.ends_with('(') || text.ends_with('[') {
+        return Ok(());
+    }
+    text.push(',')?;
+    Ok(())
+}
+
+/// Writes the name of a symbol.
+fn write_symbol(alloc: Global, symbol: Sym, text: &mut String) -> Result<(), AllocError> {
+    match symbol {
+        Sym::Point(point) => text.push_str(format!(in alloc; "n@{point}")?.as_str())?,
+        _ => text.push_str(symbol_name(symbol))?,
+    }
+    Ok(())
+}
+
+/// The brackets behind a symbol with so many arguments.
+fn brackets_of(symbol: Sym, arguments: usize) -> (&'static str, &'static str) {
+    match symbol {
+        Sym::Point(_) | Sym::Attacker => ("[", "]"),
+        Sym::Tuple(_) => ("(", ")"),
+        _ => { if arguments == 0 { ("", "") } else { ("(", ")") } }
+    }
+}
+
+/// Writes a variable.
+fn write_variable(alloc: Global, number: u32, text: &mut String) -> Result<(), AllocError> {
+    text.push_str(format!(in alloc; "v{number}")?.as_str())?;
+    Ok(())
+}
+
+/// Writes the name of a symbol with so many arguments, and the bracket behind it.
+fn begin_term(
+    alloc: Global,
+    symbol: Sym,
+    arguments: usize,
+    text: &mut String,
+) -> Result<(), AllocError> {
+    write_symbol(alloc, symbol, text)?;
+    let (begin, _) = brackets_of(symbol, arguments);
+    text.push_str(begin)?;
+    Ok(())
+}
+
+/// Writes the bracket behind so many arguments of a symbol.
+fn end_term(symbol: Sym, arguments: usize, text: &mut String) -> Result<(), AllocError> {
+    let (_, end) = brackets_of(symbol, arguments);
+    text.push_str(end)?;
+    Ok(())
+}
+
+/// Writes a term.
+fn write_term(alloc: Global, term: &Tree, text: &mut String) -> Result<(), AllocError> {
+    match term {
+        Tree::Var(number) => write_variable(alloc, *number, text),
+        Tree::App(symbol, arguments) => {
+            begin_term(alloc, *symbol, arguments.items.len(), text)?;
+            for argument in &arguments.items {
+                separate(text)?;
+                write_term(alloc, argument, text)?;
+            }
+            end_term(*symbol, arguments.items.len(), text)
+        }
+    }
+}
+
+/// Writes terms, with commas between.
+fn write_items(alloc: Global, terms: &[Tree], text: &mut String) -> Result<(), AllocError> {
+    for term in terms {
+        separate(text)?;
+        write_term(alloc, term, text)?;
+    }
+    Ok(())
+}
+
+/// Writes terms in brackets; nothing where there are none.
+fn write_terms(alloc: Global, terms: &[Tree], text: &mut String) -> Result<(), AllocError> {
+    if terms.is_empty() {
+        return Ok(());
+    }
+    text.push('(')?;
+    write_items(alloc, terms, text)?;
+    text.push(')')?;
+    Ok(())
+}
+
+/// Writes an event in brackets.
+fn write_event(
+    alloc: Global,
+    event: u32,
+    arguments: &[Tree],
+    text: &mut String,
+) -> Result<(), AllocError> {
+    text.push('(')?;
+    text.push_str(event_name(event))?;
+    write_terms(alloc, arguments, text)?;
+    text.push(')')?;
+    Ok(())
+}
+
+/// Writes a message on a channel.
+fn write_message(
+    alloc: Global,
+    channel: &Tree,
+    message: &Tree,
+    text: &mut String,
+) -> Result<(), AllocError> {
+    write_term(alloc, channel, text)?;
+    text.push(',')?;
+    write_term(alloc, message, text)
+}
+
+/// The name of a fact's predicate.
+fn predicate_of(fact: &PlainFact) -> &'static str {
+    match fact {
+        PlainFact::Att(_) => "att(",
+        PlainFact::Mess(..) => "mess(",
+        PlainFact::Ev(..) => "ev",
+        PlainFact::Mev(..) => "mev",
+        PlainFact::Bad(_) => "bad",
+    }
+}
+
+/// Writes what stands behind the predicate of a fact.
+fn write_arguments(alloc: Global, fact: &PlainFact, text: &mut String) -> Result<(), AllocError> {
+    match fact {
+        PlainFact::Att(term) => write_term(alloc, term, text),
+        PlainFact::Mess(channel, message) => write_message(alloc, channel, message, text),
+        PlainFact::Ev(event, arguments) => write_event(alloc, *event, &arguments.items, text),
+        PlainFact::Mev(event, arguments) => write_event(alloc, *event, &arguments.items, text),
+        PlainFact::Bad(arguments) => write_terms(alloc, &arguments.items, text),
+    }
+}
+
+/// The bracket that closes a fact, where its arguments don't.
+fn bracket_behind(fact: &PlainFact) -> &'static str {
+    match fact {
+        PlainFact::Att(_) | PlainFact::Mess(..) => ")",
+        PlainFact::Ev(..) | PlainFact::Mev(..) | PlainFact::Bad(_) => "",
+    }
+}
+
+/// Writes a fact.
+fn write_fact(alloc: Global, fact: &PlainFact, text: &mut String) -> Result<(), AllocError> {
+    text.push_str(predicate_of(fact))?;
+    write_arguments(alloc, fact, text)?;
+    text.push_str(bracket_behind(fact))?;
+    Ok(())
+}
+
+/// Writes this, unless nothing is written yet.
+fn write_behind(between: &str, text: &mut String) -> Result<(), AllocError> {
+    if !text.is_empty() {
+        text.push_str(between)?;
+    }
+    Ok(())
+}
+
+/// Writes facts, with commas between.
+fn write_facts(alloc: Global, facts: &[PlainFact], text: &mut String) -> Result<(), AllocError> {
+    for fact in facts {
+        write_behind(", ", text)?;
+        write_fact(alloc, fact, text)?;
+    }
+    Ok(())
+}
+
+/// Writes a clause where nothing is written yet.
+fn write_clause(alloc: Global, clause: &PlainClause, text: &mut String) -> Result<(), AllocError> {
+    write_facts(alloc, &clause.hyps.items, text)?;
+    write_behind(" ", text)?;
+    text.push_str("=> ")?;
+    write_fact(alloc, &clause.concl, text)
+}
+
+/// The text of a clause.
+pub fn clause_text(alloc: Global, clause: &PlainClause) -> Result<String, AllocError> {
+    let mut text = String::new(alloc);
+    write_clause(alloc, clause, &mut text)?;
+    Ok(text)
+}
