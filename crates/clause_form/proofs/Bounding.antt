@@ -1,11 +1,11 @@
 -- The least number above the variables of terms, facts and clauses.
-use Rattle.std.proofs.Common.{◌≡◌, ◌↔◌, ℕ, ◌+◌, ◌<◌, ◌≤◌, max, List, [], ◌∷◌, ◌++◌, length, map, flat_map, take, get_or, refl, ap, sym, ◌∙◌, subst, append-nil, arith}
+use Rattle.std.proofs.Common.{◌≡◌, ℕ, ◌+◌, ◌<◌, ◌≤◌, max, List, [], ◌∷◌, ◌++◌, length, flat_map, take, get_or, refl, ap, sym, ◌∙◌, subst, arith}
 use Rattle.std.specs.List.{AllByRecursion}
 use Rattle.std.proofs.lemmas.Grind.{flat_map-append}
 use Rattle.terms.specs.Term.{Term}
 use Rattle.clauses.specs.Fact.{Fact, Clause, terms_of, facts_of, clause_terms}
-use Rattle.clauses.specs.Variables.{leaves, fact_variables, clause_variables, IsBelow, AreBelow}
-use Rattle.clauses.proofs.Lists.{all_append, all_first, all_second, all-flat_map, all-from_flat_map}
+use Rattle.clauses.specs.Variables.{leaves, fact_variables, clause_variables, AreBelow}
+use Rattle.clauses.proofs.Lists.{all-flat_map, all-from_flat_map}
 use Rattle.term_tree.specs.Bank.{tree_at}
 use Rattle.term_tree.specs.declared.bank.Id.{Id}
 use Rattle.clause_form.specs.declared.facts.Fact as declared

@@ -3,7 +3,7 @@ use Rattle.std.proofs.Common.{◌≡◌, ℕ, ◌+◌, ◌<◌, List, [], ◌∷
 use Rattle.std.proofs.lemmas.List.{map-append, map_more}
 use Rattle.terms.specs.Term.{Term}
 use Rattle.clauses.specs.Fact.{Fact, Att, Mess, Ev, Mev, Bad, Clause}
-use Rattle.term_tree.specs.Bank.{tree_at, AreKnown, Names, Grows}
+use Rattle.term_tree.specs.Bank.{tree_at, Names, Grows}
 use Rattle.term_tree.specs.declared.bank.Id.{Id}
 use Rattle.term_tree.proofs.BankLaws.{Grows_trans, AreKnown-grows, AreKnown-append, trees_at-grow}
 use Rattle.clause_form.specs.declared.plain.Tree as declared

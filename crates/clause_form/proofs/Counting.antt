@@ -1,9 +1,9 @@
 -- Variables of terms of a bank, in order; and numbers in lists.
-use Rattle.std.proofs.Common.{◌≡◌, ℕ, zero, suc, ◌+◌, ◌<◌, ◌≤◌, Bool, true, false, not, ◌||◌, cond, nat_eq, List, [], ◌∷◌, ◌++◌, length, map, flat_map, filter, take, drop, get_or, refl, ap, sym, ◌∙◌, add-one, drop-cons, drop_of_length-le, eqb-true, eq-eqb, append-nil, append_assoc, subst, arith}
+use Rattle.std.proofs.Common.{◌≡◌, ℕ, suc, ◌+◌, ◌<◌, ◌≤◌, Bool, true, false, not, ◌||◌, cond, nat_eq, List, [], ◌∷◌, ◌++◌, length, map, flat_map, filter, take, drop, get_or, refl, ap, sym, ◌∙◌, add-one, drop-cons, drop_of_length-le, eqb-true, eq-eqb, append-nil, subst, arith}
 use Rattle.std.specs.List.{list_any}
 use Rattle.std.proofs.lemmas.List.{take_more}
 use Rattle.std.proofs.lemmas.List.Folds.{flat_map-map}
-use Rattle.trees.specs.Tree.{Leaf, node, trees}
+use Rattle.trees.specs.Tree.{node, trees}
 use Rattle.terms.specs.Term.{Sym, Term}
 use Rattle.clauses.specs.Variables.{leaves, row_leaves, times}
 use Rattle.clauses.specs.Norm.{distinct, place_of}

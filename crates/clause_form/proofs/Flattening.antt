@@ -1,10 +1,10 @@
 -- Flattening facts over ids.
-use Rattle.std.proofs.Common.{◌≡◌, ℕ, ◌+◌, ◌<◌, ◌≤◌, true, false, Bool, cond, List, [], ◌∷◌, ◌++◌, length, map, flat_map, take, get_or, refl, ap, sym, ◌∙◌, subst, Result, Ok, Err, IfOk}
+use Rattle.std.proofs.Common.{◌≡◌, ℕ, ◌≤◌, true, false, cond, List, [], ◌∷◌, ◌++◌, length, map, flat_map, take, refl, ap, sym, ◌∙◌, subst, Result, Ok, Err, IfOk}
 use Rattle.std.specs.declared.alloc.AllocError.{AllocError}
 use Rattle.std.proofs.lemmas.List.{map-append, map-id}
 use Rattle.std.proofs.lemmas.Simd.{map-map}
 use Rattle.std.proofs.lemmas.List.Folds.{flat_map-map}
-use Rattle.trees.specs.Tree.{Leaf, Node, node, trees}
+use Rattle.trees.specs.Tree.{Leaf, node, trees}
 use Rattle.terms.specs.Term.{Sym, Term}
 use Rattle.clauses.specs.Fact.{Fact, Att, Clause}
 use Rattle.clauses.specs.Flat.{is_data, parts, row_parts, flat, flat_parts}
@@ -13,7 +13,7 @@ use Rattle.term_tree.specs.declared.bank.Id.{Id}
 use Rattle.clause_form.specs.declared.facts.Fact as declared
 use Rattle.clause_form.specs.declared.facts.Fact.TheVariants as variants
 use Rattle.clause_form.specs.Facts.{fact_of}
-use Rattle.clause_form.specs.Seen.{fact_at, clause_at, IsFactIn, AreFactsIn, IsClauseIn, AreClausesIn, NameFacts, NameClauses}
+use Rattle.clause_form.specs.Seen.{fact_at, clause_at, IsFactIn, AreFactsIn, AreClausesIn, NameFacts, NameClauses}
 use Rattle.clause_form.proofs.Lists.{flat_map_all}
 
 pub AreFactsIn-append : (all : List Term) (fs gs : List (Fact Id)) → AreFactsIn all fs → AreFactsIn all gs → AreFactsIn all (fs ++ gs)

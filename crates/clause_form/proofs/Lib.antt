@@ -4,8 +4,11 @@ pub mod Flattening
 pub mod Copying
 pub mod Comparing
 pub mod Counting
+pub mod Tables
+pub mod Keying
 pub mod Renumber
 pub mod Norming
 pub mod Bounding
 pub mod Testing
 pub mod Told
+pub mod Keeping

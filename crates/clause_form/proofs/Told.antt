@@ -49,7 +49,7 @@ pub repeats_are : (c : Clause Term) (b : Bool) → b ≡ are_different c.hypothe
 repeats_are c b e = (λ f. (repeats_told c).0 (sym e ∙ f), λ k. e ∙ (repeats_told c).1 k)
 
 -- No hypothesis is lonely.
-all_pass : {X : Type 0} (p : X → Bool) (xs : List X) → list_all p xs ≡ true → AllByRecursion (λ x. p x ≡ true) xs
+pub all_pass : {X : Type 0} (p : X → Bool) (xs : List X) → list_all p xs ≡ true → AllByRecursion (λ x. p x ≡ true) xs
 all_pass p [] e = tt
 all_pass p (x ∷ xs) e = let parts = and_true (p x) (list_all p xs) e in (parts.0, all_pass p xs parts.1)
 

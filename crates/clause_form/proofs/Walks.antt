@@ -1,5 +1,5 @@
 -- Going down a term of a bank: the arguments are known, and lower than the term.
-use Rattle.std.proofs.Common.{◌≡◌, ℕ, zero, suc, ◌+◌, ◌<◌, ◌≤◌, max, List, [], ◌∷◌, length, map, get_or, ap, sym, subst, refl, arith}
+use Rattle.std.proofs.Common.{◌≡◌, ℕ, zero, suc, ◌<◌, ◌≤◌, List, [], ◌∷◌, length, map, get_or, ap, sym, subst, refl, arith}
 use Rattle.trees.specs.Tree.{trees, node, depth, depths}
 use Rattle.terms.specs.Term.{Sym, Term}
 use Rattle.clauses.specs.Fact.{Clause}

@@ -5,6 +5,8 @@ pub mod Plain
 pub mod PlainDepths
 pub mod PlainFacts
 pub mod Numbers
+pub mod Tables
+pub mod Keys
 pub mod Bounds
 pub mod Normals
 pub mod Normality

@@ -2,19 +2,22 @@
 //! of useless hypotheses).
 
 ghost use Rattle.std.specs.Prelude.{◌≡◌, ◌&&◌, not, cond, [], ◌∷◌, ◌++◌, filter, map, IfOk, OnOk, OnErr};
-ghost use Rattle.clauses.specs.Fact.{same_fact, is_among as is_among_facts, is_variable_known as is_variable_known_fact};
+ghost use Rattle.std.specs.List.{list_all};
+ghost use Rattle.clauses.specs.Fact.{is_variable_known as is_variable_known_fact};
 ghost use Rattle.clauses.specs.Selection.{is_solved};
-ghost use Rattle.clauses.specs.Norm.{norm as norm_of, distinct, is_lonely as is_lonely_fact, generalized, numbered};
+ghost use Rattle.clauses.specs.Norm.{norm as norm_of, is_lonely as is_lonely_fact, generalized, numbered};
 ghost use Rattle.term_tree.specs.Bank.{Grows};
 ghost use Rattle.clause_form.specs.Facts.{fact_of};
 ghost use Rattle.clause_form.specs.Seen.{fact_at, clause_at, IsFactIn, AreFactsIn, IsClauseIn, NameFacts, NamesClause};
 ghost use Rattle.clause_form.specs.Normals.{NamesNorm};
 
 use crate::facts::{Clause, Fact, Facts};
+use crate::numbers::Counts;
 use crate::renumbering::numbered_clause;
+use crate::repeats::without_repeats;
 use crate::same::is_among;
 use crate::selectable::{are_solved, is_variable_known};
-use crate::variables::{occurrences, variables_of};
+use crate::variables::variables_of;
 use std::alloc::{AllocError, Global};
 use term_tree::{Bank, Node};
 
@@ -26,45 +29,14 @@ pub enum Normal {
     Clause(Clause),
 }
 
-/// Adds a copy of a fact that isn't there.
-fn add_new<B: Bank>(
-    alloc: Global,
-    bank: &B,
-    facts: &mut Facts,
-    fact: &Fact,
-) -> Result<(), AllocError>
-    requires facts { AreFactsIn (B.trees bank.now) facts.old }
-    requires fact { IsFactIn (B.trees bank.now) (fact_of fact.now) }
-    ensures { OnOk result (facts.new ≡ cond (is_among_facts (map (fact_at (B.trees bank.now)) facts.old) (fact_at (B.trees bank.now) (fact_of fact.now))) facts.old (facts.old ++ fact_of fact.now ∷ [])) }
-{
-    if is_among(bank, &facts.items, fact) {
-        return Ok(());
-    }
-    let copied = fact.copy(alloc)?;
-    facts.push(copied)?;
-    Ok(())
-}
-
-/// The facts, of those that are the same the first.
-fn without_repeats<B: Bank>(alloc: Global, bank: &B, facts: &[Fact]) -> Result<Facts, AllocError>
-    requires { AreFactsIn (B.trees bank.now) (map fact_of facts.now) }
-    ensures { IfOk result (λ kept. NameFacts (B.trees bank.now) kept (distinct same_fact (map (fact_at (B.trees bank.now)) (map fact_of facts.now)))) }
-{
-    let mut kept = Facts::new(alloc);
-    for fact in facts {
-        add_new(alloc, bank, &mut kept, fact)?;
-    }
-    Ok(kept)
-}
-
 /// Whether the fact is `att` of a variable that occurs but once.
-fn is_lonely<B: Bank>(bank: &B, numbers: &[u32], fact: &Fact) -> bool
+fn is_lonely<B: Bank>(bank: &B, numbers: &Counts, fact: &Fact) -> bool
     requires { IsFactIn (B.trees bank.now) (fact_of fact.now) }
     ensures { result ≡ is_lonely_fact numbers.now (fact_at (B.trees bank.now) (fact_of fact.now)) }
 {
     match fact {
         Fact::Att(term) => match bank.node(*term) {
-            Node::Var(number) => occurrences(number, numbers) == 1,
+            Node::Var(number) => numbers.count(number) == 1,
             Node::App(_, _) => false,
         },
         Fact::Mess(..) | Fact::Ev(..) | Fact::Mev(..) | Fact::Bad(_) => false,
@@ -75,7 +47,7 @@ fn is_lonely<B: Bank>(bank: &B, numbers: &[u32], fact: &Fact) -> bool
 fn add_unless_lonely<B: Bank>(
     alloc: Global,
     bank: &B,
-    numbers: &[u32],
+    numbers: &Counts,
     facts: &mut Facts,
     fact: &Fact,
 ) -> Result<(), AllocError>
@@ -90,11 +62,11 @@ fn add_unless_lonely<B: Bank>(
     Ok(())
 }
 
-/// The facts that are no `att` of a variable that occurs but once among these numbers.
-fn without_lonely<B: Bank>(
+/// Copies of the facts that are no `att` of a variable that occurs but once among these numbers.
+fn each_shared<B: Bank>(
     alloc: Global,
     bank: &B,
-    numbers: &[u32],
+    numbers: &Counts,
     facts: &[Fact],
 ) -> Result<Facts, AllocError>
     requires { AreFactsIn (B.trees bank.now) (map fact_of facts.now) }
@@ -105,6 +77,35 @@ fn without_lonely<B: Bank>(
         add_unless_lonely(alloc, bank, numbers, &mut kept, fact)?;
     }
     Ok(kept)
+}
+
+/// Whether none of the facts is `att` of a variable that occurs but once among these numbers.
+fn none_lonely<B: Bank>(bank: &B, numbers: &Counts, facts: &[Fact]) -> bool
+    requires { AreFactsIn (B.trees bank.now) (map fact_of facts.now) }
+    ensures { result ≡ list_all (λ h. not (is_lonely_fact numbers.now h)) (map (fact_at (B.trees bank.now)) (map fact_of facts.now)) }
+{
+    for fact in facts {
+        if is_lonely(bank, numbers, fact) {
+            return false;
+        }
+    }
+    true
+}
+
+/// The facts that are no `att` of a variable that occurs but once among these numbers.
+fn without_lonely<B: Bank>(
+    alloc: Global,
+    bank: &B,
+    numbers: &Counts,
+    facts: Facts,
+) -> Result<Facts, AllocError>
+    requires { AreFactsIn (B.trees bank.now) facts }
+    ensures { IfOk result (λ kept. NameFacts (B.trees bank.now) kept (filter (λ h. not (is_lonely_fact numbers.now h)) (map (fact_at (B.trees bank.now)) facts))) }
+{
+    if none_lonely(bank, numbers, &facts.items) {
+        return Ok(facts);
+    }
+    each_shared(alloc, bank, numbers, &facts.items)
 }
 
 /// Whether the clause is solved and concludes `att` of a variable.
@@ -140,19 +141,20 @@ fn norm_grown<B: Bank>(
     alloc: Global,
     bank: &mut B,
     concl: &Fact,
-    hyps: &[Fact],
+    hyps: Facts,
 ) -> Result<Normal, AllocError>
     requires concl { IsFactIn (B.trees bank.old) (fact_of concl.now) }
-    requires hyps { AreFactsIn (B.trees bank.old) (map fact_of hyps.now) }
+    requires hyps { AreFactsIn (B.trees bank.old) hyps }
     ensures grows { Grows (B.trees bank.old) (B.trees bank.new) }
-    ensures names { IfOk result (λ normal. NamesNorm (B.trees bank.new) normal (norm_of record { hypotheses = map (fact_at (B.trees bank.old)) (map fact_of hyps.now); conclusion = fact_at (B.trees bank.old) (fact_of concl.now) })) }
+    ensures names { IfOk result (λ normal. NamesNorm (B.trees bank.new) normal (norm_of record { hypotheses = map (fact_at (B.trees bank.old)) hyps; conclusion = fact_at (B.trees bank.old) (fact_of concl.now) })) }
 {
     let kept = without_repeats(alloc, bank, hyps)?;
     if is_among(bank, &kept.items, concl) {
         return Ok(Normal::Tautology);
     }
-    let numbers = variables_of(alloc, bank, concl, &kept.items)?;
-    let few = without_lonely(alloc, bank, &numbers, &kept.items)?;
+    let occurring = variables_of(alloc, bank, concl, &kept.items)?;
+    let numbers = Counts::new(alloc, occurring)?;
+    let few = without_lonely(alloc, bank, &numbers, kept)?;
     let made = generalized_clause(alloc, bank, concl, &few.items)?;
     Ok(Normal::Clause(made))
 }
@@ -169,7 +171,8 @@ pub fn norm<B: Bank>(alloc: Global, bank: &mut B, clause: Clause) -> Result<Norm
     ensures err { OnErr result (B.trees bank.new ≡ B.trees bank.old) }
 {
     let mark = bank.mark();
-    match norm_grown(alloc, bank, &clause.concl, &clause.hyps.items) {
+    let Clause { hyps, concl } = clause;
+    match norm_grown(alloc, bank, &concl, hyps) {
         Ok(normal) => Ok(normal),
         Err(error) => {
             bank.back(mark);

@@ -2,7 +2,6 @@
 
 ghost use Rattle.std.specs.Prelude.{◌≡◌, ◌↔◌, ◌+◌, ◌-◌, ◌^◌, ◌<◌, true, false, not, ◌&&◌, cond, min, length, map, flat_map, Some};
 ghost use Rattle.std.specs.List.{list_all};
-ghost use Rattle.clauses.specs.Fact.{is_among as is_among_facts};
 ghost use Rattle.clauses.specs.Flat.{is_flat as is_flat_fact, is_flat_clause as is_flat_clause_of};
 ghost use Rattle.clauses.specs.Norm.{without_repeats, is_tautology as is_tautology_of, is_lonely as is_lonely_fact, without_lonely, generalized, everything_known, numbered, IsNormal};
 ghost use Rattle.clauses.specs.Variables.{leaves, fact_variables, clause_variables, times};
@@ -53,7 +52,7 @@ fn is_flat_clause<B: Bank>(bank: &B, clause: &Clause) -> bool
 }
 
 /// Whether no fact is the same as a later one.
-fn are_different<B: Bank>(bank: &B, facts: &[Fact]) -> bool
+pub(crate) fn are_different<B: Bank>(bank: &B, facts: &[Fact]) -> bool
     requires { AreFactsIn (B.trees bank.now) (map fact_of facts.now) }
     ensures { result ≡ are_different_facts (map (fact_at (B.trees bank.now)) (map fact_of facts.now)) }
 {

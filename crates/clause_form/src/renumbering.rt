@@ -1,33 +1,20 @@
 //! Facts and clauses with their variables renumbered.
 
-ghost use Rattle.std.specs.Prelude.{◌≡◌, ◌<◌, true, length, map, IfOk};
-ghost use Rattle.trees.specs.Tree.{bind};
+ghost use Rattle.std.specs.Prelude.{◌≡◌, ◌↔◌, ◌<◌, true, IsTrue, length, map, slice_index_or, IfOk, OnOk};
+ghost use Rattle.trees.specs.Tree.{Leaf, bind};
 ghost use Rattle.clauses.specs.Fact.{fact_under};
 ghost use Rattle.clauses.specs.Norm.{numbered};
 ghost use Rattle.term_tree.specs.Bank.{tree_at, AreKnown, Names, Grows};
+ghost use Rattle.unify_match.specs.Substitution.{arguments};
 ghost use Rattle.clause_form.specs.Facts.{fact_of};
 ghost use Rattle.clause_form.specs.Seen.{fact_at, IsFactIn, AreFactsIn, NameTerms, NamesFact, NameFacts, NamesClause};
 ghost use Rattle.clause_form.specs.Numbers.{placed};
 
 use crate::facts::{Clause, Fact, Facts, Ids};
-use crate::variables::{distinct_of, place, variables_of};
+use crate::numbers::{Numbering, distinct_of};
+use crate::variables::variables_of;
 use std::alloc::{AllocError, Global};
 use term_tree::{Bank, Id, Node};
-
-/// Whether the ids are the same: true alone tells.
-fn are_same_ids(lefts: &[Id], rights: &[Id]) -> bool
-    ensures { result ≡ true → lefts.now ≡ rights.now }
-{
-    if lefts.len() != rights.len() {
-        return false;
-    }
-    'each: for (i, left) in lefts.iter().enumerate() {
-        if left.index != rights[i].index {
-            return false;
-        }
-    }
-    true
-}
 
 /// The number of a place; a place that no number tells is taken for want of memory.
 fn number_of(at: usize) -> Result<u32, AllocError>
@@ -39,33 +26,87 @@ fn number_of(at: usize) -> Result<u32, AllocError>
     }
 }
 
-/// The term with each variable's place for its number: the id itself where nothing changes. On `Err` the
-/// bank may have grown.
-fn renumbered<B: Bank>(alloc: Global, bank: &mut B, order: &[u32], id: Id) -> Result<Id, AllocError>
-    requires { id.index < length (B.trees bank.old) }
+/// The id at a place.
+#[inline(always)]
+fn id_at(ids: &[Id], place: usize) -> Id
+    requires { place < length ids.now }
+    ensures { result ≡ slice_index_or ids.now place (record { index = 0 }) }
+{
+    ids[place]
+}
+
+/// An argument of the root of a term. Takes no memory.
+fn argument<B: Bank>(bank: &B, id: Id, place: usize) -> Id
+    requires known { id.index < length (B.trees bank.now) }
+    requires there { place < length (arguments (tree_at (B.trees bank.now) id)) }
+    ensures known { result.index < length (B.trees bank.now) }
+    ensures is { tree_at (B.trees bank.now) result ≡ slice_index_or (arguments (tree_at (B.trees bank.now) id)) place (Leaf 0) }
+{
+    match bank.node(id) {
+        Node::Var(_) => id,
+        Node::App(_, parts) => id_at(parts, place),
+    }
+}
+
+/// Whether all arguments so far, and this one, are what they were.
+fn is_kept(so_far: bool, argument: Id, made: Id) -> bool
+    ensures { IsTrue result ↔ ((so_far ≡ true) × (made ≡ argument)) }
+{
+    so_far && argument.index == made.index
+}
+
+/// The variable that has a variable's place for its number: the id itself where that is its number.
+fn renumbered_variable<B: Bank>(
+    bank: &mut B,
+    order: &Numbering,
+    id: Id,
+    number: u32,
+) -> Result<Id, AllocError>
+    requires known { id.index < length (B.trees bank.old) }
+    requires variable { tree_at (B.trees bank.old) id ≡ Leaf number }
     ensures grows { Grows (B.trees bank.old) (B.trees bank.new) }
     ensures names { IfOk result (λ made. Names (B.trees bank.new) made (bind (placed order.now) (tree_at (B.trees bank.old) id))) }
 {
+    let at = order.place(number);
+    if at == number as usize {
+        return Ok(id);
+    }
+    let new = number_of(at)?;
+    bank.var(new)
+}
+
+/// The term with each variable's place for its number: the id itself where nothing changes. The arguments
+/// that are made wait on `stack`. On `Err` the bank may have grown.
+fn renumbered<B: Bank>(
+    bank: &mut B,
+    order: &Numbering,
+    stack: &mut Vec<Id>,
+    id: Id,
+) -> Result<Id, AllocError>
+    requires { id.index < length (B.trees bank.old) }
+    ensures grows { Grows (B.trees bank.old) (B.trees bank.new) }
+    ensures names { IfOk result (λ made. Names (B.trees bank.new) made (bind (placed order.now) (tree_at (B.trees bank.old) id))) }
+    ensures stack { OnOk result (stack.new.items ≡ stack.old.items) }
+{
     match bank.node(id) {
-        Node::Var(number) => {
-            let at = place(number, order);
-            if at == number as usize {
-                return Ok(id);
-            }
-            let new = number_of(at)?;
-            bank.var(new)
-        }
+        Node::Var(number) => renumbered_variable(bank, order, id, number),
         Node::App(symbol, parts) => {
-            let arguments = parts.to_vec(alloc)?;
-            let mut made = Vec::with_capacity(alloc, arguments.len())?;
-            'each: for argument in &arguments {
-                let next = renumbered(alloc, bank, order, *argument)?;
-                made.push(next)?;
+            let count = parts.len();
+            let base = stack.len();
+            let mut kept = true;
+            'each: for i in 0..count {
+                let part = argument(bank, id, i);
+                let made = renumbered(bank, order, stack, part)?;
+                kept = is_kept(kept, part, made);
+                stack.push(made)?;
             }
-            if are_same_ids(&made, &arguments) {
+            if kept {
+                stack.truncate(base);
                 return Ok(id);
             }
-            bank.app(symbol, &made)
+            let made = bank.app(symbol, &stack[base..])?;
+            stack.truncate(base);
+            Ok(made)
         }
     }
 }
@@ -74,7 +115,8 @@ fn renumbered<B: Bank>(alloc: Global, bank: &mut B, order: &[u32], id: Id) -> Re
 fn renumbered_terms<B: Bank>(
     alloc: Global,
     bank: &mut B,
-    order: &[u32],
+    order: &Numbering,
+    stack: &mut Vec<Id>,
     terms: &[Id],
 ) -> Result<Ids, AllocError>
     requires { AreKnown (B.trees bank.old) terms.now }
@@ -83,7 +125,7 @@ fn renumbered_terms<B: Bank>(
 {
     let mut items = Vec::with_capacity(alloc, terms.len())?;
     'each: for term in terms {
-        let next = renumbered(alloc, bank, order, *term)?;
+        let next = renumbered(bank, order, stack, *term)?;
         items.push(next)?;
     }
     Ok(Ids { items })
@@ -93,7 +135,8 @@ fn renumbered_terms<B: Bank>(
 fn renumbered_fact<B: Bank>(
     alloc: Global,
     bank: &mut B,
-    order: &[u32],
+    order: &Numbering,
+    stack: &mut Vec<Id>,
     fact: &Fact,
 ) -> Result<Fact, AllocError>
     requires { IsFactIn (B.trees bank.old) (fact_of fact.now) }
@@ -101,22 +144,22 @@ fn renumbered_fact<B: Bank>(
     ensures names { IfOk result (λ made. NamesFact (B.trees bank.new) (fact_of made) (fact_under (placed order.now) (fact_at (B.trees bank.old) (fact_of fact.now)))) }
 {
     match fact {
-        Fact::Att(term) => Ok(Fact::Att(renumbered(alloc, bank, order, *term)?)),
+        Fact::Att(term) => Ok(Fact::Att(renumbered(bank, order, stack, *term)?)),
         Fact::Mess(channel, message) => {
-            let channel = renumbered(alloc, bank, order, *channel)?;
-            let message = renumbered(alloc, bank, order, *message)?;
+            let channel = renumbered(bank, order, stack, *channel)?;
+            let message = renumbered(bank, order, stack, *message)?;
             Ok(Fact::Mess(channel, message))
         }
         Fact::Ev(event, arguments) => {
-            let made = renumbered_terms(alloc, bank, order, &arguments.items)?;
+            let made = renumbered_terms(alloc, bank, order, stack, &arguments.items)?;
             Ok(Fact::Ev(*event, made))
         }
         Fact::Mev(event, arguments) => {
-            let made = renumbered_terms(alloc, bank, order, &arguments.items)?;
+            let made = renumbered_terms(alloc, bank, order, stack, &arguments.items)?;
             Ok(Fact::Mev(*event, made))
         }
         Fact::Bad(arguments) => {
-            let made = renumbered_terms(alloc, bank, order, &arguments.items)?;
+            let made = renumbered_terms(alloc, bank, order, stack, &arguments.items)?;
             Ok(Fact::Bad(made))
         }
     }
@@ -126,7 +169,8 @@ fn renumbered_fact<B: Bank>(
 fn renumbered_facts<B: Bank>(
     alloc: Global,
     bank: &mut B,
-    order: &[u32],
+    order: &Numbering,
+    stack: &mut Vec<Id>,
     facts: &[Fact],
 ) -> Result<Facts, AllocError>
     requires { AreFactsIn (B.trees bank.old) (map fact_of facts.now) }
@@ -135,7 +179,7 @@ fn renumbered_facts<B: Bank>(
 {
     let mut items = Vec::with_capacity(alloc, facts.len())?;
     'each: for fact in facts {
-        let next = renumbered_fact(alloc, bank, order, fact)?;
+        let next = renumbered_fact(alloc, bank, order, stack, fact)?;
         items.push(next)?;
     }
     Ok(Facts { items })
@@ -154,8 +198,10 @@ pub(crate) fn numbered_clause<B: Bank>(
     ensures names { IfOk result (λ made. NamesClause (B.trees bank.new) made (numbered record { hypotheses = map (fact_at (B.trees bank.old)) (map fact_of hyps.now); conclusion = fact_at (B.trees bank.old) (fact_of concl.now) })) }
 {
     let numbers = variables_of(alloc, bank, concl, hyps)?;
-    let order = distinct_of(alloc, &numbers)?;
-    let made = renumbered_facts(alloc, bank, &order, hyps)?;
-    let concl = renumbered_fact(alloc, bank, &order, concl)?;
+    let firsts = distinct_of(alloc, numbers)?;
+    let order = Numbering::new(alloc, firsts)?;
+    let mut stack = Vec::with_capacity(alloc, 16)?;
+    let made = renumbered_facts(alloc, bank, &order, &mut stack, hyps)?;
+    let concl = renumbered_fact(alloc, bank, &order, &mut stack, concl)?;
     Ok(Clause { hyps: made, concl })
 }

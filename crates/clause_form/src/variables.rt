@@ -1,9 +1,7 @@
 //! The variables of terms, facts and clauses, in order.
 
-ghost use Rattle.std.specs.Prelude.{◌≡◌, ◌<◌, ◌≤◌, ◌++◌, [], ◌∷◌, nat_eq, cond, length, map, flat_map, IfOk, OnOk};
-ghost use Rattle.std.specs.List.{list_any};
-ghost use Rattle.clauses.specs.Variables.{leaves, fact_variables, times};
-ghost use Rattle.clauses.specs.Norm.{distinct, place_of};
+ghost use Rattle.std.specs.Prelude.{◌≡◌, ◌<◌, ◌++◌, ◌∷◌, length, map, flat_map, IfOk, OnOk};
+ghost use Rattle.clauses.specs.Variables.{leaves, fact_variables};
 ghost use Rattle.term_tree.specs.Bank.{tree_at, AreKnown};
 ghost use Rattle.clause_form.specs.Facts.{fact_of};
 ghost use Rattle.clause_form.specs.Seen.{fact_at, IsFactIn, AreFactsIn};
@@ -84,69 +82,4 @@ pub(crate) fn variables_of<B: Bank>(
         add_fact_variables(bank, hyp, &mut numbers)?;
     }
     Ok(numbers)
-}
-
-/// How often a variable occurs.
-pub(crate) fn occurrences(number: u32, numbers: &[u32]) -> usize
-    ensures { result ≡ times number numbers.now }
-{
-    let mut count = 0usize;
-    for one in numbers {
-        count += one_if(number == *one);
-    }
-    count
-}
-
-/// One where the test passes.
-fn one_if(passed: bool) -> usize
-    ensures is { result ≡ cond passed 1 0 }
-    ensures at_most { result ≤ 1 }
-{
-    if passed { 1 } else { 0 }
-}
-
-/// Whether a number is among numbers.
-fn has(numbers: &[u32], number: u32) -> bool
-    ensures { result ≡ list_any (nat_eq number) numbers.now }
-{
-    for one in numbers {
-        if number == *one {
-            return true;
-        }
-    }
-    false
-}
-
-/// Adds a number that isn't there.
-fn add_new(numbers: &mut Vec<u32>, number: u32) -> Result<(), AllocError>
-    ensures { OnOk result (numbers.new.items ≡ cond (list_any (nat_eq number) numbers.old.items) numbers.old.items (numbers.old.items ++ number ∷ [])) }
-{
-    if has(numbers, number) {
-        return Ok(());
-    }
-    numbers.push(number)?;
-    Ok(())
-}
-
-/// The numbers, each where it occurs first.
-pub(crate) fn distinct_of(alloc: Global, numbers: &[u32]) -> Result<Vec<u32>, AllocError>
-    ensures { IfOk result (λ found. found.items ≡ distinct nat_eq numbers.now) }
-{
-    let mut found = Vec::with_capacity(alloc, 16)?;
-    for number in numbers {
-        add_new(&mut found, *number)?;
-    }
-    Ok(found)
-}
-
-/// The place of a number, from 0; the length where it isn't there.
-pub(crate) fn place(number: u32, numbers: &[u32]) -> usize
-    ensures { result ≡ place_of number numbers.now }
-{
-    'each: for (i, one) in numbers.iter().enumerate() {
-        if number == *one {
-            return i;
-        }
-    }
-    numbers.len()
 }

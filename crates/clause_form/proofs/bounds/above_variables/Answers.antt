@@ -1,8 +1,7 @@
-use Rattle.std.proofs.Common.{◌≡◌, ◌∙◌, ◌≤◌, max, map, flat_map, ap, sym, subst, rules, arith}
-use Rattle.clauses.specs.Variables.{fact_variables, clause_variables}
-use Rattle.clause_form.specs.Facts.{fact_of}
+use Rattle.std.proofs.Common.{◌≡◌, max, flat_map, rules, arith}
+use Rattle.clauses.specs.Variables.{fact_variables}
 use Rattle.clause_form.specs.Bounds.{above}
-use Rattle.clause_form.specs.Seen.{fact_at, clause_at}
+use Rattle.clause_form.specs.Seen.{clause_at}
 use Rattle.clause_form.proofs.Bounding.{above_clause, clause_below, clause_least}
 use Rattle.clause_form.proofs.bounds.above_variables.Goals as goal
 

@@ -1,7 +1,6 @@
 use Rattle.std.proofs.Common.{◌≡◌, ◌∙◌, length, rules}
 use Rattle.std.proofs.lemmas.Iterator.Adapters.{YieldsList-from_vec}
 use Rattle.std.proofs.lemmas.Iterator.Consumers.{YieldsList-end}
-use Rattle.clause_form.specs.Facts.{fact_of}
 use Rattle.clause_form.proofs.Flattening.{concluding_all}
 use Rattle.clause_form.proofs.flat.concluding.Goals as goal
 

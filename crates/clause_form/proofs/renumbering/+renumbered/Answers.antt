@@ -1,57 +1,62 @@
-use Rattle.std.proofs.Common.{◌≡◌, ◌∙◌, List, map, get_or, sym, ap, subst, arith, rules, IfOk}
-use Rattle.trees.specs.Tree.{node}
-use Rattle.terms.specs.Term.{Term}
-use Rattle.term_tree.specs.Bank.{symbol_of, tree_at, AreKnown, Names}
+use Rattle.std.proofs.Common.{◌≡◌, ◌∙◌, ◌<◌, ◌-◌, ◌++◌, ◌∷◌, List, [], length, take, drop, map, ap, sym, subst, arith}
+use Rattle.std.proofs.lemmas.List.{take_rest}
+use Rattle.trees.specs.Tree.{depth, node, bind}
+use Rattle.term_tree.specs.Bank.{symbol_of, tree_at, AreKnown}
 use Rattle.term_tree.specs.declared.bank.Id.{Id}
+use Rattle.unify_match.proofs.Substituting.{Names-same}
 use Rattle.clause_form.specs.Numbers.{placed}
 use Rattle.clause_form.proofs.Walks.{argument_later}
-use Rattle.clause_form.proofs.Renumber.{renumbered_on, renumbered_all, renumbered_same, renumbered_node}
+use Rattle.clause_form.proofs.Renumber.{stacked_begins, stacked_on, stacked_same, stacked_known, stacked_ends, part_at, parts_count}
 use Rattle.clause_form.proofs.renumbering.+renumbered.Goals as goal
+
+pub each-init : goal.each-init
+each-init g t c = stacked_begins (g.B.Bank.trees c.args.bank.now) (placed c.args.order.now) c.args.id (symbol_of c.in-App.symbol) c.in-App.parts.now c.args.stack.now.items c.in-App.ensures.0 c.in-App.ensures.1
+
+pub argument-part-requires-clause-there : goal.argument-part-requires-clause-there
+argument-part-requires-clause-there g t c =
+    let was = c.each.invariant in
+    let count = parts_count (g.B.Bank.trees c.args.bank.now) (g.B.Bank.trees c.each.bank) c.args.id (symbol_of c.in-App.symbol) was.ids was.grows c.requires was.is in
+    omega (arith, count, c.each-test.true, was.counted)
 
 pub renumbered-requires : goal.renumbered-requires
 renumbered-requires g t c κs within =
     let old = g.B.Bank.trees c.args.bank.now in
     let now = g.B.Bank.trees c.each.bank in
-    let copied : c.in_ok-arguments-in-App.arguments.items ≡ c.in-App.parts.now = search rules in
-    let items : c.deref-argument-items.result.now ≡ c.in-App.parts.now = c.deref-argument-items.ensures.value ∙ copied in
-    let is : tree_at old c.args.id ≡ node (symbol_of c.in-App.symbol) (map (tree_at old) c.deref-argument-items.result.now) = c.in-App.ensures.0 ∙ ap (λ l. node (symbol_of c.in-App.symbol) (map (tree_at old) l)) (sym items) in
-    let known = subst (λ (l : List Id). AreKnown old l) (sym items) c.in-App.ensures.1 in
-    let at = argument_later old now c.args.id (symbol_of c.in-App.symbol) c.deref-argument-items.result.now c.each.argument-index record { index = 0 } c.each.invariant.grows is known c.each-test.true in
-    (omega (arith, c.decreases, at.1), (within, at.0))
+    let was = c.each.invariant in
+    let less : c.each.i < length was.ids = omega (arith, c.each-test.true, was.counted) in
+    let at = argument_later old now c.args.id (symbol_of c.in-App.symbol) was.ids c.each.i record { index = 0 } was.grows was.is was.parts less in
+    let is = part_at old now c.args.id c.argument-part.result (symbol_of c.in-App.symbol) was.ids c.each.i record { index = 0 } was.grows c.requires was.is less c.argument-part.ensures.is in
+    let lower = ap depth (is ∙ sym at.2) in
+    (omega (arith, c.decreases, at.1, lower), (within, c.argument-part.ensures.known))
 
 pub each-preserved : goal.each-preserved
 each-preserved g t c =
-    let old = g.B.Bank.trees c.args.bank.now in
-    let now = g.B.Bank.trees c.each.bank in
-    let copied : c.in_ok-arguments-in-App.arguments.items ≡ c.in-App.parts.now = search rules in
-    let items : c.deref-argument-items.result.now ≡ c.in-App.parts.now = c.deref-argument-items.ensures.value ∙ copied in
-    let is : tree_at old c.args.id ≡ node (symbol_of c.in-App.symbol) (map (tree_at old) c.deref-argument-items.result.now) = c.in-App.ensures.0 ∙ ap (λ l. node (symbol_of c.in-App.symbol) (map (tree_at old) l)) (sym items) in
-    let known = subst (λ (l : List Id). AreKnown old l) (sym items) c.in-App.ensures.1 in
-    let at = argument_later old now c.args.id (symbol_of c.in-App.symbol) c.deref-argument-items.result.now c.each.argument-index record { index = 0 } c.each.invariant.grows is known c.each-test.true in
-    renumbered_on old now (g.B.Bank.trees c.renumbered.new.bank) (placed c.args.order.now) c.deref-argument-items.result.now c.each.argument-index record { index = 0 } c.each.made.items c.push.new.self.items c.in_ok-next-in-App.next
-    c.each.invariant c.each-test.true c.renumbered.ensures.grows at.2 c.in_ok-next-in-App.ensures.names c.in_ok-push-in-App.ensures.items
+    let made = c.in_ok-made-in-App.made in
+    stacked_on (g.B.Bank.trees c.args.bank.now) (g.B.Bank.trees c.each.bank) (g.B.Bank.trees c.renumbered.new.bank) (placed c.args.order.now) c.args.id (symbol_of c.in-App.symbol) (length c.in-App.parts.now) c.args.stack.now.items c.each.stack.items c.push.new.self.items c.each.i c.each.kept c.is_kept-kept.result c.argument-part.result made
+    c.requires c.each.invariant c.each-test.true c.argument-part.ensures.known c.argument-part.ensures.is c.renumbered.ensures.grows c.in_ok-made-in-App.ensures.names c.is_kept-kept.ensures (c.in_ok-push-in-App.ensures.items ∙ ap (λ (l : List Id). l ++ made ∷ []) c.in_ok-made-in-App.ensures.stack)
 
-pub returns-then-are_same_ids-clause-names : goal.returns-then-are_same_ids-clause-names
-returns-then-are_same_ids-clause-names g t c =
+pub returns-then-kept-clause-names : goal.returns-then-kept-clause-names
+returns-then-kept-clause-names g t c =
+    stacked_same (g.B.Bank.trees c.args.bank.now) (g.B.Bank.trees c.each.bank) (placed c.args.order.now) c.args.id (symbol_of c.in-App.symbol) (length c.in-App.parts.now) c.args.stack.now.items c.each.stack.items c.each.i c.each.kept
+    c.requires c.each.invariant (omega (arith, c.each-test.false, c.each.auto.i-end)) c.if-kept.true
+
+pub app-requires : goal.app-requires
+app-requires g t c =
+    let now = g.B.Bank.trees c.each.bank in
+    let before = c.args.stack.now.items in
+    let items : drop c.len-base.result c.deref.result.now ≡ drop (length before) c.each.stack.items = ap (λ n. drop n c.deref.result.now) (c.len-base.ensures ∙ c.args.stack.now.ok.0) ∙ ap (drop (length before)) c.deref.ensures.value in
+    let rest = take_rest c.deref.result.now c.len-base.result in
+    subst (λ (l : List Id). AreKnown now l) (sym (rest ∙ items)) (stacked_known (g.B.Bank.trees c.args.bank.now) now (placed c.args.order.now) c.args.id (symbol_of c.in-App.symbol) (length c.in-App.parts.now) before c.each.stack.items c.each.i c.each.kept c.each.invariant)
+
+pub returns-in_ok-made-in-App-2-clause-names : goal.returns-in_ok-made-in-App-2-clause-names
+returns-in_ok-made-in-App-2-clause-names g t c =
     let old = g.B.Bank.trees c.args.bank.now in
     let now = g.B.Bank.trees c.each.bank in
     let s = placed c.args.order.now in
-    let args = c.deref-argument-items.result.now in
-    let copied : c.in_ok-arguments-in-App.arguments.items ≡ c.in-App.parts.now = search rules in
-    let items : c.deref-argument-items.result.now ≡ c.in-App.parts.now = c.deref-argument-items.ensures.value ∙ copied in
-    let is : tree_at old c.args.id ≡ node (symbol_of c.in-App.symbol) (map (tree_at old) c.deref-argument-items.result.now) = c.in-App.ensures.0 ∙ ap (λ l. node (symbol_of c.in-App.symbol) (map (tree_at old) l)) (sym items) in
-    let known = subst (λ (l : List Id). AreKnown old l) (sym items) c.in-App.ensures.1 in
-    let same : c.each.made.items ≡ c.deref-argument-items.result.now = sym c.deref.ensures.value ∙ (c.are_same_ids.ensures c.if-are_same_ids.true ∙ (c.deref-in-App.ensures.value ∙ sym c.deref-argument-items.ensures.value)) in
-    renumbered_same old now s c.args.id (symbol_of c.in-App.symbol) args c.each.made.items c.requires c.each.invariant.grows is known (renumbered_all old now s args c.each.argument-index c.each.made.items c.each.invariant c.each-test.false) same
-
-pub returns-else-are_same_ids-clause-names : goal.returns-else-are_same_ids-clause-names
-returns-else-are_same_ids-clause-names g t c =
-    let old = g.B.Bank.trees c.args.bank.now in
-    let now = g.B.Bank.trees c.each.bank in
-    let s = placed c.args.order.now in
-    let args = c.deref-argument-items.result.now in
-    let copied : c.in_ok-arguments-in-App.arguments.items ≡ c.in-App.parts.now = search rules in
-    let items : c.deref-argument-items.result.now ≡ c.in-App.parts.now = c.deref-argument-items.ensures.value ∙ copied in
-    let is : tree_at old c.args.id ≡ node (symbol_of c.in-App.symbol) (map (tree_at old) c.deref-argument-items.result.now) = c.in-App.ensures.0 ∙ ap (λ l. node (symbol_of c.in-App.symbol) (map (tree_at old) l)) (sym items) in
-    let whole = renumbered_node old now s c.args.id (symbol_of c.in-App.symbol) args c.each.made.items is (renumbered_all old now s args c.each.argument-index c.each.made.items c.each.invariant c.each-test.false) in
-    subst (λ (u : Term). IfOk c.app.result (λ b. Names (g.B.Bank.trees c.app.new.self) b u)) (ap (λ l. node (symbol_of c.in-App.symbol) (map (tree_at now) l)) c.deref-in-App-2.ensures.value ∙ whole) c.app.ensures.names
+    let f = symbol_of c.in-App.symbol in
+    let before = c.args.stack.now.items in
+    let items : drop c.len-base.result c.deref.result.now ≡ drop (length before) c.each.stack.items = ap (λ n. drop n c.deref.result.now) (c.len-base.ensures ∙ c.args.stack.now.ok.0) ∙ ap (drop (length before)) c.deref.ensures.value in
+    let slice = take (length c.deref.result.now - c.len-base.result) (drop c.len-base.result c.deref.result.now) in
+    let rest : slice ≡ drop c.len-base.result c.deref.result.now = take_rest c.deref.result.now c.len-base.result in
+    let ends = stacked_ends old now s c.args.id f (length c.in-App.parts.now) before c.each.stack.items c.each.i c.each.kept c.each.invariant (omega (arith, c.each-test.false, c.each.auto.i-end)) in
+    Names-same (g.B.Bank.trees c.app.new.self) c.in_ok-made-in-App-2.made (node f (map (tree_at now) slice)) (bind s (tree_at old c.args.id)) (ap (λ l. node f (map (tree_at now) l)) (rest ∙ items) ∙ ends) c.in_ok-made-in-App-2.ensures.names

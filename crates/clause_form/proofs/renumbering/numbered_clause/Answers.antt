@@ -10,6 +10,6 @@ renumbered_fact-requires g c = IsFactIn-grows (g.B.Bank.trees c.args.bank.now) (
 
 pub returns-clause-names : goal.returns-clause-names
 returns-clause-names g c =
-    let order = c.in_ok-order.ensures ∙ ap (distinct nat_eq) (c.deref.ensures.value ∙ c.in_ok-numbers.ensures) in
-    numbered_named (g.B.Bank.trees c.args.bank.now) (g.B.Bank.trees c.renumbered_facts.new.bank) (g.B.Bank.trees c.renumbered_fact.new.bank) (map fact_of c.args.hyps.now) (fact_of c.args.concl.now) c.deref-2.result.now c.deref-3.result.now c.in_ok-made.made (fact_of c.in_ok-concl.concl)
-    c.requires.concl c.renumbered_facts.ensures.grows c.renumbered_fact.ensures.grows (c.deref-2.ensures.value ∙ order) (c.deref-3.ensures.value ∙ order) c.in_ok-made.ensures.names c.in_ok-concl.ensures.names
+    let order = c.in_ok-order.ensures ∙ (c.in_ok-firsts.ensures ∙ ap (distinct nat_eq) c.in_ok-numbers.ensures) in
+    numbered_named (g.B.Bank.trees c.args.bank.now) (g.B.Bank.trees c.renumbered_facts.new.bank) (g.B.Bank.trees c.renumbered_fact.new.bank) (map fact_of c.args.hyps.now) (fact_of c.args.concl.now) c.in_ok-order.order c.in_ok-order.order c.in_ok-made.made (fact_of c.in_ok-concl.concl)
+    c.requires.concl c.renumbered_facts.ensures.grows c.renumbered_fact.ensures.grows order order c.in_ok-made.ensures.names c.in_ok-concl.ensures.names

@@ -1,4 +1,4 @@
-use Rattle.std.proofs.Common.{◌≡◌, ◌∙◌, ◌++◌, ap, sym, arith}
+use Rattle.std.proofs.Common.{◌∙◌, ◌++◌, ap, sym, arith}
 use Rattle.term_tree.specs.Bank.{symbol_of}
 use Rattle.clause_form.proofs.Walks.{argument_at}
 use Rattle.clause_form.proofs.Lists.{flat_map_all}

@@ -3,7 +3,7 @@ use Rattle.clauses.specs.Fact.{same_fact}
 use Rattle.clauses.specs.Norm.{distinct}
 use Rattle.clause_form.specs.Facts.{fact_of}
 use Rattle.clause_form.specs.Seen.{fact_at, AreFactsIn}
-use Rattle.clause_form.proofs.normal.without_repeats.Given as goal
+use Rattle.clause_form.proofs.repeats.each_once.Given as goal
 
 abbrev pub invariant-loop-fact : goal.invariant-loop-fact
 invariant-loop-fact g l = record {

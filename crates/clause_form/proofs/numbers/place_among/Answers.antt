@@ -1,5 +1,5 @@
 use Rattle.clause_form.proofs.Counting.{place_here, place_on, place_past}
-use Rattle.clause_form.proofs.variables.place.Goals as goal
+use Rattle.clause_form.proofs.numbers.place_among.Goals as goal
 
 pub returns-then-number-one : goal.returns-then-number-one
 returns-then-number-one c = place_here c.args.number c.args.numbers.now c.each.i c.each-test.true c.each.invariant c.if-number-one.true

@@ -4,7 +4,7 @@ use Rattle.clause_form.specs.Facts.{fact_of}
 use Rattle.clause_form.specs.Seen.{fact_at}
 use Rattle.clause_form.proofs.Walks.{fact_known_at}
 use Rattle.clause_form.proofs.Norming.{repeats_known, repeats_on, repeats_done}
-use Rattle.clause_form.proofs.normal.without_repeats.Goals as goal
+use Rattle.clause_form.proofs.repeats.each_once.Goals as goal
 
 pub add_new-requires-clause-fact : goal.add_new-requires-clause-fact
 add_new-requires-clause-fact g c = fact_known_at (g.B.Bank.trees c.args.bank.now) c.args.facts.now c.loop-fact.fact-index c.fact-item.result c.fact-item.is c.requires c.loop-fact-test.true

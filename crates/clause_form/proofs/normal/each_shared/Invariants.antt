@@ -2,7 +2,7 @@ use Rattle.std.proofs.Common.{◌≡◌, not, filter, map, take}
 use Rattle.clauses.specs.Norm.{is_lonely}
 use Rattle.clause_form.specs.Facts.{fact_of}
 use Rattle.clause_form.specs.Seen.{fact_at, AreFactsIn}
-use Rattle.clause_form.proofs.normal.without_lonely.Given as goal
+use Rattle.clause_form.proofs.normal.each_shared.Given as goal
 
 abbrev pub invariant-loop-fact : goal.invariant-loop-fact
 invariant-loop-fact g l = record {

@@ -1,6 +1,6 @@
 use Rattle.std.proofs.Common.{◌≡◌, ◌+◌, ◌≤◌, drop}
 use Rattle.clauses.specs.Variables.{times}
-use Rattle.clause_form.proofs.variables.occurrences.Given as goal
+use Rattle.clause_form.proofs.numbers.times_among.Given as goal
 
 abbrev pub invariant-loop-one : goal.invariant-loop-one
 invariant-loop-one l = record {

@@ -1,6 +1,0 @@
-use Rattle.std.proofs.Common.{◌≡◌, nat_eq, take}
-use Rattle.clauses.specs.Norm.{distinct}
-use Rattle.clause_form.proofs.variables.distinct_of.Given as goal
-
-abbrev pub invariant-loop-number : goal.invariant-loop-number
-invariant-loop-number l = l.found.items ≡ distinct nat_eq (take l.number-index l.numbers)
