@@ -26,10 +26,10 @@ use Rattle.clause_resolve.specs.Low.{HasLowVariables}
 use Rattle.clause_saturate.specs.declared.log.Entry.{Entry}
 use Rattle.clause_saturate.specs.declared.walk.Walk.{Walk}
 use Rattle.clause_saturate.specs.Fit.{IsFit, AreFit}
-use Rattle.clause_saturate.specs.Logs.{TellEntries}
+use Rattle.clause_saturate.specs.Logs.{TellEntries, TellLog}
 use Rattle.clause_saturate.specs.Beating.{clauses_of}
 use Rattle.clause_saturate.specs.Walked.{Task, IsTask, IsWalked}
-use Rattle.clause_saturate.proofs.Telling.{TellLog-grows, log_length}
+use Rattle.clause_saturate.proofs.Telling.{TellLog-grows, TellLog-back, log_length}
 
 -- a clause's ids name what they name
 named_itself : (all : List Term) (c : Clause Id) → IsClauseIn all c → NamesClause all c (clause_at all c)
@@ -137,6 +137,21 @@ walked_grows a b task walk at grows (log, w) = (
     is_task = w.is_task;
     budget = w.budget;
     tell = TellLog-grows a b walk.items.items log grows w.tell;
+    up_to = w.up_to;
+    within = w.within;
+    reached = w.reached;
+    asked = w.asked;
+  },
+)
+
+-- a walk over the entries of an earlier bank has come as far in it
+pub walked_back : (a b : List Term) (task : Task) (old new : Walk) (from at : Key) → Grows a b → new.items.items ≡ old.items.items → IsWalked a task old from → IsWalked b task new at → IsWalked a task new at
+walked_back a b task old new from at grows same (log, was) (after, w) = (
+  after,
+  record {
+    is_task = w.is_task;
+    budget = w.budget;
+    tell = TellLog-back a b new.items.items log after grows (subst (λ (es : List Entry). TellLog a es log) (sym same) was.tell) w.tell;
     up_to = w.up_to;
     within = w.within;
     reached = w.reached;

@@ -1,7 +1,6 @@
 -- Pairs of entries are due pairs of the log, and the walk goes on from pair to pair.
-use Rattle.std.proofs.Common.{◌≡◌, ◌⊎◌, ◌∙◌, ℕ, zero, suc, ◌+◌, ◌<◌, ◌≤◌, Bool, true, Option, Some, None, List, [], ◌∷◌, length, map, get_or, refl, ap, sym, subst, inl, inr, true≢false, arith}
+use Rattle.std.proofs.Common.{◌≡◌, ◌⊎◌, ◌∙◌, ℕ, zero, suc, ◌+◌, ◌<◌, ◌≤◌, Bool, true, Option, Some, None, List, [], ◌∷◌, ◌++◌, length, map, get_or, refl, ap, sym, subst, inl, inr, true≢false, length-append, arith}
 use Rattle.std.specs.Prelude.{slice_get}
-use Rattle.std.specs.List.{AllByRecursion}
 use Rattle.std.proofs.lemmas.Bool.{cases_lt}
 use Rattle.std.proofs.lemmas.Bool.Decides.{nat_tests}
 use Rattle.terms.specs.Term.{Term}
@@ -11,11 +10,11 @@ use Rattle.clauses.specs.Selection.{select, is_solved}
 use Rattle.clauses.specs.Resolvents.{Answer, NoUnifier, Large, Resolvents, Resolves}
 use Rattle.saturation.specs.Key.{Key, key, is_before, below}
 use Rattle.saturation.specs.Key as offered
-use Rattle.saturation.specs.Log.{IsBeaten, IsLive, IsCoveredBy, IsDue, Gives, IsOffered, goal_key}
+use Rattle.saturation.specs.Log.{IsBeaten, IsLive, IsDue, Gives, IsOffered, goal_key}
 use Rattle.saturation.specs.End.{IsLogUpTo}
 use Rattle.saturation.proofs.Keys.{parts_of_key}
 use Rattle.saturation.proofs.Pairs.{live_behind}
-use Rattle.saturation.proofs.Moving.{next, below_all, self_not_before, skipped}
+use Rattle.saturation.proofs.Moving.{next, below_all, self_not_before}
 use Rattle.saturation.proofs.Turns.{pair_undue, pair_apart, pair_offered, gives_push}
 use Rattle.term_tree.specs.Bank.{Grows}
 use Rattle.term_tree.specs.declared.bank.Id.{Id}
@@ -30,11 +29,11 @@ use Rattle.clause_saturate.specs.declared.walk.Walk.{Walk}
 use Rattle.clause_saturate.specs.declared.walk.Pair.{Pair}
 use Rattle.clause_saturate.specs.Logs.{IsSolvedAt, IsOrigin, TellEntries, TellLog, IsSpentLog, IsLargeLog}
 use Rattle.clause_saturate.specs.Fit.{AreFit}
-use Rattle.clause_saturate.specs.Beating.{clauses_of, SomeLiveCovers, IsOfferMade}
+use Rattle.clause_saturate.specs.Beating.{clauses_of, IsOfferMade}
 use Rattle.clause_saturate.proofs.Fitting.{walked_grows}
-use Rattle.clause_saturate.specs.Pairs.{major, minor, IsDuePair, NoDuePair, IsPairFound, GivesAnswer, IsMadeBy, IsFoundFor}
+use Rattle.clause_saturate.specs.Pairs.{major, minor, IsDuePair, NoDuePair, IsPairFound, GivesAnswer, IsMadeBy, IsFoundFor, AreSameOrMore}
 use Rattle.clause_saturate.specs.Walked.{Task, IsAsked, IsAt, IsWalked}
-use Rattle.clause_saturate.proofs.Telling.{unbeaten_none, none_unbeaten, covered_if_some, IsSolvedAt-push, TellLog-grows}
+use Rattle.clause_saturate.proofs.Telling.{log_length, unbeaten_none, none_unbeaten, IsSolvedAt-push, TellLog-grows}
 use Rattle.clause_saturate.proofs.Stepping.{IsNextLog, asked_on, asked_moved, offer_step, due_step}
 
 -- the entry that tells what is live in the log
@@ -195,44 +194,6 @@ large_step all task walk pair g (log, w) = record {
 resolvent_offered : (given : List (Clause Term)) (log : List offered.Entry) (m i k : ℕ) (cs : List (Clause Term)) (c : Clause Term) → Gives log m i (Resolvents cs) → numbered cs k ≡ Some c → IsOffered given log (record { key = key m i k; clause = c })
 resolvent_offered given log m i k cs c gives at = inr (inl (record { resolvents = cs; gives = gives; clause = at }))
 
--- resolvents that are all covered are passed by, and the log stays
-covered_all : (given : List (Clause Term)) (log : List offered.Entry) (m i : ℕ) (cs rest : List (Clause Term)) (n : ℕ) → Gives log m i (Resolvents cs) → IsLogUpTo given (Some (key m i (suc n))) log → AllByRecursion (IsCoveredBy log) rest
-    → ((k : ℕ) (c : Clause Term) → slice_get rest k ≡ Some c → slice_get cs (n + k) ≡ Some c) → IsLogUpTo given (Some (key m i (suc (n + length rest)))) log
-covered_all given log m i cs [] n gives up_to covered at = let same : n ≡ n + 0 = omega arith in subst (λ j. IsLogUpTo given (Some (key m i (suc j))) log) same up_to
-covered_all given log m i cs (c ∷ rest) n gives up_to covered at =
-    let here : slice_get cs (n + 0) ≡ Some c = at 0 c refl in
-    let plain : n + 0 ≡ n = omega arith in
-    let there : numbered cs (suc n) ≡ Some c = subst (λ j. slice_get cs j ≡ Some c) plain here in
-    let on = skipped given log (record { key = key m i (suc n); clause = c }) up_to (resolvent_offered given log m i (suc n) cs c gives there) covered.0 in
-    let further = covered_all given log m i cs rest (suc n) gives on covered.1 (λ k d h. shifted k d (at (suc k) d h)) in
-    let same : suc n + length rest ≡ n + suc (length rest) = omega arith in
-    subst (λ j. IsLogUpTo given (Some (key m i (suc j))) log) same further
-  where
-    shifted : (k : ℕ) (d : Clause Term) → slice_get cs (n + suc k) ≡ Some d → slice_get cs (suc n + k) ≡ Some d
-    shifted k d h = let same : n + suc k ≡ suc n + k = omega arith in subst (λ j. slice_get cs j ≡ Some d) same h
-
-covered_named : (all : List Term) (log : List offered.Entry) (entries : List Entry) (clauses : List (Clause Id)) (cs : List (Clause Term)) → TellLog all entries log → map (clause_at all) clauses ≡ cs → AllByRecursion (λ c. SomeLiveCovers all entries (clause_at all c)) clauses → AllByRecursion (IsCoveredBy log) cs
-covered_named all log entries [] [] t are h = tt
-covered_named all log entries [] (d ∷ ds) t are h = cc
-covered_named all log entries (c ∷ clauses) [] t are h = cc
-covered_named all log entries (c ∷ clauses) (d ∷ ds) t are h =
-    let first : clause_at all c ≡ d = cc in
-    let rest : map (clause_at all) clauses ≡ ds = cc in
-    (subst (IsCoveredBy log) first (covered_if_some all log 1 entries log (clause_at all c) t h.0), covered_named all log entries clauses ds t rest h.1)
-
--- a pair whose resolvents are covered is passed by, in the bank that was
-pub covered_step : (before now : List Term) (task : Task) (walk : Walk) (pair : Pair) (clauses : List (Clause Id)) → Grows before now → IsMadeBy before now walk.items.items pair clauses → AllByRecursion (λ c. SomeLiveCovers now walk.items.items (clause_at now c)) clauses
-    → IsWalked before task walk (key (major pair) (minor pair) 1) → IsWalked before task walk (key (major pair) (minor pair + 1) 1)
-covered_step before now task walk pair clauses grows made covered (log, w) =
-    let m = major pair in
-    let i = minor pair in
-    let gives = found_gives task.given before log walk.items.items pair (Resolvents made.resolvents) w.up_to w.tell made.gives in
-    let all_covered = covered_named now log walk.items.items clauses made.resolvents (TellLog-grows before now walk.items.items log grows w.tell) made.name.are covered in
-    let same : (k : ℕ) (c : Clause Term) → slice_get made.resolvents k ≡ Some c → slice_get made.resolvents (0 + k) ≡ Some c = λ k c h. (let plain : k ≡ 0 + k = omega arith in subst (λ j. slice_get made.resolvents j ≡ Some c) plain h) in
-    let past = covered_all task.given log m i made.resolvents made.resolvents 0 gives w.up_to all_covered same in
-    let count : 0 + length made.resolvents ≡ length made.resolvents = omega arith in
-    behind before task walk m i (moved before task walk m i 0 log made.gives.due.order w (pair_offered task.given w.is_task.some log m i made.resolvents made.gives.due.order (subst (λ j. IsLogUpTo task.given (Some (key m i (suc j))) log) count past) gives))
-
 -- The first k resolvents of a pair are offered.
 pub record IsOffering (all : List Term) (task : Task) (walk : Walk) (pair : Pair) (clauses : List (Clause Id)) (k : ℕ) : Type 0 where
   pub log : List offered.Entry
@@ -328,6 +289,34 @@ pub step_made : (all : List Term) (old new : Walk) (pair : Pair) (k : ℕ) (c : 
     → ((log : List offered.Entry) (at : Key) → TellLog all old.items.items log → IsOrigin log (resolvent_origin pair k) at → IsOfferMade all log old.items.items new.items.items old.budget (record { key = at; clause = clause_at all c }) found)
     → ((log : List offered.Entry) (at : Key) → TellLog all old.items.items log → IsOrigin log (resolvent_origin pair k) at → IsOfferMade all log old.items.items new.items.items old.budget (record { key = at; clause = clause_at all c }) due)
 step_made all old new pair k c found due same made = λ log at t o. subst (IsOfferMade all log old.items.items new.items.items old.budget (record { key = at; clause = clause_at all c })) same (made log at t o)
+
+-- An offer of a resolvent leaves the entries as they are, or adds one.
+pub offer_kept : (all : List Term) (task : Task) (old new : Walk) (pair : Pair) (clauses : List (Clause Id)) (k : ℕ) (c : Clause Id) (due : Option Entry) → IsOffering all task old pair clauses k
+    → ((log : List offered.Entry) (at : Key) → TellLog all old.items.items log → IsOrigin log (resolvent_origin pair k) at → IsOfferMade all log old.items.items new.items.items old.budget (record { key = at; clause = clause_at all c }) due) → AreSameOrMore old.items.items new.items.items
+offer_kept all task old new pair clauses k c due o made =
+    let number : suc k ≡ k + 1 = omega arith in
+    let at = key (major pair) (minor pair) (suc k) in
+    go due (record { key = at; clause = clause_at all c }) (made o.log at o.at.tell (ap (λ j. key (major pair) (minor pair) j) number, o.solved))
+  where
+    go : (due : Option Entry) (e : offered.Entry) → IsOfferMade all o.log old.items.items new.items.items old.budget e due → AreSameOrMore old.items.items new.items.items
+    go None e (inl covered) = inl covered.1
+    go None e (inr added) =
+        let before = log_length all old.items.items o.log o.at.tell in
+        let after = log_length all new.items.items (o.log ++ e ∷ []) added.tell in
+        let count : length (o.log ++ e ∷ []) ≡ length o.log + 1 = length-append o.log (e ∷ []) in
+        inr (omega (arith, before, after, count))
+    go (Some entry) e made = inl made.same
+
+pub more_on : (a b c : List Entry) → AreSameOrMore a b → AreSameOrMore b c → AreSameOrMore a c
+more_on a b c (inl p) (inl q) = inl (q ∙ p)
+more_on a b c (inl p) (inr q) = inr (let same = ap length p in omega (arith, q, same))
+more_on a b c (inr p) (inl q) = inr (let same = ap length q in omega (arith, p, same))
+more_on a b c (inr p) (inr q) = inr (omega (arith, p, q))
+
+-- where there are no more, they are the same
+pub same_if_no_more : (a b : List Entry) → AreSameOrMore a b → length b ≤ length a → b ≡ a
+same_if_no_more a b (inl p) few = p
+same_if_no_more a b (inr p) few = absurd (omega (arith, p, few))
 
 -- as the bank grows, a log with a pair that is too large stays one
 pub large_grows : (a b : List Term) (given : List (Clause Term)) (budget : ℕ) (entries : List Entry) (solved unsolved : ℕ) → Grows a b → IsLargeLog a given budget entries solved unsolved → IsLargeLog b given budget entries solved unsolved

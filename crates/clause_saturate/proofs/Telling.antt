@@ -32,6 +32,20 @@ TellEntries-grow a b log n (x ∷ xs) (e ∷ es) grows t = (TellsEntry-grows a b
 pub TellLog-grows : (a b : List Term) (entries : List Entry) (log : List offered.Entry) → Grows a b → TellLog a entries log → TellLog b entries log
 TellLog-grows a b entries log grows t = TellEntries-grow a b log 1 entries log grows t
 
+-- entries of an earlier bank tell in it what they tell now
+TellEntries-back : (a b : List Term) (was log : List offered.Entry) (n : ℕ) (entries : List Entry) (ds es : List offered.Entry) → Grows a b → TellEntries a was n entries ds → TellEntries b log n entries es → TellEntries a log n entries es
+TellEntries-back a b was log n [] ds [] grows t u = tt
+TellEntries-back a b was log n [] ds (e ∷ es) grows t u = absurd u
+TellEntries-back a b was log n (x ∷ xs) ds [] grows t u = absurd u
+TellEntries-back a b was log n (x ∷ xs) [] (e ∷ es) grows t u = absurd t
+TellEntries-back a b was log n (x ∷ xs) (d ∷ ds) (e ∷ es) grows t u =
+    let known = t.0.clause.known in
+    let same = NamesClause-grows a b x.clause (clause_at a x.clause) grows (record { known = known; is = refl }) in
+    (record { clause = record { known = known; is = sym same.is ∙ u.0.clause.is }; origin = u.0.origin }, u.1, TellEntries-back a b was log (suc n) xs ds es grows t.2 u.2)
+
+pub TellLog-back : (a b : List Term) (entries : List Entry) (was log : List offered.Entry) → Grows a b → TellLog a entries was → TellLog b entries log → TellLog a entries log
+TellLog-back a b entries was log grows t u = TellEntries-back a b was log 1 entries was log grows t u
+
 -- as many as there are
 tell_length : (all : List Term) (log : List offered.Entry) (n : ℕ) (entries : List Entry) (es : List offered.Entry) → TellEntries all log n entries es → length entries ≡ length es
 tell_length all log n [] [] t = refl

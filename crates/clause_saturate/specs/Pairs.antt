@@ -1,5 +1,5 @@
 -- Pairs of entries, and what they give.
-use Rattle.std.specs.Prelude.{◌≡◌, ℕ, ◌<◌, min, max, true, false, Option, Some, None, List}
+use Rattle.std.specs.Prelude.{◌≡◌, ◌⊎◌, ℕ, ◌<◌, min, max, true, false, Option, Some, None, List, length}
 use Rattle.terms.specs.Term.{Term}
 use Rattle.calculus.specs.Points.{numbered}
 use Rattle.clauses.specs.Fact as horn
@@ -12,6 +12,7 @@ use Rattle.clause_resolve.specs.declared.resolving.Resolved.{Resolved}
 use Rattle.clause_resolve.specs.declared.resolving.Resolved.TheVariants.{NoUnifier, Large, Clauses}
 use Rattle.clause_saturate.specs.declared.log.Entry.{Entry}
 use Rattle.clause_saturate.specs.declared.walk.Pair.{Pair}
+use Rattle.clause_saturate.specs.declared.walk.Stop.{Stop}
 
 -- the later and the earlier of two entries
 abbrev pub major : Pair → ℕ
@@ -61,3 +62,12 @@ abbrev pub IsFoundFor : List Term → List Term → List Entry → Pair → Reso
 IsFoundFor all now entries pair NoUnifier = GivesAnswer all entries pair answer.NoUnifier
 IsFoundFor all now entries pair Large = GivesAnswer all entries pair answer.Large
 IsFoundFor all now entries pair (Clauses clauses) = IsMadeBy all now entries pair clauses
+
+-- the entries are the same, or there are more
+abbrev pub AreSameOrMore : List Entry → List Entry → Type 0
+AreSameOrMore old new = (new ≡ old) ⊎ (length old < length new)
+
+-- where the walk goes on from a pair without an entry more, the bank is as before
+abbrev pub IsTidy : List Term → List Term → List Entry → List Entry → Option Stop → Type 0
+IsTidy before after old new None = length new ≡ length old → after ≡ before
+IsTidy before after old new (Some stop) = Unit {0}

@@ -48,7 +48,7 @@ fn covers<B: Bank>(
 }
 
 /// Whether a live entry subsumes the clause.
-pub(crate) fn is_covered<B: Bank>(
+fn is_covered<B: Bank>(
     alloc: Global,
     bank: &B,
     entries: &[Entry],

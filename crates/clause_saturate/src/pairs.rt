@@ -1,20 +1,16 @@
 //! Pairs of entries, and what they give.
 
-ghost use Rattle.std.specs.Prelude.{◌≡◌, ◌+◌, ◌<◌, ◌≤◌, true, false, Some, None, List, length, take, IfOk, MatchBool};
-ghost use Rattle.std.specs.List.{AllByRecursion};
-ghost use Rattle.terms.specs.Term.{Term};
-ghost use Rattle.clauses.specs.Fact.{Clause as ClauseOf};
+ghost use Rattle.std.specs.Prelude.{◌+◌, ◌<◌, ◌≤◌, length, take, IfOk, OnOk};
 ghost use Rattle.saturation.specs.Key.{key};
 ghost use Rattle.term_tree.specs.Bank.{Grows};
-ghost use Rattle.clause_form.specs.Seen.{clause_at};
 ghost use Rattle.clause_resolve.specs.Answers.{LeavesBank};
 ghost use Rattle.clause_saturate.specs.Fit.{AreFit};
-ghost use Rattle.clause_saturate.specs.Beating.{clauses_of, SomeLiveCovers};
-ghost use Rattle.clause_saturate.specs.Pairs.{major, minor, IsPairFound, IsDuePair, IsMadeBy, IsFoundFor};
+ghost use Rattle.clause_saturate.specs.Beating.{clauses_of};
+ghost use Rattle.clause_saturate.specs.Pairs.{major, minor, IsPairFound, IsDuePair, IsMadeBy, IsFoundFor, AreSameOrMore, IsTidy};
 ghost use Rattle.clause_saturate.specs.Walked.{Task, IsWalked, HasOffered, HasPassed};
 
 use crate::log::{Entry, Origin};
-use crate::offering::{is_covered, offer};
+use crate::offering::offer;
 use crate::walk::{Pair, Stop, Walk};
 use clause_form::Clause;
 use clause_resolve::{Resolved, resolvents};
@@ -56,26 +52,7 @@ fn due_pair<B: Bank>(bank: &B, entries: &[Entry], later: usize, earlier: usize) 
     None
 }
 
-/// Whether live entries subsume all the clauses.
-fn are_covered<B: Bank>(
-    alloc: Global,
-    bank: &B,
-    entries: &[Entry],
-    clauses: &[Clause],
-) -> Result<bool, AllocError>
-    requires entries { AreFit (B.trees bank.now) (clauses_of entries.now) }
-    requires clauses { AreFit (B.trees bank.now) clauses.now }
-    ensures { IfOk result (λ yes. yes ≡ true → AllByRecursion (λ c. SomeLiveCovers (B.trees bank.now) entries.now (clause_at (B.trees bank.now) c)) clauses.now) }
-{
-    'each: for clause in clauses {
-        if !is_covered(alloc, bank, entries, clause)? {
-            return Ok(false);
-        }
-    }
-    Ok(true)
-}
-
-/// Offers the resolvents of a due pair in order.
+/// Offers the resolvents of a due pair in order. The entries are the same then, or there are more.
 fn offer_resolvents<B: Bank>(
     walk: &mut Walk,
     bank: &B,
@@ -85,7 +62,8 @@ fn offer_resolvents<B: Bank>(
     ghost task: { Task }
     requires walked { IsWalked (B.trees bank.now) task walk.old (key (major pair) (minor pair) 1) }
     requires made { IsMadeBy (B.trees bank.now) (B.trees bank.now) walk.old.items.items pair clauses.now }
-    ensures { IfOk result (λ due. HasOffered (B.trees bank.now) task walk.new (key (major pair) (minor pair + 1) 1) due) }
+    ensures offered { IfOk result (λ due. HasOffered (B.trees bank.now) task walk.new (key (major pair) (minor pair + 1) 1) due) }
+    ensures entries { OnOk result (AreSameOrMore walk.old.items.items walk.new.items.items) }
 {
     let mut k = 0;
     'each: while k < clauses.len() {
@@ -103,7 +81,7 @@ fn offer_resolvents<B: Bank>(
     Ok(None)
 }
 
-/// Offers the resolvents of a due pair; where all are covered, the bank is taken back to the mark.
+/// Offers the resolvents of a due pair; where none of them is kept, the bank is taken back to the mark.
 fn keep<B: Bank>(
     walk: &mut Walk,
     bank: &mut B,
@@ -117,15 +95,18 @@ fn keep<B: Bank>(
     requires made { IsMadeBy (take mark.len (B.trees bank.old)) (B.trees bank.old) walk.old.items.items pair clauses.now }
     ensures grows { Grows (take mark.len (B.trees bank.old)) (B.trees bank.new) }
     ensures passed { IfOk result (λ stop. HasPassed (B.trees bank.new) task walk.new (key (major pair) (minor pair + 1) 1) stop) }
+    ensures tidy { IfOk result (λ stop. IsTidy (take mark.len (B.trees bank.old)) (B.trees bank.new) walk.old.items.items walk.new.items.items stop) }
 {
-    if are_covered(walk.alloc, bank, &walk.items, clauses)? {
-        bank.back(mark);
+    let count = walk.items.len();
+    match offer_resolvents(walk, bank, pair, clauses)? {
+        Some(due) => return Ok(Some(Stop::Spent(due))),
+        None => {}
+    }
+    if count < walk.items.len() {
         return Ok(None);
     }
-    match offer_resolvents(walk, bank, pair, clauses)? {
-        Some(due) => Ok(Some(Stop::Spent(due))),
-        None => Ok(None),
-    }
+    bank.back(mark);
+    Ok(None)
 }
 
 /// What a due pair gives on the selected hypothesis.
@@ -152,13 +133,14 @@ fn pair_resolvents<B: Bank>(
     }
 }
 
-/// Resolves a due pair, and offers the resolvents. On `Err` the bank may have grown.
+/// Resolves a due pair, and offers the resolvents; where none of them is kept, the bank is as before. On `Err` it may have grown.
 fn resolve<B: Bank>(walk: &mut Walk, bank: &mut B, pair: Pair) -> Result<Option<Stop>, AllocError>
     ghost task: { Task }
     requires walked { IsWalked (B.trees bank.old) task walk.old (key (major pair) (minor pair) 1) }
     requires due { IsDuePair (B.trees bank.old) walk.old.items.items (major pair) (minor pair) pair }
     ensures grows { Grows (B.trees bank.old) (B.trees bank.new) }
     ensures passed { IfOk result (λ stop. HasPassed (B.trees bank.new) task walk.new (key (major pair) (minor pair + 1) 1) stop) }
+    ensures tidy { IfOk result (λ stop. IsTidy (B.trees bank.old) (B.trees bank.new) walk.old.items.items walk.new.items.items stop) }
 {
     let mark = bank.mark();
     match pair_resolvents(walk.alloc, bank, &walk.items, pair)? {
@@ -171,8 +153,8 @@ fn resolve<B: Bank>(walk: &mut Walk, bank: &mut B, pair: Pair) -> Result<Option<
     }
 }
 
-/// Goes on from a pair of entries to the next: where it is due, its resolvents are offered. On `Err` the bank may
-/// have grown.
+/// Goes on from a pair of entries to the next: where it is due, its resolvents are offered, and where none of them is
+/// kept, the bank is as before. On `Err` it may have grown.
 pub(crate) fn try_pair<B: Bank>(
     walk: &mut Walk,
     bank: &mut B,
@@ -185,6 +167,7 @@ pub(crate) fn try_pair<B: Bank>(
     requires order { earlier < later }
     ensures grows { Grows (B.trees bank.old) (B.trees bank.new) }
     ensures passed { IfOk result (λ stop. HasPassed (B.trees bank.new) task walk.new (key later (earlier + 1) 1) stop) }
+    ensures tidy { IfOk result (λ stop. IsTidy (B.trees bank.old) (B.trees bank.new) walk.old.items.items walk.new.items.items stop) }
 {
     match due_pair(bank, &walk.items, later, earlier) {
         Some(pair) => {

@@ -1,5 +1,6 @@
 use Rattle.std.proofs.Common.{◌-◌, ◌≤◌, length}
 use Rattle.clause_saturate.specs.Fit.{AreFit}
+use Rattle.clause_saturate.specs.Pairs.{AreSameOrMore}
 use Rattle.clause_saturate.proofs.Pairing.{IsOffering}
 use Rattle.clause_saturate.proofs.pairs.offer_resolvents.Given as goal
 
@@ -8,6 +9,7 @@ invariant-each g l = record {
   within : l.k ≤ length l.clauses;
   fit : AreFit (g.B.Bank.trees l.bank) l.clauses;
   offering : IsOffering (g.B.Bank.trees l.bank) g.task l.walk l.pair l.clauses l.k;
+  kept : AreSameOrMore l.fn.walk.items.items l.walk.items.items;
 }
 
 abbrev pub decreases-each : goal.decreases-each
