@@ -1,5 +1,5 @@
 -- Words that `clap` takes make a request.
-use Rattle.std.proofs.Common.{◌≡◌, ◌∙◌, ◌&&◌, ◌||◌, ℕ, Bool, true, false, not, cond, List, [], ◌∷◌, Option, Some, None, refl, sym, ap, subst, is_some, codes, arith, length}
+use Rattle.std.proofs.Common.{◌≡◌, ◌≤◌, ◌∙◌, ◌&&◌, ◌||◌, ℕ, Bool, true, false, not, cond, List, [], ◌∷◌, Option, Some, None, refl, sym, ap, subst, is_some, codes, arith, length}
 use Rattle.std.specs.Prelude.{◌^◌, ◌-◌, ◌↔◌, IsSome, IsTrue, option_and_then, option_map, slice_get, unwrap_or}
 use Rattle.std.specs.List.{find}
 use Rattle.std.specs.Option.{option_map_or}
@@ -17,9 +17,9 @@ use Rattle.std.proofs.lemmas.Slice.Eq.{bytes_eq-Decides}
 use Rattle.clap.proofs.SimpleLemmas.{is_nil}
 use Rattle.clap.proofs.ValueTestLemmas.{Accepts-accepts, accepts-Accepts}
 use Rattle.command_words.specs.Commands.{budget_rule, name_rule, program_app, query_rule}
-use Rattle.command_words.specs.Request.{ListOf, Replay, Verify, asked, is_taken, list_in, number_of, replay_in, request_of, request_seen, verify_in}
+use Rattle.command_words.specs.Request.{Request, Check, ListOf, Replay, Verify, asked, check_in, is_taken, list_in, number_of, replay_in, request_of, request_seen, verify_in}
 use Rattle.command_words.specs.declared.Request.{Request as Request'}
-use Rattle.command_words.proofs.Rows.{default_good, default_there, first_there, given_there, good, is_number_id, kept_rows, row_from, number_there, one_keeps}
+use Rattle.command_words.proofs.Rows.{default_good, default_there, first_there, given_there, good, is_number_id, kept_rows, row_from, number_there, number_within, one_keeps, small_number}
 use Rattle.command_words.proofs.Stopping.{StopsElsewhere, walk_stops}
 use Rattle.command_words.proofs.Walking.{AllFit, Fits, level_good, neither}
 
@@ -47,12 +47,6 @@ name_fits i id free = record {
   default_keeps = λ rows g. kept_rows (has_row id rows) rows g;
 }
 
--- a number in the budget's range is one that 64 bits hold
-pub small_number : (v : Text) → is_unsigned_in 0 1000000 v ≡ true → is_unsigned_in 0 (2 ^ 64 - 1) v ≡ true
-small_number v e =
-    let h = accepts-Accepts false (Unsigned 0 1000000) v e in
-    Accepts-accepts false (Unsigned 0 (2 ^ 64 - 1)) v (h.0, h.1, omega arith, omega (arith, h.3))
-
 accepted : (b : Bool) → cond b [] (ValueValidation ∷ []) ≡ [] → b ≡ true
 accepted true e = refl
 accepted false e = cc
@@ -60,7 +54,7 @@ accepted false e = cc
 budget_passes : (v : Text) → values_fault budget (v ∷ []) ≡ [] → good (row_from budget CommandLine v) ≡ true
 budget_passes v e =
     let parts = neither (value_kinds false (Unsigned 0 1000000) v) [] e in
-    rw (small_number v (accepted (is_unsigned_in 0 1000000 v) parts.0)) refl
+    rw (accepted (is_unsigned_in 0 1000000 v) parts.0) refl
 
 budget_fits : Fits good budget
 budget_fits = record {
@@ -73,10 +67,15 @@ small_query v e =
     let h = accepts-Accepts false (Unsigned 1 256) v e in
     Accepts-accepts false (Unsigned 0 (2 ^ 64 - 1)) v (h.0, h.1, omega arith, omega (arith, h.3))
 
+within_budgets : (v : Text) → is_unsigned_in 1 256 v ≡ true → is_unsigned_in 0 1000000 v ≡ true
+within_budgets v e =
+    let h = accepts-Accepts false (Unsigned 1 256) v e in
+    Accepts-accepts false (Unsigned 0 1000000) v (h.0, h.1, omega arith, omega (arith, h.3))
+
 query_passes : (v : Text) → values_fault query (v ∷ []) ≡ [] → good (row_from query CommandLine v) ≡ true
 query_passes v e =
     let parts = neither (value_kinds false (Unsigned 1 256) v) [] e in
-    rw (small_query v (accepted (is_unsigned_in 1 256 v) parts.0)) refl
+    rw (within_budgets v (accepted (is_unsigned_in 1 256 v) parts.0)) refl
 
 query_fits : Fits good query
 query_fits = record {
@@ -100,20 +99,54 @@ program = built program_app
 abbrev verify : Shape
 verify = unwrap_or (slice_get program.subs 0) program.top
 
+abbrev check : Shape
+check = unwrap_or (slice_get program.subs 1) program.top
+
 abbrev list : Shape
-list = unwrap_or (slice_get program.subs 1) program.top
+list = unwrap_or (slice_get program.subs 2) program.top
 
 abbrev replay : Shape
-replay = unwrap_or (slice_get program.subs 2) program.top
+replay = unwrap_or (slice_get program.subs 3) program.top
 
 verify_fits : AllFit good verify.rules
 verify_fits = (name_fits 1 (codes "file") refl, (budget_fits, (help_fits, tt)))
+
+check_fits : AllFit good check.rules
+check_fits = (name_fits 1 (codes "file") refl, (name_fits 2 (codes "report") refl, (help_fits, tt)))
 
 list_fits : AllFit good list.rules
 list_fits = (name_fits 1 (codes "file") refl, (query_fits, (help_fits, tt)))
 
 replay_fits : AllFit good replay.rules
 replay_fits = (name_fits 1 (codes "file") refl, (name_fits 2 (codes "run") refl, (help_fits, tt)))
+
+-- a budget that is asked for is at most 1,000,000
+abbrev pub WithinBudget : Option Request → Type 0
+WithinBudget None = Unit {0}
+WithinBudget (Some (Verify file n)) = n ≤ 1000000
+WithinBudget (Some (Check file report)) = Unit {0}
+WithinBudget (Some (ListOf file n)) = Unit {0}
+WithinBudget (Some (Replay file run)) = Unit {0}
+
+verify_bound : (f : Option Text) (n : Option ℕ) → ((m : ℕ) → n ≡ Some m → m ≤ 1000000) → WithinBudget (option_and_then (λ file. option_map (Verify file) n) f)
+verify_bound None n bound = tt
+verify_bound (Some f) None bound = tt
+verify_bound (Some f) (Some m) bound = bound m refl
+
+check_bound : (f r : Option Text) → WithinBudget (option_and_then (λ file. option_map (Check file) r) f)
+check_bound None r = tt
+check_bound (Some f) None = tt
+check_bound (Some f) (Some r) = tt
+
+list_bound : (f : Option Text) (n : Option ℕ) → WithinBudget (option_and_then (λ file. option_map (ListOf file) n) f)
+list_bound None n = tt
+list_bound (Some f) None = tt
+list_bound (Some f) (Some n) = tt
+
+replay_bound : (f r : Option Text) → WithinBudget (option_and_then (λ file. option_map (Replay file) r) f)
+replay_bound None r = tt
+replay_bound (Some f) None = tt
+replay_bound (Some f) (Some r) = tt
 
 -- what is required was given
 one_given : (a : Bool) → check_kinds false false (not a || false) ≡ [] → a ≡ true
@@ -135,6 +168,14 @@ still_there : (b : Bool) (rows : List Row) (p : Row → Bool) → is_some (find 
 still_there true rows p e = e
 still_there false rows p e = e
 
+verify_within : (words : List Text) → level_fault verify [] nothing_held words false [] ≡ [] → WithinBudget (verify_in (rows_after verify.rules [] words))
+verify_within words e =
+    let level = level_good good verify refl verify_fits [] words false [] e in
+    let rows = rows_after verify.rules [] words in
+    let before = with_default (settled verify.rules (walk verify.rules [] nothing_held words).held).rows (name_at 1 (codes "file")) in
+    let number = still_there (has_row (codes "help") (with_default before budget)) (with_default before budget) (λ r. bytes_eq r.id (codes "budget")) (default_there budget (codes "10000") before) in
+    verify_bound (first_of (codes "file") rows) (option_and_then number_of (one_of (codes "budget") rows)) (number_within rows (codes "budget") refl level.0 number)
+
 verify_some : (words : List Text) → level_fault verify [] nothing_held words false [] ≡ [] → is_some (verify_in (rows_after verify.rules [] words)) ≡ true
 verify_some words e =
     let level = level_good good verify refl verify_fits [] words false [] e in
@@ -144,6 +185,14 @@ verify_some words e =
     let number = still_there (has_row (codes "help") (with_default before budget)) (with_default before budget) (λ r. bytes_eq r.id (codes "budget")) (default_there budget (codes "10000") before) in
     some_both Verify (first_of (codes "file") rows) (option_and_then number_of (one_of (codes "budget") rows))
     (first_there rows (codes "file") level.0 file) (number_there rows (codes "budget") refl level.0 number)
+
+check_some : (words : List Text) → level_fault check [] nothing_held words false [] ≡ [] → is_some (check_in (rows_after check.rules [] words)) ≡ true
+check_some words e =
+    let level = level_good good check refl check_fits [] words false [] e in
+    let rows = rows_after check.rules [] words in
+    let given = both_given (is_given (codes "file") rows) (is_given (codes "report") rows) level.1 in
+    some_both Check (first_of (codes "file") rows) (first_of (codes "report") rows)
+    (first_there rows (codes "file") level.0 (given_there _ given.0)) (first_there rows (codes "report") level.0 (given_there _ given.1))
 
 list_some : (words : List Text) → level_fault list [] nothing_held words false [] ≡ [] → is_some (list_in (rows_after list.rules [] words)) ≡ true
 list_some words e =
@@ -164,41 +213,57 @@ replay_some words e =
 -- ---- the program
 
 -- the subcommand at which a parse stopped, by the tests of its name
-abbrev met : Bool → Bool → Bool → Bool → Option Shape
-met is_verify is_list is_replay is_help =
-    cond (is_verify || false) (Some verify) (cond (is_list || false) (Some list)
-    (cond (is_replay || false) (Some replay) (cond (is_help || false) (slice_get program.subs 3) None)))
+abbrev met : Bool → Bool → Bool → Bool → Bool → Option Shape
+met is_verify is_check is_list is_replay is_help =
+    cond (is_verify || false) (Some verify) (cond (is_check || false) (Some check) (cond (is_list || false) (Some list)
+    (cond (is_replay || false) (Some replay) (cond (is_help || false) (slice_get program.subs 4) None))))
 
 -- a command is wanted
 command_met : (b : Bool) (rows : List Row) → check_fault program.top rows b ≡ [] → b ≡ true
 command_met true rows e = refl
 command_met false rows e = cc
 
-command_some : (is_verify is_list is_replay is_help : Bool) (words : List Text) → is_help ≡ false
-    → option_map_or (λ s. level_fault s [] nothing_held words false []) (met is_verify is_list is_replay is_help) [] ≡ []
-    → is_some (option_map (λ s. rows_at s words) (met is_verify is_list is_replay is_help)) ≡ true
-    → is_some (asked (option_map (λ s. rows_at s words) (met is_verify is_list is_replay is_help))) ≡ true
-command_some true l r h words no_help e there = verify_some words e
-command_some false true r h words no_help e there = list_some words e
-command_some false false true h words no_help e there = replay_some words e
-command_some false false false true words no_help e there = cc
-command_some false false false false words no_help e there = cc
+not_help_either : (name : Text) → bytes_eq name (codes "help") ≡ false → bytes_eq (codes "help") name ≡ false
+not_help_either name not_help = go (bytes_eq (codes "help") name) refl
+  where
+    go : (b : Bool) → bytes_eq (codes "help") name ≡ b → b ≡ false
+    go false is = refl
+    go true is =
+        let same : codes "help" ≡ name = (bytes_eq-Decides (codes "help") name).0 is in
+        let bad : bytes_eq (codes "help") (codes "help") ≡ false = subst (λ x. bytes_eq x (codes "help") ≡ false) (sym same) not_help in
+        cc
+
+command_some : (is_verify is_check is_list is_replay is_help : Bool) (words : List Text) → is_help ≡ false
+    → option_map_or (λ s. level_fault s [] nothing_held words false []) (met is_verify is_check is_list is_replay is_help) [] ≡ []
+    → is_some (option_map (λ s. rows_at s words) (met is_verify is_check is_list is_replay is_help)) ≡ true
+    → is_some (asked (option_map (λ s. rows_at s words) (met is_verify is_check is_list is_replay is_help))) ≡ true
+command_some true c l r h words no_help e there = verify_some words e
+command_some false true l r h words no_help e there = check_some words e
+command_some false false true r h words no_help e there = list_some words e
+command_some false false false true h words no_help e there = replay_some words e
+command_some false false false false true words no_help e there = cc
+command_some false false false false false words no_help e there = cc
+
+command_within : (is_verify is_check is_list is_replay is_help : Bool) (words : List Text) → is_help ≡ false
+    → option_map_or (λ s. level_fault s [] nothing_held words false []) (met is_verify is_check is_list is_replay is_help) [] ≡ []
+    → WithinBudget (asked (option_map (λ s. rows_at s words) (met is_verify is_check is_list is_replay is_help)))
+command_within true c l r h words no_help e = verify_within words e
+command_within false true l r h words no_help e = check_bound (first_of (codes "file") (rows_after check.rules [] words)) (first_of (codes "report") (rows_after check.rules [] words))
+command_within false false true r h words no_help e = list_bound (first_of (codes "file") (rows_after list.rules [] words)) (option_and_then number_of (one_of (codes "query") (rows_after list.rules [] words)))
+command_within false false false true h words no_help e = replay_bound (first_of (codes "file") (rows_after replay.rules [] words)) (first_of (codes "run") (rows_after replay.rules [] words))
+command_within false false false false true words no_help e = cc
+command_within false false false false false words no_help e = tt
 
 stopped_some : (stop : Option (Text × List Text)) → StopsElsewhere stop → entered_fault program stop ≡ [] → is_some (entered program stop) ≡ true
     → is_some (asked (entered program stop)) ≡ true
 stopped_some None elsewhere e there = cc
 stopped_some (Some p) elsewhere e there =
-    command_some (bytes_eq (codes "verify") p.0) (bytes_eq (codes "list") p.0) (bytes_eq (codes "replay") p.0) (bytes_eq (codes "help") p.0) p.1 (other p.0 elsewhere) e there
-  where
-    other : (name : Text) → bytes_eq name (codes "help") ≡ false → bytes_eq (codes "help") name ≡ false
-    other name not_help = go (bytes_eq (codes "help") name) refl
-      where
-        go : (b : Bool) → bytes_eq (codes "help") name ≡ b → b ≡ false
-        go false is = refl
-        go true is =
-            let same : codes "help" ≡ name = (bytes_eq-Decides (codes "help") name).0 is in
-            let bad : bytes_eq (codes "help") (codes "help") ≡ false = subst (λ x. bytes_eq x (codes "help") ≡ false) (sym same) not_help in
-            cc
+    command_some (bytes_eq (codes "verify") p.0) (bytes_eq (codes "check") p.0) (bytes_eq (codes "list") p.0) (bytes_eq (codes "replay") p.0) (bytes_eq (codes "help") p.0) p.1 (not_help_either p.0 elsewhere) e there
+
+stopped_within : (stop : Option (Text × List Text)) → StopsElsewhere stop → entered_fault program stop ≡ [] → WithinBudget (asked (entered program stop))
+stopped_within None elsewhere e = tt
+stopped_within (Some p) elsewhere e =
+    command_within (bytes_eq (codes "verify") p.0) (bytes_eq (codes "check") p.0) (bytes_eq (codes "list") p.0) (bytes_eq (codes "replay") p.0) (bytes_eq (codes "help") p.0) p.1 (not_help_either p.0 elsewhere) e
 
 -- words at which no step of the parse has a fault make a request
 pub taken_asks : (words : List Text) → fault_of program_app words ≡ [] → is_some (asked (subcommand_of program_app words)) ≡ true
@@ -211,6 +276,22 @@ taken_asks words e =
     let from_defaults = neither (defaults_fault (settled program.top.rules end.held).rows program.top.rules) _ from_settle.1 in
     let there = command_met (is_some (entered program end.stopped)) (finished program.top.rules end.held) from_defaults.1 in
     stopped_some end.stopped (walk_stops program.top refl (names_of program) (walk_from nothing_held) given from_walk.0 tt) from_below.0 there
+
+-- and a budget in it is bounded
+asks_within : (words : List Text) → fault_of program_app words ≡ [] → WithinBudget (asked (subcommand_of program_app words))
+asks_within words e =
+    let given = argument_words program_app words in
+    let end = walk program.top.rules (names_of program) nothing_held given in
+    let from_walk = neither (walk_fault program.top (names_of program) (walk_from nothing_held) given) _ e in
+    let from_below = neither (entered_fault program end.stopped) _ from_walk.1 in
+    stopped_within end.stopped (walk_stops program.top refl (names_of program) (walk_from nothing_held) given from_walk.0 tt) from_below.0
+
+within_where_chosen : (b : Bool) (x : Option Request) → (b ≡ true → WithinBudget x) → WithinBudget (cond b x None)
+within_where_chosen true x within = within refl
+within_where_chosen false x within = tt
+
+pub request_within : (words : List Text) → WithinBudget (request_of words)
+request_within words = within_where_chosen (is_taken words) (asked (subcommand_of program_app words)) (λ t. asks_within words (is_nil _ t))
 
 -- a choice is made where its test holds
 chosen : {X : Type 0} (b : Bool) (x : Option X) → (IsTrue b → IsSome x) → IsTrue b ↔ IsSome (cond b x None)

@@ -1,5 +1,5 @@
 pub mod Reading
 mod Walking
 mod Stopping
-mod Rows
+pub mod Rows
 pub mod Complete

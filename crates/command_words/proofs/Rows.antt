@@ -1,12 +1,15 @@
 -- What the rows hold of the program's arguments, after a parse that has no fault.
-use Rattle.std.proofs.Common.{◌≡◌, ◌∙◌, ◌&&◌, ◌||◌, ◌==◌, ℕ, Bool, true, false, not, cond, List, [], ◌∷◌, ◌++◌, length, Option, Some, None, refl, sym, ap, ap₂, subst, is_some, codes, append-nil, eqb-true, arith}
-use Rattle.std.specs.Prelude.{option_and_then, slice_get}
+use Rattle.std.proofs.Common.{◌≡◌, ◌∙◌, ◌&&◌, ◌||◌, ◌==◌, ◌≤◌, ℕ, Bool, true, false, not, cond, List, [], ◌∷◌, ◌++◌, length, Option, Some, None, refl, sym, ap, ap₂, subst, is_some, codes, append-nil, eqb-true, arith}
+use Rattle.std.specs.Prelude.{◌^◌, ◌-◌, option_and_then, slice_get}
 use Rattle.std.specs.List.{find, list_all}
 use Rattle.std.specs.Option.{option_map_or}
 use Rattle.std.specs.Str.{bytes_eq}
 use Rattle.std.proofs.lemmas.List.Folds.{list_all-append}
 use Rattle.std.proofs.lemmas.Slice.Eq.{bytes_eq-Decides}
+use Rattle.std.specs.Str.Parse.{digits_value, without_leading_plus}
 use Rattle.clap.specs.Facts.{explicit_source}
+use Rattle.clap.specs.ValueTests.{is_unsigned_in}
+use Rattle.clap.specs.declared.builder.value_parser.ValueParser.TheVariants.{Unsigned}
 use Rattle.clap.specs.Kinds.{range_kinds}
 use Rattle.clap.specs.Walk.{Row, Rule, Text, at_row, first_of, has_row, more_values, one_of, reading_by, row_text, used, with_default, without}
 use Rattle.clap.specs.Faults.{use_fault, values_fault}
@@ -14,6 +17,7 @@ use Rattle.clap.specs.declared.builder.action.ArgAction.TheVariants.{Set}
 use Rattle.clap.specs.declared.error.kind.ErrorKind.TheVariants.{ArgumentConflict, InvalidValue, WrongNumberOfValues}
 use Rattle.clap.specs.declared.parser.matches.ValueSource.{ValueSource}
 use Rattle.clap.specs.declared.parser.matches.ValueSource.TheVariants.{CommandLine, DefaultValue}
+use Rattle.clap.proofs.ValueTestLemmas.{Accepts-accepts, accepts-Accepts}
 use Rattle.clap.proofs.WalkLemmas.{both}
 use Rattle.command_words.specs.Request.{number_of}
 use Rattle.command_words.proofs.Walking.{neither}
@@ -22,9 +26,33 @@ use Rattle.command_words.proofs.Walking.{neither}
 abbrev pub is_number_id : Text → Bool
 is_number_id id = bytes_eq id (codes "budget") || bytes_eq id (codes "query")
 
--- the row has a value, which is a number where one is wanted
+-- a number up to 1,000,000, the greatest that a command takes
+abbrev pub is_small : Option Text → Bool
+is_small None = false
+is_small (Some text) = is_unsigned_in 0 1000000 text
+
+-- the row has a value, which is such a number where one is wanted
 abbrev pub good : Row → Bool
-good r = is_some (slice_get r.values 0) && (not (is_number_id r.id) || is_some (option_and_then number_of (row_text r)))
+good r = is_some (slice_get r.values 0) && (not (is_number_id r.id) || is_small (row_text r))
+
+-- 64 bits hold it
+pub small_number : (v : Text) → is_unsigned_in 0 1000000 v ≡ true → is_unsigned_in 0 (2 ^ 64 - 1) v ≡ true
+small_number v e =
+    let h = accepts-Accepts false (Unsigned 0 1000000) v e in
+    Accepts-accepts false (Unsigned 0 (2 ^ 64 - 1)) v (h.0, h.1, omega arith, omega (arith, h.3))
+
+small_there : (o : Option Text) → is_small o ≡ true → is_some (option_and_then number_of o) ≡ true
+small_there None e = cc
+small_there (Some v) e = rw (small_number v e) refl
+
+small_within : (o : Option Text) → is_small o ≡ true → (n : ℕ) → option_and_then number_of o ≡ Some n → n ≤ 1000000
+small_within None e n is = cc
+small_within (Some v) e n is =
+    let h = accepts-Accepts false (Unsigned 0 1000000) v e in
+    let spelled : number_of v ≡ Some (digits_value 10 (without_leading_plus v)) = rw (small_number v e) refl in
+    let both_ways : Some (digits_value 10 (without_leading_plus v)) ≡ Some n = sym spelled ∙ is in
+    let same : digits_value 10 (without_leading_plus v) ≡ n = cc in
+    omega (arith, h.3, same)
 
 -- ---- where an id has no row yet, its row joins at the end
 
@@ -113,6 +141,10 @@ first_there rows id g there =
     let row = found_good rows id g there in
     ap (λ o. is_some (option_and_then (λ (r : Row). slice_get r.values 0) o)) row.1 ∙ (both (is_some (slice_get row.0.values 0)) _ row.3).0
 
+wanted_passes : (a b : Bool) → a ≡ true → (not a || b) ≡ true → b ≡ true
+wanted_passes true b is e = e
+wanted_passes false b is e = cc
+
 -- and is a number, where one is wanted
 pub number_there : (rows : List Row) (id : Text) → is_number_id id ≡ true → list_all good rows ≡ true → is_some (find (λ r. bytes_eq r.id id) rows) ≡ true
     → is_some (option_and_then number_of (one_of id rows)) ≡ true
@@ -120,11 +152,17 @@ number_there rows id wanted g there =
     let row = found_good rows id g there in
     let is : is_number_id row.0.id ≡ true = ap is_number_id row.2 ∙ wanted in
     let parts = both (is_some (slice_get row.0.values 0)) _ row.3 in
-    ap (λ o. is_some (option_and_then number_of (option_and_then row_text o))) row.1 ∙ wanted_passes _ _ is parts.1
-  where
-    wanted_passes : (a b : Bool) → a ≡ true → (not a || b) ≡ true → b ≡ true
-    wanted_passes true b is e = e
-    wanted_passes false b is e = cc
+    ap (λ o. is_some (option_and_then number_of (option_and_then row_text o))) row.1 ∙ small_there (row_text row.0) (wanted_passes _ _ is parts.1)
+
+-- which is at most 1,000,000
+pub number_within : (rows : List Row) (id : Text) → is_number_id id ≡ true → list_all good rows ≡ true → is_some (find (λ r. bytes_eq r.id id) rows) ≡ true
+    → (n : ℕ) → option_and_then number_of (one_of id rows) ≡ Some n → n ≤ 1000000
+number_within rows id wanted g there n spelled =
+    let row = found_good rows id g there in
+    let is : is_number_id row.0.id ≡ true = ap is_number_id row.2 ∙ wanted in
+    let parts = both (is_some (slice_get row.0.values 0)) _ row.3 in
+    small_within (row_text row.0) (wanted_passes _ _ is parts.1) n
+    (sym (ap (λ o. option_and_then number_of (option_and_then row_text o)) row.1) ∙ spelled)
 
 -- what was given in the words has a row
 pub given_there : (o : Option Row) → option_map_or (λ r. explicit_source r.source) o false ≡ true → is_some o ≡ true

@@ -21,6 +21,12 @@ verify_shape =
     let named = with_rule (new_app (codes "verify")) (name_rule (codes "file")) in
     (with_rule named budget_rule).top
 
+-- `check FILE REPORT`
+abbrev pub check_shape : Shape
+check_shape =
+    let named = with_rule (new_app (codes "check")) (name_rule (codes "file")) in
+    (with_rule named (name_rule (codes "report"))).top
+
 -- a query's number, from 1 to 256
 abbrev pub query_rule : Rule
 query_rule = record (new_rule (codes "query")) {
@@ -40,9 +46,13 @@ replay_shape =
     let named = with_rule (new_app (codes "replay")) (name_rule (codes "file")) in
     (with_rule named (name_rule (codes "run"))).top
 
--- the program, one of whose commands has to be given
-abbrev pub program_app : App
-program_app =
+-- the program with the commands about verdicts, one of which has to be given
+abbrev pub verdicts_app : App
+verdicts_app =
     let bare = new_app (codes "hv") in
     let program = record bare { top = record bare.top { subcommand_required = true } } in
-    with_subcommand (with_subcommand (with_subcommand program verify_shape) list_shape) replay_shape
+    with_subcommand (with_subcommand program verify_shape) check_shape
+
+-- the program with all its commands
+abbrev pub program_app : App
+program_app = with_subcommand (with_subcommand verdicts_app list_shape) replay_shape

@@ -13,12 +13,14 @@ use Rattle.command_words.specs.declared.Request.TheVariants as declared
 -- a request, with the texts of its names
 pub data Request : Type 0 where
   Verify : (file : Text) → (budget : ℕ) → Request
+  Check : (file : Text) → (report : Text) → Request
   ListOf : (file : Text) → (query : ℕ) → Request
   Replay : (file : Text) → (run : Text) → Request
 
 -- the request that a value of the program stands for
 abbrev pub request_seen : Request' → Request
 request_seen (declared.Verify file budget) = Verify file.now budget
+request_seen (declared.Check file report) = Check file.now report.now
 request_seen (declared.List file query) = ListOf file.now query
 request_seen (declared.Replay file run) = Replay file.now run.now
 
@@ -32,6 +34,11 @@ abbrev pub verify_in : List Row → Option Request
 verify_in rows = option_and_then (λ file. option_map (Verify file)
     (option_and_then number_of (one_of (codes "budget") rows)))
     (first_of (codes "file") rows)
+
+-- what `check` was given
+abbrev pub check_in : List Row → Option Request
+check_in rows = option_and_then (λ file. option_map (Check file)
+    (first_of (codes "report") rows)) (first_of (codes "file") rows)
 
 -- what `list` was given
 abbrev pub list_in : List Row → Option Request
@@ -47,8 +54,9 @@ replay_in rows = option_and_then (λ file. option_map (Replay file)
 -- what the command was given, by its name and its matches
 abbrev pub command_in : Text × List Row → Option Request
 command_in command = if bytes_eq command.0 (codes "verify") then verify_in command.1
+    else (if bytes_eq command.0 (codes "check") then check_in command.1
     else (if bytes_eq command.0 (codes "list") then list_in command.1
-    else (if bytes_eq command.0 (codes "replay") then replay_in command.1 else None))
+    else (if bytes_eq command.0 (codes "replay") then replay_in command.1 else None)))
 
 -- what the program was asked, by the subcommand that the words name
 abbrev pub asked : Option (Text × List Row) → Option Request

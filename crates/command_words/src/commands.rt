@@ -2,13 +2,16 @@
 ghost use Rattle.std.specs.Prelude.{◌≡◌, IfOk, false};
 ghost use Rattle.clap.specs.Words.{app_of, rule_of, shape_of};
 ghost use Rattle.clap.specs.declared.builder.command.Command.TheViews.{out-Command as fields_of};
-ghost use Rattle.command_words.specs.Commands.{list_shape, name_rule, program_app, replay_shape, verify_shape};
+ghost use Rattle.command_words.specs.Commands.{check_shape, list_shape, name_rule, program_app};
+ghost use Rattle.command_words.specs.Commands.{replay_shape, verdicts_app, verify_shape};
 
 use clap::builder::ValueParser;
 use clap::{Arg, Command};
 use std::alloc::{AllocError, Global};
 
 pub const VERIFY: &str = "verify";
+
+pub const CHECK: &str = "check";
 
 pub const LIST: &str = "list";
 
@@ -17,6 +20,8 @@ pub const REPLAY: &str = "replay";
 pub const FILE: &str = "file";
 
 pub const BUDGET: &str = "budget";
+
+pub const REPORT: &str = "report";
 
 pub const QUERY: &str = "query";
 
@@ -32,11 +37,19 @@ const MOST_QUERIES: u64 = 256;
 pub fn program<'a>(alloc: Global) -> Result<Command<'a>, AllocError>
     ensures { IfOk result (λ c. app_of c ≡ program_app) }
 {
+    commands_on_verdicts(alloc)?
+        .subcommand(list(alloc)?)?
+        .subcommand(replay(alloc)?)
+}
+
+/// The program with the commands about verdicts.
+fn commands_on_verdicts<'a>(alloc: Global) -> Result<Command<'a>, AllocError>
+    ensures { IfOk result (λ c. app_of c ≡ verdicts_app) }
+{
     Command::new(alloc, "hv")
         .subcommand_required(true)
         .subcommand(verify(alloc)?)?
-        .subcommand(list(alloc)?)?
-        .subcommand(replay(alloc)?)
+        .subcommand(check(alloc)?)
 }
 
 /// `verify FILE [--budget N]`
@@ -51,6 +64,16 @@ fn verify<'a>(alloc: Global) -> Result<Command<'a>, AllocError>
     Command::new(alloc, VERIFY)
         .arg(required_name(alloc, FILE))?
         .arg(budget)
+}
+
+/// `check FILE REPORT`
+fn check<'a>(alloc: Global) -> Result<Command<'a>, AllocError>
+    ensures shape { IfOk result (λ c. shape_of c ≡ check_shape) }
+    ensures local { IfOk result (λ c. (fields_of c).has_globals ≡ false) }
+{
+    Command::new(alloc, CHECK)
+        .arg(required_name(alloc, FILE))?
+        .arg(required_name(alloc, REPORT))
 }
 
 /// `list FILE QUERY`

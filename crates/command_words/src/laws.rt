@@ -1,9 +1,10 @@
 //! What follows from the definitions of the words, as contracts of functions that do nothing.
-ghost use Rattle.std.specs.Prelude.{◌≡◌, ◌≢◌, ◌↔◌, ◌∷◌, ◌++◌, [], ℕ, List, None, Some, true};
-ghost use Rattle.std.specs.Prelude.{false, IsSome, IsTrue, codes, slice_index};
+ghost use Rattle.std.specs.Prelude.{◌≡◌, ◌≢◌, ◌↔◌, ◌≤◌, ◌∷◌, ◌++◌, [], ℕ, List, None, Some};
+ghost use Rattle.std.specs.Prelude.{true, false, IsSome, IsTrue, codes, slice_index};
 ghost use Rattle.std.specs.Str.Parse.{digits_value, without_leading_plus};
 ghost use Rattle.clap.specs.ValueTests.{is_unsigned_in};
-ghost use Rattle.command_words.specs.Request.{ListOf, Replay, Verify, is_taken, request_of};
+ghost use Rattle.command_words.specs.Request.{Check, ListOf, Replay, Verify, is_taken};
+ghost use Rattle.command_words.specs.Request.{request_of};
 
 /// The words that `clap` takes are those that make a request.
 pub fn taken_words()
@@ -14,6 +15,9 @@ pub fn taken_words()
 pub fn names_without_dashes()
     ensures verify { (program file : List ℕ) → slice_index file 0 ≢ 45
         → request_of (program ∷ codes "verify" ∷ file ∷ []) ≡ Some (Verify file 10000) }
+    ensures check { (program file report : List ℕ) → slice_index file 0 ≢ 45
+        → slice_index report 0 ≢ 45
+        → request_of (program ∷ codes "check" ∷ file ∷ report ∷ []) ≡ Some (Check file report) }
     ensures replay { (program file run : List ℕ) → slice_index file 0 ≢ 45
         → slice_index run 0 ≢ 45
         → request_of (program ∷ codes "replay" ∷ file ∷ run ∷ []) ≡ Some (Replay file run) }
@@ -24,6 +28,9 @@ pub fn names_after_dashes()
     ensures verify { (program file : List ℕ) →
         request_of (program ∷ codes "verify" ∷ codes "--" ∷ file ∷ [])
         ≡ Some (Verify file 10000) }
+    ensures check { (program file report : List ℕ) →
+        request_of (program ∷ codes "check" ∷ codes "--" ∷ file ∷ report ∷ [])
+        ≡ Some (Check file report) }
     ensures replay { (program file run : List ℕ) →
         request_of (program ∷ codes "replay" ∷ codes "--" ∷ file ∷ run ∷ [])
         ≡ Some (Replay file run) }
@@ -39,6 +46,12 @@ pub fn budgets()
         → is_unsigned_in 0 1000000 number ≡ false
         → request_of (program ∷ codes "verify" ∷ file ∷ (codes "--budget=" ++ number) ∷ [])
         ≡ None }
+{}
+
+/// A budget that is asked for is at most 1,000,000.
+pub fn asked_budgets()
+    ensures { (words : List (List ℕ)) (file : List ℕ) (budget : ℕ) →
+        request_of words ≡ Some (Verify file budget) → budget ≤ 1000000 }
 {}
 
 /// `list` takes a query's number from 1 to 256, and nothing else.

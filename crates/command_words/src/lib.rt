@@ -9,8 +9,8 @@
 ghost use Rattle.std.specs.Prelude.{◌≡◌, ◌↔◌, IfOk, IsSome, IsTrue, map, option_map};
 ghost use Rattle.std.specs.Prelude.{string_bytes};
 ghost use Rattle.clap.specs.Words.{found_of, rows_of, subcommand_rows_of};
-ghost use Rattle.command_words.specs.Request.{asked, is_taken, list_in, replay_in, request_of};
-ghost use Rattle.command_words.specs.Request.{request_seen, verify_in};
+ghost use Rattle.command_words.specs.Request.{asked, check_in, is_taken, list_in, replay_in};
+ghost use Rattle.command_words.specs.Request.{request_of, request_seen, verify_in};
 
 mod commands;
 pub mod laws;
@@ -28,6 +28,13 @@ pub enum Request<'a> {
         file: &'a str,
         /// How many clauses the saturation may keep for each query, from 0 to 1,000,000.
         budget: u64,
+    },
+    /// `check FILE REPORT`: check each certificate of a report on the protocol in `file`.
+    Check {
+        /// The name of the protocol's file.
+        file: &'a str,
+        /// The name of the file that spells the report.
+        report: &'a str,
     },
     /// `list FILE QUERY`: list the clauses that the protocol in `file` and a query of it are translated into.
     List {
@@ -69,6 +76,7 @@ fn requested<'a>(matches: &ArgMatches<'a>) -> Option<Request<'a>>
 {
     match matches.subcommand()? {
         (commands::VERIFY, given) => verify_requested(given),
+        (commands::CHECK, given) => check_requested(given),
         (commands::LIST, given) => list_requested(given),
         (commands::REPLAY, given) => replay_requested(given),
         _ => None,
@@ -81,6 +89,15 @@ fn verify_requested<'a>(given: &ArgMatches<'a>) -> Option<Request<'a>>
     Some(Request::Verify {
         file: given.get_str(commands::FILE)?,
         budget: given.get_one(commands::BUDGET)?,
+    })
+}
+
+fn check_requested<'a>(given: &ArgMatches<'a>) -> Option<Request<'a>>
+    ensures { option_map request_seen result ≡ check_in (rows_of (found_of given.now)) }
+{
+    Some(Request::Check {
+        file: given.get_str(commands::FILE)?,
+        report: given.get_str(commands::REPORT)?,
     })
 }
 

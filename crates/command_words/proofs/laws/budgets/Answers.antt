@@ -4,7 +4,7 @@ use Rattle.std.proofs.lemmas.Bool.{ne_eqb}
 use Rattle.clap.proofs.OnLiterals.{clap_on_literals}
 use Rattle.clap.specs.ValueTests.{is_unsigned_in}
 use Rattle.command_words.specs.Request.{Verify, request_of}
-use Rattle.command_words.proofs.Complete.{small_number}
+use Rattle.command_words.proofs.Rows.{small_number}
 use Rattle.command_words.proofs.laws.budgets.Goals as goal
 
 taken : (program file number : List ℕ) → (slice_index file 0 ≡ 45 → ⊥) → is_unsigned_in 0 1000000 number ≡ true
