@@ -1,4 +1,7 @@
+pub mod Checking
 pub mod Commands
+pub mod Complete
+pub mod Found
 pub mod Held
 pub mod Limits
 pub mod Listing

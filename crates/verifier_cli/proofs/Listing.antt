@@ -2,7 +2,7 @@
 use Rattle.std.proofs.Common.{◌≡◌, ◌≢◌, ◌∙◌, ℕ, List, Option, None, Some, inl, inr, refl, ap, subst}
 use Rattle.calculus.specs.Syntax as syntax
 use Rattle.protocol_scope.specs.Spells.{Spells}
-use Rattle.verifier_cli.specs.Outcome.{Refusal, Outcome, Usage, Verified, Listed, ListLarge, NoQuery, Replayed, Refused, ReadFault, Memory}
+use Rattle.verifier_cli.specs.Outcome.{Refusal, Outcome, Usage, Verified, Checked, Listed, ListLarge, NoQuery, Replayed, Refused, ReadFault, Memory}
 use Rattle.verifier_cli.specs.Command.{OfFile, IsRefusalOf}
 use Rattle.verifier_cli.specs.Reading.{IsUnread}
 use Rattle.verifier_cli.specs.Text.{HasWords, prints_clauses}
@@ -33,6 +33,7 @@ unread_listed laws Counted held number ReadFault is read = absurd (read refl)
 unread_listed laws Counted held number Usage is read = absurd is
 unread_listed laws Counted held number (Replayed replay) is read = absurd is
 unread_listed laws Counted held number (Verified verdicts) is read = absurd is
+unread_listed laws Counted held number (Checked findings) is read = absurd is
 unread_listed laws Counted held number (Listed clauses) is read = absurd is
 unread_listed laws Counted held number (ListLarge point) is read = absurd is
 unread_listed laws Counted held number (NoQuery asked) is read = absurd is
@@ -47,6 +48,7 @@ listed_used P number Usage is = absurd is
 listed_used P number ReadFault is = absurd is
 listed_used P number (Replayed replay) is = absurd is
 listed_used P number (Verified verdicts) is = absurd is
+listed_used P number (Checked findings) is = absurd is
 listed_used P number (Refused refusal) is = absurd is
 
 -- and where a protocol was read
@@ -59,6 +61,7 @@ list_outcome bytes P number Usage spelled is = absurd is
 list_outcome bytes P number ReadFault spelled is = absurd is
 list_outcome bytes P number (Replayed replay) spelled is = absurd is
 list_outcome bytes P number (Verified verdicts) spelled is = absurd is
+list_outcome bytes P number (Checked findings) spelled is = absurd is
 list_outcome bytes P number (Refused refusal) spelled is = absurd is
 
 list_lists : Laws → (bytes : List ℕ) (P : syntax.Protocol) (number : ℕ) (outcome : Outcome) → IsListOf P number outcome → Spells bytes P → Lists bytes number outcome

@@ -1,10 +1,11 @@
 -- Outcomes that want of memory may replace.
 use Rattle.std.proofs.Common.{◌≡◌, ◌≢◌, ℕ, List, Option, inl, inr, sym, subst, ◌∙◌}
+use Rattle.command_words.specs.Request.{Request, Verify, Check, ListOf, Replay}
 use Rattle.verifier_cli.specs.Outcome.{Outcome, ReadFault, Memory}
-use Rattle.verifier_cli.specs.Command.{OfFile, Verifies, Becomes}
-use Rattle.verifier_cli.specs.Listing.{Lists}
-use Rattle.verifier_cli.specs.Replaying.{Replays}
+use Rattle.verifier_cli.specs.Command.{Becomes}
+use Rattle.verifier_cli.specs.Complete.{IsComeTo}
 use Rattle.verifier_cli.proofs.Verifying.{memory_verified}
+use Rattle.verifier_cli.proofs.Checking.{memory_checked}
 use Rattle.verifier_cli.proofs.Listing.{memory_listed}
 use Rattle.verifier_cli.proofs.Replaying.{memory_replayed}
 
@@ -19,19 +20,15 @@ pub was_before : (x found after : Outcome) → Memory ≢ x → Becomes found af
 was_before x found after other (inl e) h = sym e ∙ h
 was_before x found after other (inr e) h = absurd (other (sym e ∙ h))
 
--- what is said of an outcome is said of what replaces it
-said_after : (Said : Outcome → Type 0) (found after : Outcome) → Becomes found after → Said Memory → (found ≢ ReadFault → Said found) → after ≢ ReadFault → Said after
-said_after Said found after (inl e) memory h = let F : Outcome → Type 0 = λ x. x ≢ ReadFault → Said x in subst F (sym e) h
-said_after Said found after (inr e) memory h = λ _. subst Said (sym e) memory
+-- each request may come to want of memory
+pub memory_comes : (held : List ℕ → Option (List ℕ)) (request : Request) → IsComeTo request held Memory
+memory_comes held (Verify file budget) = memory_verified (held file) budget
+memory_comes held (Check file report) = memory_checked (held file) (held report)
+memory_comes held (ListOf file query) = memory_listed (held file) query
+memory_comes held (Replay file run) = memory_replayed (held file) (held run)
 
-pub verified_after : (held : Option (List ℕ)) (budget : ℕ) (found after : Outcome) → Becomes found after
-    → (found ≢ ReadFault → OfFile held (λ bytes. Verifies bytes budget found)) → after ≢ ReadFault → OfFile held (λ bytes. Verifies bytes budget after)
-verified_after held budget found after b h = said_after (λ x. OfFile held (λ bytes. Verifies bytes budget x)) found after b (memory_verified held budget) h
-
-pub replayed_after : (held other : Option (List ℕ)) (found after : Outcome) → Becomes found after
-    → (found ≢ ReadFault → OfFile held (λ bytes. Replays bytes other found)) → after ≢ ReadFault → OfFile held (λ bytes. Replays bytes other after)
-replayed_after held other found after b h = said_after (λ x. OfFile held (λ bytes. Replays bytes other x)) found after b (memory_replayed held other) h
-
-pub listed_after : (held : Option (List ℕ)) (number : ℕ) (found after : Outcome) → Becomes found after
-    → (found ≢ ReadFault → OfFile held (λ bytes. Lists bytes number found)) → after ≢ ReadFault → OfFile held (λ bytes. Lists bytes number after)
-listed_after held number found after b h = said_after (λ x. OfFile held (λ bytes. Lists bytes number x)) found after b (memory_listed held number) h
+-- what a request comes to is said of what replaces it
+pub comes_after : (held : List ℕ → Option (List ℕ)) (request : Request) (found after : Outcome) → Becomes found after
+    → (found ≢ ReadFault → IsComeTo request held found) → after ≢ ReadFault → IsComeTo request held after
+comes_after held request found after (inl e) h = let F : Outcome → Type 0 = λ x. x ≢ ReadFault → IsComeTo request held x in subst F (sym e) h
+comes_after held request found after (inr e) h = λ _. subst (λ (x : Outcome). IsComeTo request held x) (sym e) (memory_comes held request)

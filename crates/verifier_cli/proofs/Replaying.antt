@@ -6,7 +6,7 @@ use Rattle.hv_io.specs.Faults.{IsFaultCounted}
 use Rattle.protocol_scope.specs.Spells.{Spells}
 use Rattle.run_text.specs.Faults.{Fault}
 use Rattle.run_text.specs.Text.{SpellsRun, IsRefused}
-use Rattle.verifier_cli.specs.Outcome.{RunRefusal, Faulty, LongRun, Refusal, Protocol, Run, Outcome, Usage, Verified, Listed, ListLarge, NoQuery, Replayed, Refused, ReadFault, Memory}
+use Rattle.verifier_cli.specs.Outcome.{RunRefusal, Faulty, LongRun, Refusal, Protocol, Report, Run, Outcome, Usage, Verified, Checked, Listed, ListLarge, NoQuery, Replayed, Refused, ReadFault, Memory}
 use Rattle.verifier_cli.specs.Command.{OfFile, IsRefusalOf}
 use Rattle.verifier_cli.specs.Reading.{IsUnread}
 use Rattle.verifier_cli.specs.Replaying.{SpellsSteps, RefusesRun, IsReplayOf, IsOutcomeOfRun, RunsOn, IsReplayOutcome, Replays}
@@ -40,6 +40,7 @@ replay_answers P bytes steps (Replayed replay) shown spelled = (steps, spelled, 
 replay_answers P bytes steps Memory shown spelled = tt
 replay_answers P bytes steps (Refused refusal) shown spelled = absurd shown
 replay_answers P bytes steps (Verified verdicts) shown spelled = absurd shown
+replay_answers P bytes steps (Checked findings) shown spelled = absurd shown
 replay_answers P bytes steps Usage shown spelled = absurd shown
 replay_answers P bytes steps ReadFault shown spelled = absurd shown
 replay_answers P bytes steps (Listed clauses) shown spelled = absurd shown
@@ -73,11 +74,13 @@ pub unread_run_said : RunLaws → (Counted : Type 0) (held : Option (List ℕ)) 
 unread_run_said laws Counted held P (Refused (Run line why)) is other =
     of_file held (λ bytes. RefusesRun bytes why line) (λ bytes. RunsOn P bytes (Refused (Run line why))) (λ bytes r. refusal_runs laws P bytes why line r) is
 unread_run_said laws Counted held P (Refused (Protocol line column why)) is other = absurd is
+unread_run_said laws Counted held P (Refused (Report line why)) is other = absurd is
 unread_run_said laws Counted held P Memory is other = of_any held (λ bytes. RunsOn P bytes Memory) (memory_runs P)
 unread_run_said laws Counted held P ReadFault is other = absurd (other refl)
 unread_run_said laws Counted held P (Replayed replay) is other = absurd is
 unread_run_said laws Counted held P Usage is other = absurd is
 unread_run_said laws Counted held P (Verified verdicts) is other = absurd is
+unread_run_said laws Counted held P (Checked findings) is other = absurd is
 unread_run_said laws Counted held P (Listed clauses) is other = absurd is
 unread_run_said laws Counted held P (ListLarge point) is other = absurd is
 unread_run_said laws Counted held P (NoQuery number) is other = absurd is
@@ -85,6 +88,7 @@ unread_run_said laws Counted held P (NoQuery number) is other = absurd is
 -- what is said of a protocol's file where it is refused
 refusal_outcome : (bytes : List ℕ) (refusal : Refusal) → IsRefusalOf bytes refusal → IsReplayOutcome bytes (Refused refusal)
 refusal_outcome bytes (Protocol line column why) is = is
+refusal_outcome bytes (Report line why) is = let e = is.shown in cc
 refusal_outcome bytes (Run line why) is = let e = is.shown in cc
 
 refusal_replays : Laws → (bytes : List ℕ) (held : Option (List ℕ)) (refusal : Refusal) → IsRefusalOf bytes refusal → Replays bytes held (Refused refusal)
@@ -111,6 +115,7 @@ unread_replayed laws Counted held other ReadFault is read = absurd (read refl)
 unread_replayed laws Counted held other Usage is read = absurd is
 unread_replayed laws Counted held other (Replayed replay) is read = absurd is
 unread_replayed laws Counted held other (Verified verdicts) is read = absurd is
+unread_replayed laws Counted held other (Checked findings) is read = absurd is
 unread_replayed laws Counted held other (Listed clauses) is read = absurd is
 unread_replayed laws Counted held other (ListLarge point) is read = absurd is
 unread_replayed laws Counted held other (NoQuery number) is read = absurd is
@@ -120,10 +125,12 @@ run_outcome : (bytes : List ℕ) (P : syntax.Protocol) (outcome : Outcome) → S
 run_outcome bytes P (Replayed replay) spelled is read = (P, spelled)
 run_outcome bytes P (Refused (Run line why)) spelled is read = (P, spelled)
 run_outcome bytes P (Refused (Protocol line column why)) spelled is read = absurd is
+run_outcome bytes P (Refused (Report line why)) spelled is read = absurd is
 run_outcome bytes P Memory spelled is read = tt
 run_outcome bytes P ReadFault spelled is read = absurd (read refl)
 run_outcome bytes P Usage spelled is read = absurd is
 run_outcome bytes P (Verified verdicts) spelled is read = absurd is
+run_outcome bytes P (Checked findings) spelled is read = absurd is
 run_outcome bytes P (Listed clauses) spelled is read = absurd is
 run_outcome bytes P (ListLarge point) spelled is read = absurd is
 run_outcome bytes P (NoQuery number) spelled is read = absurd is
@@ -152,6 +159,7 @@ run_words Memory is = refl
 run_words ReadFault is = refl
 run_words Usage is = absurd is
 run_words (Verified verdicts) is = absurd is
+run_words (Checked findings) is = absurd is
 run_words (Listed clauses) is = absurd is
 run_words (ListLarge point) is = absurd is
 run_words (NoQuery number) is = absurd is

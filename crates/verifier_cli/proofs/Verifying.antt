@@ -12,8 +12,8 @@ use Rattle.query_verify.specs.declared.answers.Verdict.TheVariants.{Proved}
 use Rattle.query_verify.specs.Told.{Tells, IsAnswer, AnswerQueries}
 use Rattle.protocol_scope.specs.Spells as spells
 use Rattle.protocol_scope.specs.Spells.{Spells, Refuses}
-use Rattle.verifier_cli.specs.Outcome.{Refusal, Outcome, Usage, Verified, Listed, ListLarge, NoQuery, Replayed, Refused, ReadFault, Memory}
-use Rattle.verifier_cli.specs.Command.{OfFile, IsRefusalOf, Verifies, NoneViolated, IsDecidedBy, IsOutcomeOf, budget_of, refusal_at}
+use Rattle.verifier_cli.specs.Outcome.{Refusal, Outcome, Usage, Verified, Checked, Listed, ListLarge, NoQuery, Replayed, Refused, ReadFault, Memory}
+use Rattle.verifier_cli.specs.Command.{OfFile, IsRefusalOf, Verifies, NoneViolated, IsDecidedBy, IsOutcomeOf, refusal_at}
 use Rattle.verifier_cli.specs.Reading.{IsUnread}
 use Rattle.verifier_cli.specs.Text.{prints_clauses}
 use Rattle.verifier_cli.proofs.Held.{of_any, of_file}
@@ -63,6 +63,7 @@ none_violated sound laws bytes Q budget answers spelled are P spells k proved =
 decided_outcome : (bytes : List ℕ) (P : syntax.Protocol) (budget : ℕ) (outcome : Outcome) → Spells bytes P → IsDecidedBy P budget outcome → IsOutcomeOf bytes outcome
 decided_outcome bytes P budget (Verified verdicts) spelled is = (P, spelled)
 decided_outcome bytes P budget Memory spelled is = tt
+decided_outcome bytes P budget (Checked findings) spelled is = absurd is
 decided_outcome bytes P budget (Listed clauses) spelled is = absurd is
 decided_outcome bytes P budget (ListLarge point) spelled is = absurd is
 decided_outcome bytes P budget (NoQuery number) spelled is = absurd is
@@ -72,8 +73,9 @@ decided_outcome bytes P budget Usage spelled is = absurd is
 decided_outcome bytes P budget ReadFault spelled is = absurd is
 
 decided_violates_none : Soundness → Laws → (bytes : List ℕ) (P : syntax.Protocol) (budget : ℕ) (outcome : Outcome) → Spells bytes P → IsDecidedBy P budget outcome → NoneViolated bytes outcome
-decided_violates_none sound laws bytes P budget (Verified verdicts) spelled is = none_violated sound laws bytes P (budget_of budget) verdicts spelled is
+decided_violates_none sound laws bytes P budget (Verified verdicts) spelled is = none_violated sound laws bytes P budget verdicts spelled is
 decided_violates_none sound laws bytes P budget Memory spelled is = λ Q spells k proved. absurd proved
+decided_violates_none sound laws bytes P budget (Checked findings) spelled is = absurd is
 decided_violates_none sound laws bytes P budget (Listed clauses) spelled is = absurd is
 decided_violates_none sound laws bytes P budget (ListLarge point) spelled is = absurd is
 decided_violates_none sound laws bytes P budget (NoQuery number) spelled is = absurd is
@@ -97,6 +99,7 @@ decided_said sound laws held P budget outcome is spelled = of_file held (λ byte
 pub decided_used : (P : syntax.Protocol) (budget : ℕ) (outcome : Outcome) → IsDecidedBy P budget outcome → (outcome ≢ Usage) × (outcome ≢ ReadFault)
 decided_used P budget (Verified verdicts) is = (λ e. cc, λ e. cc)
 decided_used P budget Memory is = (λ e. cc, λ e. cc)
+decided_used P budget (Checked findings) is = absurd is
 decided_used P budget (Listed clauses) is = absurd is
 decided_used P budget (ListLarge point) is = absurd is
 decided_used P budget (NoQuery number) is = absurd is
@@ -137,6 +140,7 @@ unread_verified laws Counted held budget ReadFault is other = absurd (other refl
 unread_verified laws Counted held budget (Replayed replay) is other = absurd is
 unread_verified laws Counted held budget Usage is other = absurd is
 unread_verified laws Counted held budget (Verified verdicts) is other = absurd is
+unread_verified laws Counted held budget (Checked findings) is other = absurd is
 unread_verified laws Counted held budget (Listed clauses) is other = absurd is
 unread_verified laws Counted held budget (ListLarge point) is other = absurd is
 unread_verified laws Counted held budget (NoQuery number) is other = absurd is
@@ -149,6 +153,7 @@ unread_words Counted held ReadFault is = refl
 unread_words Counted held (Replayed replay) is = absurd is
 unread_words Counted held Usage is = absurd is
 unread_words Counted held (Verified verdicts) is = absurd is
+unread_words Counted held (Checked findings) is = absurd is
 unread_words Counted held (Listed clauses) is = absurd is
 unread_words Counted held (ListLarge point) is = absurd is
 unread_words Counted held (NoQuery number) is = absurd is

@@ -1,19 +1,29 @@
 -- What the words, the file and the protocol that it spells have to do with the outcome.
-use Rattle.std.specs.Prelude.{◌≡◌, ℕ, min, ◌⊎◌, List, Option, Some, None, IfSome, slice_get}
+use Rattle.std.specs.Prelude.{◌≡◌, ℕ, ◌⊎◌, List, Option, Some, None, IfSome, slice_get}
 use Rattle.calculus.specs.Syntax as syntax
 use Rattle.calculus.specs.Secrecy.{Holds}
-use Rattle.command_words.specs.Request.{Request, Verify, ListOf, Replay, request_of}
+use Rattle.command_words.specs.Request.{Request, Verify, Check, ListOf, Replay, request_of}
 use Rattle.hv_io.specs.Place.{line_at, column_at}
 use Rattle.protocol_scope.specs.Spells as spells
 use Rattle.protocol_scope.specs.Spells.{Spells, Refuses}
 use Rattle.certificates.specs.Certificate.{Certificate}
 use Rattle.query_verify.specs.declared.answers.Verdict.TheVariants.{Proved}
 use Rattle.query_verify.specs.Told.{AnswerQueries}
-use Rattle.verifier_cli.specs.Outcome.{Refusal, Protocol, Outcome, Usage, Verified, Listed, ListLarge, NoQuery, Replayed, Refused, ReadFault, Memory}
+use Rattle.cert_checker.specs.declared.ruling.Ruling.TheVariants.{Accepted}
+use Rattle.verifier_cli.specs.declared.outcome.Finding.TheVariants.{Ruled}
+use Rattle.verifier_cli.specs.Outcome.{Refusal, Protocol, Outcome, Usage, Verified, Checked, Listed, ListLarge, NoQuery, Replayed, Refused, ReadFault, Memory}
+
+-- the words make this request
+abbrev pub Asks : List (List ℕ) → Request → Type 0
+Asks words request = request_of words ≡ Some request
 
 -- the words ask for the verdicts of this file's protocol with that budget
 abbrev pub IsVerify : List (List ℕ) → List ℕ → ℕ → Type 0
 IsVerify words file budget = request_of words ≡ Some (Verify file budget)
+
+-- the words ask that this report on the file's protocol be checked
+abbrev pub IsCheck : List (List ℕ) → List ℕ → List ℕ → Type 0
+IsCheck words file report = request_of words ≡ Some (Check file report)
 
 -- the words ask that a run of this file's protocol be replayed
 abbrev pub IsReplay : List (List ℕ) → List ℕ → List ℕ → Type 0
@@ -44,21 +54,24 @@ pub record IsRefusalOf (bytes : List ℕ) (refusal : Refusal) : Type 0 where
   pub refused : Refuses bytes why place
   pub shown : refusal ≡ refusal_at bytes why place
 
--- a file cannot be read: the one that is asked for, or where that spells a protocol, the run's; the last argument tells of which a fault was counted
+-- one of two files cannot be read: the first, or where that spells a protocol, the second
+abbrev pub IsEitherUnreadable : List ℕ → List ℕ → (List ℕ → Option (List ℕ)) → (List ℕ → Type 0) → Type 0
+IsEitherUnreadable file other held Counted =
+    Counted file ⊎ (OfFile (held file) (λ bytes. (P : syntax.Protocol) × Spells bytes P) × Counted other)
+
+-- a file that is asked for cannot be read; the last argument tells of which a fault was counted
 abbrev pub IsUnreadable : Option Request → (List ℕ → Option (List ℕ)) → (List ℕ → Type 0) → Type 0
 IsUnreadable None held Counted = ⊥
 IsUnreadable (Some (Verify file budget)) held Counted = Counted file
+IsUnreadable (Some (Check file report)) held Counted = IsEitherUnreadable file report held Counted
 IsUnreadable (Some (ListOf file query)) held Counted = Counted file
-IsUnreadable (Some (Replay file run)) held Counted = Counted file ⊎ (OfFile (held file) (λ bytes. (P : syntax.Protocol) × Spells bytes P) × Counted run)
-
--- a budget that words ask for; they take none above 1,000,000
-abbrev pub budget_of : ℕ → ℕ
-budget_of budget = min budget 1000000
+IsUnreadable (Some (Replay file run)) held Counted = IsEitherUnreadable file run held Counted
 
 -- what the queries of the protocol come to: the verdict of each with the budget, in order, or want of memory in their place
 abbrev pub IsDecidedBy : syntax.Protocol → ℕ → Outcome → Type 0
-IsDecidedBy P budget (Verified verdicts) = AnswerQueries P (budget_of budget) P.queries verdicts
+IsDecidedBy P budget (Verified verdicts) = AnswerQueries P budget P.queries verdicts
 IsDecidedBy P budget Memory = Unit {0}
+IsDecidedBy P budget (Checked findings) = ⊥
 IsDecidedBy P budget (Listed clauses) = ⊥
 IsDecidedBy P budget (ListLarge point) = ⊥
 IsDecidedBy P budget (NoQuery query) = ⊥
@@ -72,6 +85,7 @@ abbrev pub IsOutcomeOf : List ℕ → Outcome → Type 0
 IsOutcomeOf bytes (Verified verdicts) = (P : syntax.Protocol) × Spells bytes P
 IsOutcomeOf bytes (Refused refusal) = IsRefusalOf bytes refusal
 IsOutcomeOf bytes Memory = Unit {0}
+IsOutcomeOf bytes (Checked findings) = ⊥
 IsOutcomeOf bytes (Listed clauses) = ⊥
 IsOutcomeOf bytes (ListLarge point) = ⊥
 IsOutcomeOf bytes (NoQuery query) = ⊥
@@ -83,22 +97,23 @@ IsOutcomeOf bytes ReadFault = ⊥
 abbrev pub Becomes : Outcome → Outcome → Type 0
 Becomes wanted outcome = (outcome ≡ wanted) ⊎ (outcome ≡ Memory)
 
--- this query, counted from 0, is proved
-abbrev pub IsProvedAt : Outcome → ℕ → Type 0
-IsProvedAt (Verified verdicts) k = (certificate : Certificate) × (slice_get verdicts k ≡ Some (Proved certificate))
-IsProvedAt (Refused refusal) k = ⊥
-IsProvedAt Memory k = ⊥
-IsProvedAt (Listed clauses) k = ⊥
-IsProvedAt (ListLarge point) k = ⊥
-IsProvedAt (NoQuery query) k = ⊥
-IsProvedAt (Replayed replay) k = ⊥
-IsProvedAt Usage k = ⊥
-IsProvedAt ReadFault k = ⊥
+-- this query, counted from 0, is proved, or the certificate that claims so is accepted
+abbrev pub IsShownAt : Outcome → ℕ → Type 0
+IsShownAt (Verified verdicts) k = (certificate : Certificate) × (slice_get verdicts k ≡ Some (Proved certificate))
+IsShownAt (Checked findings) k = slice_get findings k ≡ Some (Ruled Accepted)
+IsShownAt (Refused refusal) k = ⊥
+IsShownAt Memory k = ⊥
+IsShownAt (Listed clauses) k = ⊥
+IsShownAt (ListLarge point) k = ⊥
+IsShownAt (NoQuery query) k = ⊥
+IsShownAt (Replayed replay) k = ⊥
+IsShownAt Usage k = ⊥
+IsShownAt ReadFault k = ⊥
 
--- no run of the protocol that the bytes spell violates a query that is proved
+-- no run of the protocol that the bytes spell violates a query that is proved, or whose certificate is accepted
 abbrev pub NoneViolated : List ℕ → Outcome → Type 0
 NoneViolated bytes outcome =
-    (P : syntax.Protocol) → Spells bytes P → (k : ℕ) → IsProvedAt outcome k → IfSome (slice_get P.queries k) (λ query. Holds P query)
+    (P : syntax.Protocol) → Spells bytes P → (k : ℕ) → IsShownAt outcome k → IfSome (slice_get P.queries k) (λ query. Holds P query)
 
 -- what `verify` comes to where the file has these bytes
 pub record Verifies (bytes : List ℕ) (budget : ℕ) (outcome : Outcome) : Type 0 where

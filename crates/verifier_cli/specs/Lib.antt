@@ -1,10 +1,13 @@
 pub mod Command
+pub mod Checking
+pub mod Complete
 pub mod Outcome
 pub mod Reading
 pub mod Replaying
 pub mod Listing
 pub mod Loaded
 pub mod RunReading
+pub mod ReportReading
 pub mod Seen
 pub mod SeenOutcome
 pub mod Text

@@ -5,11 +5,11 @@ use Rattle.pi_tree.specs.declared.protocols.Protocol.{Protocol as Protocol'}
 use Rattle.pi_tree.specs.Protocols.{protocol_of}
 use Rattle.calculus.specs.Syntax as syntax
 use Rattle.calculus.specs.Points.{numbered}
-use Rattle.command_words.specs.Request.{Request, Verify, ListOf, Replay}
+use Rattle.command_words.specs.Request.{Request, Verify, Check, ListOf, Replay}
 use Rattle.protocol_scope.specs.Spells as spells
 use Rattle.protocol_scope.specs.Spells.{Spells, Refuses}
 use Rattle.translation.specs.Translation.{Translated, Clauses, LargeAt, IsTranslation}
-use Rattle.verifier_cli.specs.Outcome.{Refusal, Outcome, Usage, Verified, Listed, ListLarge, NoQuery, Replayed, Refused, ReadFault, Memory}
+use Rattle.verifier_cli.specs.Outcome.{Refusal, Outcome, Usage, Verified, Checked, Listed, ListLarge, NoQuery, Replayed, Refused, ReadFault, Memory}
 use Rattle.verifier_cli.specs.Command.{OfFile, Becomes, IsRefusalOf, refusal_at}
 use Rattle.verifier_cli.specs.Text.{HasWords, outcome_bytes}
 
@@ -24,6 +24,7 @@ IsListOf P number (ListLarge point) = IsTranslated P number (LargeAt point)
 IsListOf P number (NoQuery asked) = (asked ≡ number) × (numbered P.queries number ≡ None)
 IsListOf P number Memory = Unit {0}
 IsListOf P number (Verified verdicts) = ⊥
+IsListOf P number (Checked findings) = ⊥
 IsListOf P number (Replayed replay) = ⊥
 IsListOf P number (Refused refusal) = ⊥
 IsListOf P number Usage = ⊥
@@ -37,6 +38,7 @@ IsListOutcome bytes (ListLarge point) = (P : syntax.Protocol) × Spells bytes P
 IsListOutcome bytes (NoQuery asked) = (P : syntax.Protocol) × Spells bytes P
 IsListOutcome bytes Memory = Unit {0}
 IsListOutcome bytes (Verified verdicts) = ⊥
+IsListOutcome bytes (Checked findings) = ⊥
 IsListOutcome bytes (Replayed replay) = ⊥
 IsListOutcome bytes Usage = ⊥
 IsListOutcome bytes ReadFault = ⊥
@@ -53,6 +55,7 @@ pub record Lists (bytes : List ℕ) (number : ℕ) (outcome : Outcome) : Type 0 
 -- the file of the protocol that a request names
 abbrev pub file_named : Request → List ℕ
 file_named (Verify file budget) = file
+file_named (Check file report) = file
 file_named (ListOf file query) = file
 file_named (Replay file run) = file
 

@@ -4,10 +4,12 @@ use Rattle.well_formed.specs.Limits.{IsWithinLimits}
 use Rattle.well_formed.specs.Rules.{HasProperRules}
 use Rattle.well_formed.specs.WellFormed.{IsWellScoped}
 use Rattle.well_formed.specs.Queries.{HasProperQueries}
+use Rattle.certificate_text.specs.OfProtocol.{HasNames}
 
--- it is within the limits, and its rules, its process and its queries are as the rules of scope leave them
+-- it is within the limits, its rules, its process and its queries are as the rules of scope leave them, and its names are told apart
 pub record IsLoaded (P : Protocol) : Type 0 where
   pub limits : IsWithinLimits P
   pub rules : HasProperRules P
   pub scoped : IsWellScoped P
   pub queries : HasProperQueries P
+  pub names : HasNames P

@@ -6,7 +6,9 @@ use Rattle.protocol_scope.specs.Spells as spells
 use Rattle.run_text.specs.Faults.{Fault}
 use Rattle.terms.specs.Term.{Term}
 use Rattle.clauses.specs.Fact.{Clause}
+use Rattle.certificate_reading.specs.Terms.{Code}
 use Rattle.query_verify.specs.declared.answers.Verdict.{Verdict}
+use Rattle.verifier_cli.specs.declared.outcome.Finding.{Finding}
 
 -- why the text of a run is refused
 pub data RunRefusal : Type 0 where
@@ -15,9 +17,17 @@ pub data RunRefusal : Type 0 where
   -- it has more than 16,777,216 bytes
   LongRun : RunRefusal
 
+-- why a report is refused
+pub data ReportRefusal : Type 0 where
+  -- it can't be read as a report on the protocol
+  Misspelled : (code : Code) → ReportRefusal
+  -- it has more than 67,108,864 bytes
+  LongReport : ReportRefusal
+
 -- a text that is refused, why and where: line and column are counted from 1, in bytes
 pub data Refusal : Type 0 where
   Protocol : (line : ℕ) → (column : ℕ) → (why : spells.Refusal) → Refusal
+  Report : (line : ℕ) → (why : ReportRefusal) → Refusal
   Run : (line : ℕ) → (why : RunRefusal) → Refusal
 
 -- what a replay shows
@@ -32,6 +42,8 @@ pub data Outcome : Type 0 where
   Usage : Outcome
   -- the verdicts of the queries, in order
   Verified : (verdicts : List Verdict) → Outcome
+  -- what is found of the claims of a report about the queries, in order
+  Checked : (findings : List Finding) → Outcome
   -- the clauses of a translation
   Listed : (clauses : List (Clause Term)) → Outcome
   -- the point at which a translation is too large

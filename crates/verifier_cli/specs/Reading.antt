@@ -13,7 +13,7 @@ use Rattle.verifier_cli.specs.declared.reading.Stop.{Stop}
 use Rattle.verifier_cli.specs.declared.reading.Stop.TheVariants as stop
 use Rattle.verifier_cli.specs.declared.loading.Unloaded.{Unloaded}
 use Rattle.verifier_cli.specs.declared.loading.Unloaded.TheVariants as unloaded
-use Rattle.verifier_cli.specs.Outcome.{Protocol, Outcome, Usage, Verified, Listed, ListLarge, NoQuery, Replayed, Refused, ReadFault, Memory}
+use Rattle.verifier_cli.specs.Outcome.{Protocol, Outcome, Usage, Verified, Checked, Listed, ListLarge, NoQuery, Replayed, Refused, ReadFault, Memory}
 use Rattle.verifier_cli.specs.Command.{OfFile, IsRefusalOf}
 use Rattle.verifier_cli.specs.Seen.{refusal_by}
 
@@ -54,6 +54,7 @@ IsNoReading bytes (NoQuery query) = ⊥
 IsNoReading bytes (Replayed replay) = ⊥
 IsNoReading bytes Usage = ⊥
 IsNoReading bytes (Verified verdicts) = ⊥
+IsNoReading bytes (Checked findings) = ⊥
 IsNoReading bytes ReadFault = ⊥
 
 -- a call whose protocol could not be loaded
@@ -73,3 +74,4 @@ IsUnread Counted held (NoQuery query) = ⊥
 IsUnread Counted held (Replayed replay) = ⊥
 IsUnread Counted held Usage = ⊥
 IsUnread Counted held (Verified verdicts) = ⊥
+IsUnread Counted held (Checked findings) = ⊥

@@ -8,7 +8,7 @@ use Rattle.protocol_scope.specs.Spells.{Spells, Refuses}
 use Rattle.run_text.specs.Text.{SpellsRun, IsRefused}
 use Rattle.run_replay.specs.Replay.{IsDone, IsFirstRefused, AreFirstViolations}
 use Rattle.verifier_cli.specs.Outcome as own
-use Rattle.verifier_cli.specs.Outcome.{RunRefusal, Faulty, LongRun, Replay, Done, Stuck, Outcome, Usage, Verified, Listed, ListLarge, NoQuery, Replayed, Refused, Run, ReadFault, Memory}
+use Rattle.verifier_cli.specs.Outcome.{RunRefusal, Faulty, LongRun, Replay, Done, Stuck, Outcome, Usage, Verified, Checked, Listed, ListLarge, NoQuery, Replayed, Refused, Report, Run, ReadFault, Memory}
 use Rattle.verifier_cli.specs.Command.{OfFile, Becomes, IsRefusalOf, refusal_at}
 
 -- the bytes, which are not too many, spell the steps of a run
@@ -32,6 +32,7 @@ IsReplayOf P steps (Replayed replay) = IsShown P steps replay
 IsReplayOf P steps Memory = Unit {0}
 IsReplayOf P steps (Refused refusal) = ⊥
 IsReplayOf P steps (Verified verdicts) = ⊥
+IsReplayOf P steps (Checked findings) = ⊥
 IsReplayOf P steps (Listed clauses) = ⊥
 IsReplayOf P steps (ListLarge point) = ⊥
 IsReplayOf P steps (NoQuery query) = ⊥
@@ -44,7 +45,9 @@ IsOutcomeOfRun P bytes (Replayed replay) = (steps : List Step) × SpellsSteps by
 IsOutcomeOfRun P bytes (Refused (Run line why)) = RefusesRun bytes why line
 IsOutcomeOfRun P bytes Memory = Unit {0}
 IsOutcomeOfRun P bytes (Refused (own.Protocol line column why)) = ⊥
+IsOutcomeOfRun P bytes (Refused (Report line why)) = ⊥
 IsOutcomeOfRun P bytes (Verified verdicts) = ⊥
+IsOutcomeOfRun P bytes (Checked findings) = ⊥
 IsOutcomeOfRun P bytes (Listed clauses) = ⊥
 IsOutcomeOfRun P bytes (ListLarge point) = ⊥
 IsOutcomeOfRun P bytes (NoQuery query) = ⊥
@@ -64,9 +67,11 @@ pub record RunsOn (P : Protocol) (bytes : List ℕ) (outcome : Outcome) : Type 0
 abbrev pub IsReplayOutcome : List ℕ → Outcome → Type 0
 IsReplayOutcome bytes (Refused (own.Protocol line column why)) = IsRefusalOf bytes (own.Protocol line column why)
 IsReplayOutcome bytes (Refused (Run line why)) = (P : Protocol) × Spells bytes P
+IsReplayOutcome bytes (Refused (Report line why)) = ⊥
 IsReplayOutcome bytes (Replayed replay) = (P : Protocol) × Spells bytes P
 IsReplayOutcome bytes Memory = Unit {0}
 IsReplayOutcome bytes (Verified verdicts) = ⊥
+IsReplayOutcome bytes (Checked findings) = ⊥
 IsReplayOutcome bytes (Listed clauses) = ⊥
 IsReplayOutcome bytes (ListLarge point) = ⊥
 IsReplayOutcome bytes (NoQuery query) = ⊥

@@ -8,6 +8,9 @@ use Rattle.pi_model.specs.Errors.{refusal_of}
 use Rattle.run_replay.specs.declared.replaying.Replayed.{Replayed}
 use Rattle.run_replay.specs.declared.replaying.Replayed.TheVariants.{Done, Stuck}
 use Rattle.run_text.specs.Faults as run
+use Rattle.certificate_reading.specs.Terms as report
+use Rattle.verifier_cli.specs.declared.outcome.ReportCode.{ReportCode}
+use Rattle.verifier_cli.specs.declared.outcome.ReportCode.TheVariants as text
 use Rattle.verifier_cli.specs.declared.outcome.RunCode.{RunCode}
 use Rattle.verifier_cli.specs.declared.outcome.RunCode.TheVariants as line
 use Rattle.verifier_cli.specs.declared.outcome.ProtocolCode.{ProtocolCode}
@@ -29,6 +32,15 @@ refusal_by code.LooseVariable = Scoped scope.LooseVariable
 refusal_by code.TooMany = Scoped scope.TooMany
 refusal_by code.AmbiguousNew = Scoped scope.AmbiguousNew
 refusal_by code.LongFile = spells.LongFile
+
+-- why a report is refused, by its code
+abbrev pub report_refusal_by : ReportCode → own.ReportRefusal
+report_refusal_by text.Syntax = own.Misspelled report.Syntax
+report_refusal_by text.Number = own.Misspelled report.Number
+report_refusal_by text.Symbol = own.Misspelled report.Symbol
+report_refusal_by text.Arity = own.Misspelled report.Arity
+report_refusal_by text.Count = own.Misspelled report.Count
+report_refusal_by text.LongFile = own.LongReport
 
 -- why the text of a run is refused, by its code
 abbrev pub run_refusal_by : RunCode → own.RunRefusal

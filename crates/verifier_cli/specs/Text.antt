@@ -14,9 +14,14 @@ use Rattle.terms.specs.Term.{Term}
 use Rattle.clauses.specs.Fact.{Clause}
 use Rattle.certificate_text.specs.Text.{clause_text, certificate_text}
 use Rattle.clause_saturate.specs.declared.log.PlainEntry.{PlainEntry}
+use Rattle.certificate_reading.specs.Terms as report
+use Rattle.cert_checker.specs.declared.ruling.Ruling.{Ruling}
+use Rattle.cert_checker.specs.declared.ruling.Ruling.TheVariants.{Accepted, Shape, Translation, Cover, Closure, Goal, Extra}
 use Rattle.query_verify.specs.declared.answers.Verdict.{Verdict}
 use Rattle.query_verify.specs.declared.answers.Verdict.TheVariants.{Proved, Budget, SizePair, SizePoint, Unmet}
-use Rattle.verifier_cli.specs.Outcome.{RunRefusal, Faulty, LongRun, Refusal, Protocol, Run, Replay, Done, Stuck, Outcome, Usage, Verified, Listed, ListLarge, NoQuery, Replayed, Refused, ReadFault, Memory}
+use Rattle.verifier_cli.specs.declared.outcome.Finding.{Finding}
+use Rattle.verifier_cli.specs.declared.outcome.Finding.TheVariants.{Ruled, Missing, NotClaimed}
+use Rattle.verifier_cli.specs.Outcome.{RunRefusal, Faulty, LongRun, ReportRefusal, Misspelled, LongReport, Refusal, Protocol, Report, Run, Replay, Done, Stuck, Outcome, Usage, Verified, Checked, Listed, ListLarge, NoQuery, Replayed, Refused, ReadFault, Memory}
 
 -- a text with its line's end
 abbrev pub line : List ℕ → List ℕ
@@ -41,6 +46,29 @@ verdict_lines number [] P = []
 verdict_lines number (verdict ∷ verdicts) P =
     codes "query " ++ decimal number ++ codes " " ++ verdict_text P verdict ++ verdict_lines (number + 1) verdicts P
 
+-- what is ruled of a certificate: it is accepted, or the first obligation that isn't met
+abbrev pub ruling_text : Ruling → List ℕ
+ruling_text Accepted = codes "accepted"
+ruling_text (Shape clause) = codes "refused shape " ++ decimal clause
+ruling_text (Translation point) = codes "refused translation " ++ decimal point
+ruling_text (Cover clause) = codes "refused cover " ++ decimal clause
+ruling_text (Closure solved unsolved resolvent) =
+    codes "refused closure " ++ decimal solved ++ codes " " ++ decimal unsolved ++ codes " " ++ decimal resolvent
+ruling_text (Goal clause) = codes "refused goal " ++ decimal clause
+ruling_text (Extra row) = codes "refused extra " ++ decimal row
+
+-- what is found of a claim
+abbrev pub finding_text : Finding → List ℕ
+finding_text (Ruled ruling) = ruling_text ruling
+finding_text Missing = codes "missing"
+finding_text NotClaimed = codes "not claimed"
+
+-- a line for each query, the first of which has this number
+abbrev pub finding_lines : ℕ → List Finding → List ℕ
+finding_lines number [] = []
+finding_lines number (finding ∷ findings) =
+    line (codes "query " ++ decimal number ++ codes " " ++ finding_text finding) ++ finding_lines (number + 1) findings
+
 -- the code of a refused protocol, and its name
 abbrev pub code_text : spells.Refusal → List ℕ
 code_text (Lexical lexical.BadByte) = codes "1 BadByte"
@@ -57,6 +85,15 @@ code_text (Scoped scope.TooMany) = codes "11 TooMany"
 code_text (Scoped scope.AmbiguousNew) = codes "12 AmbiguousNew"
 code_text spells.LongFile = codes "13 LongFile"
 
+-- the code of a refused report, and its name
+abbrev pub report_code_text : ReportRefusal → List ℕ
+report_code_text (Misspelled report.Syntax) = codes "1 Syntax"
+report_code_text (Misspelled report.Number) = codes "2 Number"
+report_code_text (Misspelled report.Symbol) = codes "3 Symbol"
+report_code_text (Misspelled report.Arity) = codes "4 Arity"
+report_code_text (Misspelled report.Count) = codes "5 Count"
+report_code_text LongReport = codes "6 LongFile"
+
 -- the code of a refused run, and its name
 abbrev pub run_code_text : RunRefusal → List ℕ
 run_code_text (Faulty run.Word) = codes "1 Word"
@@ -67,6 +104,7 @@ run_code_text LongRun = codes "4 LongFile"
 abbrev pub refusal_text : Refusal → List ℕ
 refusal_text (Protocol row column why) =
     codes "refused " ++ decimal row ++ codes ":" ++ decimal column ++ codes " " ++ code_text why
+refusal_text (Report row why) = codes "refused report " ++ decimal row ++ codes " " ++ report_code_text why
 refusal_text (Run row why) = codes "refused run " ++ decimal row ++ codes " " ++ run_code_text why
 
 -- since when a query is violated
@@ -126,6 +164,7 @@ HasWords (Some P) outcome = Unit {0}
 abbrev pub outcome_bytes : Option syntax.Protocol → Outcome → List ℕ
 outcome_bytes P Usage = line (codes "usage: verify FILE [--budget N] | check FILE REPORT | list FILE QUERY | replay FILE RUN | ring N")
 outcome_bytes P (Verified verdicts) = in_words (verdict_lines 1 verdicts) P
+outcome_bytes P (Checked findings) = finding_lines 1 findings
 outcome_bytes P (Listed clauses) = in_words (λ own. clause_lines own clauses) P
 outcome_bytes P (ListLarge point) = line (codes "size point " ++ decimal point)
 outcome_bytes P (NoQuery query) = line (codes "no query " ++ decimal query)
@@ -139,6 +178,11 @@ abbrev pub is_proved : Verdict → Bool
 is_proved (Proved certificate) = true
 is_proved _ = false
 
+-- whether the finding is that the certificate is accepted
+abbrev pub is_accepted : Finding → Bool
+is_accepted (Ruled Accepted) = true
+is_accepted _ = false
+
 -- a replay to its end that violates no query
 abbrev pub is_without_violation : Replay → Bool
 is_without_violation (Done end steps firsts) = list_all is_none firsts
@@ -148,11 +192,13 @@ is_without_violation (Stuck number refusal) = false
 abbrev pub status_of : Outcome → ℕ
 status_of Usage = 2
 status_of (Verified verdicts) = if list_all is_proved verdicts then 0 else 1
+status_of (Checked findings) = if list_all is_accepted findings then 0 else 1
 status_of (Listed clauses) = 0
 status_of (ListLarge point) = 1
 status_of (NoQuery query) = 1
 status_of (Replayed replay) = if is_without_violation replay then 0 else 1
 status_of (Refused (Protocol row column why)) = 3
+status_of (Refused (Report row why)) = 4
 status_of (Refused (Run row why)) = 4
 status_of ReadFault = 5
 status_of Memory = 7

@@ -5,19 +5,25 @@ ghost use Rattle.pi_tree.specs.Protocols.{protocol_of};
 ghost use Rattle.std.specs.String.{string_bytes};
 ghost use Rattle.hv_io.specs.Faults.{IsFaultCounted};
 ghost use Rattle.hv_io.specs.Sink.{appended, AppendsPart};
-ghost use Rattle.verifier_cli.specs.Command.{IsVerify, IsList, IsReplay, IsNoCommand, IsUnreadable, OfFile, Verifies, Becomes};
+ghost use Rattle.verifier_cli.specs.Command.{Asks, IsVerify, IsCheck, IsList, IsReplay, IsNoCommand};
+ghost use Rattle.verifier_cli.specs.Command.{IsUnreadable, OfFile, Verifies, Becomes, NoneViolated};
+ghost use Rattle.verifier_cli.specs.Checking.{Checks};
+ghost use Rattle.verifier_cli.specs.Complete.{IsComeTo, AreAccepted, IsOwnOutcome, IsOfAnswer};
+ghost use Rattle.command_words.specs.Request as request;
 ghost use Rattle.command_words.specs.Request.{request_of};
-ghost use Rattle.verifier_cli.specs.Listing.{Lists, IsSource, IsTextOf, words_of};
+ghost use Rattle.verifier_cli.specs.Listing.{Lists, IsSource, IsTextOf, file_named, words_of};
 ghost use Rattle.verifier_cli.specs.Outcome as own;
 ghost use Rattle.verifier_cli.specs.Replaying.{Replays};
 ghost use Rattle.verifier_cli.specs.SeenOutcome.{outcome_of};
 ghost use Rattle.verifier_cli.specs.Text.{HasWords, outcome_bytes, status_of};
 
+use crate::check::check_file;
 use crate::list::list_file;
 use crate::outcome::{Answer, Decision, Outcome};
 use crate::replay::replay_file;
 use crate::text::{READ_FAULT, USAGE, WANT_OF_MEMORY, outcome_text, status};
 use crate::verify::verify_file;
+use command_words::laws::asked_budgets;
 use command_words::{Request, read_words};
 use hv_io::{Files, Sink, put_all};
 use pi_tree::Protocol;
@@ -29,19 +35,31 @@ const NOT_WRITTEN: u8 = 6;
 /// What the words and the files that they name come to.
 fn decide<F: Files>(alloc: Global, words: &[String], files: &mut F) -> Decision
     ensures held_stays { (name : List ℕ) → F.held files.new name ≡ F.held files.old name }
-    ensures read_faults_rise { (name : List ℕ) → F.faults files.old name ≤ F.faults files.new name }
-    ensures source { IsSource (request_of (map string_bytes words.now)) (F.held files.old) (option_map protocol_of result.protocol) }
-    ensures words { HasWords (option_map protocol_of result.protocol) (outcome_of result.outcome) }
-    ensures unused { IsNoCommand (map string_bytes words.now) → Becomes own.Usage (outcome_of result.outcome) }
-    ensures used { outcome_of result.outcome ≡ own.Usage → IsNoCommand (map string_bytes words.now) }
-    ensures fault { outcome_of result.outcome ≡ own.ReadFault → IsUnreadable (request_of (map string_bytes words.now)) (F.held files.old) (λ name. IsFaultCounted (F.faults files.old name) (F.faults files.new name)) }
-    ensures verified { (file : List ℕ) (budget : ℕ) → IsVerify (map string_bytes words.now) file budget → outcome_of result.outcome ≢ own.ReadFault → OfFile (F.held files.old file) (λ bytes. Verifies bytes budget (outcome_of result.outcome)) }
-    ensures listed { (file : List ℕ) (query : ℕ) → IsList (map string_bytes words.now) file query → outcome_of result.outcome ≢ own.ReadFault → OfFile (F.held files.old file) (λ bytes. Lists bytes query (outcome_of result.outcome)) }
-    ensures replayed { (file run : List ℕ) → IsReplay (map string_bytes words.now) file run → outcome_of result.outcome ≢ own.ReadFault → OfFile (F.held files.old file) (λ bytes. Replays bytes (F.held files.old run) (outcome_of result.outcome)) }
+    ensures read_faults_rise { (name : List ℕ) →
+        F.faults files.old name ≤ F.faults files.new name }
+    ensures source { IsSource (request_of (map string_bytes words.now)) (F.held files.old)
+        (option_map protocol_of result.protocol) }
+    ensures words { HasWords (option_map protocol_of result.protocol)
+        (outcome_of result.outcome) }
+    ensures unused { IsNoCommand (map string_bytes words.now) →
+        Becomes own.Usage (outcome_of result.outcome) }
+    ensures used { outcome_of result.outcome ≡ own.Usage →
+        IsNoCommand (map string_bytes words.now) }
+    ensures fault { outcome_of result.outcome ≡ own.ReadFault →
+        IsUnreadable (request_of (map string_bytes words.now)) (F.held files.old) (λ name.
+        IsFaultCounted (F.faults files.old name) (F.faults files.new name)) }
+    ensures comes { (asked : request.Request) → Asks (map string_bytes words.now) asked →
+        outcome_of result.outcome ≢ own.ReadFault →
+        IsComeTo asked (F.held files.old) (outcome_of result.outcome) }
 {
+    asked_budgets();
     match read_words(alloc, words) {
         Ok(Some(Request::Verify { file, budget })) => verify_file(alloc, file, budget, files),
         Ok(Some(Request::List { file, query })) => list_file(alloc, file, query, files),
+        Ok(Some(Request::Check { file, report })) => Decision {
+            protocol: None,
+            outcome: check_file(alloc, file, report, files),
+        },
         Ok(Some(Request::Replay { file, run })) => Decision {
             protocol: None,
             outcome: replay_file(alloc, file, run, files),
@@ -64,7 +82,8 @@ fn finish<S: Sink>(outcome: Outcome, text: &[u8], out: &mut S) -> Answer
     ensures fault { result.status ≡ 6 → IsFaultCounted (S.faults out.old) (S.faults out.new) }
     ensures status { result.status ≢ 6 → result.status ≡ status_of (outcome_of outcome) }
     ensures whole { result.status ≢ 6 → S.written out.new ≡ appended (S.written out.old) text.now }
-    ensures part { result.status ≡ 6 → AppendsPart (S.written out.old) (S.written out.new) text.now }
+    ensures part { result.status ≡ 6 →
+        AppendsPart (S.written out.old) (S.written out.new) text.now }
 {
     let status = match put_all(out, text) {
         Ok(()) => status(&outcome),
@@ -87,8 +106,10 @@ fn respond<S: Sink>(
     ensures faults_rise { S.faults out.old ≤ S.faults out.new }
     ensures fault { result.status ≡ 6 → IsFaultCounted (S.faults out.old) (S.faults out.new) }
     ensures status { result.status ≢ 6 → result.status ≡ status_of (outcome_of result.outcome) }
-    ensures whole { result.status ≢ 6 → S.written out.new ≡ appended (S.written out.old) (outcome_bytes (words_of protocol.entry) (outcome_of result.outcome)) }
-    ensures part { result.status ≡ 6 → AppendsPart (S.written out.old) (S.written out.new) (outcome_bytes (words_of protocol.entry) (outcome_of result.outcome)) }
+    ensures whole { result.status ≢ 6 → S.written out.new ≡ appended (S.written out.old)
+        (outcome_bytes (words_of protocol.entry) (outcome_of result.outcome)) }
+    ensures part { result.status ≡ 6 → AppendsPart (S.written out.old) (S.written out.new)
+        (outcome_bytes (words_of protocol.entry) (outcome_of result.outcome)) }
 {
     match outcome {
         Outcome::Usage => finish(Outcome::Usage, USAGE, out),
@@ -105,38 +126,75 @@ fn respond<S: Sink>(
 ///
 /// The outcome is `Usage` exactly where the words ask for nothing. Else the protocol's file is loaded. Where that fails, the
 /// outcome is `ReadFault`, and else it is about the bytes that were read: `Refused` where they spell no protocol, with the
-/// reason and the place. Where they spell one, `verify` comes to `Verified` with the verdict of each query, `list` to `Listed`
-/// with the clauses of a query, to `ListLarge` or to `NoQuery`, and `replay` loads the run's file: that comes to `ReadFault`, to `Refused`, or to `Replayed` with what the steps show. `Memory` may come in
-/// place of any of these.
+/// reason and the place. Where they spell one, `verify` comes to `Verified` with the verdict of each query, and `list` to
+/// `Listed` with the clauses of a query, to `ListLarge` or to `NoQuery`. `check` then loads the report's file, and `replay` the
+/// run's: that comes to `ReadFault`, to `Refused`, or to `Checked` with what is found of each query's claim, or to `Replayed` with
+/// what the steps show. `Memory` may come in place of any of these.
 pub fn top<F: Files, S: Sink>(alloc: Global, words: &[String], files: &mut F, out: &mut S) -> Answer
-    ensures usage { IsNoCommand (map string_bytes words.now) → Becomes own.Usage (outcome_of result.outcome) }
-    ensures usage_only { outcome_of result.outcome ≡ own.Usage → IsNoCommand (map string_bytes words.now) }
+    ensures usage { IsNoCommand (map string_bytes words.now) →
+        Becomes own.Usage (outcome_of result.outcome) }
+    ensures usage_only { outcome_of result.outcome ≡ own.Usage →
+        IsNoCommand (map string_bytes words.now) }
 
-    // Only with a fault that was counted for the protocol's file, or where that is accepted, for the run's.
-    ensures read_fault { outcome_of result.outcome ≡ own.ReadFault → IsUnreadable (request_of (map string_bytes words.now)) (F.held files.old) (λ name. IsFaultCounted (F.faults files.old name) (F.faults files.new name)) }
+    // Only with a fault that was counted for the protocol's file, or where that is accepted, for the other file.
+    ensures read_fault { outcome_of result.outcome ≡ own.ReadFault →
+        IsUnreadable (request_of (map string_bytes words.now)) (F.held files.old) (λ name.
+        IsFaultCounted (F.faults files.old name) (F.faults files.new name)) }
 
-    // Which verdicts and refusals there are, exactly, of the bytes that the file holds; the headline is the field
-    // `none_violated`.
-    ensures headline { (file : List ℕ) (budget : ℕ) → IsVerify (map string_bytes words.now) file budget → outcome_of result.outcome ≢ own.ReadFault → OfFile (F.held files.old file) (λ bytes. Verifies bytes budget (outcome_of result.outcome)) }
+    // No run of the protocol that its file spells violates a query that is proved, or whose certificate is accepted.
+    ensures headline { (asked : request.Request) → Asks (map string_bytes words.now) asked →
+        outcome_of result.outcome ≢ own.ReadFault → OfFile (F.held files.old (file_named asked))
+        (λ bytes. NoneViolated bytes (outcome_of result.outcome)) }
+
+    // Which verdicts and refusals there are, exactly, of the bytes that the file holds.
+    ensures verify { (file : List ℕ) (budget : ℕ) →
+        IsVerify (map string_bytes words.now) file budget →
+        outcome_of result.outcome ≢ own.ReadFault → OfFile (F.held files.old file) (λ bytes.
+        Verifies bytes budget (outcome_of result.outcome)) }
+
+    // What is ruled of the certificates of a report, exactly, and which refusals there are.
+    ensures check { (file report : List ℕ) → IsCheck (map string_bytes words.now) file report →
+        outcome_of result.outcome ≢ own.ReadFault → OfFile (F.held files.old file) (λ bytes.
+        Checks bytes (F.held files.old report) (outcome_of result.outcome)) }
 
     // The clauses that a query of the protocol is translated into, exactly, or the point at which they are too large.
-    ensures list { (file : List ℕ) (query : ℕ) → IsList (map string_bytes words.now) file query → outcome_of result.outcome ≢ own.ReadFault → OfFile (F.held files.old file) (λ bytes. Lists bytes query (outcome_of result.outcome)) }
+    ensures list { (file : List ℕ) (query : ℕ) → IsList (map string_bytes words.now) file query →
+        outcome_of result.outcome ≢ own.ReadFault → OfFile (F.held files.old file) (λ bytes.
+        Lists bytes query (outcome_of result.outcome)) }
 
     // What the steps of a run show, exactly, and which refusals there are.
-    ensures replay { (file run : List ℕ) → IsReplay (map string_bytes words.now) file run → outcome_of result.outcome ≢ own.ReadFault → OfFile (F.held files.old file) (λ bytes. Replays bytes (F.held files.old run) (outcome_of result.outcome)) }
+    ensures replay { (file run : List ℕ) → IsReplay (map string_bytes words.now) file run →
+        outcome_of result.outcome ≢ own.ReadFault → OfFile (F.held files.old file) (λ bytes.
+        Replays bytes (F.held files.old run) (outcome_of result.outcome)) }
+
+    // Where its files are accepted and no fault is counted, a command comes to an outcome of its own.
+    ensures complete { (asked : request.Request) → Asks (map string_bytes words.now) asked →
+        AreAccepted asked (F.held files.old) →
+        ((name : List ℕ) → IsFaultCounted (F.faults files.old name) (F.faults files.new name) → ⊥) →
+        (IsFaultCounted (S.faults out.old) (S.faults out.new) → ⊥) →
+        IsOwnOutcome asked (outcome_of result.outcome) × IsOfAnswer result.status }
 
     ensures held_stays { (name : List ℕ) → F.held files.new name ≡ F.held files.old name }
-    ensures read_faults_rise { (name : List ℕ) → F.faults files.old name ≤ F.faults files.new name }
+    ensures read_faults_rise { (name : List ℕ) →
+        F.faults files.old name ≤ F.faults files.new name }
     ensures write_faults_rise { S.faults out.old ≤ S.faults out.new }
 
     // The status is that of the outcome, or 6 with a fault of the sink that was counted.
-    ensures status { result.status ≢ 6 → result.status ≡ status_of (outcome_of result.outcome) }
-    ensures write_fault { result.status ≡ 6 → IsFaultCounted (S.faults out.old) (S.faults out.new) }
+    ensures status { result.status ≢ 6 →
+        result.status ≡ status_of (outcome_of result.outcome) }
+    ensures write_fault { result.status ≡ 6 →
+        IsFaultCounted (S.faults out.old) (S.faults out.new) }
 
     // What was written: all of the outcome's text, or with status 6 a part of it, from its start. Clauses are written in
     // the words of the protocol that the file spells.
-    ensures whole { result.status ≢ 6 → (text : List ℕ) × IsTextOf (request_of (map string_bytes words.now)) (F.held files.old) (outcome_of result.outcome) text × (S.written out.new ≡ appended (S.written out.old) text) }
-    ensures part { result.status ≡ 6 → (text : List ℕ) × IsTextOf (request_of (map string_bytes words.now)) (F.held files.old) (outcome_of result.outcome) text × AppendsPart (S.written out.old) (S.written out.new) text }
+    ensures whole { result.status ≢ 6 → (text : List ℕ) ×
+        IsTextOf (request_of (map string_bytes words.now)) (F.held files.old)
+        (outcome_of result.outcome) text ×
+        (S.written out.new ≡ appended (S.written out.old) text) }
+    ensures part { result.status ≡ 6 → (text : List ℕ) ×
+        IsTextOf (request_of (map string_bytes words.now)) (F.held files.old)
+        (outcome_of result.outcome) text ×
+        AppendsPart (S.written out.old) (S.written out.new) text }
 {
     let Decision { protocol, outcome } = decide(alloc, words, files);
     respond(alloc, protocol.as_ref(), outcome, out)

@@ -4,6 +4,7 @@
 #![tactic(auto)]
 
 mod call;
+mod check;
 mod list;
 mod loading;
 mod outcome;
@@ -13,6 +14,9 @@ mod text;
 mod verify;
 
 pub use crate::call::top;
-pub use crate::outcome::{Answer, Outcome, ProtocolCode, Refusal, RunCode};
+pub use crate::outcome::{
+    Answer, Finding, Findings, Outcome, ProtocolCode, Refusal, ReportCode, RunCode,
+};
 pub use crate::text::{outcome_text, status};
+pub use cert_checker::Ruling;
 pub use query_verify::{Verdict, Verdicts};

@@ -13,6 +13,7 @@ ghost use Rattle.verifier_cli.specs.SeenOutcome.{outcome_of};
 
 use crate::outcome::{Outcome, ProtocolCode, Refusal};
 use crate::reading::{Stop, read_protocol};
+use certificate_text::spelled_protocols_have_names;
 use hv_io::{Files, LoadError, place};
 use pi_tree::{MOST_BYTES, Protocol};
 use protocol_scope::{proper_rules, query_leaves, well_scoped, within_limits};
@@ -102,6 +103,7 @@ pub(crate) fn load_protocol<F: Files>(
     proper_rules();
     well_scoped();
     query_leaves();
+    spelled_protocols_have_names();
     match load_text(file, MOST_BYTES, files) {
         Err(why) => Err(not_loaded(why)),
         Ok(bytes) => match read_protocol(alloc, &bytes) {

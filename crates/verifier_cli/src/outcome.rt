@@ -1,9 +1,11 @@
 //! What a call of the program comes to.
 
+use cert_checker::Ruling;
 use cert_text::PlainClauses;
 use pi_tree::Protocol;
 use query_verify::Verdicts;
 use run_replay::Replayed;
+use std::marker::Model;
 
 /// Why the bytes of a protocol's file are refused. The printed code of each is its number here, from 1.
 #[derive(Clone, Copy, Debug, PartialEq, Eq)]
@@ -36,6 +38,24 @@ pub enum ProtocolCode {
     LongFile,
 }
 
+/// Why a report is refused. The printed code of each is its number here, from 1. The place is that of the line in which it
+/// stands; what begins there is told by the rules of docs/FORMATS.md.
+#[derive(Clone, Copy, Debug, PartialEq, Eq)]
+pub enum ReportCode {
+    /// No report goes on with the byte that stands there, or ends there.
+    Syntax,
+    /// What stands there is no decimal number of at most nine digits, without leading zero.
+    Number,
+    /// The word names nothing of the protocol that may stand there.
+    Symbol,
+    /// What begins there has a wrong number of arguments.
+    Arity,
+    /// What begins there is too deep, one too many, or not the query that comes next; or the report ends before its last.
+    Count,
+    /// The file has more than 67,108,864 bytes. This is looked at before all else; its line is 1.
+    LongFile,
+}
+
 /// Why the text of a run is refused. The printed code of each is its number here, from 1.
 #[derive(Clone, Copy, Debug, PartialEq, Eq)]
 pub enum RunCode {
@@ -59,11 +79,42 @@ pub enum Refusal {
         column: u64,
         code: ProtocolCode,
     },
+    /// The report; the line is counted from 1.
+    Report {
+        line: u64,
+        code: ReportCode,
+    },
     /// The run; the line is counted from 1.
     Run {
         line: u64,
         code: RunCode,
     },
+}
+
+/// What is found of what a report claims of a query.
+#[derive(Clone, Copy, Debug, PartialEq, Eq)]
+pub enum Finding {
+    /// That it is proved, with a certificate, of which this is ruled.
+    Ruled(Ruling),
+    /// That it is proved, with no certificate.
+    Missing,
+    /// That whether it holds is unknown.
+    NotClaimed,
+}
+
+/// Findings, one for each query, in order.
+#[derive(Debug, Drop)]
+pub struct Findings {
+    pub items: Vec<Finding>,
+}
+
+impl Model for Findings {
+    ghost use Rattle.std.specs.Prelude.{List};
+    ghost use Rattle.verifier_cli.specs.declared.outcome.Finding.{Finding};
+
+    ghost Value = { List Finding };
+
+    ghost view = { λ a. a.items.items };
 }
 
 /// What a call of the program comes to.
@@ -73,6 +124,8 @@ pub enum Outcome {
     Usage,
     /// The protocol was read, and these are the verdicts of its queries, in their order.
     Verified(Verdicts),
+    /// The protocol and the report were read, and this is found of what it claims of the queries, in their order.
+    Checked(Findings),
     /// The protocol was read, and these are the clauses that it and the query are translated into.
     Listed(PlainClauses),
     /// The protocol was read, and its translation is too large at this point.

@@ -7,13 +7,16 @@ ghost use Rattle.calculus.specs.Points.{numbered};
 ghost use Rattle.certificate_text.specs.Text.{certificate_text};
 ghost use Rattle.verifier_cli.specs.SeenOutcome.{outcome_of, refusal_of};
 ghost use Rattle.pi_model.specs.Errors as errors;
+ghost use Rattle.cert_checker.specs.declared.ruling.Ruling.TheVariants as ruling;
 ghost use Rattle.verifier_cli.specs.Outcome as own;
-ghost use Rattle.verifier_cli.specs.Seen.{refusal_by, run_refusal_by, replay_of};
+ghost use Rattle.verifier_cli.specs.Seen.{refusal_by, report_refusal_by, run_refusal_by, replay_of};
 ghost use Rattle.pi_tree.specs.Protocols.{protocol_of};
 ghost use Rattle.verifier_cli.specs.Listing.{words_of};
 ghost use Rattle.verifier_cli.specs.Text.{line, clause_lines, in_words, outcome_bytes, status_of, refusal_text, entry_text, verdict_text, verdict_lines, is_proved, first_text, first_lines, done_text, replay_text, is_without_violation};
+ghost use Rattle.verifier_cli.specs.Text.{ruling_text, finding_text, finding_lines, is_accepted};
 
-use crate::outcome::{Outcome, ProtocolCode, Refusal, RunCode};
+use crate::outcome::{Finding, Findings, Outcome, ProtocolCode, Refusal, ReportCode, RunCode};
+use cert_checker::Ruling;
 use cert_text::{Cert, PlainClauses, write_cert, write_clause};
 use clause_saturate::{PlainEntry, PlainLog};
 use pi_model::StepError;
@@ -56,6 +59,25 @@ impl fmt::Display for ProtocolCode {
             ProtocolCode::TooMany => f.write_str("11 TooMany"),
             ProtocolCode::AmbiguousNew => f.write_str("12 AmbiguousNew"),
             ProtocolCode::LongFile => f.write_str("13 LongFile"),
+        }
+    }
+}
+
+impl fmt::Display for ReportCode {
+    ghost use Rattle.std.specs.Prelude.{Some};
+    ghost use Rattle.verifier_cli.specs.Seen.{report_refusal_by};
+    ghost use Rattle.verifier_cli.specs.Text.{report_code_text};
+
+    ghost output = { λ c. Some (report_code_text (report_refusal_by c)) };
+
+    fn fmt<W: fmt::Write>(&self, f: &mut fmt::Formatter<W>) -> fmt::Result {
+        match self {
+            ReportCode::Syntax => f.write_str("1 Syntax"),
+            ReportCode::Number => f.write_str("2 Number"),
+            ReportCode::Symbol => f.write_str("3 Symbol"),
+            ReportCode::Arity => f.write_str("4 Arity"),
+            ReportCode::Count => f.write_str("5 Count"),
+            ReportCode::LongFile => f.write_str("6 LongFile"),
         }
     }
 }
@@ -230,6 +252,16 @@ fn protocol_refusal(
     Ok(text)
 }
 
+/// The line that refuses a report at one of its lines.
+fn report_refusal(alloc: Global, row: u64, code: ReportCode) -> Result<String, AllocError>
+    ensures { IfOk result (λ text.
+        string_bytes text ≡ line (refusal_text (own.Report row (report_refusal_by code)))) }
+{
+    let mut text = String::new(alloc);
+    writeln!(text, "refused report {row} {code}")?;
+    Ok(text)
+}
+
 /// The line that refuses the text of a run at one of its lines.
 fn run_refusal(alloc: Global, row: u64, code: RunCode) -> Result<String, AllocError>
     ensures { IfOk result (λ text. string_bytes text ≡ line (refusal_text (own.Run row (run_refusal_by code)))) }
@@ -245,8 +277,67 @@ fn refusal_line(alloc: Global, refusal: Refusal) -> Result<String, AllocError>
 {
     match refusal {
         Refusal::Protocol { line, column, code } => protocol_refusal(alloc, line, column, code),
+        Refusal::Report { line, code } => report_refusal(alloc, line, code),
         Refusal::Run { line, code } => run_refusal(alloc, line, code),
     }
+}
+
+/// What is ruled of a pair of clauses of which a resolvent isn't covered.
+fn closure_words(
+    alloc: Global,
+    solved: u64,
+    unsolved: u64,
+    resolvent: u64,
+) -> Result<String, AllocError>
+    ensures { IfOk result (λ text.
+        string_bytes text ≡ ruling_text (ruling.Closure solved unsolved resolvent)) }
+{
+    let mut text = String::new(alloc);
+    write!(text, "refused closure {solved}")?;
+    write!(text, " {unsolved}")?;
+    write!(text, " {resolvent}")?;
+    Ok(text)
+}
+
+/// What is ruled of a certificate.
+fn ruling_words(alloc: Global, ruling: Ruling) -> Result<String, AllocError>
+    ensures { IfOk result (λ text. string_bytes text ≡ ruling_text ruling) }
+{
+    match ruling {
+        Ruling::Accepted => String::from_str(alloc, "accepted"),
+        Ruling::Shape(clause) => format!(in alloc; "refused shape {clause}"),
+        Ruling::Translation(point) => format!(in alloc; "refused translation {point}"),
+        Ruling::Cover(clause) => format!(in alloc; "refused cover {clause}"),
+        Ruling::Closure(solved, unsolved, resolvent) => {
+            closure_words(alloc, solved, unsolved, resolvent)
+        }
+        Ruling::Goal(clause) => format!(in alloc; "refused goal {clause}"),
+        Ruling::Extra(row) => format!(in alloc; "refused extra {row}"),
+    }
+}
+
+/// What is found of a claim.
+fn finding_words(alloc: Global, finding: Finding) -> Result<String, AllocError>
+    ensures { IfOk result (λ text. string_bytes text ≡ finding_text finding) }
+{
+    match finding {
+        Finding::Ruled(ruling) => ruling_words(alloc, ruling),
+        Finding::Missing => String::from_str(alloc, "missing"),
+        Finding::NotClaimed => String::from_str(alloc, "not claimed"),
+    }
+}
+
+/// A line for each query of a report that was checked.
+fn findings_text(alloc: Global, findings: &Findings) -> Result<String, AllocError>
+    ensures { IfOk result (λ text. string_bytes text ≡ finding_lines 1 findings.now) }
+{
+    let mut text = String::new(alloc);
+    for (place, finding) in findings.items.iter().enumerate() {
+        let number = place as u64 + 1;
+        let words = finding_words(alloc, *finding)?;
+        writeln!(text, "query {number} {words}")?;
+    }
+    Ok(text)
 }
 
 /// Since when a query is violated.
@@ -379,6 +470,7 @@ pub fn outcome_text(
     match outcome {
         Outcome::Usage => USAGE.to_vec(alloc),
         Outcome::Verified(verdicts) => verified_text(alloc, protocol, verdicts),
+        Outcome::Checked(findings) => Ok(findings_text(alloc, findings)?.into_bytes()),
         Outcome::Listed(clauses) => listed_text(alloc, protocol, clauses),
         Outcome::ListLarge(point) => Ok(point_line(alloc, *point)?.into_bytes()),
         Outcome::NoQuery(query) => Ok(query_line(alloc, *query)?.into_bytes()),
@@ -402,6 +494,25 @@ fn are_proved(verdicts: &Verdicts) -> bool
 {
     for verdict in &verdicts.items {
         if !is_proved(verdict) {
+            return false;
+        }
+    }
+    true
+}
+
+/// Whether the finding is that the certificate is accepted.
+fn is_accepted(finding: Finding) -> bool
+    ensures { result ≡ is_accepted finding }
+{
+    matches!(finding, Finding::Ruled(Ruling::Accepted))
+}
+
+/// Whether each finding is that the certificate is accepted.
+fn are_accepted(findings: &Findings) -> bool
+    ensures { result ≡ list_all is_accepted findings.now }
+{
+    for finding in &findings.items {
+        if !is_accepted(*finding) {
             return false;
         }
     }
@@ -437,10 +548,12 @@ pub fn status(outcome: &Outcome) -> u8
     match outcome {
         Outcome::Usage => 2,
         Outcome::Verified(verdicts) => { if are_proved(verdicts) { 0 } else { 1 } }
+        Outcome::Checked(findings) => { if are_accepted(findings) { 0 } else { 1 } }
         Outcome::Listed(_) => 0,
         Outcome::ListLarge(_) | Outcome::NoQuery(_) => 1,
         Outcome::Replayed(replayed) => { if is_without_violation(replayed) { 0 } else { 1 } }
         Outcome::Refused(Refusal::Protocol { .. }) => 3,
+        Outcome::Refused(Refusal::Report { .. }) => 4,
         Outcome::Refused(Refusal::Run { .. }) => 4,
         Outcome::ReadFault => 5,
         Outcome::Memory => 7,

@@ -22,10 +22,11 @@ use verdicts::proved_queries_hold;
 
 /// What the queries of the protocol come to with the budget.
 fn decided(alloc: Global, protocol: &Protocol, budget: u64) -> Outcome
-    requires { IsLoaded (protocol_of protocol.now) }
+    requires loaded { IsLoaded (protocol_of protocol.now) }
+    requires budget { budget ≤ MOST_BUDGET }
     ensures { IsDecidedBy (protocol_of protocol.now) budget (outcome_of result) }
 {
-    match verdicts(alloc, protocol, budget.min(MOST_BUDGET)) {
+    match verdicts(alloc, protocol, budget) {
         Ok(verdicts) => Outcome::Verified(verdicts),
         Err(_) => Outcome::Memory,
     }
@@ -38,6 +39,7 @@ pub(crate) fn verify_file<F: Files>(
     budget: u64,
     files: &mut F,
 ) -> Decision
+    requires { budget ≤ MOST_BUDGET }
     ensures held_stays { (name : List ℕ) → F.held files.new name ≡ F.held files.old name }
     ensures read_faults_rise { (name : List ℕ) → F.faults files.old name ≤ F.faults files.new name }
     ensures used { outcome_of result.outcome ≢ own.Usage }

@@ -1,10 +1,14 @@
-use Rattle.std.proofs.Common.{ap, option_map}
+use Rattle.std.proofs.Common.{ap, map, option_map}
+use Rattle.std.specs.String.{string_bytes}
+use Rattle.command_words.specs.Request.{Verify, Check, ListOf, Replay}
 use Rattle.pi_tree.specs.Protocols.{protocol_of}
+use Rattle.hv_io.specs.Faults.{IsFaultCounted}
 use Rattle.verifier_cli.specs.SeenOutcome.{outcome_of}
 use Rattle.verifier_cli.specs.Text.{outcome_bytes}
 use Rattle.verifier_cli.specs.Listing.{words_of}
 use Rattle.verifier_cli.proofs.Commands.{printed}
-use Rattle.verifier_cli.proofs.Outcomes.{becomes_after, was_before, verified_after, listed_after, replayed_after}
+use Rattle.verifier_cli.proofs.Complete.{violates_none, own_outcome, answer_status}
+use Rattle.verifier_cli.proofs.Outcomes.{becomes_after, was_before, comes_after}
 use Rattle.verifier_cli.proofs.call.top.Goals as goal
 
 pub returns-clause-usage : goal.returns-clause-usage
@@ -17,13 +21,30 @@ pub returns-clause-read_fault : goal.returns-clause-read_fault
 returns-clause-read_fault g c = λ e. c.decide-protocol.ensures.fault (was_before _ _ _ (λ k. cc) c.respond.ensures.outcome e)
 
 pub returns-clause-headline : goal.returns-clause-headline
-returns-clause-headline g c = λ file budget is other. verified_after _ _ _ _ c.respond.ensures.outcome (c.decide-protocol.ensures.verified file budget is) other
+returns-clause-headline g c = λ asked is other.
+    violates_none (g.F.Files.held c.args.files.now) asked (outcome_of c.respond.result.outcome)
+    (comes_after _ asked _ _ c.respond.ensures.outcome (c.decide-protocol.ensures.comes asked is) other)
 
-pub returns-clause-replay : goal.returns-clause-replay
-returns-clause-replay g c = λ file run is other. replayed_after _ _ _ _ c.respond.ensures.outcome (c.decide-protocol.ensures.replayed file run is) other
+pub returns-clause-verify : goal.returns-clause-verify
+returns-clause-verify g c = λ file budget is other. comes_after (g.F.Files.held c.args.files.now) (Verify file budget) _ _ c.respond.ensures.outcome (c.decide-protocol.ensures.comes (Verify file budget) is) other
+
+pub returns-clause-check : goal.returns-clause-check
+returns-clause-check g c = λ file report is other. comes_after (g.F.Files.held c.args.files.now) (Check file report) _ _ c.respond.ensures.outcome (c.decide-protocol.ensures.comes (Check file report) is) other
 
 pub returns-clause-list : goal.returns-clause-list
-returns-clause-list g c = λ file query is other. listed_after _ _ _ _ c.respond.ensures.outcome (c.decide-protocol.ensures.listed file query is) other
+returns-clause-list g c = λ file query is other. comes_after (g.F.Files.held c.args.files.now) (ListOf file query) _ _ c.respond.ensures.outcome (c.decide-protocol.ensures.comes (ListOf file query) is) other
+
+pub returns-clause-replay : goal.returns-clause-replay
+returns-clause-replay g c = λ file run is other. comes_after (g.F.Files.held c.args.files.now) (Replay file run) _ _ c.respond.ensures.outcome (c.decide-protocol.ensures.comes (Replay file run) is) other
+
+pub returns-clause-complete : goal.returns-clause-complete
+returns-clause-complete g c = λ asked is accepted none calm.
+    let held = g.F.Files.held c.args.files.now in
+    let outcome = outcome_of c.respond.result.outcome in
+    let own = own_outcome (map string_bytes c.args.words.now) held (λ name. IsFaultCounted (g.F.Files.faults c.args.files.now name) (g.F.Files.faults c.decide-protocol.new.files name)) outcome asked
+    (λ e. c.decide-protocol.ensures.fault (was_before _ _ _ (λ k. cc) c.respond.ensures.outcome e))
+    (comes_after held asked _ _ c.respond.ensures.outcome (c.decide-protocol.ensures.comes asked is)) is accepted none in
+    (own, answer_status asked outcome _ own (c.respond.ensures.status (λ six. calm (c.respond.ensures.fault six))))
 
 pub returns-clause-whole : goal.returns-clause-whole
 returns-clause-whole g c =

@@ -8,4 +8,4 @@ returns-in-Ok-read_protocol-clause-limited g c = limited _ (c.within_limits.ensu
 pub returns-in-Ok-read_protocol-clause-loaded : goal.returns-in-Ok-read_protocol-clause-loaded
 returns-in-Ok-read_protocol-clause-loaded g c =
     let spelled = c.in-Ok-read_protocol.ensures.spelled in
-    record { limits = c.within_limits.ensures _ _ spelled; rules = c.proper_rules.ensures _ _ spelled; scoped = c.well_scoped.ensures _ _ spelled; queries = c.query_leaves.ensures _ _ spelled }
+    record { limits = c.within_limits.ensures _ _ spelled; rules = c.proper_rules.ensures _ _ spelled; scoped = c.well_scoped.ensures _ _ spelled; queries = c.query_leaves.ensures _ _ spelled; names = c.spelled_protocols_have_names.ensures _ _ spelled }

@@ -1,0 +1,257 @@
+-- From the text of a report to what is said of the check of its certificates.
+use Rattle.std.proofs.Common.{◌≡◌, ◌≢◌, false, ℕ, zero, suc, ◌+◌, ◌==◌, ◌≤◌, min, List, [], ◌∷◌, length, Option, Some, IfSome, slice_get, inl, inr, refl, sym, ap, subst, ◌∙◌, arith}
+use Rattle.std.specs.Prelude.{Contains, count_by}
+use Rattle.std.proofs.lemmas.List.{take_min}
+use Rattle.calculus.specs.Bounds.{most_report_bytes}
+use Rattle.calculus.specs.Syntax as syntax
+use Rattle.calculus.specs.Secrecy.{Holds}
+use Rattle.hv_io.specs.Place.{line_at}
+use Rattle.soundness.specs.Shown.{IsProper}
+use Rattle.certificates.specs.Certificate.{Certificate}
+use Rattle.certificates.specs.Ruling as certificates
+use Rattle.certificates.specs.Ruling.{IsRuled}
+use Rattle.certificate_text.specs.OfProtocol.{HasNames, IsShort}
+use Rattle.certificate_reading.specs.Terms.{Code}
+use Rattle.certificate_reading.specs.Outcomes as reading
+use Rattle.certificate_reading.specs.Outcomes.{Faulty}
+use Rattle.certificate_reading.specs.Reports.{Claim, Proved, Bare, Unknown, read_report}
+use Rattle.report_text.specs.Text.{SpellsReport}
+use Rattle.fact_reader.specs.Gives.{HasFault}
+use Rattle.fact_reader.specs.declared.error.CertError.{CertError}
+use Rattle.fact_reader.specs.declared.error.CertError.TheVariants as error
+use Rattle.protocol_scope.specs.Spells.{Spells}
+use Rattle.cert_checker.specs.declared.ruling.Ruling.TheVariants.{Accepted}
+use Rattle.verifier_cli.specs.declared.outcome.Finding.{Finding}
+use Rattle.verifier_cli.specs.declared.outcome.Finding.TheVariants.{Ruled}
+use Rattle.verifier_cli.specs.Outcome.{ReportRefusal, Misspelled, LongReport, Refusal, Protocol, Report, Run, Outcome, Usage, Verified, Checked, Listed, ListLarge, NoQuery, Replayed, Refused, ReadFault, Memory}
+use Rattle.verifier_cli.specs.Command.{OfFile, IsRefusalOf, NoneViolated}
+use Rattle.verifier_cli.specs.Checking.{MakesClaims, RefusesReport, IsFindingOf, AreFindingsOf, IsCheckOf, IsOutcomeOfReport, ChecksReport, IsCheckOutcome, Checks}
+use Rattle.verifier_cli.specs.Reading.{IsUnread}
+use Rattle.verifier_cli.specs.ReportReading.{report_not_read, IsUnreadReport, IsOfReport}
+use Rattle.verifier_cli.specs.Text.{prints_clauses}
+use Rattle.verifier_cli.proofs.Held.{of_any, of_file}
+use Rattle.verifier_cli.proofs.Verifying.{Laws, same_refusal}
+
+-- the laws of the texts of reports on a protocol
+pub record ReportLaws (P : syntax.Protocol) : Type 0 where
+  pub refused : (bytes : List ℕ) (claims : List Claim) (place : ℕ) (code : Code) → read_report P bytes ≡ Faulty place code → SpellsReport P bytes claims → ⊥
+  pub one : (bytes : List ℕ) (claims others : List Claim) → SpellsReport P bytes claims → SpellsReport P bytes others → claims ≡ others
+
+not_both : (P : syntax.Protocol) → ReportLaws P → (bytes : List ℕ) (claims : List Claim) (why : ReportRefusal) (line : ℕ) → MakesClaims P bytes claims → RefusesReport P bytes why line → ⊥
+not_both P laws bytes claims (Misspelled code) line s r = laws.refused bytes claims r.1.0 code r.1.1 s.1
+not_both P laws bytes claims LongReport line s r = omega (arith, s.0, r.0)
+
+one_fault : (o : reading.Outcome (List Claim)) (p q : ℕ) (f g : Code) → o ≡ Faulty p f → o ≡ Faulty q g → (f ≡ g) × (p ≡ q)
+one_fault o p q f g e h = let same = sym e ∙ h in (cc, cc)
+
+one_reason : (P : syntax.Protocol) (bytes : List ℕ) (r s : ReportRefusal) (i j : ℕ) → RefusesReport P bytes r i → RefusesReport P bytes s j → (r ≡ s) × (i ≡ j)
+one_reason P bytes (Misspelled f) (Misspelled g) i j a b =
+    let e = one_fault (read_report P bytes) a.1.0 b.1.0 f g a.1.1 b.1.1 in
+    (ap Misspelled e.0, a.1.2 ∙ (ap (λ (place : ℕ). line_at bytes place) e.1 ∙ sym b.1.2))
+one_reason P bytes (Misspelled f) LongReport i j a b = absurd (omega (arith, a.0, b.0))
+one_reason P bytes LongReport (Misspelled g) i j a b = absurd (omega (arith, a.0, b.0))
+one_reason P bytes LongReport LongReport i j a b = (refl, a.1 ∙ sym b.1)
+
+same_report_refusal : (r s : ReportRefusal) (i j : ℕ) → (r ≡ s) × (i ≡ j) → Report i r ≡ Report j s
+same_report_refusal r s i j (e, h) = ap (λ (why : ReportRefusal). Report i why) e ∙ ap (λ (line : ℕ). Report line s) h
+
+-- what is said of the check of the claims that a report makes
+check_answers : (P : syntax.Protocol) (bytes : List ℕ) (claims : List Claim) (outcome : Outcome) → IsCheckOf P claims outcome → MakesClaims P bytes claims → IsOutcomeOfReport P bytes outcome
+check_answers P bytes claims (Checked findings) found made = (claims, made, found)
+check_answers P bytes claims Memory found made = tt
+check_answers P bytes claims (Refused refusal) found made = absurd found
+check_answers P bytes claims (Verified verdicts) found made = absurd found
+check_answers P bytes claims (Replayed replay) found made = absurd found
+check_answers P bytes claims Usage found made = absurd found
+check_answers P bytes claims ReadFault found made = absurd found
+check_answers P bytes claims (Listed clauses) found made = absurd found
+check_answers P bytes claims (ListLarge point) found made = absurd found
+check_answers P bytes claims (NoQuery number) found made = absurd found
+
+claims_check : (P : syntax.Protocol) → ReportLaws P → (bytes : List ℕ) (claims : List Claim) (outcome : Outcome) → IsCheckOf P claims outcome → MakesClaims P bytes claims → ChecksReport P bytes outcome
+claims_check P laws bytes claims outcome found made = record {
+  answers = check_answers P bytes claims outcome found made;
+  accepts = λ others s. subst (λ (cs : List Claim). IsCheckOf P cs outcome) (laws.one bytes claims others made.1 s.1) found;
+  refuses = λ why line r. absurd (not_both P laws bytes claims why line made r);
+}
+
+pub claims_said : (P : syntax.Protocol) → ReportLaws P → (held : Option (List ℕ)) (claims : List Claim) (outcome : Outcome) → IsCheckOf P claims outcome → OfFile held (λ bytes. MakesClaims P bytes claims) → OfFile held (λ bytes. ChecksReport P bytes outcome)
+claims_said P laws held claims outcome found made = of_file held (λ bytes. MakesClaims P bytes claims) (λ bytes. ChecksReport P bytes outcome) (λ bytes s. claims_check P laws bytes claims outcome found s) made
+
+-- of a refused report
+refusal_checks : (P : syntax.Protocol) → ReportLaws P → (bytes : List ℕ) (why : ReportRefusal) (line : ℕ) → RefusesReport P bytes why line → ChecksReport P bytes (Refused (Report line why))
+refusal_checks P laws bytes why line refused = record {
+  answers = refused;
+  accepts = λ claims s. absurd (not_both P laws bytes claims why line s refused);
+  refuses = λ other at r. inl (ap Refused (same_report_refusal why other line at (one_reason P bytes why other line at refused r)));
+}
+
+-- and of want of memory
+memory_checks : (P : syntax.Protocol) (bytes : List ℕ) → ChecksReport P bytes Memory
+memory_checks P bytes = record { answers = tt; accepts = λ claims s. tt; refuses = λ why line r. inr refl }
+
+-- a call without a report
+pub unread_report_said : (P : syntax.Protocol) → ReportLaws P → (Counted : Type 0) (held : Option (List ℕ)) (outcome : Outcome) → IsUnreadReport P Counted held outcome → outcome ≢ ReadFault → OfFile held (λ bytes. ChecksReport P bytes outcome)
+unread_report_said P laws Counted held (Refused (Report line why)) is other =
+    of_file held (λ bytes. RefusesReport P bytes why line) (λ bytes. ChecksReport P bytes (Refused (Report line why))) (λ bytes r. refusal_checks P laws bytes why line r) is
+unread_report_said P laws Counted held (Refused (Protocol line column why)) is other = absurd is
+unread_report_said P laws Counted held (Refused (Run line why)) is other = absurd is
+unread_report_said P laws Counted held Memory is other = of_any held (λ bytes. ChecksReport P bytes Memory) (memory_checks P)
+unread_report_said P laws Counted held ReadFault is other = absurd (other refl)
+unread_report_said P laws Counted held (Checked findings) is other = absurd is
+unread_report_said P laws Counted held (Replayed replay) is other = absurd is
+unread_report_said P laws Counted held Usage is other = absurd is
+unread_report_said P laws Counted held (Verified verdicts) is other = absurd is
+unread_report_said P laws Counted held (Listed clauses) is other = absurd is
+unread_report_said P laws Counted held (ListLarge point) is other = absurd is
+unread_report_said P laws Counted held (NoQuery number) is other = absurd is
+
+-- what is said of a protocol's file where it is refused
+refusal_outcome : (bytes : List ℕ) (refusal : Refusal) → IsRefusalOf bytes refusal → IsCheckOutcome bytes (Refused refusal)
+refusal_outcome bytes (Protocol line column why) is = is
+refusal_outcome bytes (Report line why) is = let e = is.shown in cc
+refusal_outcome bytes (Run line why) is = let e = is.shown in cc
+
+refusal_checked : Laws → (bytes : List ℕ) (held : Option (List ℕ)) (refusal : Refusal) → IsRefusalOf bytes refusal → Checks bytes held (Refused refusal)
+refusal_checked laws bytes held refusal is = record {
+  answers = refusal_outcome bytes refusal is;
+  accepts = λ P spells. absurd (laws.never_both bytes P is.why is.place spells is.refused);
+  refuses = λ why place refused. inl (ap Refused (is.shown ∙ same_refusal bytes is.why why is.place place (laws.one_refusal bytes is.why why is.place place is.refused refused)));
+  none_violated = λ P spells k shown. absurd shown;
+}
+
+memory_of_checks : (held : Option (List ℕ)) (bytes : List ℕ) → Checks bytes held Memory
+memory_of_checks held bytes = record {
+  answers = tt;
+  accepts = λ P spells. of_any held (λ text. ChecksReport P text Memory) (memory_checks P);
+  refuses = λ why place refused. inr refl;
+  none_violated = λ P spells k shown. absurd shown;
+}
+
+pub memory_checked : (held other : Option (List ℕ)) → OfFile held (λ bytes. Checks bytes other Memory)
+memory_checked held other = of_any held (λ bytes. Checks bytes other Memory) (memory_of_checks other)
+
+pub unread_checked : Laws → (Counted : Type 0) (held other : Option (List ℕ)) (outcome : Outcome) → IsUnread Counted held outcome → outcome ≢ ReadFault → OfFile held (λ bytes. Checks bytes other outcome)
+unread_checked laws Counted held other (Refused refusal) is read = of_file held (λ bytes. IsRefusalOf bytes refusal) (λ bytes. Checks bytes other (Refused refusal)) (λ bytes r. refusal_checked laws bytes other refusal r) is
+unread_checked laws Counted held other Memory is read = memory_checked held other
+unread_checked laws Counted held other ReadFault is read = absurd (read refl)
+unread_checked laws Counted held other Usage is read = absurd is
+unread_checked laws Counted held other (Checked findings) is read = absurd is
+unread_checked laws Counted held other (Replayed replay) is read = absurd is
+unread_checked laws Counted held other (Verified verdicts) is read = absurd is
+unread_checked laws Counted held other (Listed clauses) is read = absurd is
+unread_checked laws Counted held other (ListLarge point) is read = absurd is
+unread_checked laws Counted held other (NoQuery number) is read = absurd is
+
+-- the laws that the headline rests on: queries of protocols that were read are proper, and those hold whose certificates are accepted
+pub record Acceptance : Type 0 where
+  pub proper : (bytes : List ℕ) (P : syntax.Protocol) (q : syntax.Query) → Spells bytes P → Contains P.queries q → IsProper P q
+  pub hold : (P : syntax.Protocol) (q : syntax.Query) (cert : Certificate) → IsProper P q → IsRuled P q cert certificates.Accepted → Holds P q
+
+-- where it is found that a certificate is accepted, one is claimed
+holds_where_found : (P : syntax.Protocol) (q : syntax.Query) (claim : Claim) → ((cert : Certificate) → IsRuled P q cert certificates.Accepted → Holds P q) → IsFindingOf P q claim (Ruled Accepted) → Holds P q
+holds_where_found P q (Proved cert) sound is = sound cert is
+holds_where_found P q Bare sound is = absurd is
+holds_where_found P q Unknown sound is = absurd is
+
+-- each query at whose place a certificate is accepted holds
+hold_where_found : (P : syntax.Protocol) (qs : List syntax.Query) (claims : List Claim) (findings : List Finding)
+    → ((q : syntax.Query) (cert : Certificate) → Contains qs q → IsRuled P q cert certificates.Accepted → Holds P q)
+    → AreFindingsOf P qs claims findings → (k : ℕ) → slice_get findings k ≡ Some (Ruled Accepted) → IfSome (slice_get qs k) (λ q. Holds P q)
+hold_where_found P [] claims findings sound are k e = tt
+hold_where_found P (q ∷ qs) [] findings sound are k e = absurd are
+hold_where_found P (q ∷ qs) (c ∷ cs) [] sound are k e = absurd are
+hold_where_found P (q ∷ qs) (c ∷ cs) (f ∷ fs) sound are zero e =
+    let same : f ≡ Ruled Accepted = cc in
+    holds_where_found P q c (λ cert is. sound q cert (zero, omega arith, refl) is) (subst (λ (x : Finding). IsFindingOf P q c x) same are.0)
+hold_where_found P (q ∷ qs) (c ∷ cs) (f ∷ fs) sound are (suc k) e =
+    hold_where_found P qs cs fs (λ x cert has is. sound x cert (suc has.0, omega (arith, has.1), has.2) is) are.1 k e
+
+-- what is found of a protocol's queries violates nothing
+found_violates_none : Acceptance → Laws → (bytes : List ℕ) (held : Option (List ℕ)) (Q : syntax.Protocol) (outcome : Outcome) → Spells bytes Q → IsOfReport outcome → OfFile held (λ text. ChecksReport Q text outcome) → NoneViolated bytes outcome
+found_violates_none sound laws bytes held Q (Checked findings) spelled is said = λ P spells k accepted.
+    let F : syntax.Protocol → Type 0 = λ X. IfSome (slice_get X.queries k) (λ q. Holds X q) in
+    let found = said.fact.answers in
+    subst F (sym (laws.one_protocol bytes P Q spells spelled))
+    (hold_where_found Q Q.queries found.0 findings (λ q cert has ruled. sound.hold Q q cert (sound.proper bytes Q q spelled has) ruled) found.2 k accepted)
+found_violates_none sound laws bytes held Q (Refused refusal) spelled is said = λ P spells k shown. absurd shown
+found_violates_none sound laws bytes held Q Memory spelled is said = λ P spells k shown. absurd shown
+found_violates_none sound laws bytes held Q ReadFault spelled is said = λ P spells k shown. absurd shown
+found_violates_none sound laws bytes held Q Usage spelled is said = absurd is
+found_violates_none sound laws bytes held Q (Replayed replay) spelled is said = absurd is
+found_violates_none sound laws bytes held Q (Verified verdicts) spelled is said = absurd is
+found_violates_none sound laws bytes held Q (Listed clauses) spelled is said = absurd is
+found_violates_none sound laws bytes held Q (ListLarge point) spelled is said = absurd is
+found_violates_none sound laws bytes held Q (NoQuery number) spelled is said = absurd is
+
+-- and where the protocol's file is accepted
+report_outcome : (bytes : List ℕ) (P : syntax.Protocol) (outcome : Outcome) → Spells bytes P → IsOfReport outcome → outcome ≢ ReadFault → IsCheckOutcome bytes outcome
+report_outcome bytes P (Checked findings) spelled is read = (P, spelled)
+report_outcome bytes P (Refused (Report line why)) spelled is read = (P, spelled)
+report_outcome bytes P (Refused (Protocol line column why)) spelled is read = absurd is
+report_outcome bytes P (Refused (Run line why)) spelled is read = absurd is
+report_outcome bytes P Memory spelled is read = tt
+report_outcome bytes P ReadFault spelled is read = absurd (read refl)
+report_outcome bytes P Usage spelled is read = absurd is
+report_outcome bytes P (Replayed replay) spelled is read = absurd is
+report_outcome bytes P (Verified verdicts) spelled is read = absurd is
+report_outcome bytes P (Listed clauses) spelled is read = absurd is
+report_outcome bytes P (ListLarge point) spelled is read = absurd is
+report_outcome bytes P (NoQuery number) spelled is read = absurd is
+
+report_checks : Acceptance → Laws → (bytes : List ℕ) (held : Option (List ℕ)) (P : syntax.Protocol) (outcome : Outcome) → IsOfReport outcome → outcome ≢ ReadFault → OfFile held (λ text. ChecksReport P text outcome) → Spells bytes P → Checks bytes held outcome
+report_checks sound laws bytes held P outcome is read said spelled = record {
+  answers = report_outcome bytes P outcome spelled is read;
+  accepts = λ Q spells. subst (λ (X : syntax.Protocol). OfFile held (λ text. ChecksReport X text outcome)) (laws.one_protocol bytes P Q spelled spells) said;
+  refuses = λ why place refused. absurd (laws.never_both bytes P why place spelled refused);
+  none_violated = found_violates_none sound laws bytes held P outcome spelled is said;
+}
+
+pub report_checked : Acceptance → Laws → (held other : Option (List ℕ)) (P : syntax.Protocol) (outcome : Outcome) → IsOfReport outcome → outcome ≢ ReadFault → OfFile other (λ text. ChecksReport P text outcome) → OfFile held (λ bytes. Spells bytes P) → OfFile held (λ bytes. Checks bytes other outcome)
+report_checked sound laws held other P outcome is read said spelled =
+    of_file held (λ bytes. Spells bytes P) (λ bytes. Checks bytes other outcome) (λ bytes s. report_checks sound laws bytes other P outcome is read said s) spelled
+
+-- what is about a report prints no clause
+pub report_words : (outcome : Outcome) → IsOfReport outcome → prints_clauses outcome ≡ false
+report_words (Checked findings) is = refl
+report_words (Refused refusal) is = refl
+report_words Memory is = refl
+report_words ReadFault is = refl
+report_words Usage is = absurd is
+report_words (Replayed replay) is = absurd is
+report_words (Verified verdicts) is = absurd is
+report_words (Listed clauses) is = absurd is
+report_words (ListLarge point) is = absurd is
+report_words (NoQuery number) is = absurd is
+
+-- a call without a report is about a report
+pub unread_is_of_report : (P : syntax.Protocol) (Counted : Type 0) (held : Option (List ℕ)) (outcome : Outcome) → IsUnreadReport P Counted held outcome → IsOfReport outcome
+unread_is_of_report P Counted held (Refused (Report line why)) is = tt
+unread_is_of_report P Counted held (Refused (Protocol line column why)) is = absurd is
+unread_is_of_report P Counted held (Refused (Run line why)) is = absurd is
+unread_is_of_report P Counted held Memory is = tt
+unread_is_of_report P Counted held ReadFault is = tt
+unread_is_of_report P Counted held (Checked findings) is = absurd is
+unread_is_of_report P Counted held (Replayed replay) is = absurd is
+unread_is_of_report P Counted held Usage is = absurd is
+unread_is_of_report P Counted held (Verified verdicts) is = absurd is
+unread_is_of_report P Counted held (Listed clauses) is = absurd is
+unread_is_of_report P Counted held (ListLarge point) is = absurd is
+unread_is_of_report P Counted held (NoQuery number) is = absurd is
+
+-- a report with a fault is refused, at the line of its place
+pub fault_unread : (P : syntax.Protocol) (Counted : Type 0) (held : Option (List ℕ)) (bytes : List ℕ) (e : CertError) → IfSome held (λ all. bytes ≡ all) → length bytes ≤ most_report_bytes → HasFault e (read_report P bytes) → IsUnreadReport P Counted held (report_not_read bytes e)
+fault_unread P Counted held bytes (error.Syntax place) as_held fits h = record { bytes = bytes; as_held = as_held; fact = (fits, (place, h, refl)) }
+fault_unread P Counted held bytes (error.Number place) as_held fits h = record { bytes = bytes; as_held = as_held; fact = (fits, (place, h, refl)) }
+fault_unread P Counted held bytes (error.Symbol place) as_held fits h = record { bytes = bytes; as_held = as_held; fact = (fits, (place, h, refl)) }
+fault_unread P Counted held bytes (error.Arity place) as_held fits h = record { bytes = bytes; as_held = as_held; fact = (fits, (place, h, refl)) }
+fault_unread P Counted held bytes (error.Count place) as_held fits h = record { bytes = bytes; as_held = as_held; fact = (fits, (place, h, refl)) }
+fault_unread P Counted held bytes (error.Memory m) as_held fits h = tt
+
+-- and claims that were read are made
+pub claims_made : (P : syntax.Protocol) (held : Option (List ℕ)) (bytes : List ℕ) (claims : List Claim) → IfSome held (λ all. bytes ≡ all) → length bytes ≤ most_report_bytes → SpellsReport P bytes claims → OfFile held (λ text. MakesClaims P text claims)
+claims_made P held bytes claims as_held fits spelled = record { bytes = bytes; as_held = as_held; fact = (fits, spelled) }
+
+-- the line of a place behind the bytes is that of their end
+pub line_within : (bytes : List ℕ) (at : ℕ) → line_at bytes (min at (length bytes)) ≡ line_at bytes at
+line_within bytes at = ap (λ (xs : List ℕ). 1 + count_by (λ byte. byte == 10) xs) (take_min at bytes)

@@ -1,0 +1,199 @@
+//! The command `check`: what is ruled of the certificates of a report.
+
+ghost use Rattle.std.specs.Prelude.{◌≡◌, ◌≢◌, ◌≤◌, ℕ, List, None, length, map, IfOk, IfErr};
+ghost use Rattle.hv_io.specs.Faults.{IsFaultCounted};
+ghost use Rattle.hv_io.specs.Place.{line_at};
+ghost use Rattle.pi_tree.specs.Protocols.{protocol_of};
+ghost use Rattle.pi_tree.specs.Accessors.{IsThere};
+ghost use Rattle.pi_tree.specs.declared.accessors.Kind.TheVariants.{Query as OfQueries};
+ghost use Rattle.query_derive.specs.GoalRows.{OfQuery};
+ghost use Rattle.cert_reader.specs.Seen.{claim_of};
+ghost use Rattle.verifier_cli.specs.Command.{OfFile, IsEitherUnreadable};
+ghost use Rattle.verifier_cli.specs.Checking.{IsFindingOf, AreFindingsOf, IsCheckOf, MakesClaims};
+ghost use Rattle.verifier_cli.specs.Checking.{ChecksReport, Checks};
+ghost use Rattle.verifier_cli.specs.Loaded.{IsLoaded};
+ghost use Rattle.verifier_cli.specs.Outcome as own;
+ghost use Rattle.verifier_cli.specs.ReportReading.{report_not_loaded, report_not_read};
+ghost use Rattle.verifier_cli.specs.ReportReading.{IsUnreadReport, IsOfReport};
+ghost use Rattle.verifier_cli.specs.SeenOutcome.{outcome_of};
+ghost use Rattle.verifier_cli.specs.Text.{HasWords};
+
+use crate::loading::{Unloaded, load_protocol, load_text};
+use crate::outcome::{Finding, Findings, Outcome, Refusal, ReportCode};
+use cert_checker::check_cert;
+use cert_reader::{CertError, Claim, Claims, read_report};
+use certificates::accepted_queries_hold;
+use hv_io::{Files, place};
+use pi_tree::{MOST_REPORT_BYTES, Protocol};
+use protocol_scope::{never_both, one_protocol, one_refusal};
+use read_protocols::queries_of_read_protocols;
+use report_text::reports_are_read;
+use std::alloc::{AllocError, Global};
+
+/// The line of a byte, and of the end of the bytes where it is none of them.
+fn line_of(bytes: &[u8], at: usize) -> u64
+    ensures { result ≡ line_at bytes.now at }
+{
+    place(bytes, at.min(bytes.len())).0
+}
+
+/// What a call comes to whose report could not be loaded.
+fn report_not_loaded(why: Unloaded) -> Outcome
+    ensures { outcome_of result ≡ report_not_loaded why }
+{
+    match why {
+        Unloaded::Failed => Outcome::ReadFault,
+        Unloaded::TooLong => Outcome::Refused(Refusal::Report {
+            line: 1,
+            code: ReportCode::LongFile,
+        }),
+        Unloaded::Memory => Outcome::Memory,
+    }
+}
+
+/// What a call comes to whose report could not be read in these bytes.
+fn report_not_read(bytes: &[u8], error: CertError) -> Outcome
+    ensures { outcome_of result ≡ report_not_read bytes.now error }
+{
+    let (at, code) = match error {
+        CertError::Syntax(at) => (at, ReportCode::Syntax),
+        CertError::Number(at) => (at, ReportCode::Number),
+        CertError::Symbol(at) => (at, ReportCode::Symbol),
+        CertError::Arity(at) => (at, ReportCode::Arity),
+        CertError::Count(at) => (at, ReportCode::Count),
+        CertError::Memory(_) => return Outcome::Memory,
+    };
+    let line = line_of(bytes, at);
+    Outcome::Refused(Refusal::Report { line, code })
+}
+
+/// The claims of a report on the protocol, or what the call comes to where the file makes none.
+fn load_claims<F: Files>(
+    alloc: Global,
+    protocol: &Protocol,
+    report: &str,
+    files: &mut F,
+) -> Result<Claims, Outcome>
+    requires { IsLoaded (protocol_of protocol.now) }
+    ensures held_stays { (name : List ℕ) → F.held files.new name ≡ F.held files.old name }
+    ensures read_faults_rise { (name : List ℕ) →
+        F.faults files.old name ≤ F.faults files.new name }
+    ensures each { IfOk result (λ claims.
+        length claims.items.items ≡ length protocol.now.queries) }
+    ensures made { IfOk result (λ claims. OfFile (F.held files.old report.now) (λ bytes.
+        MakesClaims (protocol_of protocol.now) bytes (map claim_of claims.items.items))) }
+    ensures unread { IfErr result (λ outcome. IsUnreadReport (protocol_of protocol.now)
+        (IsFaultCounted (F.faults files.old report.now) (F.faults files.new report.now))
+        (F.held files.old report.now) (outcome_of outcome)) }
+{
+    reports_are_read();
+    match load_text(report, MOST_REPORT_BYTES, files) {
+        Err(why) => Err(report_not_loaded(why)),
+        Ok(bytes) => match read_report(alloc, protocol, &bytes) {
+            Ok(claims) => Ok(claims),
+            Err(error) => Err(report_not_read(&bytes, error)),
+        },
+    }
+}
+
+/// What is found of a claim about the query of that number.
+fn finding(
+    alloc: Global,
+    protocol: &Protocol,
+    query: u32,
+    claim: &Claim,
+) -> Result<Finding, AllocError>
+    requires loaded { IsLoaded (protocol_of protocol.now) }
+    requires there { IsThere (protocol_of protocol.now) OfQueries query }
+    ensures { let P = protocol_of protocol.now in IfOk result (λ finding.
+        OfQuery P query (λ q. IsFindingOf P q (claim_of claim.now) finding)) }
+{
+    match claim {
+        Claim::Proved(cert) => Ok(Finding::Ruled(check_cert(alloc, protocol, query, cert)?)),
+        Claim::Bare => Ok(Finding::Missing),
+        Claim::Unknown => Ok(Finding::NotClaimed),
+    }
+}
+
+/// What is found of the claims, one for each query of the protocol.
+fn findings(alloc: Global, protocol: &Protocol, claims: &Claims) -> Result<Findings, AllocError>
+    requires loaded { IsLoaded (protocol_of protocol.now) }
+    requires each { length claims.now.items.items ≡ length protocol.now.queries }
+    ensures { let P = protocol_of protocol.now in IfOk result (λ findings.
+        AreFindingsOf P P.queries (map claim_of claims.now.items.items) findings) }
+{
+    let mut items = Vec::new(alloc);
+    'each: for (index, claim) in claims.items.iter().enumerate() {
+        items.push(finding(alloc, protocol, index as u32 + 1, claim)?)?;
+    }
+    Ok(Findings { items })
+}
+
+/// What checking the claims comes to.
+fn checked(alloc: Global, protocol: &Protocol, claims: &Claims) -> Outcome
+    requires loaded { IsLoaded (protocol_of protocol.now) }
+    requires each { length claims.now.items.items ≡ length protocol.now.queries }
+    ensures found { IsCheckOf (protocol_of protocol.now) (map claim_of claims.now.items.items)
+        (outcome_of result) }
+    ensures kind { IsOfReport (outcome_of result) }
+{
+    match findings(alloc, protocol, claims) {
+        Ok(findings) => Outcome::Checked(findings),
+        Err(_) => Outcome::Memory,
+    }
+}
+
+/// Loads a report on the protocol and checks its certificates.
+fn check_report<F: Files>(
+    alloc: Global,
+    protocol: &Protocol,
+    report: &str,
+    files: &mut F,
+) -> Outcome
+    requires { IsLoaded (protocol_of protocol.now) }
+    ensures held_stays { (name : List ℕ) → F.held files.new name ≡ F.held files.old name }
+    ensures read_faults_rise { (name : List ℕ) →
+        F.faults files.old name ≤ F.faults files.new name }
+    ensures kind { IsOfReport (outcome_of result) }
+    ensures fault { outcome_of result ≡ own.ReadFault →
+        IsFaultCounted (F.faults files.old report.now) (F.faults files.new report.now) }
+    ensures found { outcome_of result ≢ own.ReadFault →
+        OfFile (F.held files.old report.now) (λ text.
+        ChecksReport (protocol_of protocol.now) text (outcome_of result)) }
+{
+    reports_are_read();
+    match load_claims(alloc, protocol, report, files) {
+        Err(outcome) => outcome,
+        Ok(claims) => checked(alloc, protocol, &claims),
+    }
+}
+
+/// Loads a protocol and a report on it, and checks the report's certificates.
+pub(crate) fn check_file<F: Files>(
+    alloc: Global,
+    file: &str,
+    report: &str,
+    files: &mut F,
+) -> Outcome
+    ensures held_stays { (name : List ℕ) → F.held files.new name ≡ F.held files.old name }
+    ensures read_faults_rise { (name : List ℕ) →
+        F.faults files.old name ≤ F.faults files.new name }
+    ensures used { outcome_of result ≢ own.Usage }
+    ensures words { HasWords None (outcome_of result) }
+    ensures fault { outcome_of result ≡ own.ReadFault →
+        IsEitherUnreadable file.now report.now (F.held files.old) (λ name.
+        IsFaultCounted (F.faults files.old name) (F.faults files.new name)) }
+    ensures checked { outcome_of result ≢ own.ReadFault →
+        OfFile (F.held files.old file.now) (λ bytes.
+        Checks bytes (F.held files.old report.now) (outcome_of result)) }
+{
+    one_protocol();
+    one_refusal();
+    never_both();
+    queries_of_read_protocols();
+    accepted_queries_hold();
+    match load_protocol(alloc, file, files) {
+        Err(outcome) => outcome,
+        Ok(protocol) => check_report(alloc, &protocol, report, files),
+    }
+}
