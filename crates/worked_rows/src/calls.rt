@@ -1,7 +1,7 @@
 //! Whole calls of the verifier.
 
-use crate::settings::Setting;
-use hv_io::{CalmSink, MemSink};
+use crate::settings::{Setting, words_of};
+use hv_io::{CalmSink, MemFiles, MemSink};
 use std::alloc::{AllocError, Global};
 use std::fmt::Write;
 use verifier_cli::{Outcome, top};
@@ -11,6 +11,7 @@ fn name(outcome: &Outcome) -> &'static str {
     match outcome {
         Outcome::Usage => "Usage",
         Outcome::Verified(_) => "Verified",
+        Outcome::Checked(_) => "Checked",
         Outcome::Listed(_) => "Listed",
         Outcome::ListLarge(_) => "ListLarge",
         Outcome::NoQuery(_) => "NoQuery",
@@ -66,6 +67,24 @@ pub fn verdicts(alloc: Global, setting: &Setting) -> Result<String, AllocError> 
     let answer = top(alloc, &setting.words, &mut files, &mut out);
     let lines = query_lines(alloc, text(out.written()))?;
     format!(in alloc; "{} {lines}", answer.status)
+}
+
+/// What a call writes, with these words and files.
+fn written(alloc: Global, words: &[String], files: &mut MemFiles) -> Result<Vec<u8>, AllocError> {
+    let mut out = MemSink::new(alloc, 1000)?;
+    top(alloc, words, files, &mut out);
+    out.written().to_vec(alloc)
+}
+
+/// The status of the check of the report that a call writes, and what is found.
+pub fn checked(alloc: Global, setting: &Setting) -> Result<String, AllocError> {
+    let mut files = setting.files(alloc)?;
+    let report = written(alloc, &setting.words, &mut files)?;
+    files.add("first.report", &report)?;
+    let words = words_of(alloc, "hv check first.pi first.report")?;
+    let mut out = sink(alloc, setting)?;
+    let answer = top(alloc, &words, &mut files, &mut out);
+    format!(in alloc; "{} {}", answer.status, text(out.written()))
 }
 
 /// The same of files that never fail: the status and the outcome, and what is written.

@@ -2,7 +2,7 @@
 
 use crate::absences::absences;
 use crate::beginnings::beginnings;
-use crate::calls::{call, calm_call, calm_status, verdicts};
+use crate::calls::{call, calm_call, calm_status, checked, verdicts};
 use crate::descriptions::description;
 use crate::ends::ended;
 use crate::reading::{copy, request, steps};
@@ -25,6 +25,7 @@ fn shown(alloc: Global, setting: &Setting, kind: &str) -> Result<Option<String>,
     let shown = match kind.as_bytes() {
         b"call" => call(alloc, setting)?,
         b"verdicts" => verdicts(alloc, setting)?,
+        b"checked" => checked(alloc, setting)?,
         b"calm-call" => calm_call(alloc, setting)?,
         b"calm-status" => calm_status(alloc, setting)?,
         b"beginnings" => beginnings(alloc, setting)?,

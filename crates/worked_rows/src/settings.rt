@@ -11,6 +11,8 @@ pub struct Setting {
     pub words: Vec<String>,
     /// The bytes of `first.pi`, if there is one.
     pub file: Option<Vec<u8>>,
+    /// The bytes of `first.report`, if there is one.
+    pub report: Option<Vec<u8>>,
     /// What a run begins with.
     pub front: Vec<u8>,
     /// What the bytes of `first.run` go on with, if there is one.
@@ -43,6 +45,7 @@ impl Setting {
         Ok(Setting {
             words: Vec::new(alloc),
             file: None,
+            report: None,
             front: Vec::new(alloc),
             run: None,
             failing_load: 0,
@@ -57,9 +60,11 @@ impl Setting {
             b"anew" => *self = Setting::new(alloc)?,
             b"words" => self.words = words_of(alloc, text)?,
             b"file" => self.file = Some(bytes_of(alloc, text)?),
+            b"report" => self.report = Some(bytes_of(alloc, text)?),
             b"front" => self.front = bytes_of(alloc, text)?,
             b"run" => self.run = Some(bytes_of(alloc, text)?),
             b"no-file" => self.file = None,
+            b"no-report" => self.report = None,
             b"no-run" => self.run = None,
             b"failing-load" => self.failing_load = number_of(text),
             b"failing-write" => self.failing_write = number_of(text),
@@ -92,6 +97,9 @@ impl Setting {
         files.fail_at(self.failing_load)?;
         if let Some(file) = &self.file {
             files.add("first.pi", file)?;
+        }
+        if let Some(report) = &self.report {
+            files.add("first.report", report)?;
         }
         if self.run.is_some() {
             files.add("first.run", &self.steps(alloc)?)?;
