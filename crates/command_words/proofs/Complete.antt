@@ -1,6 +1,6 @@
 -- Words that `clap` takes make a request.
 use Rattle.std.proofs.Common.{◌≡◌, ◌≤◌, ◌∙◌, ◌&&◌, ◌||◌, ℕ, Bool, true, false, not, cond, List, [], ◌∷◌, Option, Some, None, refl, sym, ap, subst, is_some, codes, arith, length}
-use Rattle.std.specs.Prelude.{◌^◌, ◌-◌, ◌↔◌, IsSome, IsTrue, option_and_then, option_map, slice_get, unwrap_or}
+use Rattle.std.specs.Prelude.{◌↔◌, IsSome, IsTrue, option_and_then, option_map, slice_get, unwrap_or}
 use Rattle.std.specs.List.{find}
 use Rattle.std.specs.Option.{option_map_or}
 use Rattle.std.specs.Str.{bytes_eq}
@@ -15,11 +15,10 @@ use Rattle.clap.specs.declared.error.kind.ErrorKind.TheVariants.{DisplayHelp, Va
 use Rattle.clap.specs.declared.parser.matches.ValueSource.TheVariants.{CommandLine}
 use Rattle.std.proofs.lemmas.Slice.Eq.{bytes_eq-Decides}
 use Rattle.clap.proofs.SimpleLemmas.{is_nil}
-use Rattle.clap.proofs.ValueTestLemmas.{Accepts-accepts, accepts-Accepts}
-use Rattle.command_words.specs.Commands.{budget_rule, name_rule, program_app, query_rule}
-use Rattle.command_words.specs.Request.{Request, Check, ListOf, Replay, Verify, asked, check_in, is_taken, list_in, number_of, replay_in, request_of, request_seen, verify_in}
+use Rattle.command_words.specs.Commands.{budget_rule, name_rule, program_app, query_rule, stages_rule}
+use Rattle.command_words.specs.Request.{Request, Check, ListOf, Replay, RingOf, Verify, asked, check_in, is_taken, list_in, number_of, replay_in, request_of, request_seen, ring_in, verify_in}
 use Rattle.command_words.specs.declared.Request.{Request as Request'}
-use Rattle.command_words.proofs.Rows.{default_good, default_there, first_there, given_there, good, is_number_id, kept_rows, row_from, number_there, number_within, one_keeps, small_number}
+use Rattle.command_words.proofs.Rows.{bounds_of, default_good, default_there, first_there, given_there, good, kept_rows, row_from, number_there, number_within, one_keeps}
 use Rattle.command_words.proofs.Stopping.{StopsElsewhere, walk_stops}
 use Rattle.command_words.proofs.Walking.{AllFit, Fits, level_good, neither}
 
@@ -34,16 +33,19 @@ budget = filled budget_rule
 abbrev query : Rule
 query = with_index 2 (filled query_rule)
 
+abbrev stages : Rule
+stages = with_index 1 (filled stages_rule)
+
 abbrev help : Rule
 help = filled help_rule
 
-either_way : (b x : Bool) → b ≡ false → (true && (not b || x)) ≡ true
-either_way true x e = cc
-either_way false x e = refl
+unbounded : (o : Option (ℕ × ℕ)) (holds : ℕ × ℕ → Bool) → o ≡ None → (true && option_map_or holds o true) ≡ true
+unbounded None holds e = refl
+unbounded (Some bounds) holds e = cc
 
-name_fits : (i : ℕ) (id : Text) → is_number_id id ≡ false → Fits good (name_at i id)
+name_fits : (i : ℕ) (id : Text) → bounds_of id ≡ None → Fits good (name_at i id)
 name_fits i id free = record {
-  keeps = one_keeps (name_at i id) (λ v e. either_way (is_number_id id) _ free);
+  keeps = one_keeps (name_at i id) (λ v e. unbounded (bounds_of id) _ free);
   default_keeps = λ rows g. kept_rows (has_row id rows) rows g;
 }
 
@@ -62,25 +64,26 @@ budget_fits = record {
   default_keeps = λ rows g. default_good budget (codes "10000") rows refl g;
 }
 
-pub small_query : (v : Text) → is_unsigned_in 1 256 v ≡ true → is_unsigned_in 0 (2 ^ 64 - 1) v ≡ true
-small_query v e =
-    let h = accepts-Accepts false (Unsigned 1 256) v e in
-    Accepts-accepts false (Unsigned 0 (2 ^ 64 - 1)) v (h.0, h.1, omega arith, omega (arith, h.3))
-
-within_budgets : (v : Text) → is_unsigned_in 1 256 v ≡ true → is_unsigned_in 0 1000000 v ≡ true
-within_budgets v e =
-    let h = accepts-Accepts false (Unsigned 1 256) v e in
-    Accepts-accepts false (Unsigned 0 1000000) v (h.0, h.1, omega arith, omega (arith, h.3))
-
 query_passes : (v : Text) → values_fault query (v ∷ []) ≡ [] → good (row_from query CommandLine v) ≡ true
 query_passes v e =
     let parts = neither (value_kinds false (Unsigned 1 256) v) [] e in
-    rw (within_budgets v (accepted (is_unsigned_in 1 256 v) parts.0)) refl
+    rw (accepted (is_unsigned_in 1 256 v) parts.0) refl
 
 query_fits : Fits good query
 query_fits = record {
   keeps = one_keeps query query_passes;
   default_keeps = λ rows g. kept_rows (has_row (codes "query") rows) rows g;
+}
+
+stages_passes : (v : Text) → values_fault stages (v ∷ []) ≡ [] → good (row_from stages CommandLine v) ≡ true
+stages_passes v e =
+    let parts = neither (value_kinds false (Unsigned 2 400) v) [] e in
+    rw (accepted (is_unsigned_in 2 400 v) parts.0) refl
+
+stages_fits : Fits good stages
+stages_fits = record {
+  keeps = one_keeps stages stages_passes;
+  default_keeps = λ rows g. kept_rows (has_row (codes "stages") rows) rows g;
 }
 
 help_fits : Fits good help
@@ -108,6 +111,9 @@ list = unwrap_or (slice_get program.subs 2) program.top
 abbrev replay : Shape
 replay = unwrap_or (slice_get program.subs 3) program.top
 
+abbrev ring : Shape
+ring = unwrap_or (slice_get program.subs 4) program.top
+
 verify_fits : AllFit good verify.rules
 verify_fits = (name_fits 1 (codes "file") refl, (budget_fits, (help_fits, tt)))
 
@@ -120,33 +126,41 @@ list_fits = (name_fits 1 (codes "file") refl, (query_fits, (help_fits, tt)))
 replay_fits : AllFit good replay.rules
 replay_fits = (name_fits 1 (codes "file") refl, (name_fits 2 (codes "run") refl, (help_fits, tt)))
 
--- a budget that is asked for is at most 1,000,000
-abbrev pub WithinBudget : Option Request → Type 0
-WithinBudget None = Unit {0}
-WithinBudget (Some (Verify file n)) = n ≤ 1000000
-WithinBudget (Some (Check file report)) = Unit {0}
-WithinBudget (Some (ListOf file n)) = Unit {0}
-WithinBudget (Some (Replay file run)) = Unit {0}
+ring_fits : AllFit good ring.rules
+ring_fits = (stages_fits, (help_fits, tt))
 
-verify_bound : (f : Option Text) (n : Option ℕ) → ((m : ℕ) → n ≡ Some m → m ≤ 1000000) → WithinBudget (option_and_then (λ file. option_map (Verify file) n) f)
+-- a budget that is asked for is at most 1,000,000, and a ring has from 2 to 400 keys
+abbrev pub WithinBounds : Option Request → Type 0
+WithinBounds None = Unit {0}
+WithinBounds (Some (Verify file n)) = n ≤ 1000000
+WithinBounds (Some (Check file report)) = Unit {0}
+WithinBounds (Some (ListOf file n)) = Unit {0}
+WithinBounds (Some (Replay file run)) = Unit {0}
+WithinBounds (Some (RingOf n)) = (2 ≤ n) × (n ≤ 400)
+
+verify_bound : (f : Option Text) (n : Option ℕ) → ((m : ℕ) → n ≡ Some m → m ≤ 1000000) → WithinBounds (option_and_then (λ file. option_map (Verify file) n) f)
 verify_bound None n bound = tt
 verify_bound (Some f) None bound = tt
 verify_bound (Some f) (Some m) bound = bound m refl
 
-check_bound : (f r : Option Text) → WithinBudget (option_and_then (λ file. option_map (Check file) r) f)
+check_bound : (f r : Option Text) → WithinBounds (option_and_then (λ file. option_map (Check file) r) f)
 check_bound None r = tt
 check_bound (Some f) None = tt
 check_bound (Some f) (Some r) = tt
 
-list_bound : (f : Option Text) (n : Option ℕ) → WithinBudget (option_and_then (λ file. option_map (ListOf file) n) f)
+list_bound : (f : Option Text) (n : Option ℕ) → WithinBounds (option_and_then (λ file. option_map (ListOf file) n) f)
 list_bound None n = tt
 list_bound (Some f) None = tt
 list_bound (Some f) (Some n) = tt
 
-replay_bound : (f r : Option Text) → WithinBudget (option_and_then (λ file. option_map (Replay file) r) f)
+replay_bound : (f r : Option Text) → WithinBounds (option_and_then (λ file. option_map (Replay file) r) f)
 replay_bound None r = tt
 replay_bound (Some f) None = tt
 replay_bound (Some f) (Some r) = tt
+
+ring_bound : (n : Option ℕ) → ((m : ℕ) → n ≡ Some m → (2 ≤ m) × (m ≤ 400)) → WithinBounds (option_map RingOf n)
+ring_bound None bound = tt
+ring_bound (Some m) bound = bound m refl
 
 -- what is required was given
 one_given : (a : Bool) → check_kinds false false (not a || false) ≡ [] → a ≡ true
@@ -164,17 +178,21 @@ some_both f (Some a) (Some b) e g = refl
 some_both f (Some a) None e g = cc
 some_both f None y e g = cc
 
+some_mapped : {X Y : Type 0} (f : X → Y) (o : Option X) → is_some (option_map f o) ≡ is_some o
+some_mapped f None = refl
+some_mapped f (Some x) = refl
+
 still_there : (b : Bool) (rows : List Row) (p : Row → Bool) → is_some (find p rows) ≡ true → is_some (find p (cond b rows rows)) ≡ true
 still_there true rows p e = e
 still_there false rows p e = e
 
-verify_within : (words : List Text) → level_fault verify [] nothing_held words false [] ≡ [] → WithinBudget (verify_in (rows_after verify.rules [] words))
+verify_within : (words : List Text) → level_fault verify [] nothing_held words false [] ≡ [] → WithinBounds (verify_in (rows_after verify.rules [] words))
 verify_within words e =
     let level = level_good good verify refl verify_fits [] words false [] e in
     let rows = rows_after verify.rules [] words in
     let before = with_default (settled verify.rules (walk verify.rules [] nothing_held words).held).rows (name_at 1 (codes "file")) in
     let number = still_there (has_row (codes "help") (with_default before budget)) (with_default before budget) (λ r. bytes_eq r.id (codes "budget")) (default_there budget (codes "10000") before) in
-    verify_bound (first_of (codes "file") rows) (option_and_then number_of (one_of (codes "budget") rows)) (number_within rows (codes "budget") refl level.0 number)
+    verify_bound (first_of (codes "file") rows) (option_and_then number_of (one_of (codes "budget") rows)) (λ m is. (number_within rows (codes "budget") (0, 1000000) refl (omega arith) level.0 number m is).1)
 
 verify_some : (words : List Text) → level_fault verify [] nothing_held words false [] ≡ [] → is_some (verify_in (rows_after verify.rules [] words)) ≡ true
 verify_some words e =
@@ -184,7 +202,7 @@ verify_some words e =
     let file = given_there _ (one_given (is_given (codes "file") rows) level.1) in
     let number = still_there (has_row (codes "help") (with_default before budget)) (with_default before budget) (λ r. bytes_eq r.id (codes "budget")) (default_there budget (codes "10000") before) in
     some_both Verify (first_of (codes "file") rows) (option_and_then number_of (one_of (codes "budget") rows))
-    (first_there rows (codes "file") level.0 file) (number_there rows (codes "budget") refl level.0 number)
+    (first_there rows (codes "file") level.0 file) (number_there rows (codes "budget") (0, 1000000) refl (omega arith) level.0 number)
 
 check_some : (words : List Text) → level_fault check [] nothing_held words false [] ≡ [] → is_some (check_in (rows_after check.rules [] words)) ≡ true
 check_some words e =
@@ -200,7 +218,7 @@ list_some words e =
     let rows = rows_after list.rules [] words in
     let given = both_given (is_given (codes "file") rows) (is_given (codes "query") rows) level.1 in
     some_both ListOf (first_of (codes "file") rows) (option_and_then number_of (one_of (codes "query") rows))
-    (first_there rows (codes "file") level.0 (given_there _ given.0)) (number_there rows (codes "query") refl level.0 (given_there _ given.1))
+    (first_there rows (codes "file") level.0 (given_there _ given.0)) (number_there rows (codes "query") (1, 256) refl (omega arith) level.0 (given_there _ given.1))
 
 replay_some : (words : List Text) → level_fault replay [] nothing_held words false [] ≡ [] → is_some (replay_in (rows_after replay.rules [] words)) ≡ true
 replay_some words e =
@@ -210,13 +228,27 @@ replay_some words e =
     some_both Replay (first_of (codes "file") rows) (first_of (codes "run") rows)
     (first_there rows (codes "file") level.0 (given_there _ given.0)) (first_there rows (codes "run") level.0 (given_there _ given.1))
 
+ring_within : (words : List Text) → level_fault ring [] nothing_held words false [] ≡ [] → WithinBounds (ring_in (rows_after ring.rules [] words))
+ring_within words e =
+    let level = level_good good ring refl ring_fits [] words false [] e in
+    let rows = rows_after ring.rules [] words in
+    let number = given_there _ (one_given (is_given (codes "stages") rows) level.1) in
+    ring_bound (option_and_then number_of (one_of (codes "stages") rows)) (number_within rows (codes "stages") (2, 400) refl (omega arith) level.0 number)
+
+ring_some : (words : List Text) → level_fault ring [] nothing_held words false [] ≡ [] → is_some (ring_in (rows_after ring.rules [] words)) ≡ true
+ring_some words e =
+    let level = level_good good ring refl ring_fits [] words false [] e in
+    let rows = rows_after ring.rules [] words in
+    let number = given_there _ (one_given (is_given (codes "stages") rows) level.1) in
+    some_mapped RingOf (option_and_then number_of (one_of (codes "stages") rows)) ∙ number_there rows (codes "stages") (2, 400) refl (omega arith) level.0 number
+
 -- ---- the program
 
 -- the subcommand at which a parse stopped, by the tests of its name
-abbrev met : Bool → Bool → Bool → Bool → Bool → Option Shape
-met is_verify is_check is_list is_replay is_help =
+abbrev met : Bool → Bool → Bool → Bool → Bool → Bool → Option Shape
+met is_verify is_check is_list is_replay is_ring is_help =
     cond (is_verify || false) (Some verify) (cond (is_check || false) (Some check) (cond (is_list || false) (Some list)
-    (cond (is_replay || false) (Some replay) (cond (is_help || false) (slice_get program.subs 4) None))))
+    (cond (is_replay || false) (Some replay) (cond (is_ring || false) (Some ring) (cond (is_help || false) (slice_get program.subs 5) None)))))
 
 -- a command is wanted
 command_met : (b : Bool) (rows : List Row) → check_fault program.top rows b ≡ [] → b ≡ true
@@ -233,37 +265,39 @@ not_help_either name not_help = go (bytes_eq (codes "help") name) refl
         let bad : bytes_eq (codes "help") (codes "help") ≡ false = subst (λ x. bytes_eq x (codes "help") ≡ false) (sym same) not_help in
         cc
 
-command_some : (is_verify is_check is_list is_replay is_help : Bool) (words : List Text) → is_help ≡ false
-    → option_map_or (λ s. level_fault s [] nothing_held words false []) (met is_verify is_check is_list is_replay is_help) [] ≡ []
-    → is_some (option_map (λ s. rows_at s words) (met is_verify is_check is_list is_replay is_help)) ≡ true
-    → is_some (asked (option_map (λ s. rows_at s words) (met is_verify is_check is_list is_replay is_help))) ≡ true
-command_some true c l r h words no_help e there = verify_some words e
-command_some false true l r h words no_help e there = check_some words e
-command_some false false true r h words no_help e there = list_some words e
-command_some false false false true h words no_help e there = replay_some words e
-command_some false false false false true words no_help e there = cc
-command_some false false false false false words no_help e there = cc
+command_some : (is_verify is_check is_list is_replay is_ring is_help : Bool) (words : List Text) → is_help ≡ false
+    → option_map_or (λ s. level_fault s [] nothing_held words false []) (met is_verify is_check is_list is_replay is_ring is_help) [] ≡ []
+    → is_some (option_map (λ s. rows_at s words) (met is_verify is_check is_list is_replay is_ring is_help)) ≡ true
+    → is_some (asked (option_map (λ s. rows_at s words) (met is_verify is_check is_list is_replay is_ring is_help))) ≡ true
+command_some true c l r n h words no_help e there = verify_some words e
+command_some false true l r n h words no_help e there = check_some words e
+command_some false false true r n h words no_help e there = list_some words e
+command_some false false false true n h words no_help e there = replay_some words e
+command_some false false false false true h words no_help e there = ring_some words e
+command_some false false false false false true words no_help e there = cc
+command_some false false false false false false words no_help e there = cc
 
-command_within : (is_verify is_check is_list is_replay is_help : Bool) (words : List Text) → is_help ≡ false
-    → option_map_or (λ s. level_fault s [] nothing_held words false []) (met is_verify is_check is_list is_replay is_help) [] ≡ []
-    → WithinBudget (asked (option_map (λ s. rows_at s words) (met is_verify is_check is_list is_replay is_help)))
-command_within true c l r h words no_help e = verify_within words e
-command_within false true l r h words no_help e = check_bound (first_of (codes "file") (rows_after check.rules [] words)) (first_of (codes "report") (rows_after check.rules [] words))
-command_within false false true r h words no_help e = list_bound (first_of (codes "file") (rows_after list.rules [] words)) (option_and_then number_of (one_of (codes "query") (rows_after list.rules [] words)))
-command_within false false false true h words no_help e = replay_bound (first_of (codes "file") (rows_after replay.rules [] words)) (first_of (codes "run") (rows_after replay.rules [] words))
-command_within false false false false true words no_help e = cc
-command_within false false false false false words no_help e = tt
+command_within : (is_verify is_check is_list is_replay is_ring is_help : Bool) (words : List Text) → is_help ≡ false
+    → option_map_or (λ s. level_fault s [] nothing_held words false []) (met is_verify is_check is_list is_replay is_ring is_help) [] ≡ []
+    → WithinBounds (asked (option_map (λ s. rows_at s words) (met is_verify is_check is_list is_replay is_ring is_help)))
+command_within true c l r n h words no_help e = verify_within words e
+command_within false true l r n h words no_help e = check_bound (first_of (codes "file") (rows_after check.rules [] words)) (first_of (codes "report") (rows_after check.rules [] words))
+command_within false false true r n h words no_help e = list_bound (first_of (codes "file") (rows_after list.rules [] words)) (option_and_then number_of (one_of (codes "query") (rows_after list.rules [] words)))
+command_within false false false true n h words no_help e = replay_bound (first_of (codes "file") (rows_after replay.rules [] words)) (first_of (codes "run") (rows_after replay.rules [] words))
+command_within false false false false true h words no_help e = ring_within words e
+command_within false false false false false true words no_help e = cc
+command_within false false false false false false words no_help e = tt
 
 stopped_some : (stop : Option (Text × List Text)) → StopsElsewhere stop → entered_fault program stop ≡ [] → is_some (entered program stop) ≡ true
     → is_some (asked (entered program stop)) ≡ true
 stopped_some None elsewhere e there = cc
 stopped_some (Some p) elsewhere e there =
-    command_some (bytes_eq (codes "verify") p.0) (bytes_eq (codes "check") p.0) (bytes_eq (codes "list") p.0) (bytes_eq (codes "replay") p.0) (bytes_eq (codes "help") p.0) p.1 (not_help_either p.0 elsewhere) e there
+    command_some (bytes_eq (codes "verify") p.0) (bytes_eq (codes "check") p.0) (bytes_eq (codes "list") p.0) (bytes_eq (codes "replay") p.0) (bytes_eq (codes "ring") p.0) (bytes_eq (codes "help") p.0) p.1 (not_help_either p.0 elsewhere) e there
 
-stopped_within : (stop : Option (Text × List Text)) → StopsElsewhere stop → entered_fault program stop ≡ [] → WithinBudget (asked (entered program stop))
+stopped_within : (stop : Option (Text × List Text)) → StopsElsewhere stop → entered_fault program stop ≡ [] → WithinBounds (asked (entered program stop))
 stopped_within None elsewhere e = tt
 stopped_within (Some p) elsewhere e =
-    command_within (bytes_eq (codes "verify") p.0) (bytes_eq (codes "check") p.0) (bytes_eq (codes "list") p.0) (bytes_eq (codes "replay") p.0) (bytes_eq (codes "help") p.0) p.1 (not_help_either p.0 elsewhere) e
+    command_within (bytes_eq (codes "verify") p.0) (bytes_eq (codes "check") p.0) (bytes_eq (codes "list") p.0) (bytes_eq (codes "replay") p.0) (bytes_eq (codes "ring") p.0) (bytes_eq (codes "help") p.0) p.1 (not_help_either p.0 elsewhere) e
 
 -- words at which no step of the parse has a fault make a request
 pub taken_asks : (words : List Text) → fault_of program_app words ≡ [] → is_some (asked (subcommand_of program_app words)) ≡ true
@@ -278,7 +312,7 @@ taken_asks words e =
     stopped_some end.stopped (walk_stops program.top refl (names_of program) (walk_from nothing_held) given from_walk.0 tt) from_below.0 there
 
 -- and a budget in it is bounded
-asks_within : (words : List Text) → fault_of program_app words ≡ [] → WithinBudget (asked (subcommand_of program_app words))
+asks_within : (words : List Text) → fault_of program_app words ≡ [] → WithinBounds (asked (subcommand_of program_app words))
 asks_within words e =
     let given = argument_words program_app words in
     let end = walk program.top.rules (names_of program) nothing_held given in
@@ -286,11 +320,11 @@ asks_within words e =
     let from_below = neither (entered_fault program end.stopped) _ from_walk.1 in
     stopped_within end.stopped (walk_stops program.top refl (names_of program) (walk_from nothing_held) given from_walk.0 tt) from_below.0
 
-within_where_chosen : (b : Bool) (x : Option Request) → (b ≡ true → WithinBudget x) → WithinBudget (cond b x None)
+within_where_chosen : (b : Bool) (x : Option Request) → (b ≡ true → WithinBounds x) → WithinBounds (cond b x None)
 within_where_chosen true x within = within refl
 within_where_chosen false x within = tt
 
-pub request_within : (words : List Text) → WithinBudget (request_of words)
+pub request_within : (words : List Text) → WithinBounds (request_of words)
 request_within words = within_where_chosen (is_taken words) (asked (subcommand_of program_app words)) (λ t. asks_within words (is_nil _ t))
 
 -- a choice is made where its test holds
@@ -300,10 +334,6 @@ chosen false x h = (λ t. cc, λ some. some)
 
 pub taken_is : (words : List Text) → IsTrue (is_taken words) ↔ IsSome (request_of words)
 taken_is words = chosen (is_taken words) (asked (subcommand_of program_app words)) (λ t. taken_asks words (is_nil _ t))
-
-some_mapped : {X Y : Type 0} (f : X → Y) (o : Option X) → is_some (option_map f o) ≡ is_some o
-some_mapped f None = refl
-some_mapped f (Some x) = refl
 
 -- an answer that stands for the request of the words is there where the words are taken
 pub taken_answer : (r : Option Request') (words : List Text) → option_map request_seen r ≡ request_of words → IsSome r ↔ IsTrue (is_taken words)

@@ -22,37 +22,38 @@ use Rattle.clap.proofs.WalkLemmas.{both}
 use Rattle.command_words.specs.Request.{number_of}
 use Rattle.command_words.proofs.Walking.{neither}
 
--- the argument's values are read as numbers
-abbrev pub is_number_id : Text → Bool
-is_number_id id = bytes_eq id (codes "budget") || bytes_eq id (codes "query")
+-- the least and the greatest number that the argument takes, where its values are read as numbers
+abbrev pub bounds_of : Text → Option (ℕ × ℕ)
+bounds_of id = cond (bytes_eq id (codes "budget")) (Some (0, 1000000)) (cond (bytes_eq id (codes "query")) (Some (1, 256))
+    (cond (bytes_eq id (codes "stages")) (Some (2, 400)) None))
 
--- a number up to 1,000,000, the greatest that a command takes
-abbrev pub is_small : Option Text → Bool
-is_small None = false
-is_small (Some text) = is_unsigned_in 0 1000000 text
+-- a number within these bounds
+abbrev pub is_within : ℕ × ℕ → Option Text → Bool
+is_within bounds None = false
+is_within bounds (Some text) = is_unsigned_in bounds.0 bounds.1 text
 
 -- the row has a value, which is such a number where one is wanted
 abbrev pub good : Row → Bool
-good r = is_some (slice_get r.values 0) && (not (is_number_id r.id) || is_small (row_text r))
+good r = is_some (slice_get r.values 0) && option_map_or (λ bounds. is_within bounds (row_text r)) (bounds_of r.id) true
 
 -- 64 bits hold it
-pub small_number : (v : Text) → is_unsigned_in 0 1000000 v ≡ true → is_unsigned_in 0 (2 ^ 64 - 1) v ≡ true
-small_number v e =
-    let h = accepts-Accepts false (Unsigned 0 1000000) v e in
-    Accepts-accepts false (Unsigned 0 (2 ^ 64 - 1)) v (h.0, h.1, omega arith, omega (arith, h.3))
+pub small_number : (least most : ℕ) → most ≤ 2 ^ 64 - 1 → (v : Text) → is_unsigned_in least most v ≡ true → is_unsigned_in 0 (2 ^ 64 - 1) v ≡ true
+small_number least most fits v e =
+    let h = accepts-Accepts false (Unsigned least most) v e in
+    Accepts-accepts false (Unsigned 0 (2 ^ 64 - 1)) v (h.0, h.1, omega arith, omega (arith, fits, h.3))
 
-small_there : (o : Option Text) → is_small o ≡ true → is_some (option_and_then number_of o) ≡ true
-small_there None e = cc
-small_there (Some v) e = rw (small_number v e) refl
+small_there : (bounds : ℕ × ℕ) → bounds.1 ≤ 2 ^ 64 - 1 → (o : Option Text) → is_within bounds o ≡ true → is_some (option_and_then number_of o) ≡ true
+small_there bounds fits None e = cc
+small_there bounds fits (Some v) e = rw (small_number bounds.0 bounds.1 fits v e) refl
 
-small_within : (o : Option Text) → is_small o ≡ true → (n : ℕ) → option_and_then number_of o ≡ Some n → n ≤ 1000000
-small_within None e n is = cc
-small_within (Some v) e n is =
-    let h = accepts-Accepts false (Unsigned 0 1000000) v e in
-    let spelled : number_of v ≡ Some (digits_value 10 (without_leading_plus v)) = rw (small_number v e) refl in
+small_within : (bounds : ℕ × ℕ) → bounds.1 ≤ 2 ^ 64 - 1 → (o : Option Text) → is_within bounds o ≡ true → (n : ℕ) → option_and_then number_of o ≡ Some n → (bounds.0 ≤ n) × (n ≤ bounds.1)
+small_within bounds fits None e n is = cc
+small_within bounds fits (Some v) e n is =
+    let h = accepts-Accepts false (Unsigned bounds.0 bounds.1) v e in
+    let spelled : number_of v ≡ Some (digits_value 10 (without_leading_plus v)) = rw (small_number bounds.0 bounds.1 fits v e) refl in
     let both_ways : Some (digits_value 10 (without_leading_plus v)) ≡ Some n = sym spelled ∙ is in
     let same : digits_value 10 (without_leading_plus v) ≡ n = cc in
-    omega (arith, h.3, same)
+    (omega (arith, h.2, same), omega (arith, h.3, same))
 
 -- ---- where an id has no row yet, its row joins at the end
 
@@ -141,27 +142,27 @@ first_there rows id g there =
     let row = found_good rows id g there in
     ap (λ o. is_some (option_and_then (λ (r : Row). slice_get r.values 0) o)) row.1 ∙ (both (is_some (slice_get row.0.values 0)) _ row.3).0
 
-wanted_passes : (a b : Bool) → a ≡ true → (not a || b) ≡ true → b ≡ true
-wanted_passes true b is e = e
-wanted_passes false b is e = cc
+bounded_passes : (o : Option (ℕ × ℕ)) (bounds : ℕ × ℕ) (holds : ℕ × ℕ → Bool) → o ≡ Some bounds → option_map_or holds o true ≡ true → holds bounds ≡ true
+bounded_passes o bounds holds is e = sym (ap (λ (x : Option (ℕ × ℕ)). option_map_or holds x true) is) ∙ e
 
 -- and is a number, where one is wanted
-pub number_there : (rows : List Row) (id : Text) → is_number_id id ≡ true → list_all good rows ≡ true → is_some (find (λ r. bytes_eq r.id id) rows) ≡ true
-    → is_some (option_and_then number_of (one_of id rows)) ≡ true
-number_there rows id wanted g there =
+pub number_there : (rows : List Row) (id : Text) (bounds : ℕ × ℕ) → bounds_of id ≡ Some bounds → bounds.1 ≤ 2 ^ 64 - 1 → list_all good rows ≡ true
+    → is_some (find (λ r. bytes_eq r.id id) rows) ≡ true → is_some (option_and_then number_of (one_of id rows)) ≡ true
+number_there rows id bounds wanted fits g there =
     let row = found_good rows id g there in
-    let is : is_number_id row.0.id ≡ true = ap is_number_id row.2 ∙ wanted in
+    let is : bounds_of row.0.id ≡ Some bounds = ap bounds_of row.2 ∙ wanted in
     let parts = both (is_some (slice_get row.0.values 0)) _ row.3 in
-    ap (λ o. is_some (option_and_then number_of (option_and_then row_text o))) row.1 ∙ small_there (row_text row.0) (wanted_passes _ _ is parts.1)
+    ap (λ o. is_some (option_and_then number_of (option_and_then row_text o))) row.1
+    ∙ small_there bounds fits (row_text row.0) (bounded_passes _ bounds (λ b. is_within b (row_text row.0)) is parts.1)
 
--- which is at most 1,000,000
-pub number_within : (rows : List Row) (id : Text) → is_number_id id ≡ true → list_all good rows ≡ true → is_some (find (λ r. bytes_eq r.id id) rows) ≡ true
-    → (n : ℕ) → option_and_then number_of (one_of id rows) ≡ Some n → n ≤ 1000000
-number_within rows id wanted g there n spelled =
+-- which is within its bounds
+pub number_within : (rows : List Row) (id : Text) (bounds : ℕ × ℕ) → bounds_of id ≡ Some bounds → bounds.1 ≤ 2 ^ 64 - 1 → list_all good rows ≡ true
+    → is_some (find (λ r. bytes_eq r.id id) rows) ≡ true → (n : ℕ) → option_and_then number_of (one_of id rows) ≡ Some n → (bounds.0 ≤ n) × (n ≤ bounds.1)
+number_within rows id bounds wanted fits g there n spelled =
     let row = found_good rows id g there in
-    let is : is_number_id row.0.id ≡ true = ap is_number_id row.2 ∙ wanted in
+    let is : bounds_of row.0.id ≡ Some bounds = ap bounds_of row.2 ∙ wanted in
     let parts = both (is_some (slice_get row.0.values 0)) _ row.3 in
-    small_within (row_text row.0) (wanted_passes _ _ is parts.1) n
+    small_within bounds fits (row_text row.0) (bounded_passes _ bounds (λ b. is_within b (row_text row.0)) is parts.1) n
     (sym (ap (λ o. option_and_then number_of (option_and_then row_text o)) row.1) ∙ spelled)
 
 -- what was given in the words has a row

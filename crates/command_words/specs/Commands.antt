@@ -46,6 +46,17 @@ replay_shape =
     let named = with_rule (new_app (codes "replay")) (name_rule (codes "file")) in
     (with_rule named (name_rule (codes "run"))).top
 
+-- how many keys a ring has, from 2 to 400
+abbrev pub stages_rule : Rule
+stages_rule = record (new_rule (codes "stages")) {
+  required = true;
+  parser = Some (Unsigned 2 400);
+}
+
+-- `ring STAGES`
+abbrev pub ring_shape : Shape
+ring_shape = (with_rule (new_app (codes "ring")) stages_rule).top
+
 -- the program with the commands about verdicts, one of which has to be given
 abbrev pub verdicts_app : App
 verdicts_app =
@@ -55,4 +66,4 @@ verdicts_app =
 
 -- the program with all its commands
 abbrev pub program_app : App
-program_app = with_subcommand (with_subcommand verdicts_app list_shape) replay_shape
+program_app = with_subcommand (with_subcommand (with_subcommand verdicts_app list_shape) replay_shape) ring_shape

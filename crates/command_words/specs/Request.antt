@@ -16,6 +16,7 @@ pub data Request : Type 0 where
   Check : (file : Text) → (report : Text) → Request
   ListOf : (file : Text) → (query : ℕ) → Request
   Replay : (file : Text) → (run : Text) → Request
+  RingOf : (stages : ℕ) → Request
 
 -- the request that a value of the program stands for
 abbrev pub request_seen : Request' → Request
@@ -23,6 +24,7 @@ request_seen (declared.Verify file budget) = Verify file.now budget
 request_seen (declared.Check file report) = Check file.now report.now
 request_seen (declared.List file query) = ListOf file.now query
 request_seen (declared.Replay file run) = Replay file.now run.now
+request_seen (declared.Ring stages) = RingOf stages
 
 -- the number that a text of decimal digits spells, where 64 bits hold it
 abbrev pub number_of : Text → Option ℕ
@@ -51,12 +53,17 @@ abbrev pub replay_in : List Row → Option Request
 replay_in rows = option_and_then (λ file. option_map (Replay file)
     (first_of (codes "run") rows)) (first_of (codes "file") rows)
 
+-- what `ring` was given
+abbrev pub ring_in : List Row → Option Request
+ring_in rows = option_map RingOf (option_and_then number_of (one_of (codes "stages") rows))
+
 -- what the command was given, by its name and its matches
 abbrev pub command_in : Text × List Row → Option Request
 command_in command = if bytes_eq command.0 (codes "verify") then verify_in command.1
     else (if bytes_eq command.0 (codes "check") then check_in command.1
     else (if bytes_eq command.0 (codes "list") then list_in command.1
-    else (if bytes_eq command.0 (codes "replay") then replay_in command.1 else None)))
+    else (if bytes_eq command.0 (codes "replay") then replay_in command.1
+    else (if bytes_eq command.0 (codes "ring") then ring_in command.1 else None))))
 
 -- what the program was asked, by the subcommand that the words name
 abbrev pub asked : Option (Text × List Row) → Option Request

@@ -3,7 +3,7 @@ ghost use Rattle.std.specs.Prelude.{◌≡◌, IfOk, false};
 ghost use Rattle.clap.specs.Words.{app_of, rule_of, shape_of};
 ghost use Rattle.clap.specs.declared.builder.command.Command.TheViews.{out-Command as fields_of};
 ghost use Rattle.command_words.specs.Commands.{check_shape, list_shape, name_rule, program_app};
-ghost use Rattle.command_words.specs.Commands.{replay_shape, verdicts_app, verify_shape};
+ghost use Rattle.command_words.specs.Commands.{replay_shape, ring_shape, verdicts_app, verify_shape};
 
 use clap::builder::ValueParser;
 use clap::{Arg, Command};
@@ -17,6 +17,8 @@ pub const LIST: &str = "list";
 
 pub const REPLAY: &str = "replay";
 
+pub const RING: &str = "ring";
+
 pub const FILE: &str = "file";
 
 pub const BUDGET: &str = "budget";
@@ -27,11 +29,17 @@ pub const QUERY: &str = "query";
 
 pub const RUN: &str = "run";
 
+pub const STAGES: &str = "stages";
+
 const MOST_BUDGET: u64 = 1_000_000;
 
 const DEFAULT_BUDGET: &str = "10000";
 
 const MOST_QUERIES: u64 = 256;
+
+const LEAST_STAGES: u64 = 2;
+
+const MOST_STAGES: u64 = 400;
 
 /// The program: one of its commands has to be given.
 pub fn program<'a>(alloc: Global) -> Result<Command<'a>, AllocError>
@@ -39,7 +47,8 @@ pub fn program<'a>(alloc: Global) -> Result<Command<'a>, AllocError>
 {
     commands_on_verdicts(alloc)?
         .subcommand(list(alloc)?)?
-        .subcommand(replay(alloc)?)
+        .subcommand(replay(alloc)?)?
+        .subcommand(ring(alloc)?)
 }
 
 /// The program with the commands about verdicts.
@@ -97,6 +106,17 @@ fn replay<'a>(alloc: Global) -> Result<Command<'a>, AllocError>
     Command::new(alloc, REPLAY)
         .arg(required_name(alloc, FILE))?
         .arg(required_name(alloc, RUN))
+}
+
+/// `ring STAGES`
+fn ring<'a>(alloc: Global) -> Result<Command<'a>, AllocError>
+    ensures shape { IfOk result (λ c. shape_of c ≡ ring_shape) }
+    ensures local { IfOk result (λ c. (fields_of c).has_globals ≡ false) }
+{
+    let stages = Arg::new(alloc, STAGES)
+        .required(true)
+        .value_parser(ValueParser::unsigned(LEAST_STAGES, MOST_STAGES));
+    Command::new(alloc, RING).arg(stages)
 }
 
 // A file's name, which the command wants.

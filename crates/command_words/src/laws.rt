@@ -3,7 +3,7 @@ ghost use Rattle.std.specs.Prelude.{◌≡◌, ◌≢◌, ◌↔◌, ◌≤◌, 
 ghost use Rattle.std.specs.Prelude.{true, false, IsSome, IsTrue, codes, slice_index};
 ghost use Rattle.std.specs.Str.Parse.{digits_value, without_leading_plus};
 ghost use Rattle.clap.specs.ValueTests.{is_unsigned_in};
-ghost use Rattle.command_words.specs.Request.{Check, ListOf, Replay, Verify, is_taken};
+ghost use Rattle.command_words.specs.Request.{Check, ListOf, Replay, RingOf, Verify, is_taken};
 ghost use Rattle.command_words.specs.Request.{request_of};
 
 /// The words that `clap` takes are those that make a request.
@@ -63,6 +63,23 @@ pub fn query_numbers()
     ensures refused { (program file number : List ℕ) → slice_index file 0 ≢ 45
         → slice_index number 0 ≢ 45 → is_unsigned_in 1 256 number ≡ false
         → request_of (program ∷ codes "list" ∷ file ∷ number ∷ []) ≡ None }
+{}
+
+/// `ring` takes a number of keys from 2 to 400, and nothing else.
+pub fn stage_numbers()
+    ensures taken { (program number : List ℕ) → slice_index number 0 ≢ 45
+        → is_unsigned_in 2 400 number ≡ true
+        → request_of (program ∷ codes "ring" ∷ number ∷ [])
+        ≡ Some (RingOf (digits_value 10 (without_leading_plus number))) }
+    ensures refused { (program number : List ℕ) → slice_index number 0 ≢ 45
+        → is_unsigned_in 2 400 number ≡ false
+        → request_of (program ∷ codes "ring" ∷ number ∷ []) ≡ None }
+{}
+
+/// A ring that is asked for has from 2 to 400 keys.
+pub fn asked_stages()
+    ensures { (words : List (List ℕ)) (stages : ℕ) →
+        request_of words ≡ Some (RingOf stages) → (2 ≤ stages) × (stages ≤ 400) }
 {}
 
 /// A request for help or for the version is refused, whatever follows it.

@@ -10,7 +10,7 @@ ghost use Rattle.std.specs.Prelude.{◌≡◌, ◌↔◌, IfOk, IsSome, IsTrue, 
 ghost use Rattle.std.specs.Prelude.{string_bytes};
 ghost use Rattle.clap.specs.Words.{found_of, rows_of, subcommand_rows_of};
 ghost use Rattle.command_words.specs.Request.{asked, check_in, is_taken, list_in, replay_in};
-ghost use Rattle.command_words.specs.Request.{request_of, request_seen, verify_in};
+ghost use Rattle.command_words.specs.Request.{request_of, request_seen, ring_in, verify_in};
 
 mod commands;
 pub mod laws;
@@ -50,6 +50,11 @@ pub enum Request<'a> {
         /// The name of the file that spells the run.
         run: &'a str,
     },
+    /// `ring STAGES`: make the ring of so many keys, and verify its query.
+    Ring {
+        /// How many keys it has, from 2 to 400.
+        stages: u64,
+    },
 }
 
 /// Reads the words of a command line, of which the first is the program's name, as `clap` does.
@@ -79,6 +84,7 @@ fn requested<'a>(matches: &ArgMatches<'a>) -> Option<Request<'a>>
         (commands::CHECK, given) => check_requested(given),
         (commands::LIST, given) => list_requested(given),
         (commands::REPLAY, given) => replay_requested(given),
+        (commands::RING, given) => ring_requested(given),
         _ => None,
     }
 }
@@ -116,5 +122,13 @@ fn replay_requested<'a>(given: &ArgMatches<'a>) -> Option<Request<'a>>
     Some(Request::Replay {
         file: given.get_str(commands::FILE)?,
         run: given.get_str(commands::RUN)?,
+    })
+}
+
+fn ring_requested<'a>(given: &ArgMatches<'a>) -> Option<Request<'a>>
+    ensures { option_map request_seen result ≡ ring_in (rows_of (found_of given.now)) }
+{
+    Some(Request::Ring {
+        stages: given.get_one(commands::STAGES)?,
     })
 }

@@ -10,7 +10,6 @@ use Rattle.soundness.specs.Shown.{IsProper}
 use Rattle.certificates.specs.Certificate.{Certificate}
 use Rattle.certificates.specs.Ruling as certificates
 use Rattle.certificates.specs.Ruling.{IsRuled}
-use Rattle.certificate_text.specs.OfProtocol.{HasNames, IsShort}
 use Rattle.certificate_reading.specs.Terms.{Code}
 use Rattle.certificate_reading.specs.Outcomes as reading
 use Rattle.certificate_reading.specs.Outcomes.{Faulty}
@@ -23,7 +22,7 @@ use Rattle.protocol_scope.specs.Spells.{Spells}
 use Rattle.cert_checker.specs.declared.ruling.Ruling.TheVariants.{Accepted}
 use Rattle.verifier_cli.specs.declared.outcome.Finding.{Finding}
 use Rattle.verifier_cli.specs.declared.outcome.Finding.TheVariants.{Ruled}
-use Rattle.verifier_cli.specs.Outcome.{ReportRefusal, Misspelled, LongReport, Refusal, Protocol, Report, Run, Outcome, Usage, Verified, Checked, Listed, ListLarge, NoQuery, Replayed, Refused, ReadFault, Memory}
+use Rattle.verifier_cli.specs.Outcome.{ReportRefusal, Misspelled, LongReport, Refusal, Protocol, Report, Run, Outcome, Usage, Verified, Checked, Listed, ListLarge, NoQuery, Replayed, Ring, Refused, ReadFault, Memory}
 use Rattle.verifier_cli.specs.Command.{OfFile, IsRefusalOf, NoneViolated}
 use Rattle.verifier_cli.specs.Checking.{MakesClaims, RefusesReport, IsFindingOf, AreFindingsOf, IsCheckOf, IsOutcomeOfReport, ChecksReport, IsCheckOutcome, Checks}
 use Rattle.verifier_cli.specs.Reading.{IsUnread}
@@ -62,6 +61,7 @@ check_answers P bytes claims Memory found made = tt
 check_answers P bytes claims (Refused refusal) found made = absurd found
 check_answers P bytes claims (Verified verdicts) found made = absurd found
 check_answers P bytes claims (Replayed replay) found made = absurd found
+check_answers P bytes claims (Ring ring) found made = absurd found
 check_answers P bytes claims Usage found made = absurd found
 check_answers P bytes claims ReadFault found made = absurd found
 check_answers P bytes claims (Listed clauses) found made = absurd found
@@ -100,6 +100,7 @@ unread_report_said P laws Counted held Memory is other = of_any held (λ bytes. 
 unread_report_said P laws Counted held ReadFault is other = absurd (other refl)
 unread_report_said P laws Counted held (Checked findings) is other = absurd is
 unread_report_said P laws Counted held (Replayed replay) is other = absurd is
+unread_report_said P laws Counted held (Ring ring) is other = absurd is
 unread_report_said P laws Counted held Usage is other = absurd is
 unread_report_said P laws Counted held (Verified verdicts) is other = absurd is
 unread_report_said P laws Counted held (Listed clauses) is other = absurd is
@@ -138,6 +139,7 @@ unread_checked laws Counted held other ReadFault is read = absurd (read refl)
 unread_checked laws Counted held other Usage is read = absurd is
 unread_checked laws Counted held other (Checked findings) is read = absurd is
 unread_checked laws Counted held other (Replayed replay) is read = absurd is
+unread_checked laws Counted held other (Ring ring) is read = absurd is
 unread_checked laws Counted held other (Verified verdicts) is read = absurd is
 unread_checked laws Counted held other (Listed clauses) is read = absurd is
 unread_checked laws Counted held other (ListLarge point) is read = absurd is
@@ -179,6 +181,7 @@ found_violates_none sound laws bytes held Q Memory spelled is said = λ P spells
 found_violates_none sound laws bytes held Q ReadFault spelled is said = λ P spells k shown. absurd shown
 found_violates_none sound laws bytes held Q Usage spelled is said = absurd is
 found_violates_none sound laws bytes held Q (Replayed replay) spelled is said = absurd is
+found_violates_none sound laws bytes held Q (Ring ring) spelled is said = absurd is
 found_violates_none sound laws bytes held Q (Verified verdicts) spelled is said = absurd is
 found_violates_none sound laws bytes held Q (Listed clauses) spelled is said = absurd is
 found_violates_none sound laws bytes held Q (ListLarge point) spelled is said = absurd is
@@ -194,6 +197,7 @@ report_outcome bytes P Memory spelled is read = tt
 report_outcome bytes P ReadFault spelled is read = absurd (read refl)
 report_outcome bytes P Usage spelled is read = absurd is
 report_outcome bytes P (Replayed replay) spelled is read = absurd is
+report_outcome bytes P (Ring ring) spelled is read = absurd is
 report_outcome bytes P (Verified verdicts) spelled is read = absurd is
 report_outcome bytes P (Listed clauses) spelled is read = absurd is
 report_outcome bytes P (ListLarge point) spelled is read = absurd is
@@ -219,6 +223,7 @@ report_words Memory is = refl
 report_words ReadFault is = refl
 report_words Usage is = absurd is
 report_words (Replayed replay) is = absurd is
+report_words (Ring ring) is = absurd is
 report_words (Verified verdicts) is = absurd is
 report_words (Listed clauses) is = absurd is
 report_words (ListLarge point) is = absurd is
@@ -233,6 +238,7 @@ unread_is_of_report P Counted held Memory is = tt
 unread_is_of_report P Counted held ReadFault is = tt
 unread_is_of_report P Counted held (Checked findings) is = absurd is
 unread_is_of_report P Counted held (Replayed replay) is = absurd is
+unread_is_of_report P Counted held (Ring ring) is = absurd is
 unread_is_of_report P Counted held Usage is = absurd is
 unread_is_of_report P Counted held (Verified verdicts) is = absurd is
 unread_is_of_report P Counted held (Listed clauses) is = absurd is

@@ -3,7 +3,7 @@ use Rattle.std.proofs.Common.{◌≡◌, ◌≢◌, ℕ, List, Option, Some, Non
 use Rattle.command_words.specs.Request.{Request, request_of}
 use Rattle.calculus.specs.Syntax.{Protocol}
 use Rattle.verifier_cli.specs.Complete.{IsComeTo}
-use Rattle.verifier_cli.specs.Listing.{IsSpelledAt, IsSource, IsTextOf, file_named}
+use Rattle.verifier_cli.specs.Listing.{IsSpelledAt, IsSource, IsTextOf, source_of}
 use Rattle.verifier_cli.specs.Outcome.{Outcome, ReadFault}
 use Rattle.verifier_cli.specs.Text.{HasWords, outcome_bytes}
 use Rattle.verifier_cli.specs.Command.{IsNoCommand, IsUnreadable}
@@ -28,8 +28,8 @@ no_command words e asked h = let same : None ≡ Some asked = e ∙ h in cc
 pub unreadable : (words : List (List ℕ)) (request : Request) → Some request ≡ request_of words → (held : List ℕ → Option (List ℕ)) (Counted : List ℕ → Type 0) → IsUnreadable (Some request) held Counted → IsUnreadable (request_of words) held Counted
 unreadable words request e held Counted h = subst (λ (r : Option Request). IsUnreadable r held Counted) e h
 
--- the source of the printed words is the file that the words ask for
-pub sourced : (words : List (List ℕ)) (request : Request) → Some request ≡ request_of words → (held : List ℕ → Option (List ℕ)) (P : Option Protocol) → IsSpelledAt (held (file_named request)) P → IsSource (request_of words) held P
+-- the source of the printed words is the protocol that the words ask about
+pub sourced : (words : List (List ℕ)) (request : Request) → Some request ≡ request_of words → (held : List ℕ → Option (List ℕ)) (P : Option Protocol) → IsSpelledAt (source_of request held) P → IsSource (request_of words) held P
 sourced words request e held P h = subst (λ (r : Option Request). IsSource r held P) e h
 
 pub no_source : (request : Option Request) (held : List ℕ → Option (List ℕ)) → IsSource request held None

@@ -1,20 +1,20 @@
 -- From what a request comes to: the headline, and that accepted files come to an outcome of the command's own.
-use Rattle.std.proofs.Common.{◌≡◌, ◌≢◌, ℕ, List, Option, Some, Bool, true, false, if◌then◌else◌, inl, inr, refl, sym, ap, subst, ◌∙◌}
+use Rattle.std.proofs.Common.{◌≡◌, ◌≢◌, ℕ, List, Option, Some, Bool, true, false, if◌then◌else◌, inl, inr, refl, sym, subst}
 use Rattle.std.specs.List.{list_all}
-use Rattle.std.specs.Prelude.{is_none}
 use Rattle.calculus.specs.Syntax.{Protocol}
-use Rattle.protocol_scope.specs.Spells.{Spells}
 use Rattle.certificate_reading.specs.Reports.{Claim}
 use Rattle.calculus.specs.Runs.{Step}
-use Rattle.command_words.specs.Request.{Request, Verify, Check, ListOf, Replay, request_of}
-use Rattle.verifier_cli.specs.Outcome.{Outcome, Usage, Verified, Checked, Listed, ListLarge, NoQuery, Replayed, Refused, ReadFault, Memory}
+use Rattle.command_words.specs.Request.{Request, Verify, Check, ListOf, Replay, RingOf, request_of}
+use Rattle.verifier_cli.specs.Outcome.{Outcome, Usage, Verified, Checked, Listed, ListLarge, NoQuery, Replayed, Ring, Refused, ReadFault, Memory}
 use Rattle.verifier_cli.specs.Command.{OfFile, IsDecidedBy, IsUnreadable, NoneViolated, Verifies}
-use Rattle.verifier_cli.specs.Checking.{IsCheckOf, MakesClaims, Checks, ChecksReport}
-use Rattle.verifier_cli.specs.Complete.{IsComeTo, IsHeldSo, AreAccepted, IsOwnOutcome, IsOfAnswer}
-use Rattle.verifier_cli.specs.Listing.{IsListOf, IsListOutcome, Lists, file_named}
-use Rattle.verifier_cli.specs.Replaying.{SpellsSteps, IsReplayOf, IsReplayOutcome, Replays, RunsOn}
+use Rattle.verifier_cli.specs.Checking.{IsCheckOf, Checks, ChecksReport}
+use Rattle.verifier_cli.specs.Complete.{IsComeTo, AreAccepted, IsOwnOutcome, IsOfAnswer}
+use Rattle.verifier_cli.specs.Listing.{IsListOf, IsListOutcome, Lists, source_of}
+use Rattle.verifier_cli.specs.Replaying.{IsReplayOf, IsReplayOutcome, Replays, RunsOn}
+use Rattle.verifier_cli.specs.Ringing.{IsRingOutcome}
 use Rattle.verifier_cli.specs.Text.{is_proved, is_accepted, is_without_violation, status_of}
 use Rattle.verifier_cli.proofs.Held.{of_file}
+use Rattle.ring_text.specs.Text.{ring_text}
 
 -- a list or a replay shows no query
 listed_violates_none : (bytes : List ℕ) (outcome : Outcome) → IsListOutcome bytes outcome → NoneViolated bytes outcome
@@ -26,11 +26,13 @@ listed_violates_none bytes Memory is = λ P spells k shown. absurd shown
 listed_violates_none bytes Usage is = λ P spells k shown. absurd shown
 listed_violates_none bytes ReadFault is = λ P spells k shown. absurd shown
 listed_violates_none bytes (Replayed replay) is = λ P spells k shown. absurd shown
+listed_violates_none bytes (Ring ring) is = absurd is
 listed_violates_none bytes (Verified verdicts) is = absurd is
 listed_violates_none bytes (Checked findings) is = absurd is
 
 replayed_violates_none : (bytes : List ℕ) (outcome : Outcome) → IsReplayOutcome bytes outcome → NoneViolated bytes outcome
 replayed_violates_none bytes (Replayed replay) is = λ P spells k shown. absurd shown
+replayed_violates_none bytes (Ring ring) is = absurd is
 replayed_violates_none bytes (Refused refusal) is = λ P spells k shown. absurd shown
 replayed_violates_none bytes Memory is = λ P spells k shown. absurd shown
 replayed_violates_none bytes Usage is = λ P spells k shown. absurd shown
@@ -42,11 +44,12 @@ replayed_violates_none bytes (Verified verdicts) is = absurd is
 replayed_violates_none bytes (Checked findings) is = absurd is
 
 -- the headline, whatever the command
-pub violates_none : (held : List ℕ → Option (List ℕ)) (request : Request) (outcome : Outcome) → IsComeTo request held outcome → OfFile (held (file_named request)) (λ bytes. NoneViolated bytes outcome)
+pub violates_none : (held : List ℕ → Option (List ℕ)) (request : Request) (outcome : Outcome) → IsComeTo request held outcome → OfFile (source_of request held) (λ bytes. NoneViolated bytes outcome)
 violates_none held (Verify file budget) outcome is = of_file (held file) (λ bytes. Verifies bytes budget outcome) (λ bytes. NoneViolated bytes outcome) (λ bytes x. x.none_violated) is
 violates_none held (Check file report) outcome is = of_file (held file) (λ bytes. Checks bytes (held report) outcome) (λ bytes. NoneViolated bytes outcome) (λ bytes x. x.none_violated) is
 violates_none held (ListOf file query) outcome is = of_file (held file) (λ bytes. Lists bytes query outcome) (λ bytes. NoneViolated bytes outcome) (λ bytes x. listed_violates_none bytes outcome x.answers) is
 violates_none held (Replay file run) outcome is = of_file (held file) (λ bytes. Replays bytes (held run) outcome) (λ bytes. NoneViolated bytes outcome) (λ bytes x. replayed_violates_none bytes outcome x.answers) is
+violates_none held (RingOf stages) outcome is = record { bytes = ring_text stages; as_held = refl; fact = is.none_violated }
 
 -- what is said of a file whose bytes are told is said of these
 of_held : (held : Option (List ℕ)) (F : List ℕ → Type 0) (bytes : List ℕ) → held ≡ Some bytes → OfFile held F → F bytes
@@ -62,6 +65,7 @@ readable held Counted none (Check file report) (inr c) = none report c.1
 readable held Counted none (ListOf file query) c = none file c
 readable held Counted none (Replay file run) (inl c) = none file c
 readable held Counted none (Replay file run) (inr c) = none run c.1
+readable held Counted none (RingOf stages) c = c
 
 -- Of each command: what it comes to is of its own.
 
@@ -73,6 +77,7 @@ own_verdicts P file budget (Listed clauses) is = absurd is
 own_verdicts P file budget (ListLarge point) is = absurd is
 own_verdicts P file budget (NoQuery number) is = absurd is
 own_verdicts P file budget (Replayed replay) is = absurd is
+own_verdicts P file budget (Ring ring) is = absurd is
 own_verdicts P file budget (Refused refusal) is = absurd is
 own_verdicts P file budget Usage is = absurd is
 own_verdicts P file budget ReadFault is = absurd is
@@ -85,6 +90,7 @@ own_findings P file report claims (Listed clauses) is = absurd is
 own_findings P file report claims (ListLarge point) is = absurd is
 own_findings P file report claims (NoQuery number) is = absurd is
 own_findings P file report claims (Replayed replay) is = absurd is
+own_findings P file report claims (Ring ring) is = absurd is
 own_findings P file report claims (Refused refusal) is = absurd is
 own_findings P file report claims Usage is = absurd is
 own_findings P file report claims ReadFault is = absurd is
@@ -97,12 +103,14 @@ own_list P file query Memory is = tt
 own_list P file query (Verified verdicts) is = absurd is
 own_list P file query (Checked findings) is = absurd is
 own_list P file query (Replayed replay) is = absurd is
+own_list P file query (Ring ring) is = absurd is
 own_list P file query (Refused refusal) is = absurd is
 own_list P file query Usage is = absurd is
 own_list P file query ReadFault is = absurd is
 
 own_replay : (P : Protocol) (file run : List ℕ) (steps : List Step) (outcome : Outcome) → IsReplayOf P steps outcome → IsOwnOutcome (Replay file run) outcome
 own_replay P file run steps (Replayed replay) is = tt
+own_replay P file run steps (Ring ring) is = absurd is
 own_replay P file run steps Memory is = tt
 own_replay P file run steps (Verified verdicts) is = absurd is
 own_replay P file run steps (Checked findings) is = absurd is
@@ -112,6 +120,19 @@ own_replay P file run steps (NoQuery number) is = absurd is
 own_replay P file run steps (Refused refusal) is = absurd is
 own_replay P file run steps Usage is = absurd is
 own_replay P file run steps ReadFault is = absurd is
+
+own_summary : (n : ℕ) (outcome : Outcome) → IsRingOutcome n outcome → IsOwnOutcome (RingOf n) outcome
+own_summary n (Ring ring) is = tt
+own_summary n Memory is = tt
+own_summary n (Verified verdicts) is = absurd is
+own_summary n (Checked findings) is = absurd is
+own_summary n (Listed clauses) is = absurd is
+own_summary n (ListLarge point) is = absurd is
+own_summary n (NoQuery number) is = absurd is
+own_summary n (Replayed replay) is = absurd is
+own_summary n (Refused refusal) is = absurd is
+own_summary n Usage is = absurd is
+own_summary n ReadFault is = absurd is
 
 -- where the files are accepted
 own_come : (held : List ℕ → Option (List ℕ)) (request : Request) (outcome : Outcome) → AreAccepted request held → IsComeTo request held outcome → IsOwnOutcome request outcome
@@ -125,6 +146,7 @@ own_come held (Check file report) outcome a is =
 own_come held (Replay file run) outcome a is =
     let said : OfFile (held run) (λ text. RunsOn a.0 text outcome) = (of_held (held file) (λ bytes. Replays bytes (held run) outcome) a.1.0 a.1.1 is).accepts a.0 a.1.2 in
     own_replay a.0 file run a.2.2.0 outcome ((of_held (held run) (λ text. RunsOn a.0 text outcome) a.2.0 a.2.1 said).accepts a.2.2.0 a.2.2.1)
+own_come held (RingOf stages) outcome a is = own_summary stages outcome is.answers
 
 pub own_outcome : (words : List (List ℕ)) (held : List ℕ → Option (List ℕ)) (Counted : List ℕ → Type 0) (outcome : Outcome) (request : Request)
     → (outcome ≡ ReadFault → IsUnreadable (request_of words) held Counted) → (outcome ≢ ReadFault → IsComeTo request held outcome)
@@ -149,11 +171,14 @@ own_status (ListOf file query) (NoQuery number) is = inr (inl refl)
 own_status (ListOf file query) Memory is = inr (inr refl)
 own_status (Replay file run) (Replayed replay) is = zero_or_one (is_without_violation replay)
 own_status (Replay file run) Memory is = inr (inr refl)
+own_status (RingOf stages) (Ring ring) is = zero_or_one (is_proved ring.verdict)
+own_status (RingOf stages) Memory is = inr (inr refl)
 own_status (Verify file budget) (Checked findings) is = absurd is
 own_status (Verify file budget) (Listed clauses) is = absurd is
 own_status (Verify file budget) (ListLarge point) is = absurd is
 own_status (Verify file budget) (NoQuery number) is = absurd is
 own_status (Verify file budget) (Replayed replay) is = absurd is
+own_status (Verify file budget) (Ring ring) is = absurd is
 own_status (Verify file budget) (Refused refusal) is = absurd is
 own_status (Verify file budget) Usage is = absurd is
 own_status (Verify file budget) ReadFault is = absurd is
@@ -162,12 +187,14 @@ own_status (Check file report) (Listed clauses) is = absurd is
 own_status (Check file report) (ListLarge point) is = absurd is
 own_status (Check file report) (NoQuery number) is = absurd is
 own_status (Check file report) (Replayed replay) is = absurd is
+own_status (Check file report) (Ring ring) is = absurd is
 own_status (Check file report) (Refused refusal) is = absurd is
 own_status (Check file report) Usage is = absurd is
 own_status (Check file report) ReadFault is = absurd is
 own_status (ListOf file query) (Verified verdicts) is = absurd is
 own_status (ListOf file query) (Checked findings) is = absurd is
 own_status (ListOf file query) (Replayed replay) is = absurd is
+own_status (ListOf file query) (Ring ring) is = absurd is
 own_status (ListOf file query) (Refused refusal) is = absurd is
 own_status (ListOf file query) Usage is = absurd is
 own_status (ListOf file query) ReadFault is = absurd is
@@ -176,9 +203,19 @@ own_status (Replay file run) (Checked findings) is = absurd is
 own_status (Replay file run) (Listed clauses) is = absurd is
 own_status (Replay file run) (ListLarge point) is = absurd is
 own_status (Replay file run) (NoQuery number) is = absurd is
+own_status (Replay file run) (Ring ring) is = absurd is
 own_status (Replay file run) (Refused refusal) is = absurd is
 own_status (Replay file run) Usage is = absurd is
 own_status (Replay file run) ReadFault is = absurd is
+own_status (RingOf stages) (Verified verdicts) is = absurd is
+own_status (RingOf stages) (Checked findings) is = absurd is
+own_status (RingOf stages) (Listed clauses) is = absurd is
+own_status (RingOf stages) (ListLarge point) is = absurd is
+own_status (RingOf stages) (NoQuery number) is = absurd is
+own_status (RingOf stages) (Replayed replay) is = absurd is
+own_status (RingOf stages) (Refused refusal) is = absurd is
+own_status (RingOf stages) Usage is = absurd is
+own_status (RingOf stages) ReadFault is = absurd is
 
 pub answer_status : (request : Request) (outcome : Outcome) (status : ℕ) → IsOwnOutcome request outcome → status ≡ status_of outcome → IsOfAnswer status
 answer_status request outcome status own is = subst IsOfAnswer (sym is) (own_status request outcome own)

@@ -8,4 +8,5 @@ pub mod Listing
 pub mod Outcomes
 pub mod Refusals
 pub mod Replaying
+pub mod Rings
 pub mod Verifying

@@ -1,5 +1,5 @@
 -- A protocol within the limits of reading is within those of a replay and of the reading of reports.
-use Rattle.std.proofs.Common.{◌+◌, ◌≤◌, length, arith}
+use Rattle.std.proofs.Common.{length, arith}
 use Rattle.calculus.specs.Syntax.{Protocol}
 use Rattle.well_formed.specs.Limits.{IsWithinLimits}
 use Rattle.run_replay.specs.Limits.{IsLimited}

@@ -2,7 +2,7 @@
 use Rattle.std.proofs.Common.{◌≡◌, ◌≢◌, ◌∙◌, ℕ, List, Option, None, Some, inl, inr, refl, ap, subst}
 use Rattle.calculus.specs.Syntax as syntax
 use Rattle.protocol_scope.specs.Spells.{Spells}
-use Rattle.verifier_cli.specs.Outcome.{Refusal, Outcome, Usage, Verified, Checked, Listed, ListLarge, NoQuery, Replayed, Refused, ReadFault, Memory}
+use Rattle.verifier_cli.specs.Outcome.{Refusal, Outcome, Usage, Verified, Checked, Listed, ListLarge, NoQuery, Replayed, Ring, Refused, ReadFault, Memory}
 use Rattle.verifier_cli.specs.Command.{OfFile, IsRefusalOf}
 use Rattle.verifier_cli.specs.Reading.{IsUnread}
 use Rattle.verifier_cli.specs.Text.{HasWords, prints_clauses}
@@ -32,6 +32,7 @@ unread_listed laws Counted held number Memory is read = memory_listed held numbe
 unread_listed laws Counted held number ReadFault is read = absurd (read refl)
 unread_listed laws Counted held number Usage is read = absurd is
 unread_listed laws Counted held number (Replayed replay) is read = absurd is
+unread_listed laws Counted held number (Ring ring) is read = absurd is
 unread_listed laws Counted held number (Verified verdicts) is read = absurd is
 unread_listed laws Counted held number (Checked findings) is read = absurd is
 unread_listed laws Counted held number (Listed clauses) is read = absurd is
@@ -47,6 +48,7 @@ listed_used P number Memory is = (λ e. cc, λ e. cc)
 listed_used P number Usage is = absurd is
 listed_used P number ReadFault is = absurd is
 listed_used P number (Replayed replay) is = absurd is
+listed_used P number (Ring ring) is = absurd is
 listed_used P number (Verified verdicts) is = absurd is
 listed_used P number (Checked findings) is = absurd is
 listed_used P number (Refused refusal) is = absurd is
@@ -60,6 +62,7 @@ list_outcome bytes P number Memory spelled is = tt
 list_outcome bytes P number Usage spelled is = absurd is
 list_outcome bytes P number ReadFault spelled is = absurd is
 list_outcome bytes P number (Replayed replay) spelled is = absurd is
+list_outcome bytes P number (Ring ring) spelled is = absurd is
 list_outcome bytes P number (Verified verdicts) spelled is = absurd is
 list_outcome bytes P number (Checked findings) spelled is = absurd is
 list_outcome bytes P number (Refused refusal) spelled is = absurd is

@@ -1,6 +1,6 @@
 -- Outcomes that want of memory may replace.
 use Rattle.std.proofs.Common.{◌≡◌, ◌≢◌, ℕ, List, Option, inl, inr, sym, subst, ◌∙◌}
-use Rattle.command_words.specs.Request.{Request, Verify, Check, ListOf, Replay}
+use Rattle.command_words.specs.Request.{Request, Verify, Check, ListOf, Replay, RingOf}
 use Rattle.verifier_cli.specs.Outcome.{Outcome, ReadFault, Memory}
 use Rattle.verifier_cli.specs.Command.{Becomes}
 use Rattle.verifier_cli.specs.Complete.{IsComeTo}
@@ -8,6 +8,7 @@ use Rattle.verifier_cli.proofs.Verifying.{memory_verified}
 use Rattle.verifier_cli.proofs.Checking.{memory_checked}
 use Rattle.verifier_cli.proofs.Listing.{memory_listed}
 use Rattle.verifier_cli.proofs.Replaying.{memory_replayed}
+use Rattle.verifier_cli.proofs.Rings.{memory_rings}
 
 -- what was wanted, and then replaced at most
 pub becomes_after : (wanted found after : Outcome) → Becomes wanted found → Becomes found after → Becomes wanted after
@@ -26,6 +27,7 @@ memory_comes held (Verify file budget) = memory_verified (held file) budget
 memory_comes held (Check file report) = memory_checked (held file) (held report)
 memory_comes held (ListOf file query) = memory_listed (held file) query
 memory_comes held (Replay file run) = memory_replayed (held file) (held run)
+memory_comes held (RingOf stages) = memory_rings stages
 
 -- what a request comes to is said of what replaces it
 pub comes_after : (held : List ℕ → Option (List ℕ)) (request : Request) (found after : Outcome) → Becomes found after

@@ -6,7 +6,7 @@ use Rattle.hv_io.specs.Faults.{IsFaultCounted}
 use Rattle.protocol_scope.specs.Spells.{Spells}
 use Rattle.run_text.specs.Faults.{Fault}
 use Rattle.run_text.specs.Text.{SpellsRun, IsRefused}
-use Rattle.verifier_cli.specs.Outcome.{RunRefusal, Faulty, LongRun, Refusal, Protocol, Report, Run, Outcome, Usage, Verified, Checked, Listed, ListLarge, NoQuery, Replayed, Refused, ReadFault, Memory}
+use Rattle.verifier_cli.specs.Outcome.{RunRefusal, Faulty, LongRun, Refusal, Protocol, Report, Run, Outcome, Usage, Verified, Checked, Listed, ListLarge, NoQuery, Replayed, Ring, Refused, ReadFault, Memory}
 use Rattle.verifier_cli.specs.Command.{OfFile, IsRefusalOf}
 use Rattle.verifier_cli.specs.Reading.{IsUnread}
 use Rattle.verifier_cli.specs.Replaying.{SpellsSteps, RefusesRun, IsReplayOf, IsOutcomeOfRun, RunsOn, IsReplayOutcome, Replays}
@@ -37,6 +37,7 @@ same_run_refusal r s i j (e, h) = ap (λ (why : RunRefusal). Run i why) e ∙ ap
 -- what is said of the replay of the steps that a text spells
 replay_answers : (P : syntax.Protocol) (bytes : List ℕ) (steps : List Step) (outcome : Outcome) → IsReplayOf P steps outcome → SpellsSteps bytes steps → IsOutcomeOfRun P bytes outcome
 replay_answers P bytes steps (Replayed replay) shown spelled = (steps, spelled, shown)
+replay_answers P bytes steps (Ring ring) shown spelled = absurd shown
 replay_answers P bytes steps Memory shown spelled = tt
 replay_answers P bytes steps (Refused refusal) shown spelled = absurd shown
 replay_answers P bytes steps (Verified verdicts) shown spelled = absurd shown
@@ -78,6 +79,7 @@ unread_run_said laws Counted held P (Refused (Report line why)) is other = absur
 unread_run_said laws Counted held P Memory is other = of_any held (λ bytes. RunsOn P bytes Memory) (memory_runs P)
 unread_run_said laws Counted held P ReadFault is other = absurd (other refl)
 unread_run_said laws Counted held P (Replayed replay) is other = absurd is
+unread_run_said laws Counted held P (Ring ring) is other = absurd is
 unread_run_said laws Counted held P Usage is other = absurd is
 unread_run_said laws Counted held P (Verified verdicts) is other = absurd is
 unread_run_said laws Counted held P (Checked findings) is other = absurd is
@@ -114,6 +116,7 @@ unread_replayed laws Counted held other Memory is read = memory_replayed held ot
 unread_replayed laws Counted held other ReadFault is read = absurd (read refl)
 unread_replayed laws Counted held other Usage is read = absurd is
 unread_replayed laws Counted held other (Replayed replay) is read = absurd is
+unread_replayed laws Counted held other (Ring ring) is read = absurd is
 unread_replayed laws Counted held other (Verified verdicts) is read = absurd is
 unread_replayed laws Counted held other (Checked findings) is read = absurd is
 unread_replayed laws Counted held other (Listed clauses) is read = absurd is
@@ -123,6 +126,7 @@ unread_replayed laws Counted held other (NoQuery number) is read = absurd is
 -- and where it is accepted
 run_outcome : (bytes : List ℕ) (P : syntax.Protocol) (outcome : Outcome) → Spells bytes P → IsOfRun outcome → outcome ≢ ReadFault → IsReplayOutcome bytes outcome
 run_outcome bytes P (Replayed replay) spelled is read = (P, spelled)
+run_outcome bytes P (Ring ring) spelled is read = absurd is
 run_outcome bytes P (Refused (Run line why)) spelled is read = (P, spelled)
 run_outcome bytes P (Refused (Protocol line column why)) spelled is read = absurd is
 run_outcome bytes P (Refused (Report line why)) spelled is read = absurd is
@@ -154,6 +158,7 @@ counted_later a b c h (inr e) = inr e
 -- what is about a run prints no clause
 pub run_words : (outcome : Outcome) → IsOfRun outcome → prints_clauses outcome ≡ false
 run_words (Replayed replay) is = refl
+run_words (Ring ring) is = absurd is
 run_words (Refused refusal) is = refl
 run_words Memory is = refl
 run_words ReadFault is = refl

@@ -12,7 +12,7 @@ use Rattle.query_verify.specs.declared.answers.Verdict.TheVariants.{Proved}
 use Rattle.query_verify.specs.Told.{Tells, IsAnswer, AnswerQueries}
 use Rattle.protocol_scope.specs.Spells as spells
 use Rattle.protocol_scope.specs.Spells.{Spells, Refuses}
-use Rattle.verifier_cli.specs.Outcome.{Refusal, Outcome, Usage, Verified, Checked, Listed, ListLarge, NoQuery, Replayed, Refused, ReadFault, Memory}
+use Rattle.verifier_cli.specs.Outcome.{Refusal, Outcome, Usage, Verified, Checked, Listed, ListLarge, NoQuery, Replayed, Ring, Refused, ReadFault, Memory}
 use Rattle.verifier_cli.specs.Command.{OfFile, IsRefusalOf, Verifies, NoneViolated, IsDecidedBy, IsOutcomeOf, refusal_at}
 use Rattle.verifier_cli.specs.Reading.{IsUnread}
 use Rattle.verifier_cli.specs.Text.{prints_clauses}
@@ -53,7 +53,7 @@ hold_where_proved P budget (q ∷ qs) (answer ∷ answers) sound are (suc k) cer
     hold_where_proved P budget qs answers (λ x c has is. sound x c (suc has.0, omega (arith, has.1), has.2) is) are.1 k cert e
 
 -- the verdicts of a protocol violate nothing
-none_violated : Soundness → Laws → (bytes : List ℕ) (Q : syntax.Protocol) (budget : ℕ) (answers : List Verdict) → Spells bytes Q → AnswerQueries Q budget Q.queries answers → NoneViolated bytes (Verified answers)
+pub none_violated : Soundness → Laws → (bytes : List ℕ) (Q : syntax.Protocol) (budget : ℕ) (answers : List Verdict) → Spells bytes Q → AnswerQueries Q budget Q.queries answers → NoneViolated bytes (Verified answers)
 none_violated sound laws bytes Q budget answers spelled are P spells k proved =
     let F : syntax.Protocol → Type 0 = λ X. IfSome (slice_get X.queries k) (λ q. Holds X q) in
     subst F (sym (laws.one_protocol bytes P Q spells spelled))
@@ -68,6 +68,7 @@ decided_outcome bytes P budget (Listed clauses) spelled is = absurd is
 decided_outcome bytes P budget (ListLarge point) spelled is = absurd is
 decided_outcome bytes P budget (NoQuery number) spelled is = absurd is
 decided_outcome bytes P budget (Replayed replay) spelled is = absurd is
+decided_outcome bytes P budget (Ring ring) spelled is = absurd is
 decided_outcome bytes P budget (Refused refusal) spelled is = absurd is
 decided_outcome bytes P budget Usage spelled is = absurd is
 decided_outcome bytes P budget ReadFault spelled is = absurd is
@@ -80,6 +81,7 @@ decided_violates_none sound laws bytes P budget (Listed clauses) spelled is = ab
 decided_violates_none sound laws bytes P budget (ListLarge point) spelled is = absurd is
 decided_violates_none sound laws bytes P budget (NoQuery number) spelled is = absurd is
 decided_violates_none sound laws bytes P budget (Replayed replay) spelled is = absurd is
+decided_violates_none sound laws bytes P budget (Ring ring) spelled is = absurd is
 decided_violates_none sound laws bytes P budget (Refused refusal) spelled is = absurd is
 decided_violates_none sound laws bytes P budget Usage spelled is = absurd is
 decided_violates_none sound laws bytes P budget ReadFault spelled is = absurd is
@@ -104,6 +106,7 @@ decided_used P budget (Listed clauses) is = absurd is
 decided_used P budget (ListLarge point) is = absurd is
 decided_used P budget (NoQuery number) is = absurd is
 decided_used P budget (Replayed replay) is = absurd is
+decided_used P budget (Ring ring) is = absurd is
 decided_used P budget (Refused refusal) is = absurd is
 decided_used P budget Usage is = absurd is
 decided_used P budget ReadFault is = absurd is
@@ -138,6 +141,7 @@ unread_verified laws Counted held budget (Refused refusal) is other = of_file he
 unread_verified laws Counted held budget Memory is other = memory_verified held budget
 unread_verified laws Counted held budget ReadFault is other = absurd (other refl)
 unread_verified laws Counted held budget (Replayed replay) is other = absurd is
+unread_verified laws Counted held budget (Ring ring) is other = absurd is
 unread_verified laws Counted held budget Usage is other = absurd is
 unread_verified laws Counted held budget (Verified verdicts) is other = absurd is
 unread_verified laws Counted held budget (Checked findings) is other = absurd is
@@ -151,6 +155,7 @@ unread_words Counted held (Refused refusal) is = refl
 unread_words Counted held Memory is = refl
 unread_words Counted held ReadFault is = refl
 unread_words Counted held (Replayed replay) is = absurd is
+unread_words Counted held (Ring ring) is = absurd is
 unread_words Counted held Usage is = absurd is
 unread_words Counted held (Verified verdicts) is = absurd is
 unread_words Counted held (Checked findings) is = absurd is

@@ -13,7 +13,7 @@ use Rattle.cert_checker.specs.Rulings.{ruling_of}
 use Rattle.verifier_cli.specs.declared.outcome.Finding.{Finding}
 use Rattle.verifier_cli.specs.declared.outcome.Finding.TheVariants.{Ruled, Missing, NotClaimed}
 use Rattle.verifier_cli.specs.Outcome as own
-use Rattle.verifier_cli.specs.Outcome.{ReportRefusal, Misspelled, LongReport, Outcome, Usage, Verified, Checked, Listed, ListLarge, NoQuery, Replayed, Refused, Report, ReadFault, Memory}
+use Rattle.verifier_cli.specs.Outcome.{ReportRefusal, Misspelled, LongReport, Outcome, Usage, Verified, Checked, Listed, ListLarge, NoQuery, Replayed, Ring, Refused, Report, ReadFault, Memory}
 use Rattle.verifier_cli.specs.Command.{OfFile, Becomes, IsRefusalOf, refusal_at, NoneViolated}
 
 -- the bytes, which are not too many, are a report that claims this of the protocol's queries, in order
@@ -50,6 +50,7 @@ IsCheckOf P claims (Listed clauses) = ⊥
 IsCheckOf P claims (ListLarge point) = ⊥
 IsCheckOf P claims (NoQuery query) = ⊥
 IsCheckOf P claims (Replayed replay) = ⊥
+IsCheckOf P claims (Ring ring) = ⊥
 IsCheckOf P claims Usage = ⊥
 IsCheckOf P claims ReadFault = ⊥
 
@@ -66,6 +67,7 @@ IsOutcomeOfReport P bytes (Listed clauses) = ⊥
 IsOutcomeOfReport P bytes (ListLarge point) = ⊥
 IsOutcomeOfReport P bytes (NoQuery query) = ⊥
 IsOutcomeOfReport P bytes (Replayed replay) = ⊥
+IsOutcomeOfReport P bytes (Ring ring) = ⊥
 IsOutcomeOfReport P bytes Usage = ⊥
 IsOutcomeOfReport P bytes ReadFault = ⊥
 
@@ -90,6 +92,7 @@ IsCheckOutcome bytes (Listed clauses) = ⊥
 IsCheckOutcome bytes (ListLarge point) = ⊥
 IsCheckOutcome bytes (NoQuery query) = ⊥
 IsCheckOutcome bytes (Replayed replay) = ⊥
+IsCheckOutcome bytes (Ring ring) = ⊥
 IsCheckOutcome bytes Usage = ⊥
 IsCheckOutcome bytes ReadFault = ⊥
 

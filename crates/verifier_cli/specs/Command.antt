@@ -2,7 +2,7 @@
 use Rattle.std.specs.Prelude.{◌≡◌, ℕ, ◌⊎◌, List, Option, Some, None, IfSome, slice_get}
 use Rattle.calculus.specs.Syntax as syntax
 use Rattle.calculus.specs.Secrecy.{Holds}
-use Rattle.command_words.specs.Request.{Request, Verify, Check, ListOf, Replay, request_of}
+use Rattle.command_words.specs.Request.{Request, Verify, Check, ListOf, Replay, RingOf, request_of}
 use Rattle.hv_io.specs.Place.{line_at, column_at}
 use Rattle.protocol_scope.specs.Spells as spells
 use Rattle.protocol_scope.specs.Spells.{Spells, Refuses}
@@ -11,7 +11,7 @@ use Rattle.query_verify.specs.declared.answers.Verdict.TheVariants.{Proved}
 use Rattle.query_verify.specs.Told.{AnswerQueries}
 use Rattle.cert_checker.specs.declared.ruling.Ruling.TheVariants.{Accepted}
 use Rattle.verifier_cli.specs.declared.outcome.Finding.TheVariants.{Ruled}
-use Rattle.verifier_cli.specs.Outcome.{Refusal, Protocol, Outcome, Usage, Verified, Checked, Listed, ListLarge, NoQuery, Replayed, Refused, ReadFault, Memory}
+use Rattle.verifier_cli.specs.Outcome.{Refusal, Protocol, Outcome, Usage, Verified, Checked, Listed, ListLarge, NoQuery, Replayed, Ring, Refused, ReadFault, Memory}
 
 -- the words make this request
 abbrev pub Asks : List (List ℕ) → Request → Type 0
@@ -32,6 +32,10 @@ IsReplay words file run = request_of words ≡ Some (Replay file run)
 -- the words ask for the clauses of this query of the file's protocol
 abbrev pub IsList : List (List ℕ) → List ℕ → ℕ → Type 0
 IsList words file query = request_of words ≡ Some (ListOf file query)
+
+-- the words ask for the ring of so many keys
+abbrev pub IsRing : List (List ℕ) → ℕ → Type 0
+IsRing words stages = request_of words ≡ Some (RingOf stages)
 
 -- the words ask for nothing
 abbrev pub IsNoCommand : List (List ℕ) → Type 0
@@ -66,6 +70,7 @@ IsUnreadable (Some (Verify file budget)) held Counted = Counted file
 IsUnreadable (Some (Check file report)) held Counted = IsEitherUnreadable file report held Counted
 IsUnreadable (Some (ListOf file query)) held Counted = Counted file
 IsUnreadable (Some (Replay file run)) held Counted = IsEitherUnreadable file run held Counted
+IsUnreadable (Some (RingOf stages)) held Counted = ⊥
 
 -- what the queries of the protocol come to: the verdict of each with the budget, in order, or want of memory in their place
 abbrev pub IsDecidedBy : syntax.Protocol → ℕ → Outcome → Type 0
@@ -76,6 +81,7 @@ IsDecidedBy P budget (Listed clauses) = ⊥
 IsDecidedBy P budget (ListLarge point) = ⊥
 IsDecidedBy P budget (NoQuery query) = ⊥
 IsDecidedBy P budget (Replayed replay) = ⊥
+IsDecidedBy P budget (Ring ring) = ⊥
 IsDecidedBy P budget (Refused refusal) = ⊥
 IsDecidedBy P budget Usage = ⊥
 IsDecidedBy P budget ReadFault = ⊥
@@ -90,6 +96,7 @@ IsOutcomeOf bytes (Listed clauses) = ⊥
 IsOutcomeOf bytes (ListLarge point) = ⊥
 IsOutcomeOf bytes (NoQuery query) = ⊥
 IsOutcomeOf bytes (Replayed replay) = ⊥
+IsOutcomeOf bytes (Ring ring) = ⊥
 IsOutcomeOf bytes Usage = ⊥
 IsOutcomeOf bytes ReadFault = ⊥
 
@@ -101,6 +108,7 @@ Becomes wanted outcome = (outcome ≡ wanted) ⊎ (outcome ≡ Memory)
 abbrev pub IsShownAt : Outcome → ℕ → Type 0
 IsShownAt (Verified verdicts) k = (certificate : Certificate) × (slice_get verdicts k ≡ Some (Proved certificate))
 IsShownAt (Checked findings) k = slice_get findings k ≡ Some (Ruled Accepted)
+IsShownAt (Ring ring) k = (k ≡ 0) × ((certificate : Certificate) × (ring.verdict ≡ Proved certificate))
 IsShownAt (Refused refusal) k = ⊥
 IsShownAt Memory k = ⊥
 IsShownAt (Listed clauses) k = ⊥

@@ -5,6 +5,7 @@ pub mod Outcome
 pub mod Reading
 pub mod Replaying
 pub mod Listing
+pub mod Ringing
 pub mod Loaded
 pub mod RunReading
 pub mod ReportReading

@@ -5,11 +5,12 @@ use Rattle.pi_tree.specs.declared.protocols.Protocol.{Protocol as Protocol'}
 use Rattle.pi_tree.specs.Protocols.{protocol_of}
 use Rattle.calculus.specs.Syntax as syntax
 use Rattle.calculus.specs.Points.{numbered}
-use Rattle.command_words.specs.Request.{Request, Verify, Check, ListOf, Replay}
+use Rattle.command_words.specs.Request.{Request, Verify, Check, ListOf, Replay, RingOf}
 use Rattle.protocol_scope.specs.Spells as spells
 use Rattle.protocol_scope.specs.Spells.{Spells, Refuses}
 use Rattle.translation.specs.Translation.{Translated, Clauses, LargeAt, IsTranslation}
-use Rattle.verifier_cli.specs.Outcome.{Refusal, Outcome, Usage, Verified, Checked, Listed, ListLarge, NoQuery, Replayed, Refused, ReadFault, Memory}
+use Rattle.ring_text.specs.Text.{ring_text}
+use Rattle.verifier_cli.specs.Outcome.{Outcome, Usage, Verified, Checked, Listed, ListLarge, NoQuery, Replayed, Ring, Refused, ReadFault, Memory}
 use Rattle.verifier_cli.specs.Command.{OfFile, Becomes, IsRefusalOf, refusal_at}
 use Rattle.verifier_cli.specs.Text.{HasWords, outcome_bytes}
 
@@ -26,6 +27,7 @@ IsListOf P number Memory = Unit {0}
 IsListOf P number (Verified verdicts) = ⊥
 IsListOf P number (Checked findings) = ⊥
 IsListOf P number (Replayed replay) = ⊥
+IsListOf P number (Ring ring) = ⊥
 IsListOf P number (Refused refusal) = ⊥
 IsListOf P number Usage = ⊥
 IsListOf P number ReadFault = ⊥
@@ -40,6 +42,7 @@ IsListOutcome bytes Memory = Unit {0}
 IsListOutcome bytes (Verified verdicts) = ⊥
 IsListOutcome bytes (Checked findings) = ⊥
 IsListOutcome bytes (Replayed replay) = ⊥
+IsListOutcome bytes (Ring ring) = ⊥
 IsListOutcome bytes Usage = ⊥
 IsListOutcome bytes ReadFault = ⊥
 
@@ -52,29 +55,30 @@ pub record Lists (bytes : List ℕ) (number : ℕ) (outcome : Outcome) : Type 0 
   -- and where they are refused, it is this refusal, at this place
   pub refuses : (why : spells.Refusal) (place : ℕ) → Refuses bytes why place → Becomes (Refused (refusal_at bytes why place)) outcome
 
--- the file of the protocol that a request names
-abbrev pub file_named : Request → List ℕ
-file_named (Verify file budget) = file
-file_named (Check file report) = file
-file_named (ListOf file query) = file
-file_named (Replay file run) = file
+-- the bytes of the protocol that is asked about, where they are told: those that the file holds, or the text of the ring
+abbrev pub source_of : Request → (List ℕ → Option (List ℕ)) → Option (List ℕ)
+source_of (Verify file budget) held = held file
+source_of (Check file report) held = held file
+source_of (ListOf file query) held = held file
+source_of (Replay file run) held = held file
+source_of (RingOf stages) held = Some (ring_text stages)
 
 -- the protocol in whose words clauses are printed
 abbrev pub words_of : Option (Bor Protocol') → Option syntax.Protocol
 words_of protocol = option_map protocol_of (option_copied protocol)
 
--- the protocol, where there is one, is spelled by the file's bytes
+-- the protocol, where there is one, is spelled by these bytes
 abbrev pub IsSpelledAt : Option (List ℕ) → Option syntax.Protocol → Type 0
 IsSpelledAt held None = Unit {0}
 IsSpelledAt held (Some P) = OfFile held (λ bytes. Spells bytes P)
 
--- the protocol, where there is one, is the one of the file that was asked for
+-- the protocol, where there is one, is the one that was asked about
 abbrev pub IsSource : Option Request → (List ℕ → Option (List ℕ)) → Option syntax.Protocol → Type 0
 IsSource None held None = Unit {0}
 IsSource None held (Some P) = ⊥
-IsSource (Some request) held P = IsSpelledAt (held (file_named request)) P
+IsSource (Some request) held P = IsSpelledAt (source_of request held) P
 
--- the text of the outcome, in the words of the protocol that was asked for where clauses are printed
+-- the text of the outcome, in the words of the protocol that was asked about where clauses are printed
 pub record IsTextOf (request : Option Request) (held : List ℕ → Option (List ℕ)) (outcome : Outcome) (text : List ℕ) : Type 0 where
   pub protocol : Option syntax.Protocol
   pub source : IsSource request held protocol

@@ -9,6 +9,7 @@ use Rattle.clauses.specs.Fact.{Clause}
 use Rattle.certificate_reading.specs.Terms.{Code}
 use Rattle.query_verify.specs.declared.answers.Verdict.{Verdict}
 use Rattle.verifier_cli.specs.declared.outcome.Finding.{Finding}
+use Rattle.verifier_cli.specs.declared.outcome.Ring.{Ring as Summary}
 
 -- why the text of a run is refused
 pub data RunRefusal : Type 0 where
@@ -51,6 +52,8 @@ pub data Outcome : Type 0 where
   -- there is no query of that number
   NoQuery : (query : ℕ) → Outcome
   Replayed : (replay : Replay) → Outcome
+  -- the summary of a ring
+  Ring : (ring : Summary) → Outcome
   Refused : (refusal : Refusal) → Outcome
   ReadFault : Outcome
   Memory : Outcome

@@ -13,7 +13,7 @@ use Rattle.verifier_cli.specs.declared.reading.Stop.{Stop}
 use Rattle.verifier_cli.specs.declared.reading.Stop.TheVariants as stop
 use Rattle.verifier_cli.specs.declared.loading.Unloaded.{Unloaded}
 use Rattle.verifier_cli.specs.declared.loading.Unloaded.TheVariants as unloaded
-use Rattle.verifier_cli.specs.Outcome.{Protocol, Outcome, Usage, Verified, Checked, Listed, ListLarge, NoQuery, Replayed, Refused, ReadFault, Memory}
+use Rattle.verifier_cli.specs.Outcome.{Protocol, Outcome, Usage, Verified, Checked, Listed, ListLarge, NoQuery, Replayed, Ring, Refused, ReadFault, Memory}
 use Rattle.verifier_cli.specs.Command.{OfFile, IsRefusalOf}
 use Rattle.verifier_cli.specs.Seen.{refusal_by}
 
@@ -52,6 +52,7 @@ IsNoReading bytes (Listed clauses) = ⊥
 IsNoReading bytes (ListLarge point) = ⊥
 IsNoReading bytes (NoQuery query) = ⊥
 IsNoReading bytes (Replayed replay) = ⊥
+IsNoReading bytes (Ring ring) = ⊥
 IsNoReading bytes Usage = ⊥
 IsNoReading bytes (Verified verdicts) = ⊥
 IsNoReading bytes (Checked findings) = ⊥
@@ -72,6 +73,7 @@ IsUnread Counted held (Listed clauses) = ⊥
 IsUnread Counted held (ListLarge point) = ⊥
 IsUnread Counted held (NoQuery query) = ⊥
 IsUnread Counted held (Replayed replay) = ⊥
+IsUnread Counted held (Ring ring) = ⊥
 IsUnread Counted held Usage = ⊥
 IsUnread Counted held (Verified verdicts) = ⊥
 IsUnread Counted held (Checked findings) = ⊥

@@ -8,7 +8,7 @@ use Rattle.protocol_scope.specs.Spells.{Spells, Refuses}
 use Rattle.run_text.specs.Text.{SpellsRun, IsRefused}
 use Rattle.run_replay.specs.Replay.{IsDone, IsFirstRefused, AreFirstViolations}
 use Rattle.verifier_cli.specs.Outcome as own
-use Rattle.verifier_cli.specs.Outcome.{RunRefusal, Faulty, LongRun, Replay, Done, Stuck, Outcome, Usage, Verified, Checked, Listed, ListLarge, NoQuery, Replayed, Refused, Report, Run, ReadFault, Memory}
+use Rattle.verifier_cli.specs.Outcome.{RunRefusal, Faulty, LongRun, Replay, Done, Stuck, Outcome, Usage, Verified, Checked, Listed, ListLarge, NoQuery, Replayed, Ring, Refused, Report, Run, ReadFault, Memory}
 use Rattle.verifier_cli.specs.Command.{OfFile, Becomes, IsRefusalOf, refusal_at}
 
 -- the bytes, which are not too many, spell the steps of a run
@@ -29,6 +29,7 @@ IsShown P steps (Stuck number refusal) = IsFirstRefused P steps number refusal
 -- the outcome is what replaying the steps shows, or want of memory in its place
 abbrev pub IsReplayOf : Protocol → List Step → Outcome → Type 0
 IsReplayOf P steps (Replayed replay) = IsShown P steps replay
+IsReplayOf P steps (Ring ring) = ⊥
 IsReplayOf P steps Memory = Unit {0}
 IsReplayOf P steps (Refused refusal) = ⊥
 IsReplayOf P steps (Verified verdicts) = ⊥
@@ -42,6 +43,7 @@ IsReplayOf P steps ReadFault = ⊥
 -- the outcome is what the steps that the text of a run spells show, or why it is refused and where, or want of memory
 abbrev pub IsOutcomeOfRun : Protocol → List ℕ → Outcome → Type 0
 IsOutcomeOfRun P bytes (Replayed replay) = (steps : List Step) × SpellsSteps bytes steps × IsShown P steps replay
+IsOutcomeOfRun P bytes (Ring ring) = ⊥
 IsOutcomeOfRun P bytes (Refused (Run line why)) = RefusesRun bytes why line
 IsOutcomeOfRun P bytes Memory = Unit {0}
 IsOutcomeOfRun P bytes (Refused (own.Protocol line column why)) = ⊥
@@ -69,6 +71,7 @@ IsReplayOutcome bytes (Refused (own.Protocol line column why)) = IsRefusalOf byt
 IsReplayOutcome bytes (Refused (Run line why)) = (P : Protocol) × Spells bytes P
 IsReplayOutcome bytes (Refused (Report line why)) = ⊥
 IsReplayOutcome bytes (Replayed replay) = (P : Protocol) × Spells bytes P
+IsReplayOutcome bytes (Ring ring) = ⊥
 IsReplayOutcome bytes Memory = Unit {0}
 IsReplayOutcome bytes (Verified verdicts) = ⊥
 IsReplayOutcome bytes (Checked findings) = ⊥

@@ -7,7 +7,7 @@ use Rattle.fact_reader.specs.declared.error.CertError.{CertError}
 use Rattle.fact_reader.specs.declared.error.CertError.TheVariants as error
 use Rattle.verifier_cli.specs.declared.loading.Unloaded.{Unloaded}
 use Rattle.verifier_cli.specs.declared.loading.Unloaded.TheVariants as unloaded
-use Rattle.verifier_cli.specs.Outcome.{Misspelled, LongReport, Protocol, Report, Run, Outcome, Usage, Verified, Checked, Listed, ListLarge, NoQuery, Replayed, Refused, ReadFault, Memory}
+use Rattle.verifier_cli.specs.Outcome.{Misspelled, LongReport, Protocol, Report, Run, Outcome, Usage, Verified, Checked, Listed, ListLarge, NoQuery, Replayed, Ring, Refused, ReadFault, Memory}
 use Rattle.verifier_cli.specs.Command.{OfFile}
 use Rattle.verifier_cli.specs.Checking.{RefusesReport}
 
@@ -35,6 +35,7 @@ IsUnreadReport P Counted held (Refused (Run line why)) = ⊥
 IsUnreadReport P Counted held Memory = Unit {0}
 IsUnreadReport P Counted held (Checked findings) = ⊥
 IsUnreadReport P Counted held (Replayed replay) = ⊥
+IsUnreadReport P Counted held (Ring ring) = ⊥
 IsUnreadReport P Counted held (Listed clauses) = ⊥
 IsUnreadReport P Counted held (ListLarge point) = ⊥
 IsUnreadReport P Counted held (NoQuery query) = ⊥
@@ -50,6 +51,7 @@ IsOfReport (Refused (Run line why)) = ⊥
 IsOfReport Memory = Unit {0}
 IsOfReport (Checked findings) = Unit {0}
 IsOfReport (Replayed replay) = ⊥
+IsOfReport (Ring ring) = ⊥
 IsOfReport (Listed clauses) = ⊥
 IsOfReport (ListLarge point) = ⊥
 IsOfReport (NoQuery query) = ⊥

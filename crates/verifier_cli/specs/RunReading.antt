@@ -5,7 +5,7 @@ use Rattle.run_replay.specs.declared.error.RunError.{RunError}
 use Rattle.run_replay.specs.declared.error.RunError.TheVariants as error
 use Rattle.verifier_cli.specs.declared.loading.Unloaded.{Unloaded}
 use Rattle.verifier_cli.specs.declared.loading.Unloaded.TheVariants as unloaded
-use Rattle.verifier_cli.specs.Outcome.{Faulty, LongRun, Protocol, Report, Run, Outcome, Usage, Verified, Checked, Listed, ListLarge, NoQuery, Replayed, Refused, ReadFault, Memory}
+use Rattle.verifier_cli.specs.Outcome.{Faulty, LongRun, Protocol, Report, Run, Outcome, Usage, Verified, Checked, Listed, ListLarge, NoQuery, Replayed, Ring, Refused, ReadFault, Memory}
 use Rattle.verifier_cli.specs.Command.{OfFile}
 use Rattle.verifier_cli.specs.Replaying.{RefusesRun}
 
@@ -30,6 +30,7 @@ IsUnreadRun Counted held (Refused (Protocol line column why)) = ⊥
 IsUnreadRun Counted held (Refused (Report line why)) = ⊥
 IsUnreadRun Counted held Memory = Unit {0}
 IsUnreadRun Counted held (Replayed replay) = ⊥
+IsUnreadRun Counted held (Ring ring) = ⊥
 IsUnreadRun Counted held (Listed clauses) = ⊥
 IsUnreadRun Counted held (ListLarge point) = ⊥
 IsUnreadRun Counted held (NoQuery query) = ⊥
@@ -45,6 +46,7 @@ IsOfRun (Refused (Protocol line column why)) = ⊥
 IsOfRun (Refused (Report line why)) = ⊥
 IsOfRun Memory = Unit {0}
 IsOfRun (Replayed replay) = Unit {0}
+IsOfRun (Ring ring) = ⊥
 IsOfRun (Listed clauses) = ⊥
 IsOfRun (ListLarge point) = ⊥
 IsOfRun (NoQuery query) = ⊥

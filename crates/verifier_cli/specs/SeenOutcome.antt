@@ -2,7 +2,7 @@
 use Rattle.verifier_cli.specs.declared.outcome.Refusal.{Refusal}
 use Rattle.verifier_cli.specs.declared.outcome.Refusal.TheVariants.{Protocol, Report, Run}
 use Rattle.verifier_cli.specs.declared.outcome.Outcome.{Outcome}
-use Rattle.verifier_cli.specs.declared.outcome.Outcome.TheVariants.{Usage, Verified, Checked, Listed, ListLarge, NoQuery, Replayed, Refused, ReadFault, Memory}
+use Rattle.verifier_cli.specs.declared.outcome.Outcome.TheVariants.{Usage, Verified, Checked, Listed, ListLarge, NoQuery, Replayed, Ring, Refused, ReadFault, Memory}
 use Rattle.verifier_cli.specs.Seen.{refusal_by, report_refusal_by, run_refusal_by, replay_of}
 use Rattle.verifier_cli.specs.Outcome as own
 
@@ -19,6 +19,7 @@ outcome_of (Listed clauses) = own.Listed clauses
 outcome_of (ListLarge point) = own.ListLarge point
 outcome_of (NoQuery query) = own.NoQuery query
 outcome_of (Replayed replayed) = own.Replayed (replay_of replayed)
+outcome_of (Ring ring) = own.Ring ring
 outcome_of (Refused refusal) = own.Refused (refusal_of refusal)
 outcome_of ReadFault = own.ReadFault
 outcome_of Memory = own.Memory

@@ -21,7 +21,8 @@ use Rattle.query_verify.specs.declared.answers.Verdict.{Verdict}
 use Rattle.query_verify.specs.declared.answers.Verdict.TheVariants.{Proved, Budget, SizePair, SizePoint, Unmet}
 use Rattle.verifier_cli.specs.declared.outcome.Finding.{Finding}
 use Rattle.verifier_cli.specs.declared.outcome.Finding.TheVariants.{Ruled, Missing, NotClaimed}
-use Rattle.verifier_cli.specs.Outcome.{RunRefusal, Faulty, LongRun, ReportRefusal, Misspelled, LongReport, Refusal, Protocol, Report, Run, Replay, Done, Stuck, Outcome, Usage, Verified, Checked, Listed, ListLarge, NoQuery, Replayed, Refused, ReadFault, Memory}
+use Rattle.verifier_cli.specs.declared.outcome.Ring.{Ring as Summary}
+use Rattle.verifier_cli.specs.Outcome.{RunRefusal, Faulty, LongRun, ReportRefusal, Misspelled, LongReport, Refusal, Protocol, Report, Run, Replay, Done, Stuck, Outcome, Usage, Verified, Checked, Listed, ListLarge, NoQuery, Replayed, Ring, Refused, ReadFault, Memory}
 
 -- a text with its line's end
 abbrev pub line : List ℕ → List ℕ
@@ -45,6 +46,14 @@ abbrev pub verdict_lines : ℕ → List Verdict → syntax.Protocol → List ℕ
 verdict_lines number [] P = []
 verdict_lines number (verdict ∷ verdicts) P =
     codes "query " ++ decimal number ++ codes " " ++ verdict_text P verdict ++ verdict_lines (number + 1) verdicts P
+
+-- the same on one line, without a certificate
+abbrev pub verdict_line : syntax.Protocol → Verdict → List ℕ
+verdict_line P (Proved certificate) = line (codes "proved")
+verdict_line P (Budget log due) = verdict_text P (Budget log due)
+verdict_line P (SizePair log solved unsolved) = verdict_text P (SizePair log solved unsolved)
+verdict_line P (SizePoint point) = verdict_text P (SizePoint point)
+verdict_line P (Unmet log number) = verdict_text P (Unmet log number)
 
 -- what is ruled of a certificate: it is accepted, or the first obligation that isn't met
 abbrev pub ruling_text : Ruling → List ℕ
@@ -139,6 +148,14 @@ abbrev pub replay_text : Replay → List ℕ
 replay_text (Done end steps firsts) = done_text steps firsts
 replay_text (Stuck number refusal) = line (codes "stuck " ++ decimal number ++ codes " " ++ step_text refusal)
 
+-- the numbers of a ring's summary, a line for each
+abbrev pub number_lines : Summary → List ℕ
+number_lines ring = line (codes "ring " ++ decimal ring.stages) ++ line (codes "bytes " ++ decimal ring.bytes) ++ line (codes "clauses " ++ decimal ring.clauses)
+
+-- the summary of a ring: its numbers, and the verdict of its query
+abbrev pub summary_lines : Summary → syntax.Protocol → List ℕ
+summary_lines ring P = number_lines ring ++ codes "query 1 " ++ verdict_line P ring.verdict
+
 -- a line for each clause, in the words of the protocol
 abbrev pub clause_lines : syntax.Protocol → List (Clause Term) → List ℕ
 clause_lines P [] = []
@@ -153,6 +170,7 @@ in_words text (Some P) = text P
 abbrev pub prints_clauses : Outcome → Bool
 prints_clauses (Verified verdicts) = true
 prints_clauses (Listed clauses) = true
+prints_clauses (Ring ring) = true
 prints_clauses _ = false
 
 -- where the outcome prints clauses, there is a protocol
@@ -169,6 +187,7 @@ outcome_bytes P (Listed clauses) = in_words (λ own. clause_lines own clauses) P
 outcome_bytes P (ListLarge point) = line (codes "size point " ++ decimal point)
 outcome_bytes P (NoQuery query) = line (codes "no query " ++ decimal query)
 outcome_bytes P (Replayed replay) = replay_text replay
+outcome_bytes P (Ring ring) = in_words (summary_lines ring) P
 outcome_bytes P (Refused refusal) = line (refusal_text refusal)
 outcome_bytes P ReadFault = line (codes "read fault")
 outcome_bytes P Memory = line (codes "want of memory")
@@ -197,6 +216,7 @@ status_of (Listed clauses) = 0
 status_of (ListLarge point) = 1
 status_of (NoQuery query) = 1
 status_of (Replayed replay) = if is_without_violation replay then 0 else 1
+status_of (Ring ring) = if is_proved ring.verdict then 0 else 1
 status_of (Refused (Protocol row column why)) = 3
 status_of (Refused (Report row why)) = 4
 status_of (Refused (Run row why)) = 4

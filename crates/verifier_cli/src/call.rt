@@ -5,15 +5,17 @@ ghost use Rattle.pi_tree.specs.Protocols.{protocol_of};
 ghost use Rattle.std.specs.String.{string_bytes};
 ghost use Rattle.hv_io.specs.Faults.{IsFaultCounted};
 ghost use Rattle.hv_io.specs.Sink.{appended, AppendsPart};
-ghost use Rattle.verifier_cli.specs.Command.{Asks, IsVerify, IsCheck, IsList, IsReplay, IsNoCommand};
-ghost use Rattle.verifier_cli.specs.Command.{IsUnreadable, OfFile, Verifies, Becomes, NoneViolated};
+ghost use Rattle.verifier_cli.specs.Command.{Asks, IsVerify, IsCheck, IsList, IsReplay, IsRing};
+ghost use Rattle.verifier_cli.specs.Command.{IsNoCommand, IsUnreadable, OfFile, Verifies, Becomes};
+ghost use Rattle.verifier_cli.specs.Command.{NoneViolated};
 ghost use Rattle.verifier_cli.specs.Checking.{Checks};
 ghost use Rattle.verifier_cli.specs.Complete.{IsComeTo, AreAccepted, IsOwnOutcome, IsOfAnswer};
 ghost use Rattle.command_words.specs.Request as request;
 ghost use Rattle.command_words.specs.Request.{request_of};
-ghost use Rattle.verifier_cli.specs.Listing.{Lists, IsSource, IsTextOf, file_named, words_of};
+ghost use Rattle.verifier_cli.specs.Listing.{Lists, IsSource, IsTextOf, source_of, words_of};
 ghost use Rattle.verifier_cli.specs.Outcome as own;
 ghost use Rattle.verifier_cli.specs.Replaying.{Replays};
+ghost use Rattle.verifier_cli.specs.Ringing.{Rings};
 ghost use Rattle.verifier_cli.specs.SeenOutcome.{outcome_of};
 ghost use Rattle.verifier_cli.specs.Text.{HasWords, outcome_bytes, status_of};
 
@@ -21,9 +23,10 @@ use crate::check::check_file;
 use crate::list::list_file;
 use crate::outcome::{Answer, Decision, Outcome};
 use crate::replay::replay_file;
+use crate::ringing::ring;
 use crate::text::{READ_FAULT, USAGE, WANT_OF_MEMORY, outcome_text, status};
 use crate::verify::verify_file;
-use command_words::laws::asked_budgets;
+use command_words::laws::{asked_budgets, asked_stages};
 use command_words::{Request, read_words};
 use hv_io::{Files, Sink, put_all};
 use pi_tree::Protocol;
@@ -53,6 +56,7 @@ fn decide<F: Files>(alloc: Global, words: &[String], files: &mut F) -> Decision
         IsComeTo asked (F.held files.old) (outcome_of result.outcome) }
 {
     asked_budgets();
+    asked_stages();
     match read_words(alloc, words) {
         Ok(Some(Request::Verify { file, budget })) => verify_file(alloc, file, budget, files),
         Ok(Some(Request::List { file, query })) => list_file(alloc, file, query, files),
@@ -64,6 +68,7 @@ fn decide<F: Files>(alloc: Global, words: &[String], files: &mut F) -> Decision
             protocol: None,
             outcome: replay_file(alloc, file, run, files),
         },
+        Ok(Some(Request::Ring { stages })) => ring(alloc, stages),
         Ok(None) => Decision {
             protocol: None,
             outcome: Outcome::Usage,
@@ -129,7 +134,7 @@ fn respond<S: Sink>(
 /// reason and the place. Where they spell one, `verify` comes to `Verified` with the verdict of each query, and `list` to
 /// `Listed` with the clauses of a query, to `ListLarge` or to `NoQuery`. `check` then loads the report's file, and `replay` the
 /// run's: that comes to `ReadFault`, to `Refused`, or to `Checked` with what is found of each query's claim, or to `Replayed` with
-/// what the steps show. `Memory` may come in place of any of these.
+/// what the steps show. `ring` takes no file: it comes to `Ring` with the summary. `Memory` may come in place of any of these.
 pub fn top<F: Files, S: Sink>(alloc: Global, words: &[String], files: &mut F, out: &mut S) -> Answer
     ensures usage { IsNoCommand (map string_bytes words.now) →
         Becomes own.Usage (outcome_of result.outcome) }
@@ -141,9 +146,10 @@ pub fn top<F: Files, S: Sink>(alloc: Global, words: &[String], files: &mut F, ou
         IsUnreadable (request_of (map string_bytes words.now)) (F.held files.old) (λ name.
         IsFaultCounted (F.faults files.old name) (F.faults files.new name)) }
 
-    // No run of the protocol that its file spells violates a query that is proved, or whose certificate is accepted.
+    // No run of the protocol that its file spells, or the ring's text, violates a query that is proved, or whose certificate
+    // is accepted.
     ensures headline { (asked : request.Request) → Asks (map string_bytes words.now) asked →
-        outcome_of result.outcome ≢ own.ReadFault → OfFile (F.held files.old (file_named asked))
+        outcome_of result.outcome ≢ own.ReadFault → OfFile (source_of asked (F.held files.old))
         (λ bytes. NoneViolated bytes (outcome_of result.outcome)) }
 
     // Which verdicts and refusals there are, exactly, of the bytes that the file holds.
@@ -166,6 +172,10 @@ pub fn top<F: Files, S: Sink>(alloc: Global, words: &[String], files: &mut F, ou
     ensures replay { (file run : List ℕ) → IsReplay (map string_bytes words.now) file run →
         outcome_of result.outcome ≢ own.ReadFault → OfFile (F.held files.old file) (λ bytes.
         Replays bytes (F.held files.old run) (outcome_of result.outcome)) }
+
+    // The summary of a ring, exactly, and so the same at each run. No file is read, and the ring is never refused.
+    ensures ring { (stages : ℕ) → IsRing (map string_bytes words.now) stages →
+        Rings stages (outcome_of result.outcome) }
 
     // Where its files are accepted and no fault is counted, a command comes to an outcome of its own.
     ensures complete { (asked : request.Request) → Asks (map string_bytes words.now) asked →

@@ -10,12 +10,14 @@ mod loading;
 mod outcome;
 mod reading;
 mod replay;
+mod ringing;
+mod summary;
 mod text;
 mod verify;
 
 pub use crate::call::top;
 pub use crate::outcome::{
-    Answer, Finding, Findings, Outcome, ProtocolCode, Refusal, ReportCode, RunCode,
+    Answer, Finding, Findings, Outcome, ProtocolCode, Refusal, ReportCode, Ring, RunCode,
 };
 pub use crate::text::{outcome_text, status};
 pub use cert_checker::Ruling;

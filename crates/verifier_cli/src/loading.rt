@@ -1,6 +1,7 @@
 //! Loading the whole text of a file, and the protocol that it spells.
 
 ghost use Rattle.std.specs.Prelude.{◌≡◌, ◌-◌, ◌^◌, ◌<◌, ◌≤◌, ℕ, List, length, vec_len, IfOk, IfErr, IfSome, Err};
+ghost use Rattle.calculus.specs.Bounds.{most_bytes};
 ghost use Rattle.hv_io.specs.Faults.{IsFaultCounted};
 ghost use Rattle.pi_tree.specs.Protocols.{protocol_of};
 ghost use Rattle.protocol_scope.specs.Spells.{Spells};
@@ -86,6 +87,25 @@ fn not_read(bytes: &[u8], why: Stop) -> Outcome
     }
 }
 
+/// The protocol that the bytes spell, which are not too many, or what the call comes to where they are refused.
+pub(crate) fn protocol_in(alloc: Global, bytes: &[u8]) -> Result<Protocol, Outcome>
+    requires { length bytes.now ≤ most_bytes }
+    ensures limited { IfOk result (λ protocol. IsLimited (protocol_of protocol)) }
+    ensures loaded { IfOk result (λ protocol. IsLoaded (protocol_of protocol)) }
+    ensures spelled { IfOk result (λ protocol. Spells bytes.now (protocol_of protocol)) }
+    ensures unread { IfErr result (λ outcome. IsNoReading bytes.now (outcome_of outcome)) }
+{
+    within_limits();
+    proper_rules();
+    well_scoped();
+    query_leaves();
+    spelled_protocols_have_names();
+    match read_protocol(alloc, bytes) {
+        Ok(protocol) => Ok(protocol),
+        Err(why) => Err(not_read(bytes, why)),
+    }
+}
+
 /// The protocol that a file spells, or what the call comes to where there is none.
 pub(crate) fn load_protocol<F: Files>(
     alloc: Global,
@@ -99,16 +119,8 @@ pub(crate) fn load_protocol<F: Files>(
     ensures spelled { IfOk result (λ protocol. OfFile (F.held files.old file.now) (λ bytes. Spells bytes (protocol_of protocol))) }
     ensures unread { IfErr result (λ outcome. IsUnread (IsFaultCounted (F.faults files.old file.now) (F.faults files.new file.now)) (F.held files.old file.now) (outcome_of outcome)) }
 {
-    within_limits();
-    proper_rules();
-    well_scoped();
-    query_leaves();
-    spelled_protocols_have_names();
     match load_text(file, MOST_BYTES, files) {
         Err(why) => Err(not_loaded(why)),
-        Ok(bytes) => match read_protocol(alloc, &bytes) {
-            Ok(protocol) => Ok(protocol),
-            Err(why) => Err(not_read(&bytes, why)),
-        },
+        Ok(bytes) => protocol_in(alloc, &bytes),
     }
 }

@@ -3,7 +3,7 @@
 use cert_checker::Ruling;
 use cert_text::PlainClauses;
 use pi_tree::Protocol;
-use query_verify::Verdicts;
+use query_verify::{Verdict, Verdicts};
 use run_replay::Replayed;
 use std::marker::Model;
 
@@ -117,6 +117,19 @@ impl Model for Findings {
     ghost view = { λ a. a.items.items };
 }
 
+/// The summary of a ring that was made and verified.
+#[derive(Debug, Drop)]
+pub struct Ring {
+    /// How many keys it has.
+    pub stages: u64,
+    /// How many bytes its text has.
+    pub bytes: u64,
+    /// How many clauses its protocol and query are translated into; 0 where the translation is too large.
+    pub clauses: u64,
+    /// The verdict of its query.
+    pub verdict: Verdict,
+}
+
 /// What a call of the program comes to.
 #[derive(Debug, Drop)]
 pub enum Outcome {
@@ -134,6 +147,8 @@ pub enum Outcome {
     NoQuery(u64),
     /// The protocol and the run were read, and the run replayed.
     Replayed(Replayed),
+    /// The ring was made and verified, and this is its summary.
+    Ring(Ring),
     /// A text was refused.
     Refused(Refusal),
     /// A file could not be read.

@@ -14,8 +14,12 @@ ghost use Rattle.pi_tree.specs.Protocols.{protocol_of};
 ghost use Rattle.verifier_cli.specs.Listing.{words_of};
 ghost use Rattle.verifier_cli.specs.Text.{line, clause_lines, in_words, outcome_bytes, status_of, refusal_text, entry_text, verdict_text, verdict_lines, is_proved, first_text, first_lines, done_text, replay_text, is_without_violation};
 ghost use Rattle.verifier_cli.specs.Text.{ruling_text, finding_text, finding_lines, is_accepted};
+ghost use Rattle.verifier_cli.specs.Text.{summary_lines};
 
-use crate::outcome::{Finding, Findings, Outcome, ProtocolCode, Refusal, ReportCode, RunCode};
+use crate::outcome::{
+    Finding, Findings, Outcome, ProtocolCode, Refusal, ReportCode, Ring, RunCode,
+};
+use crate::summary::summary_text;
 use cert_checker::Ruling;
 use cert_text::{Cert, PlainClauses, write_cert, write_clause};
 use clause_saturate::{PlainEntry, PlainLog};
@@ -194,7 +198,7 @@ fn visit_line(alloc: Global, point: u32) -> Result<String, AllocError>
 }
 
 /// What is written behind the number of a query, its line and a certificate.
-fn verdict_text(
+pub(crate) fn verdict_text(
     alloc: Global,
     protocol: &Protocol,
     verdict: &Verdict,
@@ -458,6 +462,20 @@ fn listed_text(
     }
 }
 
+/// The lines of a ring's summary, where there is a protocol in whose words to write them.
+fn ringed_text(
+    alloc: Global,
+    protocol: Option<&Protocol>,
+    ring: &Ring,
+) -> Result<Vec<u8>, AllocError>
+    ensures { IfOk result (λ text. text.items ≡ in_words (summary_lines ring.now) (words_of protocol.entry)) }
+{
+    match protocol {
+        Some(protocol) => summary_text(alloc, protocol, ring),
+        None => Ok(Vec::new(alloc)),
+    }
+}
+
 /// All that a call writes whose outcome is this, each line ended by LF. Verdicts and clauses are written in the words of
 /// the protocol, and not at all where none is given.
 pub fn outcome_text(
@@ -475,6 +493,7 @@ pub fn outcome_text(
         Outcome::ListLarge(point) => Ok(point_line(alloc, *point)?.into_bytes()),
         Outcome::NoQuery(query) => Ok(query_line(alloc, *query)?.into_bytes()),
         Outcome::Replayed(replayed) => Ok(replayed_text(alloc, replayed)?.into_bytes()),
+        Outcome::Ring(ring) => ringed_text(alloc, protocol, ring),
         Outcome::Refused(refusal) => Ok(refusal_line(alloc, *refusal)?.into_bytes()),
         Outcome::ReadFault => READ_FAULT.to_vec(alloc),
         Outcome::Memory => WANT_OF_MEMORY.to_vec(alloc),
@@ -552,6 +571,7 @@ pub fn status(outcome: &Outcome) -> u8
         Outcome::Listed(_) => 0,
         Outcome::ListLarge(_) | Outcome::NoQuery(_) => 1,
         Outcome::Replayed(replayed) => { if is_without_violation(replayed) { 0 } else { 1 } }
+        Outcome::Ring(ring) => { if is_proved(&ring.verdict) { 0 } else { 1 } }
         Outcome::Refused(Refusal::Protocol { .. }) => 3,
         Outcome::Refused(Refusal::Report { .. }) => 4,
         Outcome::Refused(Refusal::Run { .. }) => 4,

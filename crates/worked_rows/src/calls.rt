@@ -16,6 +16,7 @@ fn name(outcome: &Outcome) -> &'static str {
         Outcome::ListLarge(_) => "ListLarge",
         Outcome::NoQuery(_) => "NoQuery",
         Outcome::Replayed(_) => "Replayed",
+        Outcome::Ring(_) => "Ring",
         Outcome::Refused(_) => "Refused",
         Outcome::ReadFault => "ReadFault",
         Outcome::Memory => "Memory",

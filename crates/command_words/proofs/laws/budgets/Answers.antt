@@ -1,4 +1,4 @@
-use Rattle.std.proofs.Common.{◌≡◌, ◌==◌, ◌++◌, ℕ, List, [], ◌∷◌, Some, None, true, false, codes, slice_index}
+use Rattle.std.proofs.Common.{◌≡◌, ◌==◌, ◌++◌, ℕ, List, [], ◌∷◌, Some, None, true, false, codes, slice_index, arith}
 use Rattle.std.specs.Str.Parse.{digits_value, without_leading_plus}
 use Rattle.std.proofs.lemmas.Bool.{ne_eqb}
 use Rattle.clap.proofs.OnLiterals.{clap_on_literals}
@@ -11,11 +11,11 @@ taken : (program file number : List ℕ) → (slice_index file 0 ≡ 45 → ⊥)
     → request_of (program ∷ codes "verify" ∷ file ∷ (codes "--budget=" ++ number) ∷ []) ≡ Some (Verify file (digits_value 10 (without_leading_plus number)))
 unfolding clap_on_literals
 taken program [] number plain within =
-    let all = small_number number within in
+    let all = small_number 0 1000000 (omega arith) number within in
     simp (within, all)
 taken program (x ∷ xs) number plain within =
     let no_dash : (x == 45) ≡ false = ne_eqb x 45 plain in
-    let all = small_number number within in
+    let all = small_number 0 1000000 (omega arith) number within in
     simp (no_dash, within, all)
 
 refused : (program file number : List ℕ) → (slice_index file 0 ≡ 45 → ⊥) → is_unsigned_in 0 1000000 number ≡ false

@@ -3,11 +3,18 @@ use Rattle.std.proofs.Common.{◌≡◌, map, Option, Some, option_map, sym, ap,
 use Rattle.std.specs.String.{string_bytes}
 use Rattle.hv_io.specs.Faults.{IsFaultCounted}
 use Rattle.command_words.specs.declared.Request.{Request}
-use Rattle.command_words.specs.Request.{Verify, Check, ListOf, Replay, request_of, request_seen}
+use Rattle.command_words.specs.Request.{Verify, Check, ListOf, Replay, RingOf, request_of, request_seen}
 use Rattle.verifier_cli.specs.SeenOutcome.{outcome_of}
 use Rattle.verifier_cli.proofs.Commands.{comes_as_asked, a_command, unreadable, sourced, no_source}
 use Rattle.verifier_cli.proofs.Outcomes.{memory_comes}
 use Rattle.verifier_cli.proofs.call.decide.Goals as goal
+
+pub verify_file-requires : goal.verify_file-requires
+verify_file-requires g c =
+    let w = c.in-Ok-Some-Verify in
+    let asked : Some (Verify w.file.now w.budget) ≡ request_of (map string_bytes c.args.words.now) =
+    sym (ap (λ (r : Option Request). option_map request_seen r) (w.field-0-is ∙ ap Some w.field-0-0-is)) ∙ w.ensures.request in
+    c.asked_budgets.ensures (map string_bytes c.args.words.now) w.file.now w.budget (sym asked)
 
 pub returns-in-Ok-Some-Verify-clause-unused : goal.returns-in-Ok-Some-Verify-clause-unused
 returns-in-Ok-Some-Verify-clause-unused g c =
@@ -110,6 +117,41 @@ returns-in-Ok-Some-Replay-clause-comes g c =
     let asked : Some (Replay w.file.now w.run'.now) ≡ request_of (map string_bytes c.args.words.now) =
     sym (ap (λ (r : Option Request). option_map request_seen r) (w.field-0-is ∙ ap Some w.field-0-0-is)) ∙ w.ensures.request in
     comes_as_asked (map string_bytes c.args.words.now) (Replay w.file.now w.run'.now) asked (g.F.Files.held c.args.files.now) (outcome_of c.replay_file.result) c.replay_file.ensures.replayed
+
+pub ring-requires-clause-least : goal.ring-requires-clause-least
+ring-requires-clause-least g c =
+    let w = c.in-Ok-Some-Ring in
+    let asked : Some (RingOf w.stages) ≡ request_of (map string_bytes c.args.words.now) =
+    sym (ap (λ (r : Option Request). option_map request_seen r) (w.field-0-is ∙ ap Some w.field-0-0-is)) ∙ w.ensures.request in
+    (c.asked_stages.ensures (map string_bytes c.args.words.now) w.stages (sym asked)).0
+
+pub ring-requires-clause-most : goal.ring-requires-clause-most
+ring-requires-clause-most g c =
+    let w = c.in-Ok-Some-Ring in
+    let asked : Some (RingOf w.stages) ≡ request_of (map string_bytes c.args.words.now) =
+    sym (ap (λ (r : Option Request). option_map request_seen r) (w.field-0-is ∙ ap Some w.field-0-0-is)) ∙ w.ensures.request in
+    (c.asked_stages.ensures (map string_bytes c.args.words.now) w.stages (sym asked)).1
+
+pub returns-in-Ok-Some-Ring-clause-unused : goal.returns-in-Ok-Some-Ring-clause-unused
+returns-in-Ok-Some-Ring-clause-unused g c =
+    let w = c.in-Ok-Some-Ring in
+    let asked : Some (RingOf w.stages) ≡ request_of (map string_bytes c.args.words.now) =
+    sym (ap (λ (r : Option Request). option_map request_seen r) (w.field-0-is ∙ ap Some w.field-0-0-is)) ∙ w.ensures.request in
+    λ none. absurd (a_command (map string_bytes c.args.words.now) (RingOf w.stages) asked none)
+
+pub returns-in-Ok-Some-Ring-clause-source : goal.returns-in-Ok-Some-Ring-clause-source
+returns-in-Ok-Some-Ring-clause-source g c =
+    let w = c.in-Ok-Some-Ring in
+    let asked : Some (RingOf w.stages) ≡ request_of (map string_bytes c.args.words.now) =
+    sym (ap (λ (r : Option Request). option_map request_seen r) (w.field-0-is ∙ ap Some w.field-0-0-is)) ∙ w.ensures.request in
+    sourced (map string_bytes c.args.words.now) (RingOf w.stages) asked (g.F.Files.held c.args.files.now) _ c.ring.ensures.source
+
+pub returns-in-Ok-Some-Ring-clause-comes : goal.returns-in-Ok-Some-Ring-clause-comes
+returns-in-Ok-Some-Ring-clause-comes g c =
+    let w = c.in-Ok-Some-Ring in
+    let asked : Some (RingOf w.stages) ≡ request_of (map string_bytes c.args.words.now) =
+    sym (ap (λ (r : Option Request). option_map request_seen r) (w.field-0-is ∙ ap Some w.field-0-0-is)) ∙ w.ensures.request in
+    comes_as_asked (map string_bytes c.args.words.now) (RingOf w.stages) asked (g.F.Files.held c.args.files.now) (outcome_of c.ring.result.outcome) (λ other. c.ring.ensures.rings)
 
 pub returns-in-Err-clause-comes : goal.returns-in-Err-clause-comes
 returns-in-Err-clause-comes g c = λ asked is other. memory_comes (g.F.Files.held c.args.files.now) asked

@@ -1,9 +1,10 @@
-use Rattle.std.proofs.Common.{ap, map, option_map}
+use Rattle.std.proofs.Common.{ℕ, List, Option, ap, map, option_map, subst}
 use Rattle.std.specs.String.{string_bytes}
-use Rattle.command_words.specs.Request.{Verify, Check, ListOf, Replay}
+use Rattle.command_words.specs.Request.{Request, Verify, Check, ListOf, Replay, RingOf}
 use Rattle.pi_tree.specs.Protocols.{protocol_of}
 use Rattle.hv_io.specs.Faults.{IsFaultCounted}
 use Rattle.verifier_cli.specs.SeenOutcome.{outcome_of}
+use Rattle.verifier_cli.specs.Command.{IsUnreadable}
 use Rattle.verifier_cli.specs.Text.{outcome_bytes}
 use Rattle.verifier_cli.specs.Listing.{words_of}
 use Rattle.verifier_cli.proofs.Commands.{printed}
@@ -36,6 +37,13 @@ returns-clause-list g c = λ file query is other. comes_after (g.F.Files.held c.
 
 pub returns-clause-replay : goal.returns-clause-replay
 returns-clause-replay g c = λ file run is other. comes_after (g.F.Files.held c.args.files.now) (Replay file run) _ _ c.respond.ensures.outcome (c.decide-protocol.ensures.comes (Replay file run) is) other
+
+pub returns-clause-ring : goal.returns-clause-ring
+returns-clause-ring g c = λ stages is.
+    let held = g.F.Files.held c.args.files.now in
+    let Counted : List ℕ → Type 0 = λ name. IsFaultCounted (g.F.Files.faults c.args.files.now name) (g.F.Files.faults c.decide-protocol.new.files name) in
+    comes_after held (RingOf stages) _ _ c.respond.ensures.outcome (c.decide-protocol.ensures.comes (RingOf stages) is)
+    (λ e. subst (λ (r : Option Request). IsUnreadable r held Counted) is (c.decide-protocol.ensures.fault (was_before _ _ _ (λ k. cc) c.respond.ensures.outcome e)))
 
 pub returns-clause-complete : goal.returns-clause-complete
 returns-clause-complete g c = λ asked is accepted none calm.

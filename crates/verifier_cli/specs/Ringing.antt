@@ -1,0 +1,66 @@
+-- What the command `ring` comes to: the summary of a ring.
+use Rattle.std.specs.Prelude.{◌≡◌, ℕ, [], ◌∷◌, length}
+use Rattle.calculus.specs.Syntax as syntax
+use Rattle.protocol_scope.specs.Spells.{Spells}
+use Rattle.translation.specs.Translation.{Translated, Clauses, LargeAt, IsTranslation}
+use Rattle.query_verify.specs.Told.{IsAnswer}
+use Rattle.ring_text.specs.Text.{ring_text}
+use Rattle.verifier_cli.specs.declared.outcome.Ring.{Ring as Summary}
+use Rattle.verifier_cli.specs.Outcome.{Outcome, Usage, Verified, Checked, Listed, ListLarge, NoQuery, Replayed, Ring, Refused, ReadFault, Memory}
+use Rattle.verifier_cli.specs.Command.{NoneViolated}
+
+-- how many clauses a translation has: none where it is large
+abbrev pub clause_count : Translated → ℕ
+clause_count (Clauses clauses) = length clauses
+clause_count (LargeAt point) = 0
+
+-- the protocol and the query are translated into so many clauses
+abbrev pub HasCount : syntax.Protocol → syntax.Query → ℕ → Type 0
+HasCount P q count = (translated : Translated) × IsTranslation P q translated × (count ≡ clause_count translated)
+
+-- the summary of the ring of n keys, whose text spells the protocol: n, the bytes of the text, and of the protocol's only
+-- query how many clauses it is translated into, and its verdict with the budget 10,000
+pub record IsSummaryOf (P : syntax.Protocol) (n : ℕ) (ring : Summary) : Type 0 where
+  pub stages : ring.stages ≡ n
+  pub bytes : ring.bytes ≡ length (ring_text n)
+  pub query : syntax.Query
+  pub only : P.queries ≡ query ∷ []
+  pub clauses : HasCount P query ring.clauses
+  pub verdict : IsAnswer P query 10000 ring.verdict
+
+-- the outcome is that summary, or want of memory in its place
+abbrev pub IsRingOf : syntax.Protocol → ℕ → Outcome → Type 0
+IsRingOf P n (Ring ring) = IsSummaryOf P n ring
+IsRingOf P n Memory = Unit {0}
+IsRingOf P n (Verified verdicts) = ⊥
+IsRingOf P n (Checked findings) = ⊥
+IsRingOf P n (Listed clauses) = ⊥
+IsRingOf P n (ListLarge point) = ⊥
+IsRingOf P n (NoQuery query) = ⊥
+IsRingOf P n (Replayed replay) = ⊥
+IsRingOf P n (Refused refusal) = ⊥
+IsRingOf P n Usage = ⊥
+IsRingOf P n ReadFault = ⊥
+
+-- what `ring` may come to: the text always spells a protocol, so it is never refused, and no file is read
+abbrev pub IsRingOutcome : ℕ → Outcome → Type 0
+IsRingOutcome n (Ring ring) = (P : syntax.Protocol) × Spells (ring_text n) P
+IsRingOutcome n Memory = Unit {0}
+IsRingOutcome n (Verified verdicts) = ⊥
+IsRingOutcome n (Checked findings) = ⊥
+IsRingOutcome n (Listed clauses) = ⊥
+IsRingOutcome n (ListLarge point) = ⊥
+IsRingOutcome n (NoQuery query) = ⊥
+IsRingOutcome n (Replayed replay) = ⊥
+IsRingOutcome n (Refused refusal) = ⊥
+IsRingOutcome n Usage = ⊥
+IsRingOutcome n ReadFault = ⊥
+
+-- what `ring` comes to for n keys
+pub record Rings (n : ℕ) (outcome : Outcome) : Type 0 where
+  -- the outcome is a summary, or want of memory, and nothing else
+  pub answers : IsRingOutcome n outcome
+  -- the summary is that of the protocol that the text spells
+  pub accepts : (P : syntax.Protocol) → Spells (ring_text n) P → IsRingOf P n outcome
+  -- the headline
+  pub none_violated : NoneViolated (ring_text n) outcome
