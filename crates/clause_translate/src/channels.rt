@@ -17,7 +17,8 @@ use term_tree::{Bank, Id, Node, Sym};
 /// Whether the number is that of a public free name.
 #[tactic(auto, using(crate::proofs::Numbered::by_number))]
 fn is_public_free(protocol: &Protocol, number: u32) -> bool
-    ensures { result ≡ option_map_or (λ declared. declared.public) (numbered protocol.now.frees number) false }
+    ensures { result ≡ option_map_or (λ declared. declared.public)
+        (numbered protocol.now.frees number) false }
 {
     match number.checked_sub(1) {
         None => false,
@@ -41,7 +42,8 @@ fn is_public_root(protocol: &Protocol, symbol: Sym) -> bool
 /// Whether the channel is a public free name.
 fn is_public_channel<B: Bank>(bank: &B, protocol: &Protocol, channel: Id) -> bool
     requires { channel.index < length (B.trees bank.now) }
-    ensures { result ≡ is_public_channel (protocol_of protocol.now) (tree_at (B.trees bank.now) channel) }
+    ensures { result ≡ is_public_channel (protocol_of protocol.now)
+        (tree_at (B.trees bank.now) channel) }
 {
     match bank.node(channel) {
         Node::Var(_) => false,
@@ -58,7 +60,9 @@ fn is_public_channel<B: Bank>(bank: &B, protocol: &Protocol, channel: Id) -> boo
 pub fn sent<B: Bank>(bank: &B, protocol: &Protocol, channel: Id, message: Id) -> Fact
     requires channel { channel.index < length (B.trees bank.now) }
     requires message { message.index < length (B.trees bank.now) }
-    ensures { NamesFact (B.trees bank.now) (fact_of result) (sent (protocol_of protocol.now) (tree_at (B.trees bank.now) channel) (tree_at (B.trees bank.now) message)) }
+    ensures { NamesFact (B.trees bank.now) (fact_of result)
+        (sent (protocol_of protocol.now) (tree_at (B.trees bank.now) channel)
+        (tree_at (B.trees bank.now) message)) }
 {
     if is_public_channel(bank, protocol, channel) {
         Fact::Att(message)

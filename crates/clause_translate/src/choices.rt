@@ -47,7 +47,9 @@ pub enum Way {
 /// The visit, unless it is too large.
 fn way_to<B: Bank>(bank: &B, found: Option<Visit>) -> Way
     requires { IfSome found (λ made. IsVisitIn (B.trees bank.now) made) }
-    ensures { MatchOption found (result ≡ ways.Large) (λ made. MatchBool (translation.is_large_visit (visit_at (B.trees bank.now) made)) (result ≡ ways.Large) (result ≡ ways.Visit made)) }
+    ensures { MatchOption found (result ≡ ways.Large)
+        (λ made. MatchBool (translation.is_large_visit (visit_at (B.trees bank.now) made))
+        (result ≡ ways.Large) (result ≡ ways.Visit made)) }
 {
     match found {
         None => Way::Large,
@@ -73,9 +75,12 @@ fn way_of<B: Bank>(
     requires sides { AreKnown (B.trees bank.old) equations.now.sides.now }
     requires value { equations.now.value.index < length (B.trees bank.old) }
     requires target { equations.now.target.index < length (B.trees bank.old) }
-    requires below { HasChoiceBelow visit.now.next (choice_at (B.trees bank.old) equations.now visit.now) }
+    requires below { HasChoiceBelow visit.now.next
+        (choice_at (B.trees bank.old) equations.now visit.now) }
     ensures grows { Grows (B.trees bank.old) (B.trees bank.new) }
-    ensures way { IfOk result (λ way. (out : Option translation.Visit) × GoesOn (choice_at (B.trees bank.old) equations.now visit.now) out × IsWay (B.trees bank.new) way out) }
+    ensures way { IfOk result (λ way. (out : Option translation.Visit)
+        × GoesOn (choice_at (B.trees bank.old) equations.now visit.now) out
+        × IsWay (B.trees bank.new) way out) }
 {
     match unified(alloc, bank, equations)? {
         None => Ok(Way::Nowhere),
@@ -98,7 +103,9 @@ fn by_term<B: Bank>(
     requires short { IsShortPattern (pattern_of pattern.now) }
     requires term { HasShortTuples (term_of term.now) }
     ensures grows { Grows (B.trees bank.old) (B.trees bank.new) }
-    ensures way { IfOk result (λ way. (out : Option translation.Visit) × TermGoesOn (protocol_at place.now) (visit_at (B.trees bank.old) visit.now) (pattern_of pattern.now) (term_of term.now) out × IsWay (B.trees bank.new) way out) }
+    ensures way { IfOk result (λ way. (out : Option translation.Visit)
+        × TermGoesOn (protocol_at place.now) (visit_at (B.trees bank.old) visit.now)
+        (pattern_of pattern.now) (term_of term.now) out × IsWay (B.trees bank.new) way out) }
 {
     let value = term_in(place.alloc, bank, place.protocol, &visit.scope, term)?;
     let (made, target) = with_pattern(place, bank, visit, visit.next, pattern)?;
@@ -127,7 +134,10 @@ fn by_rule_grown<B: Bank>(
     requires below { AreBelow visit.now.next (map (tree_at (B.trees bank.old)) arguments.now) }
     requires rule { IsShortRule (rule_of rule.now) }
     ensures grows { Grows (B.trees bank.old) (B.trees bank.new) }
-    ensures way { IfOk result (λ way. (out : Option translation.Visit) × ByRule (protocol_at place.now) (visit_at (B.trees bank.old) visit.now) (pattern_of pattern.now) (map (tree_at (B.trees bank.old)) arguments.now) (rule_of rule.now) out × IsWay (B.trees bank.new) way out) }
+    ensures way { IfOk result (λ way. (out : Option translation.Visit)
+        × ByRule (protocol_at place.now) (visit_at (B.trees bank.old) visit.now)
+        (pattern_of pattern.now) (map (tree_at (B.trees bank.old)) arguments.now)
+        (rule_of rule.now) out × IsWay (B.trees bank.new) way out) }
 {
     let base = end_of_rule(visit.next, rule)?;
     let sides = rule_terms(place.alloc, bank, place.protocol, visit.next, &rule.left)?;
@@ -158,7 +168,11 @@ fn by_rule<B: Bank>(
     requires below { AreBelow visit.now.next (map (tree_at (B.trees bank.old)) arguments.now) }
     requires rule { IsShortRule (rule_of rule.now) }
     ensures grows { Grows (B.trees bank.old) (B.trees bank.new) }
-    ensures way { IfOk result (λ way. (out : Option translation.Visit) × ByRule (protocol_at place.now) (visit_at (B.trees bank.old) visit.now) (pattern_of pattern.now) (map (tree_at (B.trees bank.old)) arguments.now) (rule_of rule.now) out × IsWay (B.trees bank.new) way out) }
+    ensures way { IfOk result (λ way. (out : Option translation.Visit)
+        × ByRule (protocol_at place.now) (visit_at (B.trees bank.old) visit.now)
+        (pattern_of pattern.now) (map (tree_at (B.trees bank.old)) arguments.now)
+        (rule_of rule.now) out × IsWay (B.trees bank.new) way out) }
+    ensures nowhere { IfOk result (λ way. way ≡ ways.Nowhere → B.trees bank.new ≡ B.trees bank.old) }
 {
     let mark = bank.mark();
     match by_rule_grown(place, bank, visit, pattern, arguments, rule)? {
@@ -187,7 +201,13 @@ fn by_rules<B: Bank>(
     requires below { AreBelow visit.now.next (map (tree_at (B.trees bank.old)) arguments.now) }
     requires rules { AllByRecursion IsShortRule (map rule_of rules.now) }
     ensures grows { Grows (B.trees bank.old) (B.trees bank.new) }
-    ensures go { IfOk result (λ found. MatchOption found (IsLargeByRules (protocol_at place.now) (visit_at (B.trees bank.old) visit.now) (pattern_of pattern.now) (map (tree_at (B.trees bank.old)) arguments.now) (map rule_of rules.now)) (λ visits. GoByRules (protocol_at place.now) (visit_at (B.trees bank.old) visit.now) (pattern_of pattern.now) (map (tree_at (B.trees bank.old)) arguments.now) (map rule_of rules.now) (B.trees bank.new) visits.items.items)) }
+    ensures go { IfOk result (λ found. MatchOption found
+        (IsLargeByRules (protocol_at place.now) (visit_at (B.trees bank.old) visit.now)
+        (pattern_of pattern.now) (map (tree_at (B.trees bank.old)) arguments.now)
+        (map rule_of rules.now))
+        (λ visits. GoByRules (protocol_at place.now) (visit_at (B.trees bank.old) visit.now)
+        (pattern_of pattern.now) (map (tree_at (B.trees bank.old)) arguments.now)
+        (map rule_of rules.now) (B.trees bank.new) visits.items.items)) }
 {
     let mut items = Vec::new(place.alloc);
     let mut large = false;
@@ -218,7 +238,12 @@ fn by_call<B: Bank>(
     requires arguments { AllByRecursion HasShortTuples arguments.now }
     requires rules { HasShortRules (protocol_at place.now) }
     ensures grows { Grows (B.trees bank.old) (B.trees bank.new) }
-    ensures go { IfOk result (λ found. MatchOption found (IsLargeChoice (protocol_at place.now) (visit_at (B.trees bank.old) visit.now) (pattern_of pattern.now) (Call destructor arguments.now)) (λ visits. GoOn (protocol_at place.now) (visit_at (B.trees bank.old) visit.now) (pattern_of pattern.now) (Call destructor arguments.now) (B.trees bank.new) visits.items.items)) }
+    ensures go { IfOk result (λ found. MatchOption found
+        (IsLargeChoice (protocol_at place.now) (visit_at (B.trees bank.old) visit.now)
+        (pattern_of pattern.now) (Call destructor arguments.now))
+        (λ visits. GoOn (protocol_at place.now) (visit_at (B.trees bank.old) visit.now)
+        (pattern_of pattern.now) (Call destructor arguments.now) (B.trees bank.new)
+        visits.items.items)) }
 {
     let arguments = terms_in(place.alloc, bank, place.protocol, &visit.scope, arguments)?;
     let rules = rules_of(place.protocol, destructor);
@@ -256,7 +281,12 @@ pub fn choices<B: Bank>(
     requires expression { IsShortExpression (expression_of expression.now) }
     requires rules { HasShortRules (protocol_at place.now) }
     ensures grows { Grows (B.trees bank.old) (B.trees bank.new) }
-    ensures go { IfOk result (λ found. MatchOption found (IsLargeChoice (protocol_at place.now) (visit_at (B.trees bank.old) visit.now) (pattern_of pattern.now) (expression_of expression.now)) (λ visits. GoOn (protocol_at place.now) (visit_at (B.trees bank.old) visit.now) (pattern_of pattern.now) (expression_of expression.now) (B.trees bank.new) visits.items.items)) }
+    ensures go { IfOk result (λ found. MatchOption found
+        (IsLargeChoice (protocol_at place.now) (visit_at (B.trees bank.old) visit.now)
+        (pattern_of pattern.now) (expression_of expression.now))
+        (λ visits. GoOn (protocol_at place.now) (visit_at (B.trees bank.old) visit.now)
+        (pattern_of pattern.now) (expression_of expression.now) (B.trees bank.new)
+        visits.items.items)) }
 {
     match expression {
         Expr::Term(term) => {

@@ -14,7 +14,8 @@ use term_tree::Bank;
 pub fn after_copy<B: Bank>(alloc: Global, bank: &mut B, visit: &Visit) -> Result<Visit, AllocError>
     requires { IsVisitIn (B.trees bank.old) visit.now }
     ensures grows { Grows (B.trees bank.old) (B.trees bank.new) }
-    ensures names { IfOk result (λ made. NamesVisit (B.trees bank.new) made (translation.after_copy (visit_at (B.trees bank.old) visit.now) visit.now.next)) }
+    ensures names { IfOk result (λ made. NamesVisit (B.trees bank.new) made
+        (translation.after_copy (visit_at (B.trees bank.old) visit.now) visit.now.next)) }
 {
     match visit.next.checked_add(1) {
         None => Err(AllocError),

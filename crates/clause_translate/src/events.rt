@@ -31,7 +31,8 @@ fn event_clause(
     event: u32,
     arguments: &Ids,
 ) -> Result<Clause, AllocError>
-    ensures { IfOk result (λ raw. raw ≡ record { hypotheses = visit.now.hypotheses; conclusion = horn.Ev event arguments.now }) }
+    ensures { IfOk result (λ raw. raw ≡
+        record { hypotheses = visit.now.hypotheses; conclusion = horn.Ev event arguments.now }) }
 {
     let hyps = visit.hypotheses.copy(alloc)?;
     let arguments = arguments.copy(alloc)?;
@@ -55,8 +56,15 @@ fn add_event_clause<B: Bank>(
     requires clauses { AreClausesIn (B.trees bank.old) listing.old.clauses }
     requires arguments { AreKnown (B.trees bank.old) arguments.now }
     ensures grows { Grows (B.trees bank.old) (B.trees bank.new) }
-    ensures large { IfOk result (λ added. MatchBool added (is_large_raw (raw_event (visit_at (B.trees bank.old) visit.now) event (map (tree_at (B.trees bank.old)) arguments.now)) ≡ false) (is_large_raw (raw_event (visit_at (B.trees bank.old) visit.now) event (map (tree_at (B.trees bank.old)) arguments.now)) ≡ true)) }
-    ensures adds { IfOk result (λ added. added ≡ true → Adds (B.trees bank.old) (B.trees bank.new) listing.old listing.new (norms (raw_event (visit_at (B.trees bank.old) visit.now) event (map (tree_at (B.trees bank.old)) arguments.now)))) }
+    ensures large { IfOk result (λ added. MatchBool added
+        (is_large_raw (raw_event (visit_at (B.trees bank.old) visit.now) event
+        (map (tree_at (B.trees bank.old)) arguments.now)) ≡ false)
+        (is_large_raw (raw_event (visit_at (B.trees bank.old) visit.now) event
+        (map (tree_at (B.trees bank.old)) arguments.now)) ≡ true)) }
+    ensures adds { IfOk result (λ added. added ≡ true
+        → Adds (B.trees bank.old) (B.trees bank.new) listing.old listing.new
+        (norms (raw_event (visit_at (B.trees bank.old) visit.now) event
+        (map (tree_at (B.trees bank.old)) arguments.now)))) }
 {
     let raw = event_clause(alloc, visit, event, arguments)?;
     listing.add(alloc, bank, &raw)
@@ -73,7 +81,9 @@ fn event_below<B: Bank>(
     requires visit { IsVisitIn (B.trees bank.now) visit.now }
     requires arguments { AreKnown (B.trees bank.now) arguments }
     requires below { AreBelow visit.now.next (map (tree_at (B.trees bank.now)) arguments) }
-    ensures { IfOk result (λ found. IsSmallVisit (B.trees bank.now) (below_event (visit_at (B.trees bank.now) visit.now) event (map (tree_at (B.trees bank.now)) arguments)) found) }
+    ensures { IfOk result (λ found. IsSmallVisit (B.trees bank.now)
+        (below_event (visit_at (B.trees bank.now) visit.now) event
+        (map (tree_at (B.trees bank.now)) arguments)) found) }
 {
     let made = visit.with_hypothesis(alloc, Fact::Mev(event, arguments))?;
     if is_large_visit(bank, &made) {
@@ -94,7 +104,9 @@ pub fn add_event<B: Bank>(
     requires clauses { AreClausesIn (B.trees bank.old) listing.old.clauses }
     requires short { AllByRecursion HasShortTuples (event_of atom.now).arguments }
     ensures grows { Grows (B.trees bank.old) (B.trees bank.new) }
-    ensures adds { IfOk result (λ found. EventAdds (protocol_at place.now) (visit_at (B.trees bank.old) visit.now) (event_of atom.now) (B.trees bank.old) (B.trees bank.new) listing.old listing.new found) }
+    ensures adds { IfOk result (λ found. EventAdds (protocol_at place.now)
+        (visit_at (B.trees bank.old) visit.now) (event_of atom.now) (B.trees bank.old)
+        (B.trees bank.new) listing.old listing.new found) }
 {
     if some_large_term(place, bank, &visit.scope, &atom.args) {
         return Ok(None);

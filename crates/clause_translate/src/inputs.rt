@@ -48,7 +48,9 @@ fn with_bound<B: Bank>(
     requires up { visit.now.next ≤ span.at.base }
     requires span { IsSpan span.at.base (bound_numbers (pattern_of pattern.now)) span }
     ensures grows { Grows (B.trees bank.old) (B.trees bank.new) }
-    ensures names { IfOk result (λ made. NamesVisit (B.trees bank.new) made (with_pattern (visit_at (B.trees bank.old) visit.now) (pattern_of pattern.now) (fresh_of span.at))) }
+    ensures names { IfOk result (λ made. NamesVisit (B.trees bank.new) made
+        (with_pattern (visit_at (B.trees bank.old) visit.now) (pattern_of pattern.now)
+        (fresh_of span.at))) }
     ensures next { IfOk result (λ made. made.next ≡ span.next) }
 {
     let bound = pattern_scope(place.alloc, bank, span.at, pattern)?;
@@ -67,7 +69,9 @@ pub fn with_pattern<B: Bank>(
     requires up { visit.now.next ≤ base }
     requires short { IsShortPattern (pattern_of pattern.now) }
     ensures grows { Grows (B.trees bank.old) (B.trees bank.new) }
-    ensures names { IfOk result (λ made. WithPattern (protocol_at place.now) (visit_at (B.trees bank.old) visit.now) (pattern_of pattern.now) base (B.trees bank.new) made.0 made.1) }
+    ensures names { IfOk result (λ made. WithPattern (protocol_at place.now)
+        (visit_at (B.trees bank.old) visit.now) (pattern_of pattern.now) base (B.trees bank.new)
+        made.0 made.1) }
 {
     let span = span_for(place, base, pattern)?;
     let holes = Holes {
@@ -91,7 +95,11 @@ fn received<B: Bank>(
     requires channel { HasShortTuples (term_of channel.now) }
     requires short { IsShortPattern (pattern_of pattern.now) }
     ensures grows { Grows (B.trees bank.old) (B.trees bank.new) }
-    ensures names { IfOk result (λ made. (at : Fresh) × IsFresh (visit_at (B.trees bank.old) visit.now) (pattern_of pattern.now) at × NamesVisit (B.trees bank.new) made (translation.after_input (protocol_at place.now) (visit_at (B.trees bank.old) visit.now) (term_of channel.now) (pattern_of pattern.now) at)) }
+    ensures names { IfOk result (λ made. (at : Fresh)
+        × IsFresh (visit_at (B.trees bank.old) visit.now) (pattern_of pattern.now) at
+        × NamesVisit (B.trees bank.new) made (translation.after_input (protocol_at place.now)
+        (visit_at (B.trees bank.old) visit.now) (term_of channel.now) (pattern_of pattern.now)
+        at)) }
 {
     let channel = term_in(place.alloc, bank, place.protocol, &visit.scope, channel)?;
     let (bound, message) = with_pattern(place, bank, visit, visit.next, pattern)?;
@@ -111,7 +119,11 @@ pub fn after_input<B: Bank>(
     requires channel { HasShortTuples (term_of channel.now) }
     requires short { IsShortPattern (pattern_of pattern.now) }
     ensures grows { Grows (B.trees bank.old) (B.trees bank.new) }
-    ensures receives { IfOk result (λ found. MatchOption found (IsLargeInput (protocol_at place.now) (visit_at (B.trees bank.old) visit.now) (term_of channel.now) (pattern_of pattern.now)) (λ made. Receives (protocol_at place.now) (visit_at (B.trees bank.old) visit.now) (term_of channel.now) (pattern_of pattern.now) (B.trees bank.new) made)) }
+    ensures receives { IfOk result (λ found. MatchOption found
+        (IsLargeInput (protocol_at place.now) (visit_at (B.trees bank.old) visit.now)
+        (term_of channel.now) (pattern_of pattern.now))
+        (λ made. Receives (protocol_at place.now) (visit_at (B.trees bank.old) visit.now)
+        (term_of channel.now) (pattern_of pattern.now) (B.trees bank.new) made)) }
 {
     if is_large_term(place, bank, &visit.scope, channel) {
         return Ok(None);

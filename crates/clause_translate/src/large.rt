@@ -29,7 +29,9 @@ use term_tree::{Bank, Id};
 /// Whether the term has more symbols than the limit where it is visited.
 pub fn is_large_term<B: Bank>(place: &Place<'_>, bank: &B, scope: &Scope, term: &Term) -> bool
     requires { IsScopeIn (B.trees bank.now) scope.now }
-    ensures { result ≡ translation.is_large_term (term_in (protocol_at place.now) (scope_at (B.trees bank.now) scope.now) (term_of term.now)) }
+    ensures { result ≡ translation.is_large_term
+        (term_in (protocol_at place.now) (scope_at (B.trees bank.now) scope.now)
+        (term_of term.now)) }
 {
     size_in(bank, scope, term) > MOST_SYMBOLS
 }
@@ -37,7 +39,8 @@ pub fn is_large_term<B: Bank>(place: &Place<'_>, bank: &B, scope: &Scope, term: 
 /// Whether one of the terms has.
 pub fn some_large_term<B: Bank>(place: &Place<'_>, bank: &B, scope: &Scope, terms: &Terms) -> bool
     requires { IsScopeIn (B.trees bank.now) scope.now }
-    ensures { result ≡ are_large_in (protocol_at place.now) (scope_at (B.trees bank.now) scope.now) terms.now }
+    ensures { result ≡ are_large_in (protocol_at place.now) (scope_at (B.trees bank.now) scope.now)
+        terms.now }
 {
     for term in &terms.items {
         if is_large_term(place, bank, scope, term) {
@@ -56,7 +59,8 @@ pub fn some_large_compared<B: Bank>(
     pattern: &Pat,
 ) -> bool
     requires { IsScopeIn (B.trees bank.now) scope.now }
-    ensures { result ≡ are_large_in (protocol_at place.now) (scope_at (B.trees bank.now) scope.now) (compared (pattern_of pattern.now)) }
+    ensures { result ≡ are_large_in (protocol_at place.now) (scope_at (B.trees bank.now) scope.now)
+        (compared (pattern_of pattern.now)) }
 {
     match pattern {
         Pat::Bind(_) => false,
@@ -76,7 +80,8 @@ fn some_large_compared_in<B: Bank>(
     patterns: &Pats,
 ) -> bool
     requires { IsScopeIn (B.trees bank.now) scope.now }
-    ensures { result ≡ are_large_in (protocol_at place.now) (scope_at (B.trees bank.now) scope.now) (compared_row (trees patterns.now)) }
+    ensures { result ≡ are_large_in (protocol_at place.now) (scope_at (B.trees bank.now) scope.now)
+        (compared_row (trees patterns.now)) }
 {
     for pattern in &patterns.items {
         if some_large_compared(place, bank, scope, pattern) {
@@ -89,7 +94,8 @@ fn some_large_compared_in<B: Bank>(
 /// Whether a term of the expression has.
 pub fn some_large_in<B: Bank>(place: &Place<'_>, bank: &B, scope: &Scope, expression: &Expr) -> bool
     requires { IsScopeIn (B.trees bank.now) scope.now }
-    ensures { result ≡ are_large_in (protocol_at place.now) (scope_at (B.trees bank.now) scope.now) (terms_in (expression_of expression.now)) }
+    ensures { result ≡ are_large_in (protocol_at place.now) (scope_at (B.trees bank.now) scope.now)
+        (terms_in (expression_of expression.now)) }
 {
     match expression {
         Expr::Term(term) => is_large_term(place, bank, scope, term),
@@ -108,7 +114,8 @@ fn is_over<B: Bank>(bank: &B, id: Id) -> bool
 /// Whether what a leaf stands for in the scope has.
 fn is_large_scope<B: Bank>(bank: &B, scope: &[Standing]) -> bool
     requires { IsScopeIn (B.trees bank.now) (map held_of scope.now) }
-    ensures { result ≡ list_any (λ b. translation.is_large_term b.term) (scope_at (B.trees bank.now) (map held_of scope.now)) }
+    ensures { result ≡ list_any (λ b. translation.is_large_term b.term)
+        (scope_at (B.trees bank.now) (map held_of scope.now)) }
 {
     for standing in scope {
         if is_over(bank, standing.term) {
@@ -121,7 +128,8 @@ fn is_large_scope<B: Bank>(bank: &B, scope: &[Standing]) -> bool
 /// Whether the fact has.
 fn is_large_fact<B: Bank>(bank: &B, fact: &Fact) -> bool
     requires { IsFactIn (B.trees bank.now) (fact_of fact.now) }
-    ensures { result ≡ not (nat_le (fact_size (fact_at (B.trees bank.now) (fact_of fact.now))) most_symbols) }
+    ensures { result ≡ not (nat_le (fact_size (fact_at (B.trees bank.now) (fact_of fact.now)))
+        most_symbols) }
 {
     size_of_fact(bank, fact) > MOST_SYMBOLS
 }
@@ -129,7 +137,8 @@ fn is_large_fact<B: Bank>(bank: &B, fact: &Fact) -> bool
 /// Whether one of the facts has.
 fn some_large_fact<B: Bank>(bank: &B, facts: &[Fact]) -> bool
     requires { AreFactsIn (B.trees bank.now) (map fact_of facts.now) }
-    ensures { result ≡ list_any (λ h. not (nat_le (fact_size h) most_symbols)) (map (fact_at (B.trees bank.now)) (map fact_of facts.now)) }
+    ensures { result ≡ list_any (λ h. not (nat_le (fact_size h) most_symbols))
+        (map (fact_at (B.trees bank.now)) (map fact_of facts.now)) }
 {
     for fact in facts {
         if is_large_fact(bank, fact) {

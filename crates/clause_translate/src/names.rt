@@ -17,7 +17,8 @@ use term_tree::Bank;
 fn with_name<B: Bank>(place: &Place<'_>, bank: &mut B, visit: &Visit) -> Result<Visit, AllocError>
     requires { IsVisitIn (B.trees bank.old) visit.now }
     ensures grows { Grows (B.trees bank.old) (B.trees bank.new) }
-    ensures names { IfOk result (λ made. NamesVisit (B.trees bank.new) made (translation.after_new (visit_at (B.trees bank.old) visit.now) place.now.point)) }
+    ensures names { IfOk result (λ made. NamesVisit (B.trees bank.new) made
+        (translation.after_new (visit_at (B.trees bank.old) visit.now) place.now.point)) }
 {
     let term = name_of_point(
         place.alloc,
@@ -38,8 +39,14 @@ pub fn after_new<B: Bank>(
 ) -> Result<Option<Visit>, AllocError>
     requires { IsVisitIn (B.trees bank.old) visit.now }
     ensures grows { Grows (B.trees bank.old) (B.trees bank.new) }
-    ensures large { IfOk result (λ found. MatchOption found (translation.is_large_visit (translation.after_new (visit_at (B.trees bank.old) visit.now) place.now.point) ≡ true) (λ made. translation.is_large_visit (translation.after_new (visit_at (B.trees bank.old) visit.now) place.now.point) ≡ false)) }
-    ensures names { IfOk result (λ found. IfSome found (λ made. NamesVisit (B.trees bank.new) made (translation.after_new (visit_at (B.trees bank.old) visit.now) place.now.point))) }
+    ensures large { IfOk result (λ found. MatchOption found
+        (translation.is_large_visit
+        (translation.after_new (visit_at (B.trees bank.old) visit.now) place.now.point) ≡ true)
+        (λ made. translation.is_large_visit
+        (translation.after_new (visit_at (B.trees bank.old) visit.now) place.now.point) ≡ false)) }
+    ensures names { IfOk result (λ found. IfSome found
+        (λ made. NamesVisit (B.trees bank.new) made
+        (translation.after_new (visit_at (B.trees bank.old) visit.now) place.now.point))) }
 {
     let made = with_name(place, bank, visit)?;
     if is_large_visit(bank, &made) {

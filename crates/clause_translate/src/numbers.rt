@@ -12,7 +12,8 @@ use std::alloc::{AllocError, Global};
 /// Adds the variables that a pattern binds, in order.
 #[cycle(bound)]
 fn add_bound(pattern: &Pat, numbers: &mut Vec<u32>) -> Result<(), AllocError>
-    ensures { OnOk result (numbers.new.items ≡ numbers.old.items ++ bound_numbers (pattern_of pattern.now)) }
+    ensures { OnOk result (numbers.new.items ≡ numbers.old.items
+        ++ bound_numbers (pattern_of pattern.now)) }
 {
     match pattern {
         Pat::Bind(number) => {
@@ -28,7 +29,8 @@ fn add_bound(pattern: &Pat, numbers: &mut Vec<u32>) -> Result<(), AllocError>
 /// Adds the variables that patterns bind, in order.
 #[cycle(bound)]
 fn add_all_bound(patterns: &Pats, numbers: &mut Vec<u32>) -> Result<(), AllocError>
-    ensures { OnOk result (numbers.new.items ≡ numbers.old.items ++ row_numbers (trees patterns.now)) }
+    ensures { OnOk result (numbers.new.items ≡ numbers.old.items
+        ++ row_numbers (trees patterns.now)) }
 {
     'each: for pattern in &patterns.items {
         add_bound(pattern, numbers)?;

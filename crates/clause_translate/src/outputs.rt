@@ -37,7 +37,11 @@ fn sent_in<B: Bank>(
     requires channel { HasShortTuples (term_of channel.now) }
     requires message { HasShortTuples (term_of message.now) }
     ensures grows { Grows (B.trees bank.old) (B.trees bank.new) }
-    ensures names { let P = protocol_at place.now in let bound = scope_at (B.trees bank.old) scope.now in IfOk result (λ fact. NamesFact (B.trees bank.new) (fact_of fact) (sent P (translation.term_in P bound (term_of channel.now)) (translation.term_in P bound (term_of message.now)))) }
+    ensures names { let P = protocol_at place.now in
+        let bound = scope_at (B.trees bank.old) scope.now in
+        IfOk result (λ fact. NamesFact (B.trees bank.new) (fact_of fact)
+        (sent P (translation.term_in P bound (term_of channel.now))
+        (translation.term_in P bound (term_of message.now)))) }
 {
     let channel = term_in(place.alloc, bank, place.protocol, scope, channel)?;
     let message = term_in(place.alloc, bank, place.protocol, scope, message)?;
@@ -56,7 +60,9 @@ fn output_clause<B: Bank>(
     requires channel { HasShortTuples (term_of channel.now) }
     requires message { HasShortTuples (term_of message.now) }
     ensures grows { Grows (B.trees bank.old) (B.trees bank.new) }
-    ensures names { IfOk result (λ raw. NamesClause (B.trees bank.new) raw (output_raw (protocol_at place.now) (visit_at (B.trees bank.old) visit.now) (term_of channel.now) (term_of message.now))) }
+    ensures names { IfOk result (λ raw. NamesClause (B.trees bank.new) raw
+        (output_raw (protocol_at place.now) (visit_at (B.trees bank.old) visit.now)
+        (term_of channel.now) (term_of message.now))) }
 {
     let concl = sent_in(place, bank, &visit.scope, channel, message)?;
     let hyps = visit.hypotheses.copy(place.alloc)?;
@@ -77,8 +83,15 @@ pub fn add_output<B: Bank>(
     requires channel { HasShortTuples (term_of channel.now) }
     requires message { HasShortTuples (term_of message.now) }
     ensures grows { Grows (B.trees bank.old) (B.trees bank.new) }
-    ensures large { IfOk result (λ added. MatchBool added (is_large_output (protocol_at place.now) (visit_at (B.trees bank.old) visit.now) (term_of channel.now) (term_of message.now) ≡ false) (is_large_output (protocol_at place.now) (visit_at (B.trees bank.old) visit.now) (term_of channel.now) (term_of message.now) ≡ true)) }
-    ensures adds { IfOk result (λ added. added ≡ true → Adds (B.trees bank.old) (B.trees bank.new) listing.old listing.new (norms (output_raw (protocol_at place.now) (visit_at (B.trees bank.old) visit.now) (term_of channel.now) (term_of message.now)))) }
+    ensures large { IfOk result (λ added. MatchBool added
+        (is_large_output (protocol_at place.now) (visit_at (B.trees bank.old) visit.now)
+        (term_of channel.now) (term_of message.now) ≡ false)
+        (is_large_output (protocol_at place.now) (visit_at (B.trees bank.old) visit.now)
+        (term_of channel.now) (term_of message.now) ≡ true)) }
+    ensures adds { IfOk result (λ added. added ≡ true
+        → Adds (B.trees bank.old) (B.trees bank.new) listing.old listing.new
+        (norms (output_raw (protocol_at place.now) (visit_at (B.trees bank.old) visit.now)
+        (term_of channel.now) (term_of message.now)))) }
 {
     if is_large_term(place, bank, &visit.scope, channel) {
         return Ok(false);

@@ -20,7 +20,8 @@ pub struct Place<'a> {
 impl<'a> Place<'a> {
     /// The next point. There is no memory for as many points as would need more than 32 bits.
     pub fn below(&self) -> Result<Place<'a>, AllocError>
-        ensures { IfOk result (λ to. IsAt (protocol_of self.now.protocol.now) (self.now.point + 1) to) }
+        ensures { IfOk result (λ to. IsAt (protocol_of self.now.protocol.now) (self.now.point + 1)
+            to) }
     {
         match self.point.checked_add(1) {
             None => Err(AllocError),
@@ -34,7 +35,8 @@ impl<'a> Place<'a> {
 
     /// The point after a process that begins at the next point.
     pub fn after(&self, process: &Process) -> Result<Place<'a>, AllocError>
-        ensures { IfOk result (λ to. IsAt (protocol_of self.now.protocol.now) (point_after (self.now.point + 1) (process_of process.now)) to) }
+        ensures { IfOk result (λ to. IsAt (protocol_of self.now.protocol.now)
+            (point_after (self.now.point + 1) (process_of process.now)) to) }
     {
         let below = self.below()?;
         let nodes = process.count_nodes();

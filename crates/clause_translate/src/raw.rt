@@ -36,7 +36,8 @@ fn some_large_clause<B: Bank>(bank: &B, clauses: &Clauses) -> bool
 /// Whether the clause or a flat part of it has.
 pub fn is_large_raw<B: Bank>(alloc: Global, bank: &B, clause: &Clause) -> Result<bool, AllocError>
     requires { IsClauseIn (B.trees bank.now) clause.now }
-    ensures { IfOk result (λ large. large ≡ is_large_raw (clause_at (B.trees bank.now) clause.now)) }
+    ensures { IfOk result (λ large. large ≡
+        is_large_raw (clause_at (B.trees bank.now) clause.now)) }
 {
     if is_large_clause(bank, clause) {
         return Ok(true);

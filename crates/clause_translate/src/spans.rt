@@ -40,7 +40,8 @@ fn behind(at: Fresh, number: u32) -> Option<u32>
 
 /// The number behind the new variables, if there is one.
 fn end_of(at: Fresh, numbers: &[u32]) -> Option<u32>
-    ensures { IfSome result (λ end. (at.base ≤ end) × AllByRecursion (λ i. at.base + (i - at.first) < end) numbers.now) }
+    ensures { IfSome result (λ end. (at.base ≤ end)
+        × AllByRecursion (λ i. at.base + (i - at.first) < end) numbers.now) }
 {
     let mut end = at.base;
     'each: for number in numbers {

@@ -27,7 +27,10 @@ pub fn terms_under<B: Bank>(
     requires known { AreKnown (B.trees bank.old) terms.now }
     requires ready { IsReady (B.trees bank.old) binds.now.pairs }
     ensures grows { Grows (B.trees bank.old) (B.trees bank.new) }
-    ensures under { let made = map (bind (resolved (seen (B.trees bank.old) binds.now.pairs))) (map (tree_at (B.trees bank.old)) terms.now) in IfOk result (λ found. MatchOption found (some_over most made ≡ true) (λ ids. NameTerms (B.trees bank.new) ids made)) }
+    ensures under { let made = map (bind (resolved (seen (B.trees bank.old) binds.now.pairs)))
+        (map (tree_at (B.trees bank.old)) terms.now) in
+        IfOk result (λ found. MatchOption found (some_over most made ≡ true)
+        (λ ids. NameTerms (B.trees bank.new) ids made)) }
 {
     let mut items = Vec::new(alloc);
     'each: for term in terms {
@@ -51,7 +54,10 @@ fn message_under<B: Bank>(
     requires known { IsFactIn (B.trees bank.old) (horn.Mess channel message) }
     requires ready { IsReady (B.trees bank.old) binds.now.pairs }
     ensures grows { Grows (B.trees bank.old) (B.trees bank.new) }
-    ensures under { let made = fact_under (resolved (seen (B.trees bank.old) binds.now.pairs)) (fact_at (B.trees bank.old) (horn.Mess channel message)) in IfOk result (λ found. MatchOption found (some_over_in most made ≡ true) (λ fact. NamesFact (B.trees bank.new) (fact_of fact) made)) }
+    ensures under { let made = fact_under (resolved (seen (B.trees bank.old) binds.now.pairs))
+        (fact_at (B.trees bank.old) (horn.Mess channel message)) in
+        IfOk result (λ found. MatchOption found (some_over_in most made ≡ true)
+        (λ fact. NamesFact (B.trees bank.new) (fact_of fact) made)) }
 {
     match apply_bound(bank, channel, binds, most)? {
         None => Ok(None),
@@ -73,7 +79,10 @@ fn fact_under<B: Bank>(
     requires known { IsFactIn (B.trees bank.old) (fact_of fact.now) }
     requires ready { IsReady (B.trees bank.old) binds.now.pairs }
     ensures grows { Grows (B.trees bank.old) (B.trees bank.new) }
-    ensures under { let made = fact_under (resolved (seen (B.trees bank.old) binds.now.pairs)) (fact_at (B.trees bank.old) (fact_of fact.now)) in IfOk result (λ found. MatchOption found (some_over_in most made ≡ true) (λ fact. NamesFact (B.trees bank.new) (fact_of fact) made)) }
+    ensures under { let made = fact_under (resolved (seen (B.trees bank.old) binds.now.pairs))
+        (fact_at (B.trees bank.old) (fact_of fact.now)) in
+        IfOk result (λ found. MatchOption found (some_over_in most made ≡ true)
+        (λ fact. NamesFact (B.trees bank.new) (fact_of fact) made)) }
 {
     match fact {
         Fact::Att(term) => match apply_bound(bank, *term, binds, most)? {
@@ -112,7 +121,10 @@ pub fn facts_under<B: Bank>(
     requires known { AreFactsIn (B.trees bank.old) (map fact_of facts.now) }
     requires ready { IsReady (B.trees bank.old) binds.now.pairs }
     ensures grows { Grows (B.trees bank.old) (B.trees bank.new) }
-    ensures under { let made = map (fact_under (resolved (seen (B.trees bank.old) binds.now.pairs))) (map (fact_at (B.trees bank.old)) (map fact_of facts.now)) in IfOk result (λ found. MatchOption found (some_fact_over most made ≡ true) (λ facts. NameFacts (B.trees bank.new) facts made)) }
+    ensures under { let made = map (fact_under (resolved (seen (B.trees bank.old) binds.now.pairs)))
+        (map (fact_at (B.trees bank.old)) (map fact_of facts.now)) in
+        IfOk result (λ found. MatchOption found (some_fact_over most made ≡ true)
+        (λ facts. NameFacts (B.trees bank.new) facts made)) }
 {
     let mut items = Vec::new(alloc);
     'each: for fact in facts {

@@ -40,7 +40,11 @@ fn arguments_unified<B: Bank>(
 ) -> Result<Option<Binds>, AllocError>
     requires arguments { AreKnown (B.trees bank.now) arguments.now }
     requires sides { AreKnown (B.trees bank.now) sides.now }
-    ensures { let all = B.trees bank.now in IfOk result (λ found. MatchOption found (AreRowsApart (map (tree_at all) arguments.now) (map (tree_at all) sides.now)) (λ binds. AreRowsSolved all binds.pairs (map (tree_at all) arguments.now) (map (tree_at all) sides.now))) }
+    ensures { let all = B.trees bank.now in
+        IfOk result (λ found. MatchOption found
+        (AreRowsApart (map (tree_at all) arguments.now) (map (tree_at all) sides.now))
+        (λ binds. AreRowsSolved all binds.pairs (map (tree_at all) arguments.now)
+        (map (tree_at all) sides.now))) }
 {
     if arguments.len() != sides.len() {
         return Ok(None);
@@ -63,7 +67,14 @@ pub fn unified<B: Bank>(
     requires sides { AreKnown (B.trees bank.now) equations.now.sides.now }
     requires value { equations.now.value.index < length (B.trees bank.now) }
     requires target { equations.now.target.index < length (B.trees bank.now) }
-    ensures { let all = B.trees bank.now in IfOk result (λ found. MatchOption found (AreUnsolvable (map (tree_at all) equations.now.arguments.now) (map (tree_at all) equations.now.sides.now) (tree_at all equations.now.value) (tree_at all equations.now.target)) (λ binds. AreSolved all binds.pairs (map (tree_at all) equations.now.arguments.now) (map (tree_at all) equations.now.sides.now) (tree_at all equations.now.value) (tree_at all equations.now.target))) }
+    ensures { let all = B.trees bank.now in
+        IfOk result (λ found. MatchOption found
+        (AreUnsolvable (map (tree_at all) equations.now.arguments.now)
+        (map (tree_at all) equations.now.sides.now) (tree_at all equations.now.value)
+        (tree_at all equations.now.target))
+        (λ binds. AreSolved all binds.pairs (map (tree_at all) equations.now.arguments.now)
+        (map (tree_at all) equations.now.sides.now) (tree_at all equations.now.value)
+        (tree_at all equations.now.target))) }
 {
     match arguments_unified(alloc, bank, equations.arguments, equations.sides)? {
         None => Ok(None),
@@ -88,7 +99,11 @@ fn scope_under<B: Bank>(
     requires known { IsScopeIn (B.trees bank.old) (map held_of scope.now) }
     requires ready { IsReady (B.trees bank.old) binds.now.pairs }
     ensures grows { Grows (B.trees bank.old) (B.trees bank.new) }
-    ensures under { let made = map (translation.standing_under (resolved (seen (B.trees bank.old) binds.now.pairs))) (scope_at (B.trees bank.old) (map held_of scope.now)) in IfOk result (λ found. MatchOption found (some_standing_over most made ≡ true) (λ scope. NamesScope (B.trees bank.new) scope made)) }
+    ensures under { let made = map (translation.standing_under
+        (resolved (seen (B.trees bank.old) binds.now.pairs)))
+        (scope_at (B.trees bank.old) (map held_of scope.now)) in
+        IfOk result (λ found. MatchOption found (some_standing_over most made ≡ true)
+        (λ scope. NamesScope (B.trees bank.new) scope made)) }
 {
     let mut items = Vec::new(alloc);
     'each: for standing in scope {
@@ -114,7 +129,9 @@ fn all_terms_under<B: Bank>(
     requires known { AreKnown (B.trees bank.old) terms.now }
     requires ready { IsReady (B.trees bank.old) binds.now.pairs }
     ensures grows { Grows (B.trees bank.old) (B.trees bank.new) }
-    ensures names { IfOk result (λ ids. NameTerms (B.trees bank.new) ids (map (bind (resolved (seen (B.trees bank.old) binds.now.pairs))) (map (tree_at (B.trees bank.old)) terms.now))) }
+    ensures names { IfOk result (λ ids. NameTerms (B.trees bank.new) ids
+        (map (bind (resolved (seen (B.trees bank.old) binds.now.pairs)))
+        (map (tree_at (B.trees bank.old)) terms.now))) }
 {
     match terms_under(alloc, bank, binds, terms, u64::MAX)? {
         None => Err(AllocError),
@@ -133,7 +150,11 @@ fn known_under<B: Bank>(
     requires visit { IsVisitIn (B.trees bank.old) visit.now }
     requires ready { IsReady (B.trees bank.old) binds.now.pairs }
     ensures grows { Grows (B.trees bank.old) (B.trees bank.new) }
-    ensures under { let made = translation.visit_under (resolved (seen (B.trees bank.old) binds.now.pairs)) (visit_at (B.trees bank.old) visit.now) in IfOk result (λ found. MatchOption found (translation.is_large_visit made ≡ true) (λ known. NamesKnown (B.trees bank.new) known.0 known.1 made)) }
+    ensures under { let made = translation.visit_under
+        (resolved (seen (B.trees bank.old) binds.now.pairs))
+        (visit_at (B.trees bank.old) visit.now) in
+        IfOk result (λ found. MatchOption found (translation.is_large_visit made ≡ true)
+        (λ known. NamesKnown (B.trees bank.new) known.0 known.1 made)) }
 {
     match scope_under(alloc, bank, binds, &visit.scope.items, MOST_SYMBOLS)? {
         None => Ok(None),
@@ -160,8 +181,12 @@ fn past_under<B: Bank>(
     requires visit { IsVisitIn (B.trees bank.old) visit.now }
     requires ready { IsReady (B.trees bank.old) binds.now.pairs }
     ensures grows { Grows (B.trees bank.old) (B.trees bank.new) }
-    ensures messages { IfOk result (λ past. NameTerms (B.trees bank.new) past.0 (map (bind (resolved (seen (B.trees bank.old) binds.now.pairs))) (map (tree_at (B.trees bank.old)) visit.now.messages))) }
-    ensures sessions { IfOk result (λ past. NameTerms (B.trees bank.new) past.1 (map (bind (resolved (seen (B.trees bank.old) binds.now.pairs))) (map (tree_at (B.trees bank.old)) visit.now.sessions))) }
+    ensures messages { IfOk result (λ past. NameTerms (B.trees bank.new) past.0
+        (map (bind (resolved (seen (B.trees bank.old) binds.now.pairs)))
+        (map (tree_at (B.trees bank.old)) visit.now.messages))) }
+    ensures sessions { IfOk result (λ past. NameTerms (B.trees bank.new) past.1
+        (map (bind (resolved (seen (B.trees bank.old) binds.now.pairs)))
+        (map (tree_at (B.trees bank.old)) visit.now.sessions))) }
 {
     let messages = all_terms_under(alloc, bank, binds, &visit.messages.items)?;
     let sessions = all_terms_under(alloc, bank, binds, &visit.sessions.items)?;
@@ -180,7 +205,11 @@ pub fn visit_under<B: Bank>(
     requires ready { IsReady (B.trees bank.old) binds.now.pairs }
     requires below { HasBelow (resolved (seen (B.trees bank.old) binds.now.pairs)) visit.now.next }
     ensures grows { Grows (B.trees bank.old) (B.trees bank.new) }
-    ensures under { let made = translation.visit_under (resolved (seen (B.trees bank.old) binds.now.pairs)) (visit_at (B.trees bank.old) visit.now) in IfOk result (λ found. MatchOption found (translation.is_large_visit made ≡ true) (λ w. NamesVisit (B.trees bank.new) w made)) }
+    ensures under { let made = translation.visit_under
+        (resolved (seen (B.trees bank.old) binds.now.pairs))
+        (visit_at (B.trees bank.old) visit.now) in
+        IfOk result (λ found. MatchOption found (translation.is_large_visit made ≡ true)
+        (λ w. NamesVisit (B.trees bank.new) w made)) }
 {
     match known_under(alloc, bank, binds, visit)? {
         None => Ok(None),

@@ -40,7 +40,8 @@ fn joined(alloc: Global, scope: &Scope, mut bound: Scope) -> Result<Scope, Alloc
 impl Visit {
     /// The first visit, of the main process.
     pub fn first(alloc: Global) -> Visit
-        ensures { result ≡ record { scope = []; hypotheses = []; messages = []; sessions = []; next = 0 } }
+        ensures { result ≡
+            record { scope = []; hypotheses = []; messages = []; sessions = []; next = 0 } }
     {
         Visit {
             scope: Scope::new(alloc),
@@ -70,7 +71,8 @@ impl Visit {
 
     /// A copy in which a leaf stands for a term besides.
     pub fn with_standing(&self, alloc: Global, standing: Standing) -> Result<Visit, AllocError>
-        ensures { IfOk result (λ made. made ≡ record self.now { scope = self.now.scope ++ held_of standing ∷ [] }) }
+        ensures { IfOk result (λ made. made ≡
+            record self.now { scope = self.now.scope ++ held_of standing ∷ [] }) }
     {
         let mut made = self.copy(alloc)?;
         made.scope.push(standing)?;
@@ -79,7 +81,8 @@ impl Visit {
 
     /// A copy with one more hypothesis.
     pub fn with_hypothesis(&self, alloc: Global, fact: Fact) -> Result<Visit, AllocError>
-        ensures { IfOk result (λ made. made ≡ record self.now { hypotheses = self.now.hypotheses ++ fact_of fact ∷ [] }) }
+        ensures { IfOk result (λ made. made ≡
+            record self.now { hypotheses = self.now.hypotheses ++ fact_of fact ∷ [] }) }
     {
         let mut made = self.copy(alloc)?;
         made.hypotheses.push(fact)?;
@@ -88,7 +91,8 @@ impl Visit {
 
     /// A copy with one more session, and another number for the next variable.
     pub fn with_session(&self, alloc: Global, session: Id, next: u32) -> Result<Visit, AllocError>
-        ensures { IfOk result (λ made. made ≡ record self.now { sessions = self.now.sessions ++ session ∷ []; next = next }) }
+        ensures { IfOk result (λ made. made ≡
+            record self.now { sessions = self.now.sessions ++ session ∷ []; next = next }) }
     {
         let mut made = self.copy(alloc)?;
         made.sessions.items.push(session)?;
@@ -98,7 +102,8 @@ impl Visit {
 
     /// A copy in which leaves are bound besides, and another number for the next variable.
     pub fn with_scope(&self, alloc: Global, bound: Scope, next: u32) -> Result<Visit, AllocError>
-        ensures { IfOk result (λ made. made ≡ record self.now { scope = self.now.scope ++ bound; next = next }) }
+        ensures { IfOk result (λ made. made ≡
+            record self.now { scope = self.now.scope ++ bound; next = next }) }
     {
         Ok(Visit {
             scope: joined(alloc, &self.scope, bound)?,
@@ -111,7 +116,11 @@ impl Visit {
 
     /// A copy with one more message, and the hypothesis that it was sent.
     pub fn with_message(&self, alloc: Global, fact: Fact, message: Id) -> Result<Visit, AllocError>
-        ensures { IfOk result (λ made. made ≡ record self.now { hypotheses = self.now.hypotheses ++ fact_of fact ∷ []; messages = self.now.messages ++ message ∷ [] }) }
+        ensures { IfOk result (λ made. made ≡
+            record self.now {
+              hypotheses = self.now.hypotheses ++ fact_of fact ∷ [];
+              messages = self.now.messages ++ message ∷ [];
+            }) }
     {
         let mut made = self.copy(alloc)?;
         made.hypotheses.push(fact)?;

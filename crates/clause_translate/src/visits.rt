@@ -41,7 +41,8 @@ fn is_large_let<B: Bank>(
     expression: &Expr,
 ) -> bool
     requires { IsScopeIn (B.trees bank.now) scope.now }
-    ensures { result ≡ are_large_in (protocol_at place.now) (scope_at (B.trees bank.now) scope.now) (compared (pattern_of pattern.now) ++ terms_in (expression_of expression.now)) }
+    ensures { result ≡ are_large_in (protocol_at place.now) (scope_at (B.trees bank.now) scope.now)
+        (compared (pattern_of pattern.now) ++ terms_in (expression_of expression.now)) }
 {
     some_large_compared(place, bank, scope, pattern)
         || some_large_in(place, bank, scope, expression)
@@ -62,7 +63,9 @@ pub fn visit_process<B: Bank>(
     requires short { IsShortProcess (process_of process.now) }
     requires rules { HasShortRules (protocol_at place.now) }
     ensures grows { Grows (B.trees bank.old) (B.trees bank.new) }
-    ensures ends { IfOk result (λ large. Ends (protocol_at place.now) (Once (process_of process.now) place.now.point (visit_at (B.trees bank.old) visit.now)) (B.trees bank.old) (B.trees bank.new) listing.old listing.new large) }
+    ensures ends { IfOk result (λ large. Ends (protocol_at place.now)
+        (Once (process_of process.now) place.now.point (visit_at (B.trees bank.old) visit.now))
+        (B.trees bank.old) (B.trees bank.new) listing.old listing.new large) }
 {
     if listing.left == 0 {
         return Ok(Some(place.point));
@@ -99,10 +102,14 @@ fn visit_output<B: Bank>(
 ) -> Result<Option<u32>, AllocError>
     requires visit { IsVisitIn (B.trees bank.old) visit.now }
     requires clauses { AreClausesIn (B.trees bank.old) listing.old.clauses }
-    requires short { IsShortProcess (calculus.Output (term_of channel.now) (term_of message.now) (process_of next.now)) }
+    requires short { IsShortProcess (calculus.Output (term_of channel.now) (term_of message.now)
+        (process_of next.now)) }
     requires rules { HasShortRules (protocol_at place.now) }
     ensures grows { Grows (B.trees bank.old) (B.trees bank.new) }
-    ensures ends { IfOk result (λ large. Ends (protocol_at place.now) (Uncounted (calculus.Output (term_of channel.now) (term_of message.now) (process_of next.now)) place.now.point (visit_at (B.trees bank.old) visit.now)) (B.trees bank.old) (B.trees bank.new) listing.old listing.new large) }
+    ensures ends { IfOk result (λ large. Ends (protocol_at place.now)
+        (Uncounted (calculus.Output (term_of channel.now) (term_of message.now)
+        (process_of next.now)) place.now.point (visit_at (B.trees bank.old) visit.now))
+        (B.trees bank.old) (B.trees bank.new) listing.old listing.new large) }
 {
     if !add_output(place, bank, listing, visit, channel, message)? {
         return Ok(Some(place.point));
@@ -124,10 +131,14 @@ fn visit_input<B: Bank>(
 ) -> Result<Option<u32>, AllocError>
     requires visit { IsVisitIn (B.trees bank.old) visit.now }
     requires clauses { AreClausesIn (B.trees bank.old) listing.old.clauses }
-    requires short { IsShortProcess (calculus.Input (term_of channel.now) (pattern_of pattern.now) (process_of next.now)) }
+    requires short { IsShortProcess (calculus.Input (term_of channel.now) (pattern_of pattern.now)
+        (process_of next.now)) }
     requires rules { HasShortRules (protocol_at place.now) }
     ensures grows { Grows (B.trees bank.old) (B.trees bank.new) }
-    ensures ends { IfOk result (λ large. Ends (protocol_at place.now) (Uncounted (calculus.Input (term_of channel.now) (pattern_of pattern.now) (process_of next.now)) place.now.point (visit_at (B.trees bank.old) visit.now)) (B.trees bank.old) (B.trees bank.new) listing.old listing.new large) }
+    ensures ends { IfOk result (λ large. Ends (protocol_at place.now)
+        (Uncounted (calculus.Input (term_of channel.now) (pattern_of pattern.now)
+        (process_of next.now)) place.now.point (visit_at (B.trees bank.old) visit.now))
+        (B.trees bank.old) (B.trees bank.new) listing.old listing.new large) }
 {
     let below = place.below()?;
     match after_input(place, bank, visit, channel, pattern)? {
@@ -148,10 +159,14 @@ fn visit_parallel<B: Bank>(
 ) -> Result<Option<u32>, AllocError>
     requires visit { IsVisitIn (B.trees bank.old) visit.now }
     requires clauses { AreClausesIn (B.trees bank.old) listing.old.clauses }
-    requires short { IsShortProcess (calculus.Parallel (process_of left.now) (process_of right.now)) }
+    requires short { IsShortProcess (calculus.Parallel (process_of left.now)
+        (process_of right.now)) }
     requires rules { HasShortRules (protocol_at place.now) }
     ensures grows { Grows (B.trees bank.old) (B.trees bank.new) }
-    ensures ends { IfOk result (λ large. Ends (protocol_at place.now) (Uncounted (calculus.Parallel (process_of left.now) (process_of right.now)) place.now.point (visit_at (B.trees bank.old) visit.now)) (B.trees bank.old) (B.trees bank.new) listing.old listing.new large) }
+    ensures ends { IfOk result (λ large. Ends (protocol_at place.now)
+        (Uncounted (calculus.Parallel (process_of left.now) (process_of right.now)) place.now.point
+        (visit_at (B.trees bank.old) visit.now)) (B.trees bank.old) (B.trees bank.new) listing.old
+        listing.new large) }
 {
     let below = place.below()?;
     let after = place.after(left)?;
@@ -175,7 +190,10 @@ fn visit_copies<B: Bank>(
     requires short { IsShortProcess (calculus.Replication (process_of copied.now)) }
     requires rules { HasShortRules (protocol_at place.now) }
     ensures grows { Grows (B.trees bank.old) (B.trees bank.new) }
-    ensures ends { IfOk result (λ large. Ends (protocol_at place.now) (Uncounted (calculus.Replication (process_of copied.now)) place.now.point (visit_at (B.trees bank.old) visit.now)) (B.trees bank.old) (B.trees bank.new) listing.old listing.new large) }
+    ensures ends { IfOk result (λ large. Ends (protocol_at place.now)
+        (Uncounted (calculus.Replication (process_of copied.now)) place.now.point
+        (visit_at (B.trees bank.old) visit.now)) (B.trees bank.old) (B.trees bank.new) listing.old
+        listing.new large) }
 {
     let below = place.below()?;
     let made = after_copy(place.alloc, bank, visit)?;
@@ -196,7 +214,10 @@ fn visit_new<B: Bank>(
     requires short { IsShortProcess (calculus.New [] (process_of next.now)) }
     requires rules { HasShortRules (protocol_at place.now) }
     ensures grows { Grows (B.trees bank.old) (B.trees bank.new) }
-    ensures ends { IfOk result (λ large. Ends (protocol_at place.now) (Uncounted (calculus.New [] (process_of next.now)) place.now.point (visit_at (B.trees bank.old) visit.now)) (B.trees bank.old) (B.trees bank.new) listing.old listing.new large) }
+    ensures ends { IfOk result (λ large. Ends (protocol_at place.now)
+        (Uncounted (calculus.New [] (process_of next.now)) place.now.point
+        (visit_at (B.trees bank.old) visit.now)) (B.trees bank.old) (B.trees bank.new) listing.old
+        listing.new large) }
 {
     let below = place.below()?;
     match after_new(place, bank, visit)? {
@@ -219,10 +240,15 @@ fn visit_let<B: Bank>(
 ) -> Result<Option<u32>, AllocError>
     requires visit { IsVisitIn (B.trees bank.old) visit.now }
     requires clauses { AreClausesIn (B.trees bank.old) listing.old.clauses }
-    requires short { IsShortProcess (calculus.Let (pattern_of pattern.now) (expression_of expression.now) (process_of next.now) (process_of otherwise.now)) }
+    requires short { IsShortProcess (calculus.Let (pattern_of pattern.now)
+        (expression_of expression.now) (process_of next.now) (process_of otherwise.now)) }
     requires rules { HasShortRules (protocol_at place.now) }
     ensures grows { Grows (B.trees bank.old) (B.trees bank.new) }
-    ensures ends { IfOk result (λ large. Ends (protocol_at place.now) (Uncounted (calculus.Let (pattern_of pattern.now) (expression_of expression.now) (process_of next.now) (process_of otherwise.now)) place.now.point (visit_at (B.trees bank.old) visit.now)) (B.trees bank.old) (B.trees bank.new) listing.old listing.new large) }
+    ensures ends { IfOk result (λ large. Ends (protocol_at place.now)
+        (Uncounted (calculus.Let (pattern_of pattern.now) (expression_of expression.now)
+        (process_of next.now) (process_of otherwise.now)) place.now.point
+        (visit_at (B.trees bank.old) visit.now)) (B.trees bank.old) (B.trees bank.new) listing.old
+        listing.new large) }
 {
     if is_large_let(place, bank, &visit.scope, pattern, expression) {
         return Ok(Some(place.point));
@@ -253,7 +279,10 @@ fn visit_event<B: Bank>(
     requires short { IsShortProcess (calculus.Event (event_of atom.now) (process_of next.now)) }
     requires rules { HasShortRules (protocol_at place.now) }
     ensures grows { Grows (B.trees bank.old) (B.trees bank.new) }
-    ensures ends { IfOk result (λ large. Ends (protocol_at place.now) (Uncounted (calculus.Event (event_of atom.now) (process_of next.now)) place.now.point (visit_at (B.trees bank.old) visit.now)) (B.trees bank.old) (B.trees bank.new) listing.old listing.new large) }
+    ensures ends { IfOk result (λ large. Ends (protocol_at place.now)
+        (Uncounted (calculus.Event (event_of atom.now) (process_of next.now)) place.now.point
+        (visit_at (B.trees bank.old) visit.now)) (B.trees bank.old) (B.trees bank.new) listing.old
+        listing.new large) }
 {
     let below = place.below()?;
     match add_event(place, bank, listing, visit, atom)? {
@@ -276,7 +305,9 @@ fn visit_each<B: Bank>(
     requires short { IsShortProcess (process_of process.now) }
     requires rules { HasShortRules (protocol_at place.now) }
     ensures grows { Grows (B.trees bank.old) (B.trees bank.new) }
-    ensures ends { IfOk result (λ large. Ends (protocol_at place.now) (Each (process_of process.now) place.now.point (visits_at (B.trees bank.old) visits.now)) (B.trees bank.old) (B.trees bank.new) listing.old listing.new large) }
+    ensures ends { IfOk result (λ large. Ends (protocol_at place.now)
+        (Each (process_of process.now) place.now.point (visits_at (B.trees bank.old) visits.now))
+        (B.trees bank.old) (B.trees bank.new) listing.old listing.new large) }
 {
     'each: for visit in visits {
         match visit_process(process, place, bank, listing, visit)? {

@@ -46,7 +46,8 @@ fn visited<B: Bank>(
     requires short { IsShortProcess (protocol_of protocol.now).main }
     requires rules { HasShortRules (protocol_of protocol.now) }
     ensures grows { Grows (B.trees bank.old) (B.trees bank.new) }
-    ensures visits { IfOk result (λ found. IsVisited (protocol_of protocol.now) (B.trees bank.old) (B.trees bank.new) clauses found) }
+    ensures visits { IfOk result (λ found. IsVisited (protocol_of protocol.now) (B.trees bank.old)
+        (B.trees bank.new) clauses found) }
 {
     let place = Place {
         alloc,
@@ -77,7 +78,9 @@ fn with_goal<B: Bank>(
     requires there { IsThere (protocol_of protocol.now) OfQueries query }
     requires clauses { AreClausesIn (B.trees bank.old) clauses }
     ensures grows { Grows (B.trees bank.old) (B.trees bank.new) }
-    ensures names { IfOk result (λ all. OfQuery (protocol_of protocol.now) query (λ q. NameClauses (B.trees bank.new) all (map (clause_at (B.trees bank.old)) clauses ++ goal_clauses (protocol_of protocol.now) q))) }
+    ensures names { IfOk result (λ all. OfQuery (protocol_of protocol.now) query
+        (λ q. NameClauses (B.trees bank.new) all (map (clause_at (B.trees bank.old)) clauses
+        ++ goal_clauses (protocol_of protocol.now) q))) }
 {
     let mut goal = goal_clause(alloc, bank, protocol, query)?;
     clauses.items.append(&mut goal.items)?;
@@ -97,7 +100,8 @@ fn translate_grown<B: Bank>(
     requires queries { HasProperQueries (protocol_of protocol.now) }
     requires there { IsThere (protocol_of protocol.now) OfQueries query }
     ensures grows { Grows (B.trees bank.old) (B.trees bank.new) }
-    ensures translates { IfOk result (λ found. Translates (protocol_of protocol.now) query (B.trees bank.new) found) }
+    ensures translates { IfOk result (λ found. Translates (protocol_of protocol.now) query
+        (B.trees bank.new) found) }
 {
     let clauses = attacker_list(alloc, bank, protocol)?;
     match visited(alloc, bank, protocol, clauses)? {
@@ -126,7 +130,8 @@ pub fn translate<B: Bank>(
     requires queries { HasProperQueries (protocol_of protocol.now) }
     requires there { IsThere (protocol_of protocol.now) OfQueries query }
     ensures grows { Grows (B.trees bank.old) (B.trees bank.new) }
-    ensures translates { IfOk result (λ found. Translates (protocol_of protocol.now) query (B.trees bank.new) found) }
+    ensures translates { IfOk result (λ found. Translates (protocol_of protocol.now) query
+        (B.trees bank.new) found) }
     ensures large { IfOk result (λ found. IsKept (B.trees bank.old) (B.trees bank.new) found) }
     ensures err { OnErr result (B.trees bank.new ≡ B.trees bank.old) }
 {
