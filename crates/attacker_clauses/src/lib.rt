@@ -79,6 +79,3 @@ pub fn attacker_list<B: Bank>(
         }
     }
 }
-
-#[cfg(test)]
-mod tests;

@@ -10,6 +10,3 @@ pub mod rules;
 pub use crate::equality::{are_same, is_same};
 pub use crate::renaming::rename_rule;
 pub use crate::rules::rule_value;
-
-#[cfg(test)]
-mod tests;
