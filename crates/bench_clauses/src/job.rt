@@ -3,7 +3,8 @@
 ghost use Rattle.std.specs.Prelude.{◌≡◌};
 ghost use Rattle.clause_form.specs.Seen.{IsClauseIn};
 
-use clause_form::{Clause, Normal, flatten, norm, size_of};
+use crate::made_clauses::{chain_of, known_of};
+use clause_form::{Clause, Normal, PlainClause, flatten, is_normal, norm, size_of};
 use literal_selection::selected;
 use std::alloc::{AllocError, Global};
 use term_tree::{Bank, SIZE_LIMIT, TreeBank};
@@ -15,6 +16,7 @@ pub enum Operation {
     Norm,
     Flatten,
     Selection,
+    IsNormal,
 }
 
 /// An operation on a clause of a size, so many times.
@@ -37,6 +39,16 @@ impl Job {
             repetitions: words[3].parse::<u32>().ok()?,
         })
     }
+
+    /// The clause that it is done on.
+    pub fn clause(&self, alloc: Global) -> Result<PlainClause, AllocError> {
+        match self.operation {
+            Operation::IsNormal => known_of(alloc, self.size),
+            Operation::Copy | Operation::Norm | Operation::Flatten | Operation::Selection => {
+                chain_of(alloc, self.size)
+            }
+        }
+    }
 }
 
 impl Operation {
@@ -47,6 +59,7 @@ impl Operation {
             b"norm" => Some(Operation::Norm),
             b"flatten" => Some(Operation::Flatten),
             b"select" => Some(Operation::Selection),
+            b"normal" => Some(Operation::IsNormal),
             _ => None,
         }
     }
@@ -85,6 +98,7 @@ impl Operation {
                 Ok(!parts.items.is_empty())
             }
             Operation::Selection => Ok(select_once(bank, clause)),
+            Operation::IsNormal => Ok(is_normal(bank, clause)),
         }
     }
 }

@@ -13,7 +13,7 @@ fn applied(alloc: Global, number: u32) -> Result<Tree, AllocError> {
 
 /// A clause of about so many symbols: a chain of messages, each over two variables, that are numbered from the
 /// end on; so each of them is renumbered.
-pub fn clause_of(alloc: Global, size: u32) -> Result<PlainClause, AllocError> {
+pub fn chain_of(alloc: Global, size: u32) -> Result<PlainClause, AllocError> {
     let count = size / 4;
     let mut items = Vec::new(alloc);
     for i in 0..count {
@@ -24,5 +24,21 @@ pub fn clause_of(alloc: Global, size: u32) -> Result<PlainClause, AllocError> {
     Ok(PlainClause {
         hyps: PlainFacts { items },
         concl: PlainFact::Att(applied(alloc, 0)?),
+    })
+}
+
+/// A clause of about so many symbols that is its own norm: the attacker has each of its variables, and the conclusion
+/// is over all of them.
+pub fn known_of(alloc: Global, size: u32) -> Result<PlainClause, AllocError> {
+    let count = size / 3;
+    let mut hyps = Vec::new(alloc);
+    let mut arguments = Vec::new(alloc);
+    for number in 0..count {
+        hyps.push(PlainFact::Att(Tree::Var(number)))?;
+        arguments.push(Tree::Var(number))?;
+    }
+    Ok(PlainClause {
+        hyps: PlainFacts { items: hyps },
+        concl: PlainFact::Bad(Trees { items: arguments }),
     })
 }

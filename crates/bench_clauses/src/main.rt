@@ -1,5 +1,5 @@
-//! Makes a clause of a size, and flattens it, makes its norm or selects in it so many times: `bench/clauses`
-//! measures it.
+//! Makes a clause of a size, and flattens it, makes its norm, selects in it or asks whether it is its own norm, so many
+//! times: `bench/clauses/run` measures it.
 #![tactic(auto)]
 
 mod job;
@@ -7,7 +7,6 @@ mod made_clauses;
 
 use clause_form::copy_into;
 use job::Job;
-use made_clauses::clause_of;
 use std::env::Env;
 use std::process::ExitCode;
 use std::{env, io};
@@ -35,7 +34,7 @@ fn run(rt: &(impl Env + Print + AllocGlobal)) -> io::Result<bool> {
         return Ok(false);
     };
     let mut bank = TreeBank::new(rt.alloc())?;
-    let plain = clause_of(rt.alloc(), job.size)?;
+    let plain = job.clause(rt.alloc())?;
     let clause = copy_into(rt.alloc(), &mut bank, &plain)?;
     let given = job
         .operation

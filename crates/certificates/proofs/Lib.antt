@@ -1,2 +1,5 @@
 pub mod OneRuling
 pub mod Accepting
+mod Ruled
+mod Encrypting
+mod Announcing

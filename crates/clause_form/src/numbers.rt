@@ -11,7 +11,7 @@ use std::collections::HashMap;
 use std::marker::Model;
 
 /// A list of as many numbers has a table.
-const MANY: usize = 32;
+const MANY: usize = 128;
 
 /// Numbers in order, and where they stand first.
 #[derive(Drop)]

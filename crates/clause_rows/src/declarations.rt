@@ -12,12 +12,12 @@ ghost use Rattle.clause_rows.specs.Declaring.{IsDeclared, CanBeShown, CanAllBeSh
 use crate::asking::read_protocol;
 use crate::tables::texts_of;
 use crate::term_lists::{add_behind, text_of};
-use crate::writing::write_behind;
 use attacker_clauses::attacker_list;
 use destructor_rules::rename_rule;
 use pi_tree::{Protocol, Rule, Rules};
 use protocol_scope::{proper_rules, well_scoped, within_limits};
 use std::alloc::{AllocError, Global};
+use table_texts::writing::write_behind;
 use term_tree::{Id, TreeBank};
 
 /// The first variable of a rule that is shown.

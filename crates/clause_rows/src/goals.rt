@@ -10,13 +10,13 @@ ghost use Rattle.clause_rows.specs.Asked.{IsAsked};
 
 use crate::asking::asked_by;
 use crate::pairs::{add_position, is_small};
-use crate::reading::clause_of;
-use crate::signature::number_in;
 use crate::tables::texts_of;
 use clause_form::{Clause, PlainClause, copy_into};
 use pi_tree::Protocol;
 use query_derive::{Positions, QueryRow, goal_clause, query_row_holds, satisfies};
 use std::alloc::{AllocError, Global};
+use table_texts::reading::clause_of;
+use table_texts::signature::number_in;
 use term_tree::TreeBank;
 
 /// A table whose rows begin with a query.

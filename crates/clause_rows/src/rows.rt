@@ -1,28 +1,27 @@
 //! The rows of a table: clauses, and what is expected of them, with `;` between.
 
 use crate::table::Table;
+use row_tables::{Line, Rows, compared};
 use std::alloc::{AllocError, Global};
 
-/// What a line of a table is.
+/// The rows of a table, if there is one with that name.
 #[derive(Debug, Drop)]
-pub enum Line {
-    /// A comment or nothing.
-    Comment,
-    /// A row that shows what it expects.
-    Right,
-    /// A row that shows this, and expects something else.
-    Wrong(String),
+pub struct TableRows {
+    table: Option<Table>,
 }
 
-/// Compares what a row shows with what it expects.
-pub fn follow(alloc: Global, table: Table, line: &str) -> Result<Line, AllocError> {
-    if line.is_empty() || line.starts_with('#') {
-        return Ok(Line::Comment);
+impl Rows for TableRows {
+    fn new(_alloc: Global, name: &str) -> Result<TableRows, AllocError> {
+        Ok(TableRows {
+            table: Table::named(name),
+        })
     }
-    let (texts, expected) = line.rsplit_once(';').unwrap_or((line, line));
-    let shown = table.shown(alloc, texts)?;
-    if shown.as_str() == expected.trim() {
-        return Ok(Line::Right);
+
+    fn follow(&mut self, alloc: Global, line: &str) -> Result<Line, AllocError> {
+        let (texts, expected) = line.rsplit_once(';').unwrap_or((line, line));
+        match self.table {
+            Some(table) => Ok(compared(table.shown(alloc, texts)?, expected.trim())),
+            None => Ok(Line::Wrong(String::from_str(alloc, "no table")?)),
+        }
     }
-    Ok(Line::Wrong(shown))
 }

@@ -3,11 +3,11 @@
 use crate::declarations::DeclarationTable;
 use crate::goals::GoalTable;
 use crate::pairs::PairTable;
-use crate::reading::clause_of;
 use crate::tables::ClauseTable;
 use crate::term_lists::TermTable;
 use clause_form::PlainClause;
 use std::alloc::{AllocError, Global};
+use table_texts::reading::clause_of;
 
 /// A table.
 #[derive(Clone, Copy, Debug, PartialEq, Eq)]

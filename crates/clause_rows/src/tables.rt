@@ -2,12 +2,12 @@
 
 ghost use Rattle.clause_form.specs.Seen.{IsClauseIn, AreClausesIn};
 
-use crate::writing::clause_text;
 use clause_form::{
     Clause, Normal, PlainClause, copy_into, flatten, is_normal, norm, read_out, size_of,
 };
 use literal_selection::{is_solved, selected};
 use std::alloc::{AllocError, Global};
+use table_texts::writing::clause_text;
 use term_tree::{Bank, SIZE_LIMIT, TreeBank};
 
 /// A table of single clauses.

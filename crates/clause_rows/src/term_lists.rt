@@ -6,9 +6,9 @@ ghost use Rattle.term_tree.specs.Bank.{AreKnown};
 ghost use Rattle.clause_form.specs.Seen.{IsClauseIn};
 ghost use Rattle.unify_match.specs.Seen.{IsReady, AreBindings};
 
-use crate::writing::term_text;
 use clause_form::{Clause, Fact, PlainClause, copy_into, read_term};
 use std::alloc::{AllocError, Global};
+use table_texts::writing::term_text;
 use term_tree::{Bank, Id, Node, TreeBank};
 use unify_match::{
     Binds, apply_bound, bindings_are_seen_once, match_all_onto, match_onto, renumbered, shifted,

@@ -6,40 +6,23 @@
 use crate::reading::{answer, fronts_hold, protocol, sketch, tokens};
 use crate::settings::Setting;
 use crate::texts::text_of;
+use row_tables::{Line, Rows, compared};
 use std::alloc::{AllocError, Global};
 
-/// What a line of a table is.
-#[derive(Debug, Drop)]
-pub enum Line {
-    /// A setting, a comment or nothing.
-    Setting,
-    /// A row that shows what it expects.
-    Right,
-    /// A row that shows this, and expects something else.
-    Wrong(String),
-}
+impl Rows for Setting {
+    fn new(alloc: Global, _name: &str) -> Result<Setting, AllocError> {
+        Ok(Setting::new(alloc))
+    }
 
-/// Does what a line says: sets something for the rows below, or compares what a row shows with what it expects.
-pub fn follow(alloc: Global, setting: &mut Setting, line: &str) -> Result<Line, AllocError> {
-    if line.is_empty() || line.starts_with('#') {
-        return Ok(Line::Setting);
-    }
-    let (word, text) = line.split_once(' ').unwrap_or((line, ""));
-    if setting.set(alloc, word, text)? {
-        return Ok(Line::Setting);
-    }
-    match shown(alloc, &setting.file, word)? {
-        Some(shown) => compared(shown, text),
-        None => answered(alloc, setting, word, text),
-    }
-}
-
-/// A row that shows this, and expects that.
-fn compared(shown: String, expected: &str) -> Result<Line, AllocError> {
-    if shown.as_str() == expected {
-        Ok(Line::Right)
-    } else {
-        Ok(Line::Wrong(shown))
+    fn follow(&mut self, alloc: Global, line: &str) -> Result<Line, AllocError> {
+        let (word, text) = line.split_once(' ').unwrap_or((line, ""));
+        if self.set(alloc, word, text)? {
+            return Ok(Line::Setting);
+        }
+        match shown(alloc, &self.file, word)? {
+            Some(shown) => Ok(compared(shown, text)),
+            None => answered(alloc, self, word, text),
+        }
     }
 }
 
@@ -48,10 +31,10 @@ fn answered(alloc: Global, setting: &Setting, name: &str, text: &str) -> Result<
     let file = text_of(alloc, &setting.front, &setting.piece, text)?;
     let shown = answer(alloc, setting.stage, &file.bytes)?;
     match file.mark {
-        None => compared(shown, name),
+        None => Ok(compared(shown, name)),
         Some(place) => {
             let expected = format!(in alloc; "{name}({place})")?;
-            compared(shown, expected.as_str())
+            Ok(compared(shown, expected.as_str()))
         }
     }
 }

@@ -2,30 +2,23 @@
 
 use crate::ruling::ruled;
 use crate::setting::Setting;
+use row_tables::{Line, Rows, compared, unknown};
 use std::alloc::{AllocError, Global};
 
-/// What a line of a table is.
-pub enum Line {
-    /// A setting, a comment or nothing.
-    Setting,
-    /// A row of which that is ruled which is expected.
-    Right,
-    /// A row that shows this, and not what is expected.
-    Wrong(String),
-}
+impl Rows for Setting {
+    fn new(alloc: Global, _name: &str) -> Result<Setting, AllocError> {
+        Ok(Setting::new(alloc))
+    }
 
-/// Does what a line says: sets something for the rows below, or compares what is ruled with what is expected.
-pub fn follow(alloc: Global, setting: &mut Setting, line: &str) -> Result<Line, AllocError> {
-    if line.is_empty() || line.starts_with('#') {
-        return Ok(Line::Setting);
-    }
-    let (word, text) = line.split_once(' ').unwrap_or((line, ""));
-    if setting.set(alloc, word, text)? {
-        return Ok(Line::Setting);
-    }
-    match word.as_bytes() {
-        b"ruled" => compare(alloc, setting, text),
-        _ => Ok(Line::Wrong(String::from_str(alloc, "no such word")?)),
+    fn follow(&mut self, alloc: Global, line: &str) -> Result<Line, AllocError> {
+        let (word, text) = line.split_once(' ').unwrap_or((line, ""));
+        if self.set(alloc, word, text)? {
+            return Ok(Line::Setting);
+        }
+        match word.as_bytes() {
+            b"ruled" => compare(alloc, self, text),
+            _ => unknown(alloc),
+        }
     }
 }
 
@@ -33,8 +26,5 @@ pub fn follow(alloc: Global, setting: &mut Setting, line: &str) -> Result<Line, 
 fn compare(alloc: Global, setting: &Setting, text: &str) -> Result<Line, AllocError> {
     let (query, expected) = text.split_once(' ').unwrap_or((text, ""));
     let shown = ruled(alloc, setting, query.parse::<u32>().unwrap_or(0))?;
-    if shown.as_str() == expected {
-        return Ok(Line::Right);
-    }
-    Ok(Line::Wrong(shown))
+    Ok(compared(shown, expected))
 }

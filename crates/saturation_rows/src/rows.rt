@@ -11,21 +11,11 @@
 //! pair that is too large, as `large 1 with 2`. Rows may follow for the same clauses, from `budget` on.
 
 use crate::logs::log_text;
-use crate::reading::clause_of;
-use crate::signature::number_in;
 use clause_form::PlainClause;
+use row_tables::{Line, Rows, compared};
 use std::alloc::{AllocError, Global};
-
-/// What a line of a table is.
-#[derive(Debug, Drop)]
-pub enum Line {
-    /// A comment, nothing, or a part of a row that goes on.
-    Part,
-    /// The end of a row that shows what it expects.
-    Right,
-    /// The end of a row that shows this, and expects something else.
-    Wrong(String),
-}
+use table_texts::reading::clause_of;
+use table_texts::signature::number_in;
 
 /// A row as far as it is read.
 #[derive(Debug, Drop)]
@@ -37,37 +27,34 @@ pub struct Row {
     has_ended: bool,
 }
 
-impl Row {
-    /// A row of which nothing is read.
-    pub fn new(alloc: Global) -> Row {
-        Row {
+impl Rows for Row {
+    fn new(alloc: Global, _name: &str) -> Result<Row, AllocError> {
+        Ok(Row {
             given: Vec::new(alloc),
             budget: 0,
             expected: String::new(alloc),
             has_ended: false,
-        }
+        })
     }
 
-    /// Reads a line, and at the end of the row compares what it shows with what it expects.
-    pub fn follow(&mut self, alloc: Global, line: &str) -> Result<Line, AllocError> {
-        if line.is_empty() || line.starts_with('#') {
-            return Ok(Line::Part);
-        }
+    fn follow(&mut self, alloc: Global, line: &str) -> Result<Line, AllocError> {
         let (word, text) = line.split_once(' ').unwrap_or((line, ""));
         match word.as_bytes() {
             b"clause" => self.add_given(alloc, text),
             b"budget" => {
                 self.budget = u64::from(number_in(text.as_bytes()));
-                Ok(Line::Part)
+                Ok(Line::Setting)
             }
             b"closed" | b"due" | b"large" => self.end(alloc, line),
             _ => {
                 self.expect(line)?;
-                Ok(Line::Part)
+                Ok(Line::Setting)
             }
         }
     }
+}
 
+impl Row {
     /// Adds a given clause. The first one behind the end of a row begins the next.
     fn add_given(&mut self, alloc: Global, text: &str) -> Result<Line, AllocError> {
         if self.has_ended {
@@ -77,7 +64,7 @@ impl Row {
         match clause_of(alloc, text)? {
             Some(clause) => {
                 self.given.push(clause)?;
-                Ok(Line::Part)
+                Ok(Line::Setting)
             }
             None => Ok(Line::Wrong(String::from_str(alloc, "no clause")?)),
         }
@@ -94,13 +81,9 @@ impl Row {
     fn end(&mut self, alloc: Global, line: &str) -> Result<Line, AllocError> {
         self.expect(line)?;
         let shown = log_text(alloc, &self.given, self.budget)?;
-        let is_right = shown.as_str() == self.expected.as_str();
+        let line = compared(shown, self.expected.as_str());
         self.expected.clear();
         self.has_ended = true;
-        if is_right {
-            Ok(Line::Right)
-        } else {
-            Ok(Line::Wrong(shown))
-        }
+        Ok(line)
     }
 }

@@ -1,8 +1,8 @@
 //! Writes entries of logs as tables spell them.
 
-use crate::writing::clause_text;
 use clause_saturate::{Origin, PlainEntry, PlainLog};
 use std::alloc::{AllocError, Global};
+use table_texts::writing::clause_text;
 
 /// Where an entry comes from.
 fn origin_text(alloc: Global, origin: Origin) -> Result<String, AllocError> {

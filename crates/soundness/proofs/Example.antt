@@ -47,23 +47,22 @@ announcing_proper = record {
 }
 
 -- the translation
-begun : Clause Term
+abbrev pub begun : Clause Term
 begun = clause [] (Ev 1 (name ∷ []))
 
-heard_name : Clause Term
+abbrev pub heard_name : Clause Term
 heard_name = clause (Mev 1 (name ∷ []) ∷ []) (Att name)
 
-ended : Clause Term
+abbrev pub ended : Clause Term
 ended = clause (Mev 1 (name ∷ []) ∷ []) (Ev 2 (name ∷ []))
 
-asked : Clause Term
+abbrev pub asked : Clause Term
 asked = clause (Ev 2 (Leaf 0 ∷ []) ∷ []) (Bad (Leaf 0 ∷ []))
 
-shown : Clause Term
+abbrev pub shown : Clause Term
 shown = clause (Mev 1 (name ∷ []) ∷ []) (Bad (name ∷ []))
 
 pub announcing_translated : IsTranslation announcing announced (Clauses eight_clauses)
-unfolding begun heard_name ended
 announcing_translated = (
   Done process_clauses 65530,
   (0, tt, (Done (heard_name ∷ ended ∷ []) 65530, (Done (ended ∷ []) 65530, (Done [] 65530, refl, refl), refl), refl)),
@@ -110,81 +109,69 @@ selected_pair i j chosen e p at solved selected = subst (IsPairClosed nine_claus
 no_unifier : (i j : Clause Term) (at : Selection) → IsRawResolvent i j at None → IsPairClosed nine_clauses i j at
 no_unifier i j at r = record { raw = None; is_raw = r; answered = tt }
 
-knows_channel : Clause Term
+abbrev pub knows_channel : Clause Term
 knows_channel = clause [] (Att (node (Free 1) []))
 
-makes_names : Clause Term
+abbrev pub makes_names : Clause Term
 makes_names = clause [] (Att (node Attacker (Leaf 0 ∷ [])))
 
-listens : Clause Term
+abbrev pub listens : Clause Term
 listens = clause (Mess (Leaf 1) (Leaf 0) ∷ Att (Leaf 1) ∷ []) (Att (Leaf 0))
 
-sends : Clause Term
+abbrev pub sends : Clause Term
 sends = clause (Att (Leaf 0) ∷ Att (Leaf 1) ∷ []) (Mess (Leaf 0) (Leaf 1))
 
-listening : Selection
+abbrev pub listening : Selection
 listening = record { index = 0; fact = Mess (Leaf 1) (Leaf 0); others = Att (Leaf 1) ∷ [] }
 
-asking : Selection
+abbrev pub asking : Selection
 asking = record { index = 0; fact = Ev 2 (Leaf 0 ∷ []); others = [] }
 
 event_number : (m n : ℕ) {ts us : List Term} → Ev m ts ≡ Ev n us → m ≡ n
 event_number m n e = cc
 
 -- No other fact is a message, and none but one is the event at the end.
-channel_listening : IsRawResolvent knows_channel listens listening None
-unfolding knows_channel listens listening
+pub channel_listening : IsRawResolvent knows_channel listens listening None
 channel_listening = record { offset = 0; apart = (tt, tt); unified = λ s e. cc }
 
-names_listening : IsRawResolvent makes_names listens listening None
-unfolding makes_names listens listening
+pub names_listening : IsRawResolvent makes_names listens listening None
 names_listening = record { offset = 1; apart = ((omega arith, tt), tt); unified = λ s e. cc }
 
-begun_listening : IsRawResolvent begun listens listening None
-unfolding begun listens listening
+pub begun_listening : IsRawResolvent begun listens listening None
 begun_listening = record { offset = 1; apart = ((omega arith, tt), tt); unified = λ s e. cc }
 
-heard_listening : IsRawResolvent heard_name listens listening None
-unfolding heard_name listens listening
+pub heard_listening : IsRawResolvent heard_name listens listening None
 heard_listening = record { offset = 1; apart = ((omega arith, tt), ((omega arith, tt), tt)); unified = λ s e. cc }
 
-ended_listening : IsRawResolvent ended listens listening None
-unfolding ended listens listening
+pub ended_listening : IsRawResolvent ended listens listening None
 ended_listening = record { offset = 1; apart = ((omega arith, tt), ((omega arith, tt), tt)); unified = λ s e. cc }
 
-shown_listening : IsRawResolvent shown listens listening None
-unfolding shown listens listening
+pub shown_listening : IsRawResolvent shown listens listening None
 shown_listening = record { offset = 1; apart = ((omega arith, tt), ((omega arith, tt), tt)); unified = λ s e. cc }
 
-channel_asking : IsRawResolvent knows_channel asked asking None
-unfolding knows_channel asked asking
+pub channel_asking : IsRawResolvent knows_channel asked asking None
 channel_asking = record { offset = 0; apart = (tt, tt); unified = λ s e. cc }
 
-names_asking : IsRawResolvent makes_names asked asking None
-unfolding makes_names asked asking
+pub names_asking : IsRawResolvent makes_names asked asking None
 names_asking = record { offset = 1; apart = ((omega arith, tt), tt); unified = λ s e. cc }
 
-sends_asking : IsRawResolvent sends asked asking None
-unfolding sends asked asking
+pub sends_asking : IsRawResolvent sends asked asking None
 sends_asking = record { offset = 2; apart = ((omega arith, tt), ((omega arith, tt), ((omega arith, tt), ((omega arith, tt), tt)))); unified = λ s e. cc }
 
-begun_asking : IsRawResolvent begun asked asking None
-unfolding begun asked asking
+pub begun_asking : IsRawResolvent begun asked asking None
 begun_asking = record { offset = 1; apart = ((omega arith, tt), tt); unified = λ s e. absurd (omega (arith, event_number 1 2 e)) }
 
-heard_asking : IsRawResolvent heard_name asked asking None
-unfolding heard_name asked asking
+pub heard_asking : IsRawResolvent heard_name asked asking None
 heard_asking = record { offset = 1; apart = ((omega arith, tt), ((omega arith, tt), tt)); unified = λ s e. cc }
 
-shown_asking : IsRawResolvent shown asked asking None
-unfolding shown asked asking
+pub shown_asking : IsRawResolvent shown asked asking None
 shown_asking = record { offset = 1; apart = ((omega arith, tt), ((omega arith, tt), tt)); unified = λ s e. cc }
 
 -- What is sent and heard is known already: `att(v0), att(v1), att(v0) => att(v1)`.
 heard : Subst
 heard x = cond (nat_eq x 3) (Leaf 0) (cond (nat_eq x 2) (Leaf 1) (Leaf x))
 
-echo : Clause Term
+abbrev pub echo : Clause Term
 echo = clause (Att (Leaf 0) ∷ Att (Leaf 1) ∷ Att (Leaf 0) ∷ []) (Att (Leaf 1))
 
 heard_most : (r : Subst) → r 0 ≡ r 3 → r 1 ≡ r 2 → (x : ℕ) → after r heard x ≡ r x
@@ -195,8 +182,8 @@ heard_most r channels messages x = go (nat_eq x 3) (nat_eq x 2) refl refl where
   go false true e f = messages ∙ ap r (sym (eqb-true x 2 f))
   go false false e f = refl
 
-sends_listening : IsRawResolvent sends listens listening (Some echo)
-unfolding sends listens listening echo heard
+pub sends_listening : IsRawResolvent sends listens listening (Some echo)
+unfolding heard
 sends_listening = record {
   offset = 2;
   apart = ((omega arith, tt), ((omega arith, tt), ((omega arith, tt), ((omega arith, tt), tt))));
@@ -211,7 +198,6 @@ sends_listening = record {
 }
 
 echo_answered : IsAnswered nine_clauses (Some echo)
-unfolding echo
 echo_answered c h = elim h.1 [ ]
 
 -- The name that ended is the one that is asked for: `mev(begins(n[v0])) => bad(n[v0])`.
@@ -225,8 +211,8 @@ named_most r same x = go (nat_eq x 1) refl where
   go true e = same ∙ ap r (sym (eqb-true x 1 e))
   go false e = refl
 
-ended_asking : IsRawResolvent ended asked asking (Some shown)
-unfolding ended asked asking shown named
+pub ended_asking : IsRawResolvent ended asked asking (Some shown)
+unfolding named
 ended_asking = record {
   offset = 1;
   apart = ((omega arith, tt), ((omega arith, tt), tt));
@@ -249,7 +235,6 @@ covers_itself c h =
     (c, h, subsumes_itself c (and_true (is_flat c.conclusion) (list_all is_flat c.hypotheses) n.flat).1)
 
 shown_answered : IsAnswered nine_clauses (Some shown)
-unfolding shown
 shown_answered c h = covers_itself c (subst (Has nine_clauses) (sym (Has-one h)) (Has-append_right eight_clauses (clause (Mev 1 (name ∷ []) ∷ []) (Bad (name ∷ [])) ∷ []) (clause (Mev 1 (name ∷ []) ∷ []) (Bad (name ∷ []))) ([], here)))
 
 row_unsolved : (i : Clause Term) → is_solved i.hypotheses ≡ false → (js : List (Clause Term)) → AllByRecursion (IsClosedPair i) js
@@ -257,7 +242,6 @@ row_unsolved i e [] = tt
 row_unsolved i e (j ∷ js) = (unsolved_first i j e, row_unsolved i e js)
 
 row_solved : (i : Clause Term) → IsPairClosed nine_clauses i listens listening → IsPairClosed nine_clauses i asked asking → AllByRecursion (IsClosedPair i) nine_clauses
-unfolding knows_channel makes_names listens listening sends begun heard_name ended asked asking shown
 row_solved i p q = (
   nothing_selected i knows_channel refl,
   (
@@ -282,7 +266,6 @@ row_solved i p q = (
 )
 
 all_closed : AllByRecursion (λ i. AllByRecursion (IsClosedPair i) nine_clauses) nine_clauses
-unfolding knows_channel makes_names listens sends begun heard_name ended asked shown
 all_closed = (
   row_solved knows_channel (no_unifier knows_channel listens listening channel_listening) (no_unifier knows_channel asked asking channel_asking),
   (
@@ -318,7 +301,6 @@ nine_close = record {
 
 -- The one solved clause that concludes `bad` has the event that is asked for.
 shown_met : IsMet announcing (ends (Leaf (Variable 1))) ((begins (Leaf (Variable 1)) ∷ []) ∷ []) shown
-unfolding shown
 shown_met = record {
   by = λ x. name;
   conclusion = refl;
@@ -337,7 +319,6 @@ not_solved : (c : Clause Term) → is_solved c.hypotheses ≡ false → IsAnswer
 not_solved c e solved bad = absurd (let clash = e in let other = solved in cc)
 
 all_answered : AllByRecursion IsAnsweredFor nine_clauses
-unfolding knows_channel makes_names listens sends begun heard_name ended asked shown
 all_answered = (not_bad knows_channel refl, (not_bad makes_names refl, (not_bad listens refl, (not_bad sends refl, (not_bad begun refl, (not_bad heard_name refl, (not_bad ended refl, (not_solved asked refl, ((λ solved bad. shown_met), tt)))))))))
 
 nine_satisfied : AreSatisfied announcing announced nine_clauses

@@ -8,17 +8,8 @@ use crate::ends::ended;
 use crate::reading::{copy, request, steps};
 use crate::settings::Setting;
 use crate::texts::bytes_of;
+use row_tables::{Line, Rows, unknown};
 use std::alloc::{AllocError, Global};
-
-/// What a line of a table is.
-pub enum Line {
-    /// A setting, a comment or nothing.
-    Setting,
-    /// A row that shows what is expected.
-    Right,
-    /// A row that shows this, and not what is expected.
-    Wrong(String),
-}
 
 /// What a row of that kind shows, if there are rows of that kind.
 fn shown(alloc: Global, setting: &Setting, kind: &str) -> Result<Option<String>, AllocError> {
@@ -40,23 +31,28 @@ fn shown(alloc: Global, setting: &Setting, kind: &str) -> Result<Option<String>,
     Ok(Some(shown))
 }
 
-/// Does what a line says: sets something for the rows below, or compares what a row shows with what is expected.
-pub fn follow(alloc: Global, setting: &mut Setting, line: &str) -> Result<Line, AllocError> {
-    if line.is_empty() || line.starts_with('#') {
-        return Ok(Line::Setting);
+/// A row that shows this, and expects these bytes.
+fn compared(shown: String, expected: &[u8]) -> Line {
+    if shown.as_bytes() == expected {
+        Line::Right
+    } else {
+        Line::Wrong(shown)
     }
-    let (word, text) = line.split_once(' ').unwrap_or((line, ""));
-    if setting.set(alloc, word, text)? {
-        return Ok(Line::Setting);
+}
+
+impl Rows for Setting {
+    fn new(alloc: Global, _name: &str) -> Result<Setting, AllocError> {
+        Setting::new(alloc)
     }
-    match shown(alloc, setting, word)? {
-        None => Ok(Line::Wrong(String::from_str(alloc, "no such word")?)),
-        Some(shown) => {
-            if shown.as_bytes() == bytes_of(alloc, text)?.as_slice() {
-                Ok(Line::Right)
-            } else {
-                Ok(Line::Wrong(shown))
-            }
+
+    fn follow(&mut self, alloc: Global, line: &str) -> Result<Line, AllocError> {
+        let (word, text) = line.split_once(' ').unwrap_or((line, ""));
+        if self.set(alloc, word, text)? {
+            return Ok(Line::Setting);
+        }
+        match shown(alloc, self, word)? {
+            None => unknown(alloc),
+            Some(shown) => Ok(compared(shown, &bytes_of(alloc, text)?)),
         }
     }
 }

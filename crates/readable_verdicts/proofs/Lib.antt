@@ -1,0 +1,11 @@
+pub mod Over
+pub mod Facts
+pub mod Symbols
+pub mod Resolution
+pub mod Conversion
+pub mod Given
+pub mod Scopes
+pub mod Choices
+pub mod Visited
+pub mod Certificates
+pub mod Proving
