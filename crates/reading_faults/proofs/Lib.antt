@@ -1,0 +1,6 @@
+pub mod Shared
+pub mod Terms
+pub mod Parts
+pub mod Facts
+pub mod Certificates
+pub mod Reports
