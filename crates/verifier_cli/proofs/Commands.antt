@@ -20,10 +20,6 @@ comes_as_asked words made e held outcome comes asked h =
 pub a_command : (words : List (List ℕ)) (request : Request) → Some request ≡ request_of words → IsNoCommand words → ⊥
 a_command words request e none = let same : Some request ≡ None = e ∙ none in cc
 
--- words that ask for nothing make no request
-pub no_command : {X : Type 0} (words : List (List ℕ)) → None ≡ request_of words → (asked : Request) → request_of words ≡ Some asked → X
-no_command words e asked h = let same : None ≡ Some asked = e ∙ h in cc
-
 -- a file that cannot be read is one that the words ask for
 pub unreadable : (words : List (List ℕ)) (request : Request) → Some request ≡ request_of words → (held : List ℕ → Option (List ℕ)) (Counted : List ℕ → Type 0) → IsUnreadable (Some request) held Counted → IsUnreadable (request_of words) held Counted
 unreadable words request e held Counted h = subst (λ (r : Option Request). IsUnreadable r held Counted) e h

@@ -13,7 +13,7 @@ use Rattle.verifier_cli.specs.Listing.{IsListOf, IsListOutcome, Lists, source_of
 use Rattle.verifier_cli.specs.Replaying.{IsReplayOf, IsReplayOutcome, Replays, RunsOn}
 use Rattle.verifier_cli.specs.Ringing.{IsRingOutcome}
 use Rattle.verifier_cli.specs.Text.{is_proved, is_accepted, is_without_violation, status_of}
-use Rattle.verifier_cli.proofs.Held.{of_file}
+use Rattle.verifier_cli.proofs.Held.{of_file, of_held}
 use Rattle.ring_text.specs.Text.{ring_text}
 
 -- a list or a replay shows no query
@@ -50,12 +50,6 @@ violates_none held (Check file report) outcome is = of_file (held file) (λ byte
 violates_none held (ListOf file query) outcome is = of_file (held file) (λ bytes. Lists bytes query outcome) (λ bytes. NoneViolated bytes outcome) (λ bytes x. listed_violates_none bytes outcome x.answers) is
 violates_none held (Replay file run) outcome is = of_file (held file) (λ bytes. Replays bytes (held run) outcome) (λ bytes. NoneViolated bytes outcome) (λ bytes x. replayed_violates_none bytes outcome x.answers) is
 violates_none held (RingOf stages) outcome is = record { bytes = ring_text stages; as_held = refl; fact = is.none_violated }
-
--- what is said of a file whose bytes are told is said of these
-of_held : (held : Option (List ℕ)) (F : List ℕ → Type 0) (bytes : List ℕ) → held ≡ Some bytes → OfFile held F → F bytes
-of_held held F bytes told x =
-    let told_so : OfFile (Some bytes) F = subst (λ (h : Option (List ℕ)). OfFile h F) told x in
-    subst F told_so.as_held told_so.fact
 
 -- with no fault that is counted, each file that is asked for can be read
 readable : (held : List ℕ → Option (List ℕ)) (Counted : List ℕ → Type 0) → ((name : List ℕ) → Counted name → ⊥) → (request : Request) → IsUnreadable (Some request) held Counted → ⊥

@@ -1,11 +1,14 @@
 pub mod Checking
 pub mod Commands
 pub mod Complete
+pub mod Followed
 pub mod Found
 pub mod Held
 pub mod Limits
 pub mod Listing
+pub mod OneLine
 pub mod Outcomes
+pub mod ReadBack
 pub mod Refusals
 pub mod Replaying
 pub mod Rings

@@ -30,7 +30,7 @@ pub record Laws : Type 0 where
   pub never_both : (bytes : List ℕ) (P : syntax.Protocol) (r : spells.Refusal) (i : ℕ) → Spells bytes P → Refuses bytes r i → ⊥
 
 -- an answer that is a certificate is the verdict that the query is proved
-verdict_where_proved : (P : syntax.Protocol) (q : syntax.Query) (budget : ℕ) (cert : Certificate) → IsAnswer P q budget (Proved cert) → IsVerdict P q budget (defined.Proved cert)
+pub verdict_where_proved : (P : syntax.Protocol) (q : syntax.Query) (budget : ℕ) (cert : Certificate) → IsAnswer P q budget (Proved cert) → IsVerdict P q budget (defined.Proved cert)
 verdict_where_proved P q budget cert answer = by_verdict answer.verdict answer.tells answer.is
   where
     by_verdict : (v : defined.Verdict) → Tells (Proved cert) v → IsVerdict P q budget v → IsVerdict P q budget (defined.Proved cert)

@@ -2,6 +2,7 @@ pub mod Command
 pub mod Checking
 pub mod Complete
 pub mod Outcome
+pub mod ReadBack
 pub mod Reading
 pub mod Replaying
 pub mod Listing

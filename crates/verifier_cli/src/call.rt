@@ -14,6 +14,7 @@ ghost use Rattle.command_words.specs.Request as request;
 ghost use Rattle.command_words.specs.Request.{request_of};
 ghost use Rattle.verifier_cli.specs.Listing.{Lists, IsSource, IsTextOf, source_of, words_of};
 ghost use Rattle.verifier_cli.specs.Outcome as own;
+ghost use Rattle.verifier_cli.specs.ReadBack.{IsReadBack};
 ghost use Rattle.verifier_cli.specs.Replaying.{Replays};
 ghost use Rattle.verifier_cli.specs.Ringing.{Rings};
 ghost use Rattle.verifier_cli.specs.SeenOutcome.{outcome_of};
@@ -22,6 +23,7 @@ ghost use Rattle.verifier_cli.specs.Text.{HasWords, outcome_bytes, status_of};
 use crate::check::check_file;
 use crate::list::list_file;
 use crate::outcome::{Answer, Decision, Outcome};
+use crate::read_back::verdicts_are_read_back;
 use crate::replay::replay_file;
 use crate::ringing::ring;
 use crate::text::{READ_FAULT, USAGE, WANT_OF_MEMORY, outcome_text, status};
@@ -163,6 +165,13 @@ pub fn top<F: Files, S: Sink>(alloc: Global, words: &[String], files: &mut F, ou
         outcome_of result.outcome ≢ own.ReadFault → OfFile (F.held files.old file) (λ bytes.
         Checks bytes (F.held files.old report) (outcome_of result.outcome)) }
 
+    // What `check` finds in the report that is written, where that isn't too long: that the certificate of each query that
+    // is proved is accepted, and that nothing is claimed of each other.
+    ensures read_back { (file : List ℕ) (budget : ℕ) →
+        IsVerify (map string_bytes words.now) file budget →
+        outcome_of result.outcome ≢ own.ReadFault → OfFile (F.held files.old file) (λ bytes.
+        IsReadBack bytes (outcome_of result.outcome)) }
+
     // The clauses that a query of the protocol is translated into, exactly, or the point at which they are too large.
     ensures list { (file : List ℕ) (query : ℕ) → IsList (map string_bytes words.now) file query →
         outcome_of result.outcome ≢ own.ReadFault → OfFile (F.held files.old file) (λ bytes.
@@ -206,6 +215,8 @@ pub fn top<F: Files, S: Sink>(alloc: Global, words: &[String], files: &mut F, ou
         (outcome_of result.outcome) text ×
         AppendsPart (S.written out.old) (S.written out.new) text }
 {
+    asked_budgets();
+    verdicts_are_read_back();
     let Decision { protocol, outcome } = decide(alloc, words, files);
     respond(alloc, protocol.as_ref(), outcome, out)
 }

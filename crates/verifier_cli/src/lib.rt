@@ -8,6 +8,7 @@ mod check;
 mod list;
 mod loading;
 mod outcome;
+mod read_back;
 mod reading;
 mod replay;
 mod ringing;

@@ -1,9 +1,9 @@
 //! The text of the summary of a ring.
 
-ghost use Rattle.std.specs.Prelude.{◌≡◌, ◌++◌, codes, decimal, IfOk};
+ghost use Rattle.std.specs.Prelude.{◌≡◌, IfOk};
 ghost use Rattle.std.specs.String.{string_bytes};
 ghost use Rattle.pi_tree.specs.Protocols.{protocol_of};
-ghost use Rattle.verifier_cli.specs.Text.{line, number_lines, summary_lines, verdict_line};
+ghost use Rattle.verifier_cli.specs.Text.{number_lines, summary_lines, verdict_line};
 
 use crate::outcome::Ring;
 use crate::text::verdict_text;

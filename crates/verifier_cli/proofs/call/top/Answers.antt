@@ -4,11 +4,13 @@ use Rattle.command_words.specs.Request.{Request, Verify, Check, ListOf, Replay, 
 use Rattle.pi_tree.specs.Protocols.{protocol_of}
 use Rattle.hv_io.specs.Faults.{IsFaultCounted}
 use Rattle.verifier_cli.specs.SeenOutcome.{outcome_of}
-use Rattle.verifier_cli.specs.Command.{IsUnreadable}
+use Rattle.verifier_cli.specs.Command.{IsUnreadable, OfFile, Verifies}
+use Rattle.verifier_cli.specs.ReadBack.{IsReadBack}
 use Rattle.verifier_cli.specs.Text.{outcome_bytes}
 use Rattle.verifier_cli.specs.Listing.{words_of}
 use Rattle.verifier_cli.proofs.Commands.{printed}
 use Rattle.verifier_cli.proofs.Complete.{violates_none, own_outcome, answer_status}
+use Rattle.verifier_cli.proofs.Held.{of_file}
 use Rattle.verifier_cli.proofs.Outcomes.{becomes_after, was_before, comes_after}
 use Rattle.verifier_cli.proofs.call.top.Goals as goal
 
@@ -31,6 +33,14 @@ returns-clause-verify g c = λ file budget is other. comes_after (g.F.Files.held
 
 pub returns-clause-check : goal.returns-clause-check
 returns-clause-check g c = λ file report is other. comes_after (g.F.Files.held c.args.files.now) (Check file report) _ _ c.respond.ensures.outcome (c.decide-protocol.ensures.comes (Check file report) is) other
+
+pub returns-clause-read_back : goal.returns-clause-read_back
+returns-clause-read_back g c = λ file budget is other.
+    let held = g.F.Files.held c.args.files.now in
+    let outcome = outcome_of c.respond.result.outcome in
+    let verified : OfFile (held file) (λ bytes. Verifies bytes budget outcome) = comes_after held (Verify file budget) _ _ c.respond.ensures.outcome (c.decide-protocol.ensures.comes (Verify file budget) is) other in
+    let within = c.asked_budgets.ensures (map string_bytes c.args.words.now) file budget is in
+    of_file (held file) (λ bytes. Verifies bytes budget outcome) (λ bytes. IsReadBack bytes outcome) (λ bytes v. c.verdicts_are_read_back.ensures bytes budget outcome within v) verified
 
 pub returns-clause-list : goal.returns-clause-list
 returns-clause-list g c = λ file query is other. comes_after (g.F.Files.held c.args.files.now) (ListOf file query) _ _ c.respond.ensures.outcome (c.decide-protocol.ensures.comes (ListOf file query) is) other

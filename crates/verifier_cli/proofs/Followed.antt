@@ -1,0 +1,69 @@
+-- What stands behind the text of a certificate may be written behind it afterwards.
+use Rattle.std.proofs.Common.{◌≡◌, ℕ, List, [], ◌∷◌, ◌++◌, ap, ◌∙◌, refl, append_assoc, codes}
+use Rattle.std.specs.Fmt.{decimal}
+use Rattle.trees.specs.Tree.{Leaf, Node, none, more}
+use Rattle.calculus.specs.Syntax.{Protocol}
+use Rattle.terms.specs.Term.{Term}
+use Rattle.clauses.specs.Fact.{Fact, Clause}
+use Rattle.certificates.specs.Certificate.{Certificate}
+use Rattle.certificate_text.specs.Loose.{Head, Applied, Tupled, Made, Attackers, Loose, LooseRow, opening, closing, onto, row, behind}
+use Rattle.certificate_text.specs.Written.{written_fact}
+use Rattle.certificate_text.specs.Text.{fact_text, later_hypotheses, hypotheses_text, clause_text, clause_lines, numbers_text, row_lines, certificate_text}
+
+opening_followed : (head : Head) (k rest : List ℕ) → opening head k ++ rest ≡ opening head (k ++ rest)
+opening_followed (Applied word) k rest = append_assoc word (40 ∷ k) rest
+opening_followed Tupled k rest = refl
+opening_followed (Made word digits) k rest = append_assoc word (64 ∷ (digits ++ (91 ∷ k))) rest ∙ ap (λ l. word ++ (64 ∷ l)) (append_assoc digits (91 ∷ k) rest)
+opening_followed Attackers k rest = refl
+
+mutual
+  onto_followed : (t : Loose) (k rest : List ℕ) → onto t k ++ rest ≡ onto t (k ++ rest)
+  onto_followed (Leaf word) k rest = append_assoc word k rest
+  onto_followed (Node head ts) k rest = opening_followed head (row ts (closing head ∷ k)) rest ∙ ap (opening head) (row_followed ts (closing head ∷ k) rest)
+
+  row_followed : (ts : LooseRow) (k rest : List ℕ) → row ts k ++ rest ≡ row ts (k ++ rest)
+  row_followed none k rest = refl
+  row_followed (more t ts) k rest = onto_followed t (behind ts k) rest ∙ ap (onto t) (behind_followed ts k rest)
+
+  behind_followed : (ts : LooseRow) (k rest : List ℕ) → behind ts k ++ rest ≡ behind ts (k ++ rest)
+  behind_followed none k rest = refl
+  behind_followed (more t ts) k rest = ap (λ l. 44 ∷ l) (onto_followed t (behind ts k) rest ∙ ap (onto t) (behind_followed ts k rest))
+
+fact_followed : (P : Protocol) (f : Fact Term) (k rest : List ℕ) → fact_text P f k ++ rest ≡ fact_text P f (k ++ rest)
+fact_followed P f k rest = onto_followed (written_fact P f) k rest
+
+later_followed : (P : Protocol) (hs : List (Fact Term)) (k rest : List ℕ) → later_hypotheses P hs k ++ rest ≡ later_hypotheses P hs (k ++ rest)
+later_followed P [] k rest = refl
+later_followed P (h ∷ hs) k rest = ap (λ l. 44 ∷ 32 ∷ l) (fact_followed P h (later_hypotheses P hs k) rest ∙ ap (fact_text P h) (later_followed P hs k rest))
+
+hypotheses_followed : (P : Protocol) (hs : List (Fact Term)) (k rest : List ℕ) → hypotheses_text P hs k ++ rest ≡ hypotheses_text P hs (k ++ rest)
+hypotheses_followed P [] k rest = refl
+hypotheses_followed P (h ∷ hs) k rest = fact_followed P h (later_hypotheses P hs k) rest ∙ ap (fact_text P h) (later_followed P hs k rest)
+
+clause_followed : (P : Protocol) (c : Clause Term) (k rest : List ℕ) → clause_text P c k ++ rest ≡ clause_text P c (k ++ rest)
+clause_followed P c k rest =
+    hypotheses_followed P c.hypotheses (61 ∷ 62 ∷ 32 ∷ fact_text P c.conclusion k) rest
+    ∙ ap (λ l. hypotheses_text P c.hypotheses (61 ∷ 62 ∷ 32 ∷ l)) (fact_followed P c.conclusion k rest)
+
+clauses_followed : (P : Protocol) (cs : List (Clause Term)) (k rest : List ℕ) → clause_lines P cs k ++ rest ≡ clause_lines P cs (k ++ rest)
+clauses_followed P [] k rest = refl
+clauses_followed P (c ∷ cs) k rest =
+    ap (λ l. 99 ∷ 32 ∷ l) (clause_followed P c (10 ∷ clause_lines P cs k) rest ∙ ap (λ l. clause_text P c (10 ∷ l)) (clauses_followed P cs k rest))
+
+numbers_followed : (ns : List ℕ) (k rest : List ℕ) → numbers_text ns k ++ rest ≡ numbers_text ns (k ++ rest)
+numbers_followed [] k rest = refl
+numbers_followed (n ∷ ns) k rest = ap (λ l. 32 ∷ l) (append_assoc (decimal n) (numbers_text ns k) rest ∙ ap (λ l. decimal n ++ l) (numbers_followed ns k rest))
+
+rows_followed : (letter : ℕ) (rows : List (List ℕ)) (k rest : List ℕ) → row_lines letter rows k ++ rest ≡ row_lines letter rows (k ++ rest)
+rows_followed letter [] k rest = refl
+rows_followed letter (ns ∷ rows) k rest =
+    ap (λ l. letter ∷ l) (numbers_followed ns (10 ∷ row_lines letter rows k) rest ∙ ap (λ l. numbers_text ns (10 ∷ l)) (rows_followed letter rows k rest))
+
+pub certificate_followed : (P : Protocol) (c : Certificate) (k rest : List ℕ) → certificate_text P c k ++ rest ≡ certificate_text P c (k ++ rest)
+certificate_followed P c k rest =
+    let end = codes "end\n" ++ k in
+    let goals = row_lines 103 c.goals end in
+    let rows = row_lines 114 c.rows goals in
+    ap (λ l. codes "cert 1\n" ++ l)
+    (clauses_followed P c.clauses rows rest
+    ∙ ap (clause_lines P c.clauses) (rows_followed 114 c.rows goals rest ∙ ap (row_lines 114 c.rows) (rows_followed 103 c.goals end rest)))

@@ -1,0 +1,222 @@
+-- The text of verdicts is a report that claims what they say, and what is found of it.
+use Rattle.std.proofs.Common.{◌≡◌, ℕ, zero, suc, ◌+◌, ◌≤◌, ◌==◌, false, List, [], ◌∷◌, ◌++◌, length, map, Option, None, Some, inl, inr, refl, sym, ap, subst, ◌∙◌, arith, codes, append_assoc}
+use Rattle.std.specs.Prelude.{Contains}
+use Rattle.std.specs.Fmt.{decimal}
+use Rattle.std.specs.List.{AllByRecursion}
+use Rattle.std.proofs.lemmas.Bool.Decides.{nat_tests}
+use Rattle.std.proofs.lemmas.List.{length-map}
+use Rattle.calculus.specs.Syntax.{Query, Protocol}
+use Rattle.calculus.specs.Points.{numbered}
+use Rattle.calculus.proofs.Items.{each-contains}
+use Rattle.well_formed.specs.Limits.{IsSmallQuery, IsWithinLimits}
+use Rattle.protocol_scope.specs.Spells.{Spells}
+use Rattle.protocol_scope.specs.Words.{HasWords}
+use Rattle.certificates.specs.Certificate.{Certificate}
+use Rattle.certificates.specs.Ruling as certificates
+use Rattle.certificates.specs.Ruling.{IsRuled}
+use Rattle.verdicts.specs.Verdict as defined
+use Rattle.verdicts.specs.Verdict.{IsVerdict}
+use Rattle.certificate_text.specs.OfProtocol.{HasNames}
+use Rattle.certificate_reading.specs.Readable.{IsReadableCertificate}
+use Rattle.certificate_reading.specs.Reports as reports
+use Rattle.certificate_reading.specs.Reports.{Claim, Unknown}
+use Rattle.report_text.specs.Text.{query_text, IsReason, SpellsClaim, SpellsClaims, SpellsReport}
+use Rattle.clause_saturate.specs.declared.log.PlainEntry.{PlainEntry}
+use Rattle.cert_checker.specs.declared.ruling.Ruling.{Ruling}
+use Rattle.cert_checker.specs.declared.ruling.Ruling.TheVariants.{Accepted, Shape, Translation, Cover, Closure, Goal, Extra}
+use Rattle.cert_checker.specs.Rulings.{ruling_of}
+use Rattle.query_verify.specs.declared.answers.Verdict.{Verdict}
+use Rattle.query_verify.specs.declared.answers.Verdict.TheVariants.{Proved, Budget, SizePair, SizePoint, Unmet}
+use Rattle.query_verify.specs.Told.{IsAnswer, AnswerQueries}
+use Rattle.verifier_cli.specs.declared.outcome.Finding.{Finding}
+use Rattle.verifier_cli.specs.declared.outcome.Finding.TheVariants.{Ruled, Missing, NotClaimed}
+use Rattle.verifier_cli.specs.Outcome.{Outcome, Usage, Verified, Checked, Listed, ListLarge, NoQuery, Replayed, Ring, Refused, ReadFault, Memory}
+use Rattle.verifier_cli.specs.Command.{Becomes, Verifies}
+use Rattle.verifier_cli.specs.Checking.{MakesClaims, IsFindingOf, AreFindingsOf, IsCheckOf, ChecksReport}
+use Rattle.verifier_cli.specs.Text.{line, entry_text, verdict_text, verdict_lines}
+use Rattle.verifier_cli.specs.ReadBack.{finding_of, IsReadBack}
+use Rattle.verifier_cli.proofs.Followed.{certificate_followed}
+use Rattle.verifier_cli.proofs.Held.{of_held}
+use Rattle.verifier_cli.proofs.OneLine.{IsOneLine, joined, decimal_in_line, clause_in_line}
+use Rattle.verifier_cli.proofs.Verifying.{verdict_where_proved}
+
+-- what a verdict claims
+abbrev claim_of : Verdict → Claim
+claim_of (Proved certificate) = reports.Proved certificate
+claim_of _ = Unknown
+
+-- its certificate, where there is one, may stand in a report
+abbrev MayBeRead : Protocol → Verdict → Type 0
+MayBeRead P (Proved certificate) = IsReadableCertificate P certificate
+MayBeRead P _ = Unit {0}
+
+-- The text of verdicts spells their claims.
+
+unknown_spelled : (P : Protocol) (number : ℕ) (reason rest : List ℕ) → IsReason reason → SpellsClaim P number Unknown rest (query_text number (codes " " ++ (line (codes "unknown " ++ reason) ++ rest)))
+unknown_spelled P number reason rest is = (reason, is, ap (λ k. query_text number (codes " unknown " ++ k)) (append_assoc reason (10 ∷ []) rest))
+
+-- the reasons
+pair_in_line : (m n : ℕ) → IsOneLine (decimal m ++ codes " " ++ decimal n)
+pair_in_line m n = joined (decimal m ++ codes " ") (decimal n) (joined (decimal m) (codes " ") (decimal_in_line m) refl) (decimal_in_line n)
+
+entry_in_line : (P : Protocol) → HasWords P → (entry : Option PlainEntry) → IsOneLine (entry_text P entry)
+entry_in_line P words None = refl
+entry_in_line P words (Some entry) = clause_in_line P words entry.clause [] refl
+
+not_zero : (n : ℕ) → (suc n == 0) ≡ false
+not_zero n = grind (arith, nat_tests)
+
+-- a word, a space and what stands behind it
+spoken : (first : ℕ) (word behind : List ℕ) → IsOneLine (first ∷ word) → IsOneLine behind → IsReason ((first ∷ word) ++ behind)
+spoken first word behind is k = record { some = not_zero (length (word ++ behind)); one_line = joined (first ∷ word) behind is k }
+
+verdict_spelled : (P : Protocol) → HasWords P → (number : ℕ) (v : Verdict) (rest : List ℕ) → MayBeRead P v → SpellsClaim P number (claim_of v) rest (query_text number (codes " " ++ (verdict_text P v ++ rest)))
+verdict_spelled P words number (Proved certificate) rest is = (is, ap (λ k. query_text number (codes " proved\n" ++ k)) (certificate_followed P certificate [] rest))
+verdict_spelled P words number (Budget log due) rest is =
+    unknown_spelled P number (codes "budget " ++ decimal (length log)) rest (spoken 98 (codes "udget ") (decimal (length log)) refl (decimal_in_line (length log)))
+verdict_spelled P words number (SizePair log solved unsolved) rest is =
+    let numbers = decimal solved ++ codes " " ++ decimal unsolved in
+    let spelled = unknown_spelled P number (codes "size pair " ++ numbers) rest (spoken 115 (codes "ize pair ") numbers refl (pair_in_line solved unsolved)) in
+    spelled
+verdict_spelled P words number (SizePoint point) rest is =
+    unknown_spelled P number (codes "size point " ++ decimal point) rest (spoken 115 (codes "ize point ") (decimal point) refl (decimal_in_line point))
+verdict_spelled P words number (Unmet log entry) rest is =
+    let clause = entry_text P (numbered log entry) in
+    unknown_spelled P number (codes "clause " ++ clause) rest (spoken 99 (codes "lause ") clause refl (entry_in_line P words (numbered log entry)))
+
+grouped : (a b c d e : List ℕ) → a ++ b ++ c ++ d ++ e ≡ a ++ (b ++ (c ++ (d ++ e)))
+grouped a b c d e = simp append_assoc
+
+verdicts_spelled : (P : Protocol) → HasWords P → (number : ℕ) (vs : List Verdict) → AllByRecursion (MayBeRead P) vs → SpellsClaims P number (map claim_of vs) (verdict_lines number vs P)
+verdicts_spelled P words number [] are = refl
+verdicts_spelled P words number (v ∷ vs) are =
+    let rest = verdict_lines (number + 1) vs P in
+    let same = grouped (codes "query ") (decimal number) (codes " ") (verdict_text P v) rest in
+    (rest, subst (SpellsClaim P number (claim_of v) rest) (sym same) (verdict_spelled P words number v rest are.0), verdicts_spelled P words (number + 1) vs are.1)
+
+-- Verdicts of queries: each certificate may stand in a report, where the law says so of each query.
+
+answer_may_be_read : (P : Protocol) (q : Query) (budget : ℕ) (v : Verdict) → ((cert : Certificate) → IsVerdict P q budget (defined.Proved cert) → IsReadableCertificate P cert) → IsAnswer P q budget v → MayBeRead P v
+answer_may_be_read P q budget (Proved certificate) stands is = stands certificate (verdict_where_proved P q budget certificate is)
+answer_may_be_read P q budget (Budget log due) stands is = tt
+answer_may_be_read P q budget (SizePair log solved unsolved) stands is = tt
+answer_may_be_read P q budget (SizePoint point) stands is = tt
+answer_may_be_read P q budget (Unmet log number) stands is = tt
+
+answers_may_be_read : (P : Protocol) (budget : ℕ) (qs : List Query) (vs : List Verdict)
+    → ((q : Query) (cert : Certificate) → Contains qs q → IsVerdict P q budget (defined.Proved cert) → IsReadableCertificate P cert)
+    → AnswerQueries P budget qs vs → AllByRecursion (MayBeRead P) vs
+answers_may_be_read P budget [] [] stand are = tt
+answers_may_be_read P budget [] (v ∷ vs) stand are = absurd are
+answers_may_be_read P budget (q ∷ qs) [] stand are = absurd are
+answers_may_be_read P budget (q ∷ qs) (v ∷ vs) stand are = (
+  answer_may_be_read P q budget v (λ cert is. stand q cert (zero, omega arith, refl) is) are.0,
+  answers_may_be_read P budget qs vs (λ x cert has is. stand x cert (suc has.0, omega (arith, has.1), has.2) is) are.1,
+)
+
+one_for_each : (P : Protocol) (budget : ℕ) (qs : List Query) (vs : List Verdict) → AnswerQueries P budget qs vs → length vs ≡ length qs
+one_for_each P budget [] [] are = refl
+one_for_each P budget [] (v ∷ vs) are = absurd are
+one_for_each P budget (q ∷ qs) [] are = absurd are
+one_for_each P budget (q ∷ qs) (v ∷ vs) are = omega (arith, one_for_each P budget qs vs are.1)
+
+text_is_report : (P : Protocol) → HasWords P → (budget : ℕ) (vs : List Verdict)
+    → ((q : Query) (cert : Certificate) → Contains P.queries q → IsVerdict P q budget (defined.Proved cert) → IsReadableCertificate P cert)
+    → AnswerQueries P budget P.queries vs → SpellsReport P (verdict_lines 1 vs P) (map claim_of vs)
+text_is_report P words budget vs stand are = record {
+  each = verdicts_spelled P words 1 vs (answers_may_be_read P budget P.queries vs stand are);
+  all = length-map vs claim_of ∙ one_for_each P budget P.queries vs are;
+}
+
+-- What is found of these claims.
+
+accepted_ruling : (ruling : Ruling) → ruling_of ruling ≡ certificates.Accepted → ruling ≡ Accepted
+accepted_ruling Accepted e = refl
+accepted_ruling (Shape clause) e = cc
+accepted_ruling (Translation point) e = cc
+accepted_ruling (Cover clause) e = cc
+accepted_ruling (Closure solved unsolved resolvent) e = cc
+accepted_ruling (Goal clause) e = cc
+accepted_ruling (Extra row) e = cc
+
+proved_finding : (P : Protocol) (q : Query) (cert : Certificate) (f : Finding) → ((a b : certificates.Ruling) → IsRuled P q cert a → IsRuled P q cert b → a ≡ b) → IsRuled P q cert certificates.Accepted → IsFindingOf P q (reports.Proved cert) f → f ≡ Ruled Accepted
+proved_finding P q cert (Ruled ruling) one accepted found = ap Ruled (accepted_ruling ruling (one (ruling_of ruling) certificates.Accepted found accepted))
+proved_finding P q cert Missing one accepted found = absurd found
+proved_finding P q cert NotClaimed one accepted found = absurd found
+
+unknown_finding : (P : Protocol) (q : Query) (f : Finding) → IsFindingOf P q Unknown f → f ≡ NotClaimed
+unknown_finding P q (Ruled ruling) found = absurd found
+unknown_finding P q Missing found = absurd found
+unknown_finding P q NotClaimed found = refl
+
+-- one thing at most is ruled of a certificate, and the certificate of a query that is proved is accepted
+record AreAccepted (P : Protocol) (budget : ℕ) (qs : List Query) : Type 0 where
+  pub one : (q : Query) (cert : Certificate) (a b : certificates.Ruling) → IsRuled P q cert a → IsRuled P q cert b → a ≡ b
+  pub accepted : (q : Query) (cert : Certificate) → Contains qs q → IsVerdict P q budget (defined.Proved cert) → IsRuled P q cert certificates.Accepted
+
+verdict_found : (P : Protocol) (q : Query) (qs : List Query) (budget : ℕ) (v : Verdict) (f : Finding) → AreAccepted P budget (q ∷ qs) → IsAnswer P q budget v → IsFindingOf P q (claim_of v) f → f ≡ finding_of v
+verdict_found P q qs budget (Proved certificate) f laws is found =
+    proved_finding P q certificate f (laws.one q certificate) (laws.accepted q certificate (zero, omega arith, refl) (verdict_where_proved P q budget certificate is)) found
+verdict_found P q qs budget (Budget log due) f laws is found = unknown_finding P q f found
+verdict_found P q qs budget (SizePair log solved unsolved) f laws is found = unknown_finding P q f found
+verdict_found P q qs budget (SizePoint point) f laws is found = unknown_finding P q f found
+verdict_found P q qs budget (Unmet log number) f laws is found = unknown_finding P q f found
+
+verdicts_found : (P : Protocol) (budget : ℕ) (qs : List Query) (vs : List Verdict) (fs : List Finding) → AreAccepted P budget qs → AnswerQueries P budget qs vs → AreFindingsOf P qs (map claim_of vs) fs → fs ≡ map finding_of vs
+verdicts_found P budget [] [] [] laws are found = refl
+verdicts_found P budget [] [] (f ∷ fs) laws are found = absurd found
+verdicts_found P budget [] (v ∷ vs) fs laws are found = absurd are
+verdicts_found P budget (q ∷ qs) [] fs laws are found = absurd are
+verdicts_found P budget (q ∷ qs) (v ∷ vs) [] laws are found = absurd found
+verdicts_found P budget (q ∷ qs) (v ∷ vs) (f ∷ fs) laws are found =
+    let here = verdict_found P q qs budget v f laws are.0 found.0 in
+    let later = verdicts_found P budget qs vs fs record { one = laws.one; accepted = λ x cert has is. laws.accepted x cert (suc has.0, omega (arith, has.1), has.2) is } are.1 found.1 in
+    cc
+
+check_found : (P : Protocol) (budget : ℕ) (vs : List Verdict) (answer : Outcome) → AreAccepted P budget P.queries → AnswerQueries P budget P.queries vs → IsCheckOf P (map claim_of vs) answer → Becomes (Checked (map finding_of vs)) answer
+check_found P budget vs (Checked findings) laws are found = inl (ap Checked (verdicts_found P budget P.queries vs findings laws are found))
+check_found P budget vs Memory laws are found = inr refl
+check_found P budget vs (Refused refusal) laws are found = absurd found
+check_found P budget vs (Verified verdicts) laws are found = absurd found
+check_found P budget vs (Listed clauses) laws are found = absurd found
+check_found P budget vs (ListLarge point) laws are found = absurd found
+check_found P budget vs (NoQuery number) laws are found = absurd found
+check_found P budget vs (Replayed replay) laws are found = absurd found
+check_found P budget vs (Ring ring) laws are found = absurd found
+check_found P budget vs Usage laws are found = absurd found
+check_found P budget vs ReadFault laws are found = absurd found
+
+-- The two calls.
+
+-- the laws that the way back rests on: what every protocol has that bytes spell, that its certificates may stand in reports and are
+-- accepted, and that one thing at most is ruled of one
+pub record WayBack : Type 0 where
+  pub names : (bytes : List ℕ) (P : Protocol) → Spells bytes P → HasNames P
+  pub limits : (bytes : List ℕ) (P : Protocol) → Spells bytes P → IsWithinLimits P
+  pub stand : (bytes : List ℕ) (P : Protocol) (q : Query) (budget : ℕ) (cert : Certificate) → Spells bytes P → Contains P.queries q → budget ≤ 1000000 → IsVerdict P q budget (defined.Proved cert) → IsReadableCertificate P cert
+  pub accepted : (P : Protocol) (q : Query) (budget : ℕ) (cert : Certificate) → IsWithinLimits P → IsSmallQuery q → IsVerdict P q budget (defined.Proved cert) → IsRuled P q cert certificates.Accepted
+  pub one_ruling : (P : Protocol) (q : Query) (cert : Certificate) (a b : certificates.Ruling) → IsRuled P q cert a → IsRuled P q cert b → a ≡ b
+
+pub read_back : WayBack → (bytes : List ℕ) (budget : ℕ) (outcome : Outcome) → budget ≤ 1000000 → Verifies bytes budget outcome → IsReadBack bytes outcome
+read_back laws bytes budget (Verified vs) within verified = λ text answer report checks.
+    let P = report.protocol in
+    let are : AnswerQueries P budget P.queries vs = verified.accepts P report.spelled in
+    let small = (laws.limits bytes P report.spelled).asked in
+    let accepted : AreAccepted P budget P.queries = record {
+      one = laws.one_ruling P;
+      accepted = λ q cert has is. laws.accepted P q budget cert (laws.limits bytes P report.spelled) (each-contains IsSmallQuery P.queries q small has) is;
+    } in
+    let spells : SpellsReport P (verdict_lines 1 vs P) (map claim_of vs) = text_is_report P (laws.names bytes P report.spelled).words budget vs (λ q cert has is. laws.stand bytes P q budget cert report.spelled has within is) are in
+    let makes : MakesClaims P text (map claim_of vs) = (report.fits, subst (λ t. SpellsReport P t (map claim_of vs)) (sym report.is) spells) in
+    let said : ChecksReport P text answer = of_held (Some text) (λ t. ChecksReport P t answer) text refl (checks.accepts P report.spelled) in
+    check_found P budget vs answer accepted are (said.accepts (map claim_of vs) makes)
+read_back laws bytes budget (Checked findings) within verified = tt
+read_back laws bytes budget (Listed clauses) within verified = tt
+read_back laws bytes budget (ListLarge point) within verified = tt
+read_back laws bytes budget (NoQuery number) within verified = tt
+read_back laws bytes budget (Replayed replay) within verified = tt
+read_back laws bytes budget (Ring ring) within verified = tt
+read_back laws bytes budget (Refused refusal) within verified = tt
+read_back laws bytes budget Usage within verified = tt
+read_back laws bytes budget ReadFault within verified = tt
+read_back laws bytes budget Memory within verified = tt
