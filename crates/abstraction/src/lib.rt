@@ -41,8 +41,10 @@ pub fn runs_are_named()
 /// Runs are derived: each value that the attacker knows has its `att` derived from the translation with the events
 /// that were performed, and each event its `ev` with those before it alone (Blanchet 2016, section 3.3.4).
 pub fn runs_are_derived()
-    ensures { (P : Protocol) (q : Query) (all : List (Clause Term)) (steps : List Step) (c : Configuration) →
-        HasProperRules P → HasLinearPatterns P.main → IsTranslation P q (Clauses all) → run P steps ≡ Some c →
+    ensures { (P : Protocol) (q : Query) (all : List (Clause Term)) (steps : List Step)
+        (c : Configuration) →
+        HasProperRules P → HasLinearPatterns P.main → IsTranslation P q (Clauses all) →
+        run P steps ≡ Some c →
         IsDerived P (naming P (trace_of P steps).made) all c (trace_of P steps).made }
 {}
 

@@ -17,7 +17,8 @@ use term_tree::{Bank, Sym};
 /// So many variables, from 0 on. On `Err` the bank may have grown.
 fn variables<B: Bank>(alloc: Global, bank: &mut B, count: u32) -> Result<Ids, AllocError>
     ensures grows { Grows (B.trees bank.old) (B.trees bank.new) }
-    ensures names { IfOk result (λ made. NameTerms (B.trees bank.new) made (variables_from 0 count)) }
+    ensures names { IfOk result (λ made. NameTerms (B.trees bank.new) made
+        (variables_from 0 count)) }
 {
     let mut items = Vec::new(alloc);
     for number in 0..count {
@@ -29,7 +30,8 @@ fn variables<B: Bank>(alloc: Global, bank: &mut B, count: u32) -> Result<Ids, Al
 
 /// Whether the attacker needs a clause to apply the constructor.
 fn is_applied(declared: &Declared) -> bool
-    ensures { result ≡ ((declared_of declared.now).public && not (declared_of declared.now).is_data) }
+    ensures { result ≡ ((declared_of declared.now).public && not
+        (declared_of declared.now).is_data) }
 {
     declared.public && !declared.is_data
 }

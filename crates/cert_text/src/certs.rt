@@ -75,7 +75,8 @@ fn put_clauses(
     protocol: &Protocol,
     clauses: &PlainClauses,
 ) -> Result<(), AllocError>
-    ensures { OnOk result (Appends (clause_lines (protocol_of protocol.now) clauses.now) out.old.items out.new.items) }
+    ensures { OnOk result (Appends (clause_lines (protocol_of protocol.now) clauses.now)
+        out.old.items out.new.items) }
 {
     'each: for clause in &clauses.items {
         put(out, b"c ")?;
@@ -115,7 +116,8 @@ fn put_cert(
     protocol: &Protocol,
     cert: &Cert,
 ) -> Result<(), AllocError>
-    ensures { OnOk result (Appends (certificate_text (protocol_of protocol.now) cert.now) out.old.items out.new.items) }
+    ensures { OnOk result (Appends (certificate_text (protocol_of protocol.now) cert.now)
+        out.old.items out.new.items) }
 {
     put(out, b"cert 1\n")?;
     put_clauses(alloc, out, protocol, &cert.clauses)?;
@@ -128,7 +130,8 @@ fn put_cert(
 ///
 /// `Err` comes only for want of memory.
 pub fn write_cert(alloc: Global, protocol: &Protocol, cert: &Cert) -> Result<Vec<u8>, AllocError>
-    ensures { IfOk result (λ text. text.items ≡ certificate_text (protocol_of protocol.now) cert.now []) }
+    ensures { IfOk result (λ text. text.items ≡
+        certificate_text (protocol_of protocol.now) cert.now []) }
 {
     let mut out = Vec::new(alloc);
     put_cert(alloc, &mut out, protocol, cert)?;

@@ -25,7 +25,8 @@ fn put_event(
     event: u32,
     arguments: &Trees,
 ) -> Result<(), AllocError>
-    ensures { OnOk result (Appends (onto (written_event (protocol_of protocol.now) event arguments.now)) out.old.items out.new.items) }
+    ensures { OnOk result (Appends (onto (written_event (protocol_of protocol.now) event
+        arguments.now)) out.old.items out.new.items) }
 {
     let alone = is_alone(arguments);
     put_word(out, declared_word(&protocol.events, event), alone)?;
@@ -40,7 +41,8 @@ fn put_fact(
     protocol: &Protocol,
     fact: &PlainFact,
 ) -> Result<(), AllocError>
-    ensures { OnOk result (Appends (fact_text (protocol_of protocol.now) (plain_fact_of fact.now)) out.old.items out.new.items) }
+    ensures { OnOk result (Appends (fact_text (protocol_of protocol.now) (plain_fact_of fact.now))
+        out.old.items out.new.items) }
 {
     match fact {
         PlainFact::Att(term) => {
@@ -80,7 +82,8 @@ fn put_hypotheses(
     protocol: &Protocol,
     hyps: &PlainFacts,
 ) -> Result<(), AllocError>
-    ensures { OnOk result (Appends (hypotheses_text (protocol_of protocol.now) hyps.now) out.old.items out.new.items) }
+    ensures { OnOk result (Appends (hypotheses_text (protocol_of protocol.now) hyps.now)
+        out.old.items out.new.items) }
 {
     'each: for (place, hyp) in hyps.items.iter().enumerate() {
         put_gap(out, place)?;
@@ -96,7 +99,8 @@ pub fn put_clause(
     protocol: &Protocol,
     clause: &PlainClause,
 ) -> Result<(), AllocError>
-    ensures { OnOk result (Appends (clause_text (protocol_of protocol.now) clause.now) out.old.items out.new.items) }
+    ensures { OnOk result (Appends (clause_text (protocol_of protocol.now) clause.now) out.old.items
+        out.new.items) }
 {
     put_hypotheses(alloc, out, protocol, &clause.hyps)?;
     put(out, b"=> ")?;
@@ -111,7 +115,8 @@ pub fn write_clause(
     protocol: &Protocol,
     clause: &PlainClause,
 ) -> Result<Vec<u8>, AllocError>
-    ensures { IfOk result (λ text. text.items ≡ clause_text (protocol_of protocol.now) clause.now []) }
+    ensures { IfOk result (λ text. text.items ≡
+        clause_text (protocol_of protocol.now) clause.now []) }
 {
     let mut out = Vec::new(alloc);
     put_clause(alloc, &mut out, protocol, clause)?;

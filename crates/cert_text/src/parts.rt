@@ -23,7 +23,8 @@ pub fn put(out: &mut Vec<u8>, bytes: &[u8]) -> Result<(), AllocError>
 
 /// Puts the digits of a number.
 pub fn put_number(alloc: Global, out: &mut Vec<u8>, number: u32) -> Result<(), AllocError>
-    ensures { OnOk result (Appends (λ rest. decimal_of number ++ rest) out.old.items out.new.items) }
+    ensures { OnOk result (Appends (λ rest. decimal_of number ++ rest) out.old.items
+        out.new.items) }
 {
     let digits = decimal(alloc, u64::from(number))?;
     put(out, &digits)
@@ -58,7 +59,8 @@ fn put_made(
     protocol: &Protocol,
     point: u32,
 ) -> Result<(), AllocError>
-    ensures { OnOk result (Appends (made_opening (protocol_of protocol.now) point) out.old.items out.new.items) }
+    ensures { OnOk result (Appends (made_opening (protocol_of protocol.now) point) out.old.items
+        out.new.items) }
 {
     put(out, word_at(protocol, point))?;
     put(out, b"@")?;
@@ -74,7 +76,8 @@ pub fn put_opening(
     symbol: Sym,
     alone: bool,
 ) -> Result<(), AllocError>
-    ensures { OnOk result (Appends (symbol_opening (protocol_of protocol.now) (symbol_of symbol) alone) out.old.items out.new.items) }
+    ensures { OnOk result (Appends (symbol_opening (protocol_of protocol.now) (symbol_of symbol)
+        alone) out.old.items out.new.items) }
 {
     match symbol {
         Sym::Ctor(number) | Sym::Data(number) => {
@@ -89,7 +92,8 @@ pub fn put_opening(
 
 /// Puts what stands behind the arguments of a symbol.
 pub fn put_closing(out: &mut Vec<u8>, symbol: Sym, alone: bool) -> Result<(), AllocError>
-    ensures { OnOk result (Appends (symbol_closing (symbol_of symbol) alone) out.old.items out.new.items) }
+    ensures { OnOk result (Appends (symbol_closing (symbol_of symbol) alone) out.old.items
+        out.new.items) }
 {
     match symbol {
         Sym::Ctor(_) | Sym::Data(_) | Sym::Free(_) => put_word_end(out, alone),

@@ -21,7 +21,8 @@ pub fn put_term(
     protocol: &Protocol,
     term: &Tree,
 ) -> Result<(), AllocError>
-    ensures { OnOk result (Appends (term_text (protocol_of protocol.now) (term_of term.now)) out.old.items out.new.items) }
+    ensures { OnOk result (Appends (term_text (protocol_of protocol.now) (term_of term.now))
+        out.old.items out.new.items) }
 {
     match term {
         Tree::Var(number) => {
@@ -47,7 +48,8 @@ pub fn put_terms(
     protocol: &Protocol,
     terms: &Trees,
 ) -> Result<(), AllocError>
-    ensures { OnOk result (Appends (row (written_row (protocol_of protocol.now) (trees terms.now))) out.old.items out.new.items) }
+    ensures { OnOk result (Appends (row (written_row (protocol_of protocol.now) (trees terms.now)))
+        out.old.items out.new.items) }
 {
     'each: for (place, term) in terms.items.iter().enumerate() {
         put_comma(out, place)?;

@@ -33,7 +33,8 @@ ghost use Rattle.certificate_reading.specs.Readable.{IsHypothesisOf, IsConclusio
 /// variable that is applied, numbers with a leading zero, an unknown restriction, a name without its arguments, a tuple of one
 /// part, and a text that is cut off.
 pub fn worked_readings()
-    ensures term { read_term sending (codes "enc(n@2[v0],k))") 7 ≡ Done (enc (made 2) k) 21 (codes ")") }
+    ensures term { read_term sending (codes "enc(n@2[v0],k))") 7 ≡
+        Done (enc (made 2) k) 21 (codes ")") }
     ensures bare { read_term sending (codes "enc#") 0 ≡ Refused 0 Arity }
     ensures unknown { read_term sending (codes "enc(x)") 0 ≡ Refused 4 Symbol }
     ensures applied { read_term sending (codes "v01(c)") 0 ≡ Refused 0 Symbol }
@@ -59,28 +60,38 @@ pub fn what_is_read_is_there()
 /// The text of a term of the protocol that is at most 4,096 levels deep is read as that term, where a byte follows with which
 /// no word alone could go on.
 pub fn term_texts_are_read()
-    ensures { (P : Protocol) (t : Term) (at b : ℕ) (rest : List ℕ) → HasNames P → IsTermOf P t → depth t ≤ 4096 → goes_on b ≡ false →
+    ensures { (P : Protocol) (t : Term) (at b : ℕ) (rest : List ℕ) → HasNames P → IsTermOf P t →
+        depth t ≤ 4096 → goes_on b ≡ false →
         (place : ℕ) × (read_term P (term_text P t (b ∷ rest)) at ≡ Done t place (b ∷ rest)) }
 {}
 
 /// Facts that were read are what the bytes begin with, and the texts of facts that may stand there are read as these.
 pub fn facts_are_read()
-    ensures hypotheses { (P : Protocol) (bytes : List ℕ) (at place : ℕ) (f : Fact Term) (rest : List ℕ) →
-        read_hypothesis P bytes at ≡ Found f place rest → (bytes ≡ fact_text P f rest) × IsHypothesisOf P f }
-    ensures conclusions { (P : Protocol) (bytes : List ℕ) (at place : ℕ) (f : Fact Term) (rest : List ℕ) →
-        read_conclusion P bytes at ≡ Found f place rest → (bytes ≡ fact_text P f rest) × IsConclusionOf P f }
-    ensures hypothesis_texts { (P : Protocol) (f : Fact Term) (rest : List ℕ) (at : ℕ) → HasNames P → IsHypothesisOf P f →
+    ensures hypotheses { (P : Protocol) (bytes : List ℕ) (at place : ℕ) (f : Fact Term)
+        (rest : List ℕ) →
+        read_hypothesis P bytes at ≡ Found f place rest → (bytes ≡ fact_text P f rest) ×
+        IsHypothesisOf P f }
+    ensures conclusions { (P : Protocol) (bytes : List ℕ) (at place : ℕ) (f : Fact Term)
+        (rest : List ℕ) →
+        read_conclusion P bytes at ≡ Found f place rest → (bytes ≡ fact_text P f rest) ×
+        IsConclusionOf P f }
+    ensures hypothesis_texts { (P : Protocol) (f : Fact Term) (rest : List ℕ) (at : ℕ) →
+        HasNames P → IsHypothesisOf P f →
         (place : ℕ) × (read_hypothesis P (fact_text P f rest) at ≡ Found f place rest) }
-    ensures conclusion_texts { (P : Protocol) (f : Fact Term) (rest : List ℕ) (at : ℕ) → HasNames P → IsConclusionOf P f →
+    ensures conclusion_texts { (P : Protocol) (f : Fact Term) (rest : List ℕ) (at : ℕ) →
+        HasNames P → IsConclusionOf P f →
         (place : ℕ) × (read_conclusion P (fact_text P f rest) at ≡ Found f place rest) }
 {}
 
 /// A clause that was read is what the bytes begin with, and may stand in a text; the text of such a clause is read as this
 /// clause, whatever follows.
 pub fn clauses_are_read()
-    ensures there { (P : Protocol) (bytes : List ℕ) (at place : ℕ) (c : Clause Term) (rest : List ℕ) →
-        read_clause P bytes at ≡ Found c place rest → (bytes ≡ clause_text P c rest) × IsReadable P c }
-    ensures texts { (P : Protocol) (c : Clause Term) (rest : List ℕ) (at : ℕ) → HasNames P → IsReadable P c →
+    ensures there { (P : Protocol) (bytes : List ℕ) (at place : ℕ) (c : Clause Term)
+        (rest : List ℕ) →
+        read_clause P bytes at ≡ Found c place rest → (bytes ≡ clause_text P c rest) ×
+        IsReadable P c }
+    ensures texts { (P : Protocol) (c : Clause Term) (rest : List ℕ) (at : ℕ) → HasNames P →
+        IsReadable P c →
         (place : ℕ) × (read_clause P (clause_text P c rest) at ≡ Found c place rest) }
 {}
 
@@ -88,13 +99,19 @@ pub fn clauses_are_read()
 /// as this certificate, whatever follows. So bytes that are refused begin with no certificate's text, and bytes begin with
 /// one at most.
 pub fn certificates_are_read()
-    ensures there { (P : Protocol) (bytes : List ℕ) (at place : ℕ) (c : Certificate) (rest : List ℕ) →
-        read_certificate P bytes at ≡ Found c place rest → (bytes ≡ certificate_text P c rest) × IsReadableCertificate P c }
-    ensures texts { (P : Protocol) (c : Certificate) (rest : List ℕ) (at : ℕ) → HasNames P → IsReadableCertificate P c →
+    ensures there { (P : Protocol) (bytes : List ℕ) (at place : ℕ) (c : Certificate)
+        (rest : List ℕ) →
+        read_certificate P bytes at ≡ Found c place rest → (bytes ≡ certificate_text P c rest) ×
+        IsReadableCertificate P c }
+    ensures texts { (P : Protocol) (c : Certificate) (rest : List ℕ) (at : ℕ) → HasNames P →
+        IsReadableCertificate P c →
         (place : ℕ) × (read_certificate P (certificate_text P c rest) at ≡ Found c place rest) }
-    ensures refused { (P : Protocol) (bytes : List ℕ) (at place : ℕ) (code : Code) (c : Certificate) (rest : List ℕ) →
+    ensures refused { (P : Protocol) (bytes : List ℕ) (at place : ℕ) (code : Code) (c : Certificate)
+        (rest : List ℕ) →
         HasNames P → read_certificate P bytes at ≡ Faulty place code → IsReadableCertificate P c →
         bytes ≡ certificate_text P c rest → ⊥ }
-    ensures one { (P : Protocol) (c d : Certificate) (k l : List ℕ) → HasNames P → IsReadableCertificate P c →
-        IsReadableCertificate P d → certificate_text P c k ≡ certificate_text P d l → (c ≡ d) × (k ≡ l) }
+    ensures one { (P : Protocol) (c d : Certificate) (k l : List ℕ) → HasNames P →
+        IsReadableCertificate P c →
+        IsReadableCertificate P d → certificate_text P c k ≡ certificate_text P d l → (c ≡ d) ×
+        (k ≡ l) }
 {}

@@ -31,7 +31,8 @@ fn above_term<B: Bank>(bank: &B, id: Id, least: u64) -> u64
 /// The same of terms.
 fn above_terms<B: Bank>(bank: &B, terms: &[Id], least: u64) -> u64
     requires { AreKnown (B.trees bank.now) terms.now }
-    ensures { result ≡ max least (above (flat_map leaves (map (tree_at (B.trees bank.now)) terms.now))) }
+    ensures { result ≡ max least (above (flat_map leaves
+        (map (tree_at (B.trees bank.now)) terms.now))) }
 {
     let mut found = least;
     for term in terms {
@@ -43,7 +44,8 @@ fn above_terms<B: Bank>(bank: &B, terms: &[Id], least: u64) -> u64
 /// The same of a fact.
 fn above_fact<B: Bank>(bank: &B, fact: &Fact, least: u64) -> u64
     requires { IsFactIn (B.trees bank.now) (fact_of fact.now) }
-    ensures { result ≡ max least (above (fact_variables (fact_at (B.trees bank.now) (fact_of fact.now)))) }
+    ensures { result ≡ max least (above (fact_variables
+        (fact_at (B.trees bank.now) (fact_of fact.now)))) }
 {
     match fact {
         Fact::Att(term) => above_term(bank, *term, least),
@@ -59,7 +61,8 @@ fn above_fact<B: Bank>(bank: &B, fact: &Fact, least: u64) -> u64
 /// The same of facts.
 fn above_facts<B: Bank>(bank: &B, facts: &[Fact], least: u64) -> u64
     requires { AreFactsIn (B.trees bank.now) (map fact_of facts.now) }
-    ensures { result ≡ max least (above (flat_map fact_variables (map (fact_at (B.trees bank.now)) (map fact_of facts.now)))) }
+    ensures { result ≡ max least (above (flat_map fact_variables
+        (map (fact_at (B.trees bank.now)) (map fact_of facts.now)))) }
 {
     let mut found = least;
     for fact in facts {
@@ -72,7 +75,8 @@ fn above_facts<B: Bank>(bank: &B, facts: &[Fact], least: u64) -> u64
 pub fn above_variables<B: Bank>(bank: &B, clause: &Clause) -> u64
     requires { IsClauseIn (B.trees bank.now) clause.now }
     ensures below { AreBelow result (clause_terms (clause_at (B.trees bank.now) clause.now)) }
-    ensures least { (n : ℕ) → AreBelow n (clause_terms (clause_at (B.trees bank.now) clause.now)) → result ≤ n }
+    ensures least { (n : ℕ) → AreBelow n (clause_terms (clause_at (B.trees bank.now) clause.now)) →
+        result ≤ n }
 {
     let found = above_fact(bank, &clause.concl, 0);
     above_facts(bank, &clause.hyps.items, found)

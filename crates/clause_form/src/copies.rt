@@ -44,7 +44,8 @@ fn read_terms<B: Bank>(alloc: Global, bank: &B, ids: &[Id]) -> Result<Trees, All
 /// The fact over trees.
 fn read_fact<B: Bank>(alloc: Global, bank: &B, fact: &Fact) -> Result<PlainFact, AllocError>
     requires { IsFactIn (B.trees bank.now) (fact_of fact.now) }
-    ensures { IfOk result (λ plain. plain_fact_of plain ≡ fact_at (B.trees bank.now) (fact_of fact.now)) }
+    ensures { IfOk result (λ plain. plain_fact_of plain ≡
+        fact_at (B.trees bank.now) (fact_of fact.now)) }
 {
     match fact {
         Fact::Att(term) => Ok(PlainFact::Att(read_term(alloc, bank, *term)?)),
@@ -71,7 +72,8 @@ fn read_fact<B: Bank>(alloc: Global, bank: &B, fact: &Fact) -> Result<PlainFact,
 /// The facts over trees.
 fn read_facts<B: Bank>(alloc: Global, bank: &B, facts: &[Fact]) -> Result<PlainFacts, AllocError>
     requires { AreFactsIn (B.trees bank.now) (map fact_of facts.now) }
-    ensures { IfOk result (λ plain. plain ≡ map (fact_at (B.trees bank.now)) (map fact_of facts.now)) }
+    ensures { IfOk result (λ plain. plain ≡ map (fact_at (B.trees bank.now))
+        (map fact_of facts.now)) }
 {
     let mut items = Vec::with_capacity(alloc, facts.len())?;
     for fact in facts {
@@ -128,7 +130,8 @@ fn copy_terms<B: Bank>(alloc: Global, bank: &mut B, trees: &[Tree]) -> Result<Id
 /// The fact over ids. On `Err` the bank may have grown.
 fn copy_fact<B: Bank>(alloc: Global, bank: &mut B, plain: &PlainFact) -> Result<Fact, AllocError>
     ensures grows { Grows (B.trees bank.old) (B.trees bank.new) }
-    ensures names { IfOk result (λ fact. NamesFact (B.trees bank.new) (fact_of fact) (plain_fact_of plain.now)) }
+    ensures names { IfOk result (λ fact. NamesFact (B.trees bank.new) (fact_of fact)
+        (plain_fact_of plain.now)) }
 {
     match plain {
         PlainFact::Att(term) => Ok(Fact::Att(copy_term(alloc, bank, term)?)),
@@ -159,7 +162,8 @@ fn copy_facts<B: Bank>(
     plain: &[PlainFact],
 ) -> Result<Facts, AllocError>
     ensures grows { Grows (B.trees bank.old) (B.trees bank.new) }
-    ensures names { IfOk result (λ facts. NameFacts (B.trees bank.new) facts (map plain_fact_of plain.now)) }
+    ensures names { IfOk result (λ facts. NameFacts (B.trees bank.new) facts
+        (map plain_fact_of plain.now)) }
 {
     let mut items = Vec::with_capacity(alloc, plain.len())?;
     for one in plain {

@@ -27,7 +27,8 @@ fn add_parts<B: Bank>(bank: &B, id: Id, facts: &mut Facts) -> Result<(), AllocEr
     requires term { id.index < length (B.trees bank.now) }
     requires facts { AreFactsIn (B.trees bank.now) facts.old }
     ensures known { AreFactsIn (B.trees bank.now) facts.new }
-    ensures parts { OnOk result (map (fact_at (B.trees bank.now)) facts.new ≡ map (fact_at (B.trees bank.now)) facts.old ++ flat (Att (tree_at (B.trees bank.now) id))) }
+    ensures parts { OnOk result (map (fact_at (B.trees bank.now)) facts.new ≡
+        map (fact_at (B.trees bank.now)) facts.old ++ flat (Att (tree_at (B.trees bank.now) id))) }
 {
     match bank.node(id) {
         Node::Var(_) => {
@@ -57,7 +58,9 @@ fn add_flat<B: Bank>(
     requires fact { IsFactIn (B.trees bank.now) (fact_of fact.now) }
     requires facts { AreFactsIn (B.trees bank.now) facts.old }
     ensures known { AreFactsIn (B.trees bank.now) facts.new }
-    ensures parts { OnOk result (map (fact_at (B.trees bank.now)) facts.new ≡ map (fact_at (B.trees bank.now)) facts.old ++ flat (fact_at (B.trees bank.now) (fact_of fact.now))) }
+    ensures parts { OnOk result (map (fact_at (B.trees bank.now)) facts.new ≡
+        map (fact_at (B.trees bank.now)) facts.old ++ flat
+        (fact_at (B.trees bank.now) (fact_of fact.now))) }
 {
     if let Fact::Att(term) = fact {
         add_parts(bank, *term, facts)?;
@@ -71,7 +74,8 @@ fn add_flat<B: Bank>(
 /// The flat facts that a fact stands for.
 fn flat_of<B: Bank>(alloc: Global, bank: &B, fact: &Fact) -> Result<Facts, AllocError>
     requires { IsFactIn (B.trees bank.now) (fact_of fact.now) }
-    ensures { IfOk result (λ made. NameFacts (B.trees bank.now) made (flat (fact_at (B.trees bank.now) (fact_of fact.now)))) }
+    ensures { IfOk result (λ made. NameFacts (B.trees bank.now) made
+        (flat (fact_at (B.trees bank.now) (fact_of fact.now)))) }
 {
     let mut made = Facts::new(alloc);
     add_flat(alloc, bank, fact, &mut made)?;
@@ -81,7 +85,8 @@ fn flat_of<B: Bank>(alloc: Global, bank: &B, fact: &Fact) -> Result<Facts, Alloc
 /// The flat facts that facts stand for.
 fn flat_of_all<B: Bank>(alloc: Global, bank: &B, facts: &Facts) -> Result<Facts, AllocError>
     requires { AreFactsIn (B.trees bank.now) facts.now }
-    ensures { IfOk result (λ made. NameFacts (B.trees bank.now) made (flat_map flat (map (fact_at (B.trees bank.now)) facts.now))) }
+    ensures { IfOk result (λ made. NameFacts (B.trees bank.now) made
+        (flat_map flat (map (fact_at (B.trees bank.now)) facts.now))) }
 {
     let mut made = Facts::new(alloc);
     for fact in &facts.items {
@@ -92,7 +97,8 @@ fn flat_of_all<B: Bank>(alloc: Global, bank: &B, facts: &Facts) -> Result<Facts,
 
 /// The clauses with these hypotheses, one for each conclusion, in order.
 fn concluding(alloc: Global, hyps: &Facts, concls: Facts) -> Result<Clauses, AllocError>
-    ensures { IfOk result (λ made. made ≡ map (λ concl. record { hypotheses = hyps.now; conclusion = concl }) concls) }
+    ensures { IfOk result (λ made. made ≡ map
+        (λ concl. record { hypotheses = hyps.now; conclusion = concl }) concls) }
 {
     let mut items = Vec::with_capacity(alloc, concls.items.len())?;
     for concl in concls.items {
@@ -108,7 +114,8 @@ fn concluding(alloc: Global, hyps: &Facts, concls: Facts) -> Result<Clauses, All
 /// The flat parts of a clause: one for each flat fact of its conclusion, in order.
 pub fn flatten<B: Bank>(alloc: Global, bank: &B, clause: &Clause) -> Result<Clauses, AllocError>
     requires { IsClauseIn (B.trees bank.now) clause.now }
-    ensures { IfOk result (λ parts. NameClauses (B.trees bank.now) parts (flat_parts (clause_at (B.trees bank.now) clause.now))) }
+    ensures { IfOk result (λ parts. NameClauses (B.trees bank.now) parts
+        (flat_parts (clause_at (B.trees bank.now) clause.now))) }
 {
     let hyps = flat_of_all(alloc, bank, &clause.hyps)?;
     let concls = flat_of(alloc, bank, &clause.concl)?;

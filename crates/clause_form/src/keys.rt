@@ -54,7 +54,8 @@ fn key_of_term<B: Bank>(bank: &B, id: Id, key: u64) -> u64
 /// A key with the numbers of terms.
 fn key_of_terms<B: Bank>(bank: &B, terms: &[Id], key: u64) -> u64
     requires { AreKnown (B.trees bank.now) terms.now }
-    ensures { result ≡ keyed key (flat_map term_numbers (map (tree_at (B.trees bank.now)) terms.now)) }
+    ensures { result ≡ keyed key (flat_map term_numbers
+        (map (tree_at (B.trees bank.now)) terms.now)) }
 {
     let mut found = key;
     for term in terms {

@@ -52,7 +52,9 @@ fn add_unless_lonely<B: Bank>(
     fact: &Fact,
 ) -> Result<(), AllocError>
     requires { IsFactIn (B.trees bank.now) (fact_of fact.now) }
-    ensures { OnOk result (facts.new ≡ facts.old ++ cond (is_lonely_fact numbers.now (fact_at (B.trees bank.now) (fact_of fact.now))) [] (fact_of fact.now ∷ [])) }
+    ensures { OnOk result (facts.new ≡ facts.old ++ cond
+        (is_lonely_fact numbers.now (fact_at (B.trees bank.now) (fact_of fact.now))) []
+        (fact_of fact.now ∷ [])) }
 {
     if is_lonely(bank, numbers, fact) {
         return Ok(());
@@ -70,7 +72,9 @@ fn each_shared<B: Bank>(
     facts: &[Fact],
 ) -> Result<Facts, AllocError>
     requires { AreFactsIn (B.trees bank.now) (map fact_of facts.now) }
-    ensures { IfOk result (λ kept. NameFacts (B.trees bank.now) kept (filter (λ h. not (is_lonely_fact numbers.now h)) (map (fact_at (B.trees bank.now)) (map fact_of facts.now)))) }
+    ensures { IfOk result (λ kept. NameFacts (B.trees bank.now) kept
+        (filter (λ h. not (is_lonely_fact numbers.now h))
+        (map (fact_at (B.trees bank.now)) (map fact_of facts.now)))) }
 {
     let mut kept = Facts::new(alloc);
     for fact in facts {
@@ -82,7 +86,8 @@ fn each_shared<B: Bank>(
 /// Whether none of the facts is `att` of a variable that occurs but once among these numbers.
 fn none_lonely<B: Bank>(bank: &B, numbers: &Counts, facts: &[Fact]) -> bool
     requires { AreFactsIn (B.trees bank.now) (map fact_of facts.now) }
-    ensures { result ≡ list_all (λ h. not (is_lonely_fact numbers.now h)) (map (fact_at (B.trees bank.now)) (map fact_of facts.now)) }
+    ensures { result ≡ list_all (λ h. not (is_lonely_fact numbers.now h))
+        (map (fact_at (B.trees bank.now)) (map fact_of facts.now)) }
 {
     for fact in facts {
         if is_lonely(bank, numbers, fact) {
@@ -100,7 +105,9 @@ fn without_lonely<B: Bank>(
     facts: Facts,
 ) -> Result<Facts, AllocError>
     requires { AreFactsIn (B.trees bank.now) facts }
-    ensures { IfOk result (λ kept. NameFacts (B.trees bank.now) kept (filter (λ h. not (is_lonely_fact numbers.now h)) (map (fact_at (B.trees bank.now)) facts))) }
+    ensures { IfOk result (λ kept. NameFacts (B.trees bank.now) kept
+        (filter (λ h. not (is_lonely_fact numbers.now h))
+        (map (fact_at (B.trees bank.now)) facts))) }
 {
     if none_lonely(bank, numbers, &facts.items) {
         return Ok(facts);
@@ -112,7 +119,8 @@ fn without_lonely<B: Bank>(
 pub(crate) fn is_general<B: Bank>(bank: &B, concl: &Fact, hyps: &[Fact]) -> bool
     requires concl { IsFactIn (B.trees bank.now) (fact_of concl.now) }
     requires hyps { AreFactsIn (B.trees bank.now) (map fact_of hyps.now) }
-    ensures { result ≡ (is_solved (map (fact_at (B.trees bank.now)) (map fact_of hyps.now)) && is_variable_known_fact (fact_at (B.trees bank.now) (fact_of concl.now))) }
+    ensures { result ≡ (is_solved (map (fact_at (B.trees bank.now)) (map fact_of hyps.now)) &&
+        is_variable_known_fact (fact_at (B.trees bank.now) (fact_of concl.now))) }
 {
     are_solved(bank, hyps) && is_variable_known(bank, concl)
 }
@@ -128,7 +136,12 @@ fn generalized_clause<B: Bank>(
     requires concl { IsFactIn (B.trees bank.old) (fact_of concl.now) }
     requires hyps { AreFactsIn (B.trees bank.old) (map fact_of hyps.now) }
     ensures grows { Grows (B.trees bank.old) (B.trees bank.new) }
-    ensures names { IfOk result (λ made. NamesClause (B.trees bank.new) made (numbered (generalized record { hypotheses = map (fact_at (B.trees bank.old)) (map fact_of hyps.now); conclusion = fact_at (B.trees bank.old) (fact_of concl.now) }))) }
+    ensures names { IfOk result (λ made. NamesClause (B.trees bank.new) made
+        (numbered (generalized record {
+          hypotheses = map (fact_at (B.trees bank.old))
+              (map fact_of hyps.now);
+          conclusion = fact_at (B.trees bank.old) (fact_of concl.now);
+        }))) }
 {
     if is_general(bank, concl, hyps) {
         return numbered_clause(alloc, bank, concl, &[]);
@@ -146,7 +159,12 @@ fn norm_grown<B: Bank>(
     requires concl { IsFactIn (B.trees bank.old) (fact_of concl.now) }
     requires hyps { AreFactsIn (B.trees bank.old) hyps }
     ensures grows { Grows (B.trees bank.old) (B.trees bank.new) }
-    ensures names { IfOk result (λ normal. NamesNorm (B.trees bank.new) normal (norm_of record { hypotheses = map (fact_at (B.trees bank.old)) hyps; conclusion = fact_at (B.trees bank.old) (fact_of concl.now) })) }
+    ensures names { IfOk result (λ normal. NamesNorm (B.trees bank.new) normal
+        (norm_of record {
+          hypotheses = map (fact_at (B.trees bank.old)) hyps;
+          conclusion = fact_at
+              (B.trees bank.old) (fact_of concl.now);
+        })) }
 {
     let kept = without_repeats(alloc, bank, hyps)?;
     if is_among(bank, &kept.items, concl) {
@@ -167,7 +185,8 @@ fn norm_grown<B: Bank>(
 pub fn norm<B: Bank>(alloc: Global, bank: &mut B, clause: Clause) -> Result<Normal, AllocError>
     requires { IsClauseIn (B.trees bank.old) clause }
     ensures grows { Grows (B.trees bank.old) (B.trees bank.new) }
-    ensures names { IfOk result (λ normal. NamesNorm (B.trees bank.new) normal (norm_of (clause_at (B.trees bank.old) clause))) }
+    ensures names { IfOk result (λ normal. NamesNorm (B.trees bank.new) normal
+        (norm_of (clause_at (B.trees bank.old) clause))) }
     ensures err { OnErr result (B.trees bank.new ≡ B.trees bank.old) }
 {
     let mark = bank.mark();

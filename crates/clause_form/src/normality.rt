@@ -33,7 +33,8 @@ fn is_flat<B: Bank>(bank: &B, fact: &Fact) -> bool
 /// Whether facts are flat.
 fn are_flat<B: Bank>(bank: &B, facts: &[Fact]) -> bool
     requires { AreFactsIn (B.trees bank.now) (map fact_of facts.now) }
-    ensures { result ≡ list_all is_flat_fact (map (fact_at (B.trees bank.now)) (map fact_of facts.now)) }
+    ensures { result ≡ list_all is_flat_fact (map (fact_at (B.trees bank.now))
+        (map fact_of facts.now)) }
 {
     for fact in facts {
         if !is_flat(bank, fact) {
@@ -54,7 +55,8 @@ fn is_flat_clause<B: Bank>(bank: &B, clause: &Clause) -> bool
 /// Whether no fact is the same as a later one.
 pub(crate) fn are_different<B: Bank>(bank: &B, facts: &[Fact]) -> bool
     requires { AreFactsIn (B.trees bank.now) (map fact_of facts.now) }
-    ensures { result ≡ are_different_facts (map (fact_at (B.trees bank.now)) (map fact_of facts.now)) }
+    ensures { result ≡ are_different_facts (map (fact_at (B.trees bank.now))
+        (map fact_of facts.now)) }
 {
     'each: for (i, fact) in facts.iter().enumerate() {
         if is_among(bank, &facts[i + 1..], fact) {
@@ -67,7 +69,8 @@ pub(crate) fn are_different<B: Bank>(bank: &B, facts: &[Fact]) -> bool
 /// Whether no hypothesis stands twice.
 fn has_no_repeats<B: Bank>(bank: &B, clause: &Clause) -> bool
     requires { IsClauseIn (B.trees bank.now) clause.now }
-    ensures { (result ≡ true) ↔ (without_repeats (clause_at (B.trees bank.now) clause.now) ≡ clause_at (B.trees bank.now) clause.now) }
+    ensures { (result ≡ true) ↔ (without_repeats (clause_at (B.trees bank.now) clause.now) ≡
+        clause_at (B.trees bank.now) clause.now) }
 {
     are_different(bank, &clause.hyps.items)
 }
@@ -93,7 +96,8 @@ fn one_more_if(is_same: bool, found: u64) -> u64
 /// So many occurrences of a variable, and those in a term; none are told beyond the greatest number.
 fn times_in_term<B: Bank>(bank: &B, number: u32, id: Id, found: u64) -> u64
     requires { id.index < length (B.trees bank.now) }
-    ensures { result ≡ min (found + times number (leaves (tree_at (B.trees bank.now) id))) (2 ^ 64 - 1) }
+    ensures { result ≡ min (found + times number (leaves (tree_at (B.trees bank.now) id)))
+        (2 ^ 64 - 1) }
 {
     match bank.node(id) {
         Node::Var(other) => one_more_if(number == other, found),
@@ -110,7 +114,8 @@ fn times_in_term<B: Bank>(bank: &B, number: u32, id: Id, found: u64) -> u64
 /// The same of terms.
 fn times_in_terms<B: Bank>(bank: &B, number: u32, terms: &[Id], found: u64) -> u64
     requires { AreKnown (B.trees bank.now) terms.now }
-    ensures { result ≡ min (found + times number (flat_map leaves (map (tree_at (B.trees bank.now)) terms.now))) (2 ^ 64 - 1) }
+    ensures { result ≡ min (found + times number
+        (flat_map leaves (map (tree_at (B.trees bank.now)) terms.now))) (2 ^ 64 - 1) }
 {
     let mut total = found;
     for term in terms {
@@ -122,7 +127,8 @@ fn times_in_terms<B: Bank>(bank: &B, number: u32, terms: &[Id], found: u64) -> u
 /// The same of a fact.
 fn times_in_fact<B: Bank>(bank: &B, number: u32, fact: &Fact, found: u64) -> u64
     requires { IsFactIn (B.trees bank.now) (fact_of fact.now) }
-    ensures { result ≡ min (found + times number (fact_variables (fact_at (B.trees bank.now) (fact_of fact.now)))) (2 ^ 64 - 1) }
+    ensures { result ≡ min (found + times number
+        (fact_variables (fact_at (B.trees bank.now) (fact_of fact.now)))) (2 ^ 64 - 1) }
 {
     match fact {
         Fact::Att(term) => times_in_term(bank, number, *term, found),
@@ -139,7 +145,9 @@ fn times_in_fact<B: Bank>(bank: &B, number: u32, fact: &Fact, found: u64) -> u64
 /// The same of facts.
 fn times_in_facts<B: Bank>(bank: &B, number: u32, facts: &[Fact], found: u64) -> u64
     requires { AreFactsIn (B.trees bank.now) (map fact_of facts.now) }
-    ensures { result ≡ min (found + times number (flat_map fact_variables (map (fact_at (B.trees bank.now)) (map fact_of facts.now)))) (2 ^ 64 - 1) }
+    ensures { result ≡ min (found + times number
+        (flat_map fact_variables (map (fact_at (B.trees bank.now)) (map fact_of facts.now))))
+        (2 ^ 64 - 1) }
 {
     let mut total = found;
     for fact in facts {
@@ -151,7 +159,8 @@ fn times_in_facts<B: Bank>(bank: &B, number: u32, facts: &[Fact], found: u64) ->
 /// How often a variable occurs in a clause; none are told beyond the greatest number.
 fn times_in_clause<B: Bank>(bank: &B, number: u32, clause: &Clause) -> u64
     requires { IsClauseIn (B.trees bank.now) clause.now }
-    ensures { result ≡ min (times number (clause_variables (clause_at (B.trees bank.now) clause.now))) (2 ^ 64 - 1) }
+    ensures { result ≡ min (times number (clause_variables
+        (clause_at (B.trees bank.now) clause.now))) (2 ^ 64 - 1) }
 {
     let found = times_in_fact(bank, number, &clause.concl, 0);
     times_in_facts(bank, number, &clause.hyps.items, found)
@@ -161,7 +170,8 @@ fn times_in_clause<B: Bank>(bank: &B, number: u32, clause: &Clause) -> u64
 fn is_lonely<B: Bank>(bank: &B, clause: &Clause, fact: &Fact) -> bool
     requires clause { IsClauseIn (B.trees bank.now) clause.now }
     requires fact { IsFactIn (B.trees bank.now) (fact_of fact.now) }
-    ensures { result ≡ is_lonely_fact (clause_variables (clause_at (B.trees bank.now) clause.now)) (fact_at (B.trees bank.now) (fact_of fact.now)) }
+    ensures { result ≡ is_lonely_fact (clause_variables (clause_at (B.trees bank.now) clause.now))
+        (fact_at (B.trees bank.now) (fact_of fact.now)) }
 {
     match fact {
         Fact::Att(term) => match bank.node(*term) {
@@ -176,7 +186,9 @@ fn is_lonely<B: Bank>(bank: &B, clause: &Clause, fact: &Fact) -> bool
 fn none_lonely<B: Bank>(bank: &B, clause: &Clause, facts: &[Fact]) -> bool
     requires clause { IsClauseIn (B.trees bank.now) clause.now }
     requires facts { AreFactsIn (B.trees bank.now) (map fact_of facts.now) }
-    ensures { result ≡ list_all (λ h. not (is_lonely_fact (clause_variables (clause_at (B.trees bank.now) clause.now)) h)) (map (fact_at (B.trees bank.now)) (map fact_of facts.now)) }
+    ensures { result ≡ list_all (λ h. not (is_lonely_fact
+        (clause_variables (clause_at (B.trees bank.now) clause.now)) h))
+        (map (fact_at (B.trees bank.now)) (map fact_of facts.now)) }
 {
     for fact in facts {
         if is_lonely(bank, clause, fact) {
@@ -189,7 +201,8 @@ fn none_lonely<B: Bank>(bank: &B, clause: &Clause, facts: &[Fact]) -> bool
 /// Whether no hypothesis says only that the attacker has something.
 fn has_none_lonely<B: Bank>(bank: &B, clause: &Clause) -> bool
     requires { IsClauseIn (B.trees bank.now) clause.now }
-    ensures { (result ≡ true) ↔ (without_lonely (clause_at (B.trees bank.now) clause.now) ≡ clause_at (B.trees bank.now) clause.now) }
+    ensures { (result ≡ true) ↔ (without_lonely (clause_at (B.trees bank.now) clause.now) ≡
+        clause_at (B.trees bank.now) clause.now) }
 {
     none_lonely(bank, clause, &clause.hyps.items)
 }
@@ -197,7 +210,8 @@ fn has_none_lonely<B: Bank>(bank: &B, clause: &Clause) -> bool
 /// Whether the fact is `att` of the variable 0.
 fn is_first_variable_known<B: Bank>(bank: &B, fact: &Fact) -> bool
     requires { IsFactIn (B.trees bank.now) (fact_of fact.now) }
-    ensures { (result ≡ true) ↔ (fact_at (B.trees bank.now) (fact_of fact.now) ≡ everything_known.conclusion) }
+    ensures { (result ≡ true) ↔ (fact_at (B.trees bank.now) (fact_of fact.now) ≡
+        everything_known.conclusion) }
 {
     match fact {
         Fact::Att(term) => match bank.node(*term) {
@@ -219,7 +233,8 @@ fn is_everything_known<B: Bank>(bank: &B, clause: &Clause) -> bool
 /// Whether the clause doesn't say that the attacker has everything, or says it in the shortest form.
 fn is_own_general<B: Bank>(bank: &B, clause: &Clause) -> bool
     requires { IsClauseIn (B.trees bank.now) clause.now }
-    ensures { (result ≡ true) ↔ (generalized (clause_at (B.trees bank.now) clause.now) ≡ clause_at (B.trees bank.now) clause.now) }
+    ensures { (result ≡ true) ↔ (generalized (clause_at (B.trees bank.now) clause.now) ≡
+        clause_at (B.trees bank.now) clause.now) }
 {
     !is_general(bank, &clause.concl, &clause.hyps.items) || is_everything_known(bank, clause)
 }
@@ -259,7 +274,8 @@ fn after_term<B: Bank>(bank: &B, id: Id, next: Option<u64>) -> Option<u64>
 /// The same of terms.
 fn after_terms<B: Bank>(bank: &B, terms: &[Id], next: Option<u64>) -> Option<u64>
     requires { AreKnown (B.trees bank.now) terms.now }
-    ensures { result ≡ numbers_after next (flat_map leaves (map (tree_at (B.trees bank.now)) terms.now)) }
+    ensures { result ≡ numbers_after next (flat_map leaves
+        (map (tree_at (B.trees bank.now)) terms.now)) }
 {
     let mut found = next;
     for term in terms {
@@ -271,7 +287,8 @@ fn after_terms<B: Bank>(bank: &B, terms: &[Id], next: Option<u64>) -> Option<u64
 /// The same of a fact.
 fn after_fact<B: Bank>(bank: &B, fact: &Fact, next: Option<u64>) -> Option<u64>
     requires { IsFactIn (B.trees bank.now) (fact_of fact.now) }
-    ensures { result ≡ numbers_after next (fact_variables (fact_at (B.trees bank.now) (fact_of fact.now))) }
+    ensures { result ≡ numbers_after next (fact_variables
+        (fact_at (B.trees bank.now) (fact_of fact.now))) }
 {
     match fact {
         Fact::Att(term) => after_term(bank, *term, next),
@@ -288,7 +305,8 @@ fn after_fact<B: Bank>(bank: &B, fact: &Fact, next: Option<u64>) -> Option<u64>
 /// The same of facts.
 fn after_facts<B: Bank>(bank: &B, facts: &[Fact], next: Option<u64>) -> Option<u64>
     requires { AreFactsIn (B.trees bank.now) (map fact_of facts.now) }
-    ensures { result ≡ numbers_after next (flat_map fact_variables (map (fact_at (B.trees bank.now)) (map fact_of facts.now))) }
+    ensures { result ≡ numbers_after next (flat_map fact_variables
+        (map (fact_at (B.trees bank.now)) (map fact_of facts.now))) }
 {
     let mut found = next;
     for fact in facts {
@@ -300,7 +318,8 @@ fn after_facts<B: Bank>(bank: &B, facts: &[Fact], next: Option<u64>) -> Option<u
 /// Whether the variables are numbered from 0 by their first occurrence, the conclusion's first.
 fn is_numbered<B: Bank>(bank: &B, clause: &Clause) -> bool
     requires { IsClauseIn (B.trees bank.now) clause.now }
-    ensures { (result ≡ true) ↔ (numbered (clause_at (B.trees bank.now) clause.now) ≡ clause_at (B.trees bank.now) clause.now) }
+    ensures { (result ≡ true) ↔ (numbered (clause_at (B.trees bank.now) clause.now) ≡
+        clause_at (B.trees bank.now) clause.now) }
 {
     let first = after_fact(bank, &clause.concl, Some(0));
     after_facts(bank, &clause.hyps.items, first).is_some()

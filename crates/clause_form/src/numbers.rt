@@ -88,7 +88,8 @@ fn place_among(number: u32, numbers: &[u32]) -> usize
 
 /// Adds a number where the test passes.
 fn add_if(passed: bool, number: u32, numbers: &mut Vec<u32>) -> Result<(), AllocError>
-    ensures { OnOk result (numbers.new.items ≡ cond passed (numbers.old.items ++ number ∷ []) numbers.old.items) }
+    ensures { OnOk result (numbers.new.items ≡
+        cond passed (numbers.old.items ++ number ∷ []) numbers.old.items) }
 {
     if !passed {
         return Ok(());

@@ -40,7 +40,8 @@ fn argument<B: Bank>(bank: &B, id: Id, place: usize) -> Id
     requires known { id.index < length (B.trees bank.now) }
     requires there { place < length (arguments (tree_at (B.trees bank.now) id)) }
     ensures known { result.index < length (B.trees bank.now) }
-    ensures is { tree_at (B.trees bank.now) result ≡ slice_index_or (arguments (tree_at (B.trees bank.now) id)) place (Leaf 0) }
+    ensures is { tree_at (B.trees bank.now) result ≡
+        slice_index_or (arguments (tree_at (B.trees bank.now) id)) place (Leaf 0) }
 {
     match bank.node(id) {
         Node::Var(_) => id,
@@ -65,7 +66,8 @@ fn renumbered_variable<B: Bank>(
     requires known { id.index < length (B.trees bank.old) }
     requires variable { tree_at (B.trees bank.old) id ≡ Leaf number }
     ensures grows { Grows (B.trees bank.old) (B.trees bank.new) }
-    ensures names { IfOk result (λ made. Names (B.trees bank.new) made (bind (placed order.now) (tree_at (B.trees bank.old) id))) }
+    ensures names { IfOk result (λ made. Names (B.trees bank.new) made
+        (bind (placed order.now) (tree_at (B.trees bank.old) id))) }
 {
     let at = order.place(number);
     if at == number as usize {
@@ -85,7 +87,8 @@ fn renumbered<B: Bank>(
 ) -> Result<Id, AllocError>
     requires { id.index < length (B.trees bank.old) }
     ensures grows { Grows (B.trees bank.old) (B.trees bank.new) }
-    ensures names { IfOk result (λ made. Names (B.trees bank.new) made (bind (placed order.now) (tree_at (B.trees bank.old) id))) }
+    ensures names { IfOk result (λ made. Names (B.trees bank.new) made
+        (bind (placed order.now) (tree_at (B.trees bank.old) id))) }
     ensures stack { OnOk result (stack.new.items ≡ stack.old.items) }
 {
     match bank.node(id) {
@@ -121,7 +124,8 @@ fn renumbered_terms<B: Bank>(
 ) -> Result<Ids, AllocError>
     requires { AreKnown (B.trees bank.old) terms.now }
     ensures grows { Grows (B.trees bank.old) (B.trees bank.new) }
-    ensures names { IfOk result (λ made. NameTerms (B.trees bank.new) made (map (bind (placed order.now)) (map (tree_at (B.trees bank.old)) terms.now))) }
+    ensures names { IfOk result (λ made. NameTerms (B.trees bank.new) made
+        (map (bind (placed order.now)) (map (tree_at (B.trees bank.old)) terms.now))) }
 {
     let mut items = Vec::with_capacity(alloc, terms.len())?;
     'each: for term in terms {
@@ -141,7 +145,8 @@ fn renumbered_fact<B: Bank>(
 ) -> Result<Fact, AllocError>
     requires { IsFactIn (B.trees bank.old) (fact_of fact.now) }
     ensures grows { Grows (B.trees bank.old) (B.trees bank.new) }
-    ensures names { IfOk result (λ made. NamesFact (B.trees bank.new) (fact_of made) (fact_under (placed order.now) (fact_at (B.trees bank.old) (fact_of fact.now)))) }
+    ensures names { IfOk result (λ made. NamesFact (B.trees bank.new) (fact_of made)
+        (fact_under (placed order.now) (fact_at (B.trees bank.old) (fact_of fact.now)))) }
 {
     match fact {
         Fact::Att(term) => Ok(Fact::Att(renumbered(bank, order, stack, *term)?)),
@@ -175,7 +180,9 @@ fn renumbered_facts<B: Bank>(
 ) -> Result<Facts, AllocError>
     requires { AreFactsIn (B.trees bank.old) (map fact_of facts.now) }
     ensures grows { Grows (B.trees bank.old) (B.trees bank.new) }
-    ensures names { IfOk result (λ made. NameFacts (B.trees bank.new) made (map (fact_under (placed order.now)) (map (fact_at (B.trees bank.old)) (map fact_of facts.now)))) }
+    ensures names { IfOk result (λ made. NameFacts (B.trees bank.new) made
+        (map (fact_under (placed order.now)) (map (fact_at (B.trees bank.old))
+        (map fact_of facts.now)))) }
 {
     let mut items = Vec::with_capacity(alloc, facts.len())?;
     'each: for fact in facts {
@@ -195,7 +202,11 @@ pub(crate) fn numbered_clause<B: Bank>(
     requires concl { IsFactIn (B.trees bank.old) (fact_of concl.now) }
     requires hyps { AreFactsIn (B.trees bank.old) (map fact_of hyps.now) }
     ensures grows { Grows (B.trees bank.old) (B.trees bank.new) }
-    ensures names { IfOk result (λ made. NamesClause (B.trees bank.new) made (numbered record { hypotheses = map (fact_at (B.trees bank.old)) (map fact_of hyps.now); conclusion = fact_at (B.trees bank.old) (fact_of concl.now) })) }
+    ensures names { IfOk result (λ made. NamesClause (B.trees bank.new) made
+        (numbered record {
+          hypotheses = map (fact_at (B.trees bank.old)) (map fact_of hyps.now);
+          conclusion = fact_at (B.trees bank.old) (fact_of concl.now);
+        })) }
 {
     let numbers = variables_of(alloc, bank, concl, hyps)?;
     let firsts = distinct_of(alloc, numbers)?;

@@ -27,7 +27,10 @@ fn add_new<B: Bank>(
 ) -> Result<(), AllocError>
     requires facts { AreFactsIn (B.trees bank.now) facts.old }
     requires fact { IsFactIn (B.trees bank.now) (fact_of fact.now) }
-    ensures { OnOk result (facts.new ≡ cond (is_among_facts (map (fact_at (B.trees bank.now)) facts.old) (fact_at (B.trees bank.now) (fact_of fact.now))) facts.old (facts.old ++ fact_of fact.now ∷ [])) }
+    ensures { OnOk result (facts.new ≡ cond (is_among_facts
+        (map (fact_at (B.trees bank.now)) facts.old)
+        (fact_at (B.trees bank.now) (fact_of fact.now))) facts.old
+        (facts.old ++ fact_of fact.now ∷ [])) }
 {
     if is_among(bank, &facts.items, fact) {
         return Ok(());
@@ -40,7 +43,8 @@ fn add_new<B: Bank>(
 /// Copies of the facts, of those that are the same the first.
 fn each_once<B: Bank>(alloc: Global, bank: &B, facts: &[Fact]) -> Result<Facts, AllocError>
     requires { AreFactsIn (B.trees bank.now) (map fact_of facts.now) }
-    ensures { IfOk result (λ kept. NameFacts (B.trees bank.now) kept (distinct is_same_fact (map (fact_at (B.trees bank.now)) (map fact_of facts.now)))) }
+    ensures { IfOk result (λ kept. NameFacts (B.trees bank.now) kept
+        (distinct is_same_fact (map (fact_at (B.trees bank.now)) (map fact_of facts.now)))) }
 {
     let mut kept = Facts::new(alloc);
     for fact in facts {
@@ -53,7 +57,8 @@ fn each_once<B: Bank>(alloc: Global, bank: &B, facts: &[Fact]) -> Result<Facts, 
 fn is_at<B: Bank>(bank: &B, facts: &[Fact], place: usize, fact: &Fact) -> bool
     requires facts { AreFactsIn (B.trees bank.now) (map fact_of facts.now) }
     requires fact { IsFactIn (B.trees bank.now) (fact_of fact.now) }
-    ensures { result ≡ true → is_among_facts (map (fact_at (B.trees bank.now)) (map fact_of facts.now)) (fact_at (B.trees bank.now) (fact_of fact.now)) ≡ true }
+    ensures { result ≡ true → is_among_facts (map (fact_at (B.trees bank.now))
+        (map fact_of facts.now)) (fact_at (B.trees bank.now) (fact_of fact.now)) ≡ true }
 {
     if place < facts.len() {
         return same_fact(bank, fact, &facts[place]);
@@ -65,8 +70,11 @@ fn is_at<B: Bank>(bank: &B, facts: &[Fact], place: usize, fact: &Fact) -> bool
 fn is_among_placed<B: Bank>(bank: &B, facts: &[Fact], place: Option<usize>, fact: &Fact) -> bool
     requires facts { AreFactsIn (B.trees bank.now) (map fact_of facts.now) }
     requires fact { IsFactIn (B.trees bank.now) (fact_of fact.now) }
-    requires absent { place ≡ None → is_among_facts (map (fact_at (B.trees bank.now)) (map fact_of facts.now)) (fact_at (B.trees bank.now) (fact_of fact.now)) ≡ false }
-    ensures { result ≡ is_among_facts (map (fact_at (B.trees bank.now)) (map fact_of facts.now)) (fact_at (B.trees bank.now) (fact_of fact.now)) }
+    requires absent { place ≡ None → is_among_facts
+        (map (fact_at (B.trees bank.now)) (map fact_of facts.now))
+        (fact_at (B.trees bank.now) (fact_of fact.now)) ≡ false }
+    ensures { result ≡ is_among_facts (map (fact_at (B.trees bank.now)) (map fact_of facts.now))
+        (fact_at (B.trees bank.now) (fact_of fact.now)) }
 {
     match place {
         Some(at) => {
@@ -90,7 +98,10 @@ fn add_placed<B: Bank>(
     requires facts { AreFactsIn (B.trees bank.now) facts.old }
     requires fact { IsFactIn (B.trees bank.now) (fact_of fact.now) }
     requires keyed { HaveKeys (B.trees bank.now) facts.old places.old }
-    ensures added { OnOk result (facts.new ≡ cond (is_among_facts (map (fact_at (B.trees bank.now)) facts.old) (fact_at (B.trees bank.now) (fact_of fact.now))) facts.old (facts.old ++ fact_of fact.now ∷ [])) }
+    ensures added { OnOk result (facts.new ≡ cond
+        (is_among_facts (map (fact_at (B.trees bank.now)) facts.old)
+        (fact_at (B.trees bank.now) (fact_of fact.now))) facts.old
+        (facts.old ++ fact_of fact.now ∷ [])) }
     ensures keyed { OnOk result (HaveKeys (B.trees bank.now) facts.new places.new) }
 {
     let key = key_of_fact(bank, fact);
@@ -108,7 +119,8 @@ fn add_placed<B: Bank>(
 /// Copies of many facts, of those that are the same the first.
 fn each_of_many<B: Bank>(alloc: Global, bank: &B, facts: &[Fact]) -> Result<Facts, AllocError>
     requires { AreFactsIn (B.trees bank.now) (map fact_of facts.now) }
-    ensures { IfOk result (λ kept. NameFacts (B.trees bank.now) kept (distinct is_same_fact (map (fact_at (B.trees bank.now)) (map fact_of facts.now)))) }
+    ensures { IfOk result (λ kept. NameFacts (B.trees bank.now) kept
+        (distinct is_same_fact (map (fact_at (B.trees bank.now)) (map fact_of facts.now)))) }
 {
     let mut kept = Facts::new(alloc);
     let mut places = HashMap::new(alloc);
@@ -125,7 +137,8 @@ pub(crate) fn without_repeats<B: Bank>(
     facts: Facts,
 ) -> Result<Facts, AllocError>
     requires { AreFactsIn (B.trees bank.now) facts }
-    ensures { IfOk result (λ kept. NameFacts (B.trees bank.now) kept (distinct is_same_fact (map (fact_at (B.trees bank.now)) facts))) }
+    ensures { IfOk result (λ kept. NameFacts (B.trees bank.now) kept
+        (distinct is_same_fact (map (fact_at (B.trees bank.now)) facts))) }
 {
     if facts.items.len() >= MANY {
         return each_of_many(alloc, bank, &facts.items);

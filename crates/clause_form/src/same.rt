@@ -14,7 +14,8 @@ use unify_match::same_term;
 fn is_same_term<B: Bank>(bank: &B, left: Id, right: Id) -> bool
     requires left { left.index < length (B.trees bank.now) }
     requires right { right.index < length (B.trees bank.now) }
-    ensures { result ≡ is_same_tree (tree_at (B.trees bank.now) left) (tree_at (B.trees bank.now) right) }
+    ensures { result ≡ is_same_tree (tree_at (B.trees bank.now) left)
+        (tree_at (B.trees bank.now) right) }
 {
     if bank.size(left) != bank.size(right) {
         return false;
@@ -26,7 +27,8 @@ fn is_same_term<B: Bank>(bank: &B, left: Id, right: Id) -> bool
 fn are_same_terms<B: Bank>(bank: &B, lefts: &[Id], rights: &[Id]) -> bool
     requires lefts { AreKnown (B.trees bank.now) lefts.now }
     requires rights { AreKnown (B.trees bank.now) rights.now }
-    ensures { result ≡ are_same_trees (map (tree_at (B.trees bank.now)) lefts.now) (map (tree_at (B.trees bank.now)) rights.now) }
+    ensures { result ≡ are_same_trees (map (tree_at (B.trees bank.now)) lefts.now)
+        (map (tree_at (B.trees bank.now)) rights.now) }
 {
     if lefts.len() != rights.len() {
         return false;
@@ -43,7 +45,8 @@ fn are_same_terms<B: Bank>(bank: &B, lefts: &[Id], rights: &[Id]) -> bool
 pub fn same_fact<B: Bank>(bank: &B, left: &Fact, right: &Fact) -> bool
     requires left { IsFactIn (B.trees bank.now) (fact_of left.now) }
     requires right { IsFactIn (B.trees bank.now) (fact_of right.now) }
-    ensures { result ≡ is_same_fact (fact_at (B.trees bank.now) (fact_of left.now)) (fact_at (B.trees bank.now) (fact_of right.now)) }
+    ensures { result ≡ is_same_fact (fact_at (B.trees bank.now) (fact_of left.now))
+        (fact_at (B.trees bank.now) (fact_of right.now)) }
 {
     match left {
         Fact::Att(t) => match right {
@@ -73,7 +76,8 @@ pub fn same_fact<B: Bank>(bank: &B, left: &Fact, right: &Fact) -> bool
 pub fn is_among<B: Bank>(bank: &B, facts: &[Fact], fact: &Fact) -> bool
     requires facts { AreFactsIn (B.trees bank.now) (map fact_of facts.now) }
     requires fact { IsFactIn (B.trees bank.now) (fact_of fact.now) }
-    ensures { result ≡ is_among_facts (map (fact_at (B.trees bank.now)) (map fact_of facts.now)) (fact_at (B.trees bank.now) (fact_of fact.now)) }
+    ensures { result ≡ is_among_facts (map (fact_at (B.trees bank.now)) (map fact_of facts.now))
+        (fact_at (B.trees bank.now) (fact_of fact.now)) }
 {
     for one in facts {
         if same_fact(bank, fact, one) {

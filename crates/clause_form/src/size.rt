@@ -48,7 +48,8 @@ pub fn size_of_fact<B: Bank>(bank: &B, fact: &Fact) -> u64
 /// The size of facts together.
 fn size_of_facts<B: Bank>(bank: &B, facts: &[Fact]) -> u64
     requires { AreFactsIn (B.trees bank.now) (map fact_of facts.now) }
-    ensures { result ≡ capped (total fact_size (map (fact_at (B.trees bank.now)) (map fact_of facts.now))) }
+    ensures { result ≡ capped (total fact_size
+        (map (fact_at (B.trees bank.now)) (map fact_of facts.now))) }
 {
     let mut symbols = 0u64;
     for fact in facts {

@@ -13,7 +13,8 @@ use term_tree::{Bank, Id, Node};
 /// Adds the variables of a term, each as often as it occurs.
 fn add_variables<B: Bank>(bank: &B, id: Id, numbers: &mut Vec<u32>) -> Result<(), AllocError>
     requires { id.index < length (B.trees bank.now) }
-    ensures { OnOk result (numbers.new.items ≡ numbers.old.items ++ leaves (tree_at (B.trees bank.now) id)) }
+    ensures { OnOk result (numbers.new.items ≡
+        numbers.old.items ++ leaves (tree_at (B.trees bank.now) id)) }
 {
     match bank.node(id) {
         Node::Var(number) => {
@@ -36,7 +37,8 @@ fn add_terms_variables<B: Bank>(
     numbers: &mut Vec<u32>,
 ) -> Result<(), AllocError>
     requires { AreKnown (B.trees bank.now) terms.now }
-    ensures { OnOk result (numbers.new.items ≡ numbers.old.items ++ flat_map leaves (map (tree_at (B.trees bank.now)) terms.now)) }
+    ensures { OnOk result (numbers.new.items ≡
+        numbers.old.items ++ flat_map leaves (map (tree_at (B.trees bank.now)) terms.now)) }
 {
     for term in terms {
         add_variables(bank, *term, numbers)?;
@@ -51,7 +53,8 @@ fn add_fact_variables<B: Bank>(
     numbers: &mut Vec<u32>,
 ) -> Result<(), AllocError>
     requires { IsFactIn (B.trees bank.now) (fact_of fact.now) }
-    ensures { OnOk result (numbers.new.items ≡ numbers.old.items ++ fact_variables (fact_at (B.trees bank.now) (fact_of fact.now))) }
+    ensures { OnOk result (numbers.new.items ≡
+        numbers.old.items ++ fact_variables (fact_at (B.trees bank.now) (fact_of fact.now))) }
 {
     match fact {
         Fact::Att(term) => add_variables(bank, *term, numbers),
@@ -74,7 +77,9 @@ pub(crate) fn variables_of<B: Bank>(
 ) -> Result<Vec<u32>, AllocError>
     requires concl { IsFactIn (B.trees bank.now) (fact_of concl.now) }
     requires hyps { AreFactsIn (B.trees bank.now) (map fact_of hyps.now) }
-    ensures { IfOk result (λ numbers. numbers.items ≡ flat_map fact_variables (fact_at (B.trees bank.now) (fact_of concl.now) ∷ map (fact_at (B.trees bank.now)) (map fact_of hyps.now))) }
+    ensures { IfOk result (λ numbers. numbers.items ≡
+        flat_map fact_variables (fact_at (B.trees bank.now) (fact_of concl.now) ∷ map
+        (fact_at (B.trees bank.now)) (map fact_of hyps.now))) }
 {
     let mut numbers = Vec::with_capacity(alloc, 16)?;
     add_fact_variables(bank, concl, &mut numbers)?;

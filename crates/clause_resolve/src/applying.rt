@@ -174,7 +174,8 @@ fn applied_facts<B: Bank>(
     requires ready { IsReady (B.trees bank.old) binds.now.pairs }
     requires small { left.old ≤ most_symbols }
     ensures grows { Grows (B.trees bank.old) (B.trees bank.new) }
-    ensures outcome { let trees = map (fact_under (resolved (seen (B.trees bank.old) binds.now.pairs)))
+    ensures outcome { let trees = map (fact_under
+        (resolved (seen (B.trees bank.old) binds.now.pairs)))
         (map (fact_at (B.trees bank.old)) (map fact_of facts.now)) in
         MatchResult result
         (λ made. NameFacts (B.trees bank.new) made trees ×

@@ -25,7 +25,10 @@ pub use crate::saturating::saturate;
 /// Entries that tell a log name trees, and tell it as the bank grows. Those that no later one is told to subsume have
 /// the log's live clauses, in order.
 pub fn entries_tell_logs()
-    ensures known { (all : List Term) (entries : List ToldEntry) (log : List OfferedEntry) → TellLog all entries log → AreClausesIn all (clauses_of entries) }
-    ensures grown { (old new : List Term) (entries : List ToldEntry) (log : List OfferedEntry) → Grows old new → TellLog old entries log → TellLog new entries log }
-    ensures live { (all : List Term) (entries : List ToldEntry) (log : List OfferedEntry) → TellLog all entries log → AreLive log (live_clauses all entries) }
+    ensures known { (all : List Term) (entries : List ToldEntry) (log : List OfferedEntry) →
+        TellLog all entries log → AreClausesIn all (clauses_of entries) }
+    ensures grown { (old new : List Term) (entries : List ToldEntry) (log : List OfferedEntry) →
+        Grows old new → TellLog old entries log → TellLog new entries log }
+    ensures live { (all : List Term) (entries : List ToldEntry) (log : List OfferedEntry) →
+        TellLog all entries log → AreLive log (live_clauses all entries) }
 {}

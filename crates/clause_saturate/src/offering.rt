@@ -24,7 +24,11 @@ fn subsumes<B: Bank>(
 ) -> Result<bool, AllocError>
     requires general { IsFit (B.trees bank.now) general.now }
     requires special { IsFit (B.trees bank.now) special.now }
-    ensures { IfOk result (λ yes. MatchBool yes (Subsumes (clause_at (B.trees bank.now) general.now) (clause_at (B.trees bank.now) special.now)) (Subsumes (clause_at (B.trees bank.now) general.now) (clause_at (B.trees bank.now) special.now) → ⊥)) }
+    ensures { IfOk result (λ yes. MatchBool yes
+        (Subsumes (clause_at (B.trees bank.now) general.now)
+        (clause_at (B.trees bank.now) special.now))
+        (Subsumes (clause_at (B.trees bank.now) general.now)
+        (clause_at (B.trees bank.now) special.now) → ⊥)) }
 {
     let row = cover_row(alloc, bank, general, special)?;
     Ok(row.is_some())
@@ -39,7 +43,9 @@ fn covers<B: Bank>(
 ) -> Result<bool, AllocError>
     requires entry { IsFit (B.trees bank.now) entry.now.clause }
     requires clause { IsFit (B.trees bank.now) clause.now }
-    ensures { IfOk result (λ yes. MatchBool yes (LiveCovers (B.trees bank.now) entry.now (clause_at (B.trees bank.now) clause.now)) (LiveCovers (B.trees bank.now) entry.now (clause_at (B.trees bank.now) clause.now) → ⊥)) }
+    ensures { IfOk result (λ yes. MatchBool yes
+        (LiveCovers (B.trees bank.now) entry.now (clause_at (B.trees bank.now) clause.now))
+        (LiveCovers (B.trees bank.now) entry.now (clause_at (B.trees bank.now) clause.now) → ⊥)) }
 {
     match entry.by {
         Some(_) => Ok(false),
@@ -56,7 +62,10 @@ fn is_covered<B: Bank>(
 ) -> Result<bool, AllocError>
     requires entries { AreFit (B.trees bank.now) (clauses_of entries.now) }
     requires clause { IsFit (B.trees bank.now) clause.now }
-    ensures { IfOk result (λ yes. MatchBool yes (SomeLiveCovers (B.trees bank.now) entries.now (clause_at (B.trees bank.now) clause.now)) (SomeLiveCovers (B.trees bank.now) entries.now (clause_at (B.trees bank.now) clause.now) → ⊥)) }
+    ensures { IfOk result (λ yes. MatchBool yes
+        (SomeLiveCovers (B.trees bank.now) entries.now (clause_at (B.trees bank.now) clause.now))
+        (SomeLiveCovers (B.trees bank.now) entries.now (clause_at (B.trees bank.now) clause.now) →
+        ⊥)) }
 {
     'each: for entry in entries {
         if covers(alloc, bank, entry, clause)? {
@@ -75,7 +84,9 @@ fn beats<B: Bank>(
 ) -> Result<bool, AllocError>
     requires clause { IsFit (B.trees bank.now) clause.now }
     requires entry { IsFit (B.trees bank.now) entry.now.clause }
-    ensures { IfOk result (λ yes. MatchBool yes (BeatsLive (B.trees bank.now) (clause_at (B.trees bank.now) clause.now) entry.now) (BeatsLive (B.trees bank.now) (clause_at (B.trees bank.now) clause.now) entry.now → ⊥)) }
+    ensures { IfOk result (λ yes. MatchBool yes
+        (BeatsLive (B.trees bank.now) (clause_at (B.trees bank.now) clause.now) entry.now)
+        (BeatsLive (B.trees bank.now) (clause_at (B.trees bank.now) clause.now) entry.now → ⊥)) }
 {
     match entry.by {
         Some(_) => Ok(false),
@@ -93,7 +104,8 @@ fn mark<B: Bank>(
 ) -> Result<(), AllocError>
     requires clause { IsFit (B.trees bank.now) clause.now }
     requires entry { IsFit (B.trees bank.now) entry.old.clause }
-    ensures { OnOk result (IsMarked (B.trees bank.now) (clause_at (B.trees bank.now) clause.now) number entry.old entry.new) }
+    ensures { OnOk result (IsMarked (B.trees bank.now) (clause_at (B.trees bank.now) clause.now)
+        number entry.old entry.new) }
 {
     if beats(alloc, bank, clause, entry)? {
         entry.by = Some(number);
@@ -111,7 +123,8 @@ fn mark_all<B: Bank>(
 ) -> Result<(), AllocError>
     requires clause { IsFit (B.trees bank.now) clause.now }
     requires entries { AreFit (B.trees bank.now) (clauses_of entries.old) }
-    ensures { OnOk result (AreMarked (B.trees bank.now) (clause_at (B.trees bank.now) clause.now) number entries.old entries.new) }
+    ensures { OnOk result (AreMarked (B.trees bank.now) (clause_at (B.trees bank.now) clause.now)
+        number entries.old entries.new) }
 {
     let mut i = 0;
     'each: while i < entries.len() {
@@ -126,7 +139,8 @@ fn add<B: Bank>(walk: &mut Walk, bank: &B, entry: Entry) -> Result<(), AllocErro
     requires entries { AreFit (B.trees bank.now) (clauses_of walk.old.items.items) }
     requires entry { IsFit (B.trees bank.now) entry.clause }
     ensures kept { (walk.new.budget ≡ walk.old.budget) × (walk.new.asked ≡ walk.old.asked) }
-    ensures pushed { OnOk result (IsPushed (B.trees bank.now) walk.old.items.items entry walk.new.items.items) }
+    ensures pushed { OnOk result (IsPushed (B.trees bank.now) walk.old.items.items entry
+        walk.new.items.items) }
 {
     let number = walk.items.len() + 1;
     mark_all(walk.alloc, bank, &entry.clause, number, &mut walk.items)?;
@@ -146,7 +160,11 @@ pub(crate) fn offer<B: Bank>(
     requires clause { IsFit (B.trees bank.now) clause.now }
     requires within { length walk.old.items.items ≤ walk.old.budget }
     ensures kept { (walk.new.budget ≡ walk.old.budget) × (walk.new.asked ≡ walk.old.asked) }
-    ensures made { (log : List EntryOf) (at : Key) → TellLog (B.trees bank.now) walk.old.items.items log → IsOrigin log origin at → IfOk result (λ due. IsOfferMade (B.trees bank.now) log walk.old.items.items walk.new.items.items walk.old.budget record { key = at; clause = clause_at (B.trees bank.now) clause.now } due) }
+    ensures made { (log : List EntryOf) (at : Key) →
+        TellLog (B.trees bank.now) walk.old.items.items log → IsOrigin log origin at →
+        IfOk result (λ due. IsOfferMade (B.trees bank.now) log walk.old.items.items
+        walk.new.items.items walk.old.budget record
+        { key = at; clause = clause_at (B.trees bank.now) clause.now } due) }
 {
     if is_covered(walk.alloc, bank, &walk.items, clause)? {
         return Ok(None);

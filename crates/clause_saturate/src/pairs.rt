@@ -61,8 +61,10 @@ fn offer_resolvents<B: Bank>(
 ) -> Result<Option<Entry>, AllocError>
     ghost task: { Task }
     requires walked { IsWalked (B.trees bank.now) task walk.old (key (major pair) (minor pair) 1) }
-    requires made { IsMadeBy (B.trees bank.now) (B.trees bank.now) walk.old.items.items pair clauses.now }
-    ensures offered { IfOk result (λ due. HasOffered (B.trees bank.now) task walk.new (key (major pair) (minor pair + 1) 1) due) }
+    requires made { IsMadeBy (B.trees bank.now) (B.trees bank.now) walk.old.items.items pair
+        clauses.now }
+    ensures offered { IfOk result (λ due. HasOffered (B.trees bank.now) task walk.new
+        (key (major pair) (minor pair + 1) 1) due) }
     ensures entries { OnOk result (AreSameOrMore walk.old.items.items walk.new.items.items) }
 {
     let mut k = 0;
@@ -91,11 +93,15 @@ fn keep<B: Bank>(
 ) -> Result<Option<Stop>, AllocError>
     ghost task: { Task }
     requires mark { mark.len ≤ length (B.trees bank.old) }
-    requires walked { IsWalked (take mark.len (B.trees bank.old)) task walk.old (key (major pair) (minor pair) 1) }
-    requires made { IsMadeBy (take mark.len (B.trees bank.old)) (B.trees bank.old) walk.old.items.items pair clauses.now }
+    requires walked { IsWalked (take mark.len (B.trees bank.old)) task walk.old
+        (key (major pair) (minor pair) 1) }
+    requires made { IsMadeBy (take mark.len (B.trees bank.old)) (B.trees bank.old)
+        walk.old.items.items pair clauses.now }
     ensures grows { Grows (take mark.len (B.trees bank.old)) (B.trees bank.new) }
-    ensures passed { IfOk result (λ stop. HasPassed (B.trees bank.new) task walk.new (key (major pair) (minor pair + 1) 1) stop) }
-    ensures tidy { IfOk result (λ stop. IsTidy (take mark.len (B.trees bank.old)) (B.trees bank.new) walk.old.items.items walk.new.items.items stop) }
+    ensures passed { IfOk result (λ stop. HasPassed (B.trees bank.new) task walk.new
+        (key (major pair) (minor pair + 1) 1) stop) }
+    ensures tidy { IfOk result (λ stop. IsTidy (take mark.len (B.trees bank.old)) (B.trees bank.new)
+        walk.old.items.items walk.new.items.items stop) }
 {
     let count = walk.items.len();
     match offer_resolvents(walk, bank, pair, clauses)? {
@@ -119,8 +125,10 @@ fn pair_resolvents<B: Bank>(
     requires entries { AreFit (B.trees bank.old) (clauses_of entries.now) }
     requires due { IsDuePair (B.trees bank.old) entries.now (major pair) (minor pair) pair }
     ensures grows { Grows (B.trees bank.old) (B.trees bank.new) }
-    ensures found { IfOk result (λ found. IsFoundFor (B.trees bank.old) (B.trees bank.new) entries.now pair found) }
-    ensures as_before { IfOk result (λ found. LeavesBank (B.trees bank.old) (B.trees bank.new) found) }
+    ensures found { IfOk result (λ found. IsFoundFor (B.trees bank.old) (B.trees bank.new)
+        entries.now pair found) }
+    ensures as_before { IfOk result (λ found.
+        LeavesBank (B.trees bank.old) (B.trees bank.new) found) }
 {
     let solved = &entries[pair.solved - 1];
     let unsolved = &entries[pair.unsolved - 1];
@@ -137,10 +145,13 @@ fn pair_resolvents<B: Bank>(
 fn resolve<B: Bank>(walk: &mut Walk, bank: &mut B, pair: Pair) -> Result<Option<Stop>, AllocError>
     ghost task: { Task }
     requires walked { IsWalked (B.trees bank.old) task walk.old (key (major pair) (minor pair) 1) }
-    requires due { IsDuePair (B.trees bank.old) walk.old.items.items (major pair) (minor pair) pair }
+    requires due { IsDuePair (B.trees bank.old) walk.old.items.items (major pair) (minor pair)
+        pair }
     ensures grows { Grows (B.trees bank.old) (B.trees bank.new) }
-    ensures passed { IfOk result (λ stop. HasPassed (B.trees bank.new) task walk.new (key (major pair) (minor pair + 1) 1) stop) }
-    ensures tidy { IfOk result (λ stop. IsTidy (B.trees bank.old) (B.trees bank.new) walk.old.items.items walk.new.items.items stop) }
+    ensures passed { IfOk result (λ stop. HasPassed (B.trees bank.new) task walk.new
+        (key (major pair) (minor pair + 1) 1) stop) }
+    ensures tidy { IfOk result (λ stop. IsTidy (B.trees bank.old) (B.trees bank.new)
+        walk.old.items.items walk.new.items.items stop) }
 {
     let mark = bank.mark();
     match pair_resolvents(walk.alloc, bank, &walk.items, pair)? {
@@ -166,8 +177,10 @@ pub(crate) fn try_pair<B: Bank>(
     requires some { 0 < earlier }
     requires order { earlier < later }
     ensures grows { Grows (B.trees bank.old) (B.trees bank.new) }
-    ensures passed { IfOk result (λ stop. HasPassed (B.trees bank.new) task walk.new (key later (earlier + 1) 1) stop) }
-    ensures tidy { IfOk result (λ stop. IsTidy (B.trees bank.old) (B.trees bank.new) walk.old.items.items walk.new.items.items stop) }
+    ensures passed { IfOk result (λ stop. HasPassed (B.trees bank.new) task walk.new
+        (key later (earlier + 1) 1) stop) }
+    ensures tidy { IfOk result (λ stop. IsTidy (B.trees bank.old) (B.trees bank.new)
+        walk.old.items.items walk.new.items.items stop) }
 {
     match due_pair(bank, &walk.items, later, earlier) {
         Some(pair) => {

@@ -29,7 +29,8 @@ fn offer_given<B: Bank>(
     requires given { map (clause_at (B.trees bank.now)) given.now ≡ task.given }
     requires fit { AreFit (B.trees bank.now) given.now }
     requires walked { IsWalked (B.trees bank.now) task walk.old (key 0 0 1) }
-    ensures { IfOk result (λ due. HasOffered (B.trees bank.now) task walk.new (goal_key task.given 0) due) }
+    ensures { IfOk result (λ due. HasOffered (B.trees bank.now) task walk.new
+        (goal_key task.given 0) due) }
 {
     let mut k = 1;
     'each: while k < given.len() {
@@ -53,7 +54,8 @@ fn ask<B: Bank>(
     requires given { map (clause_at (B.trees bank.now)) given.now ≡ task.given }
     requires fit { AreFit (B.trees bank.now) given.now }
     requires walked { IsWalked (B.trees bank.now) task walk.old (goal_key task.given turn) }
-    ensures { IfOk result (λ due. HasOffered (B.trees bank.now) task walk.new (behind_goal task.given turn) due) }
+    ensures { IfOk result (λ due. HasOffered (B.trees bank.now) task walk.new
+        (behind_goal task.given turn) due) }
 {
     if walk.asked {
         return Ok(None);
@@ -75,7 +77,8 @@ fn pass<B: Bank>(walk: &mut Walk, bank: &mut B, turn: usize) -> Result<Option<St
     requires walked { IsWalked (B.trees bank.old) task walk.old (key turn 1 1) }
     requires some { 0 < turn }
     ensures grows { Grows (B.trees bank.old) (B.trees bank.new) }
-    ensures passed { IfOk result (λ stop. HasPassed (B.trees bank.new) task walk.new (goal_key task.given turn) stop) }
+    ensures passed { IfOk result (λ stop. HasPassed (B.trees bank.new) task walk.new
+        (goal_key task.given turn) stop) }
 {
     let mut earlier = 1;
     'each: while earlier < turn {
@@ -138,7 +141,8 @@ fn run<B: Bank>(walk: &mut Walk, bank: &mut B, given: &[Clause]) -> Result<Optio
 
 /// The walk's log, and its end.
 fn ended(walk: Walk, stop: Option<Stop>) -> Saturated
-    ensures { (all : List Term) (task : Task) → HasEnded all task walk stop → IsLogOf all task.given task.budget result }
+    ensures { (all : List Term) (task : Task) → HasEnded all task walk stop →
+        IsLogOf all task.given task.budget result }
 {
     let log = Log { items: walk.items };
     match stop {
@@ -161,7 +165,8 @@ pub fn saturate<B: Bank>(
     requires some { 0 < length given.now }
     requires fit { AreFit (B.trees bank.old) given.now }
     ensures grows { Grows (B.trees bank.old) (B.trees bank.new) }
-    ensures log { IfOk result (λ saturated. IsLogOf (B.trees bank.new) (map (clause_at (B.trees bank.old)) given.now) budget saturated) }
+    ensures log { IfOk result (λ saturated. IsLogOf (B.trees bank.new)
+        (map (clause_at (B.trees bank.old)) given.now) budget saturated) }
     ensures err { OnErr result (B.trees bank.new ≡ B.trees bank.old) }
 {
     let mark = bank.mark();

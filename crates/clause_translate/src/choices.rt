@@ -172,7 +172,8 @@ fn by_rule<B: Bank>(
         × ByRule (protocol_at place.now) (visit_at (B.trees bank.old) visit.now)
         (pattern_of pattern.now) (map (tree_at (B.trees bank.old)) arguments.now)
         (rule_of rule.now) out × IsWay (B.trees bank.new) way out) }
-    ensures nowhere { IfOk result (λ way. way ≡ ways.Nowhere → B.trees bank.new ≡ B.trees bank.old) }
+    ensures nowhere { IfOk result (λ way. way ≡ ways.Nowhere →
+        B.trees bank.new ≡ B.trees bank.old) }
 {
     let mark = bank.mark();
     match by_rule_grown(place, bank, visit, pattern, arguments, rule)? {

@@ -141,7 +141,8 @@ pub fn norms_keep_what_clauses_say()
 pub fn variants_are_an_equivalence()
     ensures reflexive { (c : Clause Term) → AreVariants c c }
     ensures symmetric { (c d : Clause Term) → AreVariants c d → AreVariants d c }
-    ensures transitive { (a b c : Clause Term) → AreVariants a b → AreVariants b c → AreVariants a c }
+    ensures transitive { (a b c : Clause Term) → AreVariants a b → AreVariants b c →
+        AreVariants a c }
 {}
 
 /// Clauses that are instances of each other differ in the names of variables alone: they have the same norm,

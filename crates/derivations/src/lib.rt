@@ -64,7 +64,8 @@ pub fn derivations_have_roots()
         is_required_event f ≡ false → Derive clauses events (f ∷ []) →
         (c : Clause Term) × (premises : List (Fact Term)) ×
         Has clauses c × Instance c premises f × Derive clauses events premises }
-    ensures allowed { (clauses : List (Clause Term)) (events fs : List (Fact Term)) (f : Fact Term) →
+    ensures allowed { (clauses : List (Clause Term)) (events fs : List (Fact Term))
+        (f : Fact Term) →
         ((c : Clause Term) → Has clauses c → is_required_event c.conclusion ≡ false) →
         Derive clauses events fs → is_required_event f ≡ true → Has fs f → Has events f }
 {}

@@ -94,7 +94,8 @@ impl Bindings {
 
     /// One more binding, at the end.
     fn bind(&mut self, leaf: Leaf, value: Value) -> Result<(), AllocError>
-        ensures { OnOk result (self.new ≡ self.old ++ record { name = leaf_of leaf; value = value_of value } ∷ []) }
+        ensures { OnOk result (self.new ≡ self.old ++ record
+            { name = leaf_of leaf; value = value_of value } ∷ []) }
     {
         self.items.push(Binding { leaf, value })?;
         Ok(())
@@ -109,7 +110,8 @@ pub fn bind_places(
     value: &Value,
     bindings: &mut Bindings,
 ) -> Result<(), AllocError>
-    ensures { OnOk result (bindings.new ≡ bindings.old ++ places (term_of term.now) (value_of value.now)) }
+    ensures { OnOk result (bindings.new ≡ bindings.old ++ places (term_of term.now)
+        (value_of value.now)) }
 {
     match term {
         Term::Var(number) => bindings.bind(Leaf::Var(*number), value.copy(alloc)?),
@@ -137,7 +139,8 @@ pub fn bind_row(
     values: &[Value],
     bindings: &mut Bindings,
 ) -> Result<(), AllocError>
-    ensures { OnOk result (bindings.new ≡ bindings.old ++ places_row (trees terms.now) (trees (map value_of values.now))) }
+    ensures { OnOk result (bindings.new ≡ bindings.old ++ places_row (trees terms.now)
+        (trees (map value_of values.now))) }
 {
     for (index, term) in terms.items.iter().enumerate() {
         if index >= values.len() {

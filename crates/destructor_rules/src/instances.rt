@@ -54,7 +54,8 @@ fn instances(terms: &Terms, alloc: Global, bindings: &Bindings) -> Result<Values
 
 /// Whether the leaf stands for the value.
 fn is_bound_value(leaf: Leaf, value: &Value, bindings: &Bindings) -> bool
-    ensures { result ≡ same_value (value_of_bound bindings.now (leaf_of leaf)) (value_of value.now) }
+    ensures { result ≡ same_value (value_of_bound bindings.now (leaf_of leaf))
+        (value_of value.now) }
 {
     match bindings.look_up(leaf) {
         Some(bound) => is_same(bound, value),
@@ -66,7 +67,8 @@ fn is_bound_value(leaf: Leaf, value: &Value, bindings: &Bindings) -> bool
 #[tactic(auto, using(crate::proofs::Rows::rows))]
 #[cycle(is_instance)]
 fn is_instance(term: &Term, value: &Value, bindings: &Bindings) -> bool
-    ensures { result ≡ same_value (instance_of bindings.now (term_of term.now)) (value_of value.now) }
+    ensures { result ≡ same_value (instance_of bindings.now (term_of term.now))
+        (value_of value.now) }
 {
     match term {
         Term::Var(number) => is_bound_value(Leaf::Var(*number), value, bindings),
@@ -89,7 +91,8 @@ fn is_instance(term: &Term, value: &Value, bindings: &Bindings) -> bool
 #[tactic(auto, using(crate::proofs::Rows::rows))]
 #[cycle(is_instance)]
 pub fn are_instances(terms: &Terms, values: &[Value], bindings: &Bindings) -> bool
-    ensures { result ≡ same_values (map (instance_of bindings.now) terms.now) (map value_of values.now) }
+    ensures { result ≡ same_values (map (instance_of bindings.now) terms.now)
+        (map value_of values.now) }
 {
     if terms.items.len() != values.len() {
         return false;

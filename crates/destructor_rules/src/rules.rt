@@ -17,7 +17,8 @@ pub fn rule_value(
     rule: &Rule,
     arguments: &[Value],
 ) -> Result<Option<Value>, AllocError>
-    ensures { IfOk result (λ o. option_map value_of o ≡ rule_value (rule_of rule.now) (map value_of arguments.now)) }
+    ensures { IfOk result (λ o. option_map value_of o ≡
+        rule_value (rule_of rule.now) (map value_of arguments.now)) }
 {
     let mut bindings = Bindings::new(alloc);
     bind_row(&rule.left, alloc, arguments, &mut bindings)?;

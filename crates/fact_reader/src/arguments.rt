@@ -24,7 +24,8 @@ pub fn term(
 ) -> Result<(Tree, usize), CertError>
     requires few { HasFewNames (protocol_of protocol.now) }
     requires within { at ≤ length bytes.now }
-    ensures read { Gives term_of bytes.now result (reading.one_term (protocol_of protocol.now) (drop at bytes.now) at) }
+    ensures read { Gives term_of bytes.now result
+        (reading.one_term (protocol_of protocol.now) (drop at bytes.now) at) }
     ensures within { StopsWithin bytes.now result }
 {
     match read_term(alloc, protocol, bytes, at)? {
@@ -43,7 +44,8 @@ fn argument(
 ) -> Result<((Tree, bool), usize), CertError>
     requires few { HasFewNames (protocol_of protocol.now) }
     requires within { at ≤ length bytes.now }
-    ensures read { Gives argument_of bytes.now result (reading.argument (protocol_of protocol.now) (drop at bytes.now) at) }
+    ensures read { Gives argument_of bytes.now result
+        (reading.argument (protocol_of protocol.now) (drop at bytes.now) at) }
     ensures within { StopsWithin bytes.now result }
 {
     let (found, behind) = term(alloc, protocol, bytes, at)?;
@@ -67,7 +69,8 @@ pub fn terms(
 ) -> Result<(Trees, usize), CertError>
     requires few { HasFewNames (protocol_of protocol.now) }
     requires within { at ≤ length bytes.now }
-    ensures read { Gives same bytes.now result (reading.read_terms (protocol_of protocol.now) (drop at bytes.now) at) }
+    ensures read { Gives same bytes.now result
+        (reading.read_terms (protocol_of protocol.now) (drop at bytes.now) at) }
     ensures within { StopsWithin bytes.now result }
 {
     let mut items = Vec::new(alloc);

@@ -24,7 +24,8 @@ fn one_hypothesis(
 ) -> Result<((PlainFact, bool), usize), CertError>
     requires few { HasFewNames (protocol_of protocol.now) }
     requires within { at ≤ length bytes.now }
-    ensures read { Gives hypothesis_of bytes.now result (reading.one_hypothesis (protocol_of protocol.now) (drop at bytes.now) at) }
+    ensures read { Gives hypothesis_of bytes.now result
+        (reading.one_hypothesis (protocol_of protocol.now) (drop at bytes.now) at) }
     ensures within { StopsWithin bytes.now result }
 {
     let (found, behind) = read_hypothesis(alloc, protocol, bytes, at)?;
@@ -46,7 +47,8 @@ fn some_hypotheses(
 ) -> Result<(PlainFacts, usize), CertError>
     requires few { HasFewNames (protocol_of protocol.now) }
     requires within { at ≤ length bytes.now }
-    ensures read { Gives same bytes.now result (things (reading.one_hypothesis (protocol_of protocol.now)) (drop at bytes.now) at) }
+    ensures read { Gives same bytes.now result
+        (things (reading.one_hypothesis (protocol_of protocol.now)) (drop at bytes.now) at) }
     ensures within { StopsWithin bytes.now result }
 {
     let mut items = Vec::new(alloc);
@@ -71,7 +73,8 @@ fn hypotheses(
 ) -> Result<(PlainFacts, usize), CertError>
     requires few { HasFewNames (protocol_of protocol.now) }
     requires within { at ≤ length bytes.now }
-    ensures read { Gives same bytes.now result (reading.read_hypotheses (protocol_of protocol.now) (drop at bytes.now) at) }
+    ensures read { Gives same bytes.now result
+        (reading.read_hypotheses (protocol_of protocol.now) (drop at bytes.now) at) }
     ensures within { StopsWithin bytes.now result }
 {
     if front(bytes, at) == b'=' {
@@ -91,7 +94,8 @@ pub fn read_clause(
 ) -> Result<(PlainClause, usize), CertError>
     requires few { HasFewNames (protocol_of protocol.now) }
     requires within { at ≤ length bytes.now }
-    ensures read { Gives same bytes.now result (reading.read_clause (protocol_of protocol.now) (drop at bytes.now) at) }
+    ensures read { Gives same bytes.now result
+        (reading.read_clause (protocol_of protocol.now) (drop at bytes.now) at) }
     ensures within { StopsWithin bytes.now result }
 {
     let (hyps, behind) = hypotheses(alloc, protocol, bytes, at)?;

@@ -50,7 +50,8 @@ fn with_arguments(
     arguments: Trees,
     place: usize,
 ) -> Result<(Performed, usize), CertError>
-    ensures read { (bytes : List ℕ) → Gives performed_of bytes result (facts.performed from (called_of called) arguments place (drop place bytes)) }
+    ensures read { (bytes : List ℕ) → Gives performed_of bytes result
+        (facts.performed from (called_of called) arguments place (drop place bytes)) }
     ensures within { (bytes : List ℕ) → place ≤ length bytes → StopsWithin bytes result }
 {
     if arguments.items.len() == called.arity as usize {
@@ -79,7 +80,9 @@ fn arguments(
 ) -> Result<(Performed, usize), CertError>
     requires few { HasFewNames (protocol_of protocol.now) }
     requires within { word.behind ≤ length bytes.now }
-    ensures read { Gives performed_of bytes.now result (event_named (protocol_of protocol.now) (Some (called_of called)) word.from word.behind (drop word.behind bytes.now)) }
+    ensures read { Gives performed_of bytes.now result
+        (event_named (protocol_of protocol.now) (Some (called_of called)) word.from word.behind
+        (drop word.behind bytes.now)) }
     ensures within { StopsWithin bytes.now result }
 {
     if front(bytes, word.behind) == b'(' {
@@ -101,7 +104,9 @@ fn named(
 ) -> Result<(Performed, usize), CertError>
     requires few { HasFewNames (protocol_of protocol.now) }
     requires within { word.behind ≤ length bytes.now }
-    ensures read { Gives performed_of bytes.now result (event_named (protocol_of protocol.now) (event_of called) word.from word.behind (drop word.behind bytes.now)) }
+    ensures read { Gives performed_of bytes.now result
+        (event_named (protocol_of protocol.now) (event_of called) word.from word.behind
+        (drop word.behind bytes.now)) }
     ensures within { StopsWithin bytes.now result }
 {
     match called {
@@ -119,7 +124,8 @@ pub fn event(
 ) -> Result<(Performed, usize), CertError>
     requires few { HasFewNames (protocol_of protocol.now) }
     requires within { at ≤ length bytes.now }
-    ensures read { Gives performed_of bytes.now result (read_event (protocol_of protocol.now) (drop at bytes.now) at) }
+    ensures read { Gives performed_of bytes.now result
+        (read_event (protocol_of protocol.now) (drop at bytes.now) at) }
     ensures within { StopsWithin bytes.now result }
 {
     if !begins_word(front(bytes, at)) {

@@ -24,7 +24,8 @@ fn att(
 ) -> Result<(PlainFact, usize), CertError>
     requires few { HasFewNames (protocol_of protocol.now) }
     requires within { at ≤ length bytes.now }
-    ensures read { Gives plain_fact_of bytes.now result (reading.read_att (protocol_of protocol.now) (drop at bytes.now) at) }
+    ensures read { Gives plain_fact_of bytes.now result
+        (reading.read_att (protocol_of protocol.now) (drop at bytes.now) at) }
     ensures within { StopsWithin bytes.now result }
 {
     let open = fixed(b"att(", bytes, at)?;
@@ -42,7 +43,8 @@ fn mess(
 ) -> Result<(PlainFact, usize), CertError>
     requires few { HasFewNames (protocol_of protocol.now) }
     requires within { at ≤ length bytes.now }
-    ensures read { Gives plain_fact_of bytes.now result (reading.read_mess (protocol_of protocol.now) (drop at bytes.now) at) }
+    ensures read { Gives plain_fact_of bytes.now result
+        (reading.read_mess (protocol_of protocol.now) (drop at bytes.now) at) }
     ensures within { StopsWithin bytes.now result }
 {
     let open = fixed(b"mess(", bytes, at)?;
@@ -62,7 +64,8 @@ fn ev(
 ) -> Result<(PlainFact, usize), CertError>
     requires few { HasFewNames (protocol_of protocol.now) }
     requires within { at ≤ length bytes.now }
-    ensures read { Gives plain_fact_of bytes.now result (reading.read_ev (protocol_of protocol.now) (drop at bytes.now) at) }
+    ensures read { Gives plain_fact_of bytes.now result
+        (reading.read_ev (protocol_of protocol.now) (drop at bytes.now) at) }
     ensures within { StopsWithin bytes.now result }
 {
     let open = fixed(b"ev(", bytes, at)?;
@@ -80,7 +83,8 @@ fn mev(
 ) -> Result<(PlainFact, usize), CertError>
     requires few { HasFewNames (protocol_of protocol.now) }
     requires within { at ≤ length bytes.now }
-    ensures read { Gives plain_fact_of bytes.now result (reading.read_mev (protocol_of protocol.now) (drop at bytes.now) at) }
+    ensures read { Gives plain_fact_of bytes.now result
+        (reading.read_mev (protocol_of protocol.now) (drop at bytes.now) at) }
     ensures within { StopsWithin bytes.now result }
 {
     let open = fixed(b"mev(", bytes, at)?;
@@ -99,7 +103,8 @@ fn bad_arguments(
 ) -> Result<(Trees, usize), CertError>
     requires few { HasFewNames (protocol_of protocol.now) }
     requires within { at ≤ length bytes.now }
-    ensures read { Gives same bytes.now result (reading.bad_arguments (protocol_of protocol.now) (drop at bytes.now) at) }
+    ensures read { Gives same bytes.now result
+        (reading.bad_arguments (protocol_of protocol.now) (drop at bytes.now) at) }
     ensures within { StopsWithin bytes.now result }
 {
     if front(bytes, at) == b')' {
@@ -118,7 +123,8 @@ fn bad(
 ) -> Result<(PlainFact, usize), CertError>
     requires few { HasFewNames (protocol_of protocol.now) }
     requires within { at ≤ length bytes.now }
-    ensures read { Gives plain_fact_of bytes.now result (reading.read_bad (protocol_of protocol.now) (drop at bytes.now) at) }
+    ensures read { Gives plain_fact_of bytes.now result
+        (reading.read_bad (protocol_of protocol.now) (drop at bytes.now) at) }
     ensures within { StopsWithin bytes.now result }
 {
     let open = fixed(b"bad(", bytes, at)?;
@@ -135,7 +141,8 @@ fn mev_or_mess(
 ) -> Result<(PlainFact, usize), CertError>
     requires few { HasFewNames (protocol_of protocol.now) }
     requires within { at < length bytes.now }
-    ensures read { Gives plain_fact_of bytes.now result (reading.read_mev_or_mess (protocol_of protocol.now) (drop at bytes.now) at) }
+    ensures read { Gives plain_fact_of bytes.now result
+        (reading.read_mev_or_mess (protocol_of protocol.now) (drop at bytes.now) at) }
     ensures within { StopsWithin bytes.now result }
 {
     let rest = &bytes[at..];
@@ -155,7 +162,8 @@ pub fn read_hypothesis(
 ) -> Result<(PlainFact, usize), CertError>
     requires few { HasFewNames (protocol_of protocol.now) }
     requires within { at ≤ length bytes.now }
-    ensures read { Gives plain_fact_of bytes.now result (reading.read_hypothesis (protocol_of protocol.now) (drop at bytes.now) at) }
+    ensures read { Gives plain_fact_of bytes.now result
+        (reading.read_hypothesis (protocol_of protocol.now) (drop at bytes.now) at) }
     ensures within { StopsWithin bytes.now result }
 {
     let first = front(bytes, at);
@@ -177,7 +185,8 @@ pub fn read_conclusion(
 ) -> Result<(PlainFact, usize), CertError>
     requires few { HasFewNames (protocol_of protocol.now) }
     requires within { at ≤ length bytes.now }
-    ensures read { Gives plain_fact_of bytes.now result (reading.read_conclusion (protocol_of protocol.now) (drop at bytes.now) at) }
+    ensures read { Gives plain_fact_of bytes.now result
+        (reading.read_conclusion (protocol_of protocol.now) (drop at bytes.now) at) }
     ensures within { StopsWithin bytes.now result }
 {
     let first = front(bytes, at);

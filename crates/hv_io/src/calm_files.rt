@@ -36,7 +36,8 @@ impl CalmFiles {
 
     /// Lets `name` hold `bytes`, in place of what it held before.
     pub fn add(&mut self, name: &str, bytes: &[u8]) -> Result<(), AllocError>
-        ensures ok { OnOk result (self.new ≡ record { name = name.now; bytes = bytes.now } ∷ self.old) }
+        ensures ok { OnOk result (self.new ≡ record { name = name.now; bytes = bytes.now } ∷
+            self.old) }
         ensures err { OnErr result (self.new ≡ self.old) }
     {
         let entry = NamedBytes::new(self.alloc, name, bytes)?;
@@ -54,7 +55,8 @@ impl Files for CalmFiles {
     ghost faults = { λ _ _. 0 };
 
     fn load(&mut self, name: &str, most: usize) -> Result<Vec<u8>, LoadError>
-        ensures loaded { IfOk result (λ bytes. bytes.items ≡ take most (bytes_of self.old name.now)) }
+        ensures loaded { IfOk result (λ bytes.
+            bytes.items ≡ take most (bytes_of self.old name.now)) }
         ensures memory { IsOkUnless result (LoadError.Memory alloc_error) }
         ensures same { self.new ≡ self.old }
     {

@@ -35,7 +35,8 @@ impl NamedBytes {
 
 /// The bytes of the first entry of this name, the newest where the newest stands first.
 pub fn find<'a>(entries: &'a [NamedBytes], name: &str) -> Option<&'a [u8]>
-    ensures { MatchOption result (added entries.now name.now ≡ None) (λ bytes. added entries.now name.now ≡ Some bytes.now) }
+    ensures { MatchOption result (added entries.now name.now ≡ None)
+        (λ bytes. added entries.now name.now ≡ Some bytes.now) }
 {
     for entry in entries {
         if entry.name.as_str() == name {

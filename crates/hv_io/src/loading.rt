@@ -48,7 +48,9 @@ pub trait Files {
         ensures held_stays { (any : List ℕ) → held self.new any ≡ held self.old any }
         ensures faults_rise { (any : List ℕ) → faults self.old any ≤ faults self.new any }
 
-        ensures first { IfOk result (λ bytes. HoldsFirst most (held self.old name.now) bytes.items) }
+        ensures first { IfOk result (λ bytes.
+            HoldsFirst most (held self.old name.now) bytes.items) }
         ensures within { IfOk result (λ bytes. vec_len bytes ≤ most) }
-        ensures failed { result ≡ Err LoadError.Failed → IsFaultCounted (faults self.old name.now) (faults self.new name.now) };
+        ensures failed { result ≡ Err LoadError.Failed →
+            IsFaultCounted (faults self.old name.now) (faults self.new name.now) };
 }

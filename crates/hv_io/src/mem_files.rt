@@ -42,7 +42,8 @@ impl MemFiles {
 
     /// Lets `name` hold `bytes`, in place of what it held before.
     pub fn add(&mut self, name: &str, bytes: &[u8]) -> Result<(), AllocError>
-        ensures ok { OnOk result (self.new ≡ record self.old { entries = record { name = name.now; bytes = bytes.now } ∷ self.old.entries }) }
+        ensures ok { OnOk result (self.new ≡ record self.old
+            { entries = record { name = name.now; bytes = bytes.now } ∷ self.old.entries }) }
         ensures err { OnErr result (self.new ≡ self.old) }
     {
         let entry = NamedBytes::new(self.alloc, name, bytes)?;
@@ -52,7 +53,8 @@ impl MemFiles {
 
     /// Makes the load of this number fail, counted from 1.
     pub fn fail_at(&mut self, call: u64) -> Result<(), AllocError>
-        ensures ok { OnOk result (self.new ≡ record self.old { calls = record self.old.calls { failing = self.old.calls.failing ++ call ∷ [] } }) }
+        ensures ok { OnOk result (self.new ≡ record self.old
+            { calls = record self.old.calls { failing = self.old.calls.failing ++ call ∷ [] } }) }
         ensures err { OnErr result (self.new ≡ self.old) }
     {
         self.calls.fail_at(call)
@@ -76,14 +78,18 @@ impl Files for MemFiles {
 
     fn load(&mut self, name: &str, most: usize) -> Result<Vec<u8>, LoadError>
         ensures faults_rise { self.old.calls.faults ≤ self.new.calls.faults }
-        ensures failed { result ≡ Err LoadError.Failed → IsFaultCounted self.old.calls.faults self.new.calls.faults }
+        ensures failed { result ≡ Err LoadError.Failed →
+            IsFaultCounted self.old.calls.faults self.new.calls.faults }
 
         // A load fails exactly where it is to, and is then counted as a fault.
         ensures due { (result ≡ Err LoadError.Failed) ↔ FailsNext self.old name.now }
-        ensures fault { result ≡ Err LoadError.Failed → self.new ≡ record self.old { calls = after_fault self.old.calls } }
+        ensures fault { result ≡ Err LoadError.Failed →
+            self.new ≡ record self.old { calls = after_fault self.old.calls } }
 
-        ensures loaded { IfOk result (λ bytes. bytes.items ≡ take most (bytes_of self.old.entries name.now)) }
-        ensures counted { OnOk result (self.new ≡ record self.old { calls = after_call self.old.calls }) }
+        ensures loaded { IfOk result (λ bytes.
+            bytes.items ≡ take most (bytes_of self.old.entries name.now)) }
+        ensures counted { OnOk result (self.new ≡
+            record self.old { calls = after_call self.old.calls }) }
 
         ensures memory { result ≡ Err (LoadError.Memory alloc_error) → self.new ≡ self.old }
     {

@@ -33,7 +33,8 @@ impl MemSink {
     /// Nothing is written, and no write is to fail. Takes no memory yet.
     pub fn new(alloc: Global, most: usize) -> Result<Self, AllocError>
         requires { 0 < most }
-        ensures { IsOkAnd result (λ sink. sink ≡ record { bytes = []; most = most; room = 0; calls = no_calls }) }
+        ensures { IsOkAnd result (λ sink. sink ≡
+            record { bytes = []; most = most; room = 0; calls = no_calls }) }
     {
         Ok(MemSink {
             bytes: Vec::new(alloc),
@@ -44,7 +45,8 @@ impl MemSink {
 
     /// Makes the write of this number fail, counted from 1.
     pub fn fail_at(&mut self, call: u64) -> Result<(), AllocError>
-        ensures ok { OnOk result (self.new ≡ record self.old { calls = record self.old.calls { failing = self.old.calls.failing ++ call ∷ [] } }) }
+        ensures ok { OnOk result (self.new ≡ record self.old
+            { calls = record self.old.calls { failing = self.old.calls.failing ++ call ∷ [] } }) }
         ensures err { OnErr result (self.new ≡ self.old) }
     {
         self.calls.fail_at(call)
@@ -79,7 +81,8 @@ impl Sink for MemSink {
 
         // A write fails where it is to, and else only where it needs memory; it is then counted as a fault.
         ensures due { IsNextToFail self.old.calls → IsErr result }
-        ensures cause { OnErr result (IsNextToFail self.old.calls ⊎ NeedsMemory self.old piece.now) }
+        ensures cause { OnErr result (IsNextToFail self.old.calls ⊎
+            NeedsMemory self.old piece.now) }
         ensures nothing_taken { OnErr result (self.new.bytes ≡ self.old.bytes) }
         ensures fault { OnErr result (self.new.calls ≡ after_fault self.old.calls) }
 

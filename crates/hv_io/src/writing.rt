@@ -28,7 +28,8 @@ pub trait Sink {
     fn write(&mut self, piece: &[u8]) -> Result<usize, Failed>
         ensures faults_rise { faults self.old ≤ faults self.new }
 
-        ensures taken { IfOk result (λ n. written self.new ≡ appended (written self.old) (take n piece.now)) }
+        ensures taken { IfOk result (λ n. written self.new ≡
+            appended (written self.old) (take n piece.now)) }
         ensures within { IfOk result (λ n. n ≤ length piece.now) }
         ensures goes_on { IfOk result (λ n. 0 < length piece.now → 0 < n) }
 

@@ -31,7 +31,8 @@ struct Best {
 fn better<B: Bank>(bank: &B, fact: &Fact, place: usize, best: Option<Best>) -> Option<Best>
     requires known { IsFactIn (B.trees bank.now) (fact_of fact.now) }
     requires small { fact_size (fact_at (B.trees bank.now) (fact_of fact.now)) < 2 ^ 63 }
-    ensures { (hs : List (FactOf Term)) → best ≡ remembered (place + 1) (select hs) → result ≡ remembered place (select (fact_at (B.trees bank.now) (fact_of fact.now) ∷ hs)) }
+    ensures { (hs : List (FactOf Term)) → best ≡ remembered (place + 1) (select hs) →
+        result ≡ remembered place (select (fact_at (B.trees bank.now) (fact_of fact.now) ∷ hs)) }
 {
     if !is_selectable(bank, fact) {
         return best;
@@ -51,8 +52,10 @@ fn better<B: Bank>(bank: &B, fact: &Fact, place: usize, best: Option<Best>) -> O
 /// The first of the largest facts that can be selected, looked for from the last fact on.
 fn best_of<B: Bank>(bank: &B, facts: &[Fact]) -> Option<Best>
     requires known { AreFactsIn (B.trees bank.now) (map fact_of facts.now) }
-    requires small { total fact_size (map (fact_at (B.trees bank.now)) (map fact_of facts.now)) < 2 ^ 63 }
-    ensures { result ≡ remembered 0 (select (map (fact_at (B.trees bank.now)) (map fact_of facts.now))) }
+    requires small { total fact_size (map (fact_at (B.trees bank.now)) (map fact_of facts.now)) < 2
+        ^ 63 }
+    ensures { result ≡ remembered 0 (select (map (fact_at (B.trees bank.now))
+        (map fact_of facts.now))) }
 {
     let mut best = None;
     let mut i = facts.len();
@@ -69,7 +72,8 @@ pub fn selected<B: Bank>(bank: &B, clause: &Clause) -> Option<usize>
     requires known { IsClauseIn (B.trees bank.now) clause.now }
     requires small { clause_size (clause_at (B.trees bank.now) clause.now) < 2 ^ 63 }
     ensures place { result ≡ selected_place (clause_at (B.trees bank.now) clause.now).hypotheses }
-    ensures none { IsNone result ↔ (is_solved_list (clause_at (B.trees bank.now) clause.now).hypotheses ≡ true) }
+    ensures none { IsNone result ↔ (is_solved_list
+        (clause_at (B.trees bank.now) clause.now).hypotheses ≡ true) }
 {
     match best_of(bank, &clause.hyps.items) {
         Some(best) => Some(best.place),

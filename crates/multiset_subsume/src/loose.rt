@@ -51,7 +51,8 @@ fn is_free<B: Bank>(bank: &B, fact: &Fact, term: Id, taken: bool) -> bool
 fn take_known<B: Bank>(bank: &B, hyps: &[Fact], term: Id, taken: &mut [bool]) -> bool
     requires hyps { AreFactsIn (B.trees bank.now) (map fact_of hyps.now) }
     requires term { term.index < length (B.trees bank.now) }
-    requires flags { length taken.old ≡ length (facts_at (B.trees bank.now) (map fact_of hyps.now)) }
+    requires flags { length taken.old ≡ length
+        (facts_at (B.trees bank.now) (map fact_of hyps.now)) }
     ensures { let all = B.trees bank.now in MatchBool result
         (Removes (facts_at all (map fact_of hyps.now)) taken.old taken.new
         (Att (tree_at all term) ∷ [])) (HasNoRoom (facts_at all (map fact_of hyps.now)) taken.old
@@ -70,7 +71,8 @@ fn take_known<B: Bank>(bank: &B, hyps: &[Fact], term: Id, taken: &mut [bool]) ->
 fn take_parts<B: Bank>(bank: &B, hyps: &[Fact], term: Id, taken: &mut [bool]) -> bool
     requires hyps { AreFactsIn (B.trees bank.now) (map fact_of hyps.now) }
     requires term { term.index < length (B.trees bank.now) }
-    requires flags { length taken.old ≡ length (facts_at (B.trees bank.now) (map fact_of hyps.now)) }
+    requires flags { length taken.old ≡ length
+        (facts_at (B.trees bank.now) (map fact_of hyps.now)) }
     ensures { let all = B.trees bank.now in MatchBool result
         (Removes (facts_at all (map fact_of hyps.now)) taken.old taken.new
         (flat (Att (tree_at all term)))) (HasNoRoom (facts_at all (map fact_of hyps.now)) taken.old
@@ -102,7 +104,8 @@ fn take_bound<B: Bank>(
 ) -> bool
     requires hyps { AreFactsIn (B.trees bank.now) (map fact_of hyps.now) }
     requires bindings { AreBindings (B.trees bank.now) binds.now.pairs }
-    requires flags { length taken.old ≡ length (facts_at (B.trees bank.now) (map fact_of hyps.now)) }
+    requires flags { length taken.old ≡ length
+        (facts_at (B.trees bank.now) (map fact_of hyps.now)) }
     ensures { let all = B.trees bank.now in MatchBool result
         (Removes (facts_at all (map fact_of hyps.now)) taken.old taken.new
         (flat_of (bound_to (seen all binds.now.pairs) variable)))

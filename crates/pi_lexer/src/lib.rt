@@ -29,8 +29,10 @@ pub fn lex(alloc: Global, source: &[u8]) -> Result<Tokens, LexError>
     ensures refused { IfErr result (λ error. IsRefusalOf source.now error) }
 
     // Bytes that have tokens give these, and bytes that are refused give that refusal.
-    ensures accepts { (tokens : List own.Token) → Lexed source.now tokens → GivesTokens tokens result }
-    ensures refuses { (refusal : Refusal) (place : ℕ) → Stops source.now refusal place → GivesRefusal refusal place result }
+    ensures accepts { (tokens : List own.Token) → Lexed source.now tokens →
+        GivesTokens tokens result }
+    ensures refuses { (refusal : Refusal) (place : ℕ) → Stops source.now refusal place →
+        GivesRefusal refusal place result }
 {
     let mut items = Vec::new(alloc);
     let mut at = 0usize;

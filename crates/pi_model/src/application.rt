@@ -29,8 +29,11 @@ use std::alloc::Global;
 fn plan(alloc: Global, protocol: &Protocol, conf: &Conf, step: &Step) -> Result<Change, ApplyError>
     requires of_protocol { IsConfigurationOf (protocol_of protocol.now) conf.now }
     requires points { length (nodes (process_of protocol.now.main)) < 2 ^ 32 }
-    ensures possible { IfOk result (λ change. IsPossible (protocol_of protocol.now) (configuration_of conf.now) (step_of step.now) (changed change (configuration_of conf.now))) }
-    ensures refused { IfErr result (λ e. IsErrorOf (protocol_of protocol.now) (configuration_of conf.now) (step_of step.now) e) }
+    ensures possible { IfOk result (λ change.
+        IsPossible (protocol_of protocol.now) (configuration_of conf.now) (step_of step.now)
+        (changed change (configuration_of conf.now))) }
+    ensures refused { IfErr result (λ e. IsErrorOf (protocol_of protocol.now)
+        (configuration_of conf.now) (step_of step.now) e) }
 {
     match step {
         Step::Build(constructor, arguments) => {
@@ -63,9 +66,12 @@ fn apply_counted(
     requires of_protocol { IsConfigurationOf (protocol_of protocol.now) conf.old }
     requires points { length (nodes (process_of protocol.now.main)) < 2 ^ 32 }
     requires fewer { conf.old.steps < 2 ^ 32 }
-    ensures after { OnOk result (after_step (protocol_of protocol.now) (configuration_of conf.old) (step_of step.now) ≡ Some (configuration_of conf.new)) }
-    ensures allowed { OnOk result (limited_refusal (protocol_of protocol.now) (configuration_of conf.old) (step_of step.now) ≡ None) }
-    ensures refused { IfErr result (λ e. IsRefusalOf (protocol_of protocol.now) (configuration_of conf.old) (step_of step.now) e) }
+    ensures after { OnOk result (after_step (protocol_of protocol.now) (configuration_of conf.old)
+        (step_of step.now) ≡ Some (configuration_of conf.new)) }
+    ensures allowed { OnOk result (limited_refusal (protocol_of protocol.now)
+        (configuration_of conf.old) (step_of step.now) ≡ None) }
+    ensures refused { IfErr result (λ e. IsRefusalOf (protocol_of protocol.now)
+        (configuration_of conf.old) (step_of step.now) e) }
     ensures unchanged { OnErr result (conf.new ≡ conf.old) }
     ensures steps { OnOk result (conf.new.steps ≡ conf.old.steps + 1) }
 {
@@ -91,14 +97,19 @@ pub fn apply(
     requires of_protocol { IsConfigurationOf (protocol_of protocol.now) conf.old }
     requires points { length (nodes (process_of protocol.now.main)) < 2 ^ 32 }
     requires fewer { conf.old.steps < 2 ^ 32 }
-    ensures after { OnOk result (after_step (protocol_of protocol.now) (configuration_of conf.old) (step_of step.now) ≡ Some (configuration_of conf.new)) }
-    ensures allowed { OnOk result (limited_refusal (protocol_of protocol.now) (configuration_of conf.old) (step_of step.now) ≡ None) }
-    ensures refused { IfErr result (λ e. IsRefusalOf (protocol_of protocol.now) (configuration_of conf.old) (step_of step.now) e) }
+    ensures after { OnOk result (after_step (protocol_of protocol.now) (configuration_of conf.old)
+        (step_of step.now) ≡ Some (configuration_of conf.new)) }
+    ensures allowed { OnOk result (limited_refusal (protocol_of protocol.now)
+        (configuration_of conf.old) (step_of step.now) ≡ None) }
+    ensures refused { IfErr result (λ e. IsRefusalOf (protocol_of protocol.now)
+        (configuration_of conf.old) (step_of step.now) e) }
     ensures unchanged { OnErr result (conf.new ≡ conf.old) }
 
     // Whether a step that is refused is possible: only one with a large value is. (Here all rules of a
     // destructor take as many arguments.)
-    ensures possible { IsUniform (protocol_of protocol.now) → IfErr result (λ e. TellsWhether (protocol_of protocol.now) (configuration_of conf.old) (step_of step.now) e) }
+    ensures possible { IsUniform (protocol_of protocol.now) →
+        IfErr result (λ e. TellsWhether (protocol_of protocol.now) (configuration_of conf.old)
+        (step_of step.now) e) }
 
     // What the next step wants.
     ensures steps { OnOk result (conf.new.steps ≡ conf.old.steps + 1) }

@@ -25,8 +25,11 @@ pub fn build(
     constructor: u32,
     numbers: &Numbers,
 ) -> Result<Change, ApplyError>
-    ensures possible { IfOk result (λ change. IsPossible (protocol_of protocol.now) (configuration_of conf.now) (calculus.Build constructor numbers.now) (changed change (configuration_of conf.now))) }
-    ensures refused { IfErr result (λ e. IsErrorOf (protocol_of protocol.now) (configuration_of conf.now) (calculus.Build constructor numbers.now) e) }
+    ensures possible { IfOk result (λ change.
+        IsPossible (protocol_of protocol.now) (configuration_of conf.now)
+        (calculus.Build constructor numbers.now) (changed change (configuration_of conf.now))) }
+    ensures refused { IfErr result (λ e. IsErrorOf (protocol_of protocol.now)
+        (configuration_of conf.now) (calculus.Build constructor numbers.now) e) }
 {
     if !takes(protocol, constructor, numbers.items.len()) {
         return Err(ApplyError::Refused(StepError::WrongForm));
@@ -55,8 +58,12 @@ pub fn reduce(
     rule: u32,
     numbers: &Numbers,
 ) -> Result<Change, ApplyError>
-    ensures possible { IfOk result (λ change. IsPossible (protocol_of protocol.now) (configuration_of conf.now) (calculus.Reduce destructor rule numbers.now) (changed change (configuration_of conf.now))) }
-    ensures refused { IfErr result (λ e. IsErrorOf (protocol_of protocol.now) (configuration_of conf.now) (calculus.Reduce destructor rule numbers.now) e) }
+    ensures possible { IfOk result (λ change.
+        IsPossible (protocol_of protocol.now) (configuration_of conf.now)
+        (calculus.Reduce destructor rule numbers.now)
+        (changed change (configuration_of conf.now))) }
+    ensures refused { IfErr result (λ e. IsErrorOf (protocol_of protocol.now)
+        (configuration_of conf.now) (calculus.Reduce destructor rule numbers.now) e) }
 {
     let rules = rules_of(protocol, destructor);
     if !first_arity(rules, numbers.items.len()) {
@@ -85,8 +92,11 @@ pub fn part(
     value: u32,
     part: u32,
 ) -> Result<Change, ApplyError>
-    ensures possible { IfOk result (λ change. IsPossible (protocol_of protocol.now) (configuration_of conf.now) (calculus.Part value part) (changed change (configuration_of conf.now))) }
-    ensures refused { IfErr result (λ e. IsErrorOf (protocol_of protocol.now) (configuration_of conf.now) (calculus.Part value part) e) }
+    ensures possible { IfOk result (λ change.
+        IsPossible (protocol_of protocol.now) (configuration_of conf.now) (calculus.Part value part)
+        (changed change (configuration_of conf.now))) }
+    ensures refused { IfErr result (λ e. IsErrorOf (protocol_of protocol.now)
+        (configuration_of conf.now) (calculus.Part value part) e) }
 {
     let whole = match known_value(conf, value) {
         None => return Err(ApplyError::Refused(StepError::NoKnowledge)),

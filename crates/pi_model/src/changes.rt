@@ -40,7 +40,8 @@ pub enum Change {
 impl Conf {
     /// The value becomes known.
     fn learn(&mut self, value: Value) -> Result<(), AllocError>
-        ensures learned { OnOk result (self.new ≡ record self.old { known = self.old.known ++ value_of value ∷ [] }) }
+        ensures learned { OnOk result (self.new ≡
+            record self.old { known = self.old.known ++ value_of value ∷ [] }) }
         ensures unchanged { OnErr result (self.new ≡ self.old) }
     {
         self.known.push(value)?;
@@ -49,7 +50,8 @@ impl Conf {
 
     /// The event is performed.
     fn perform(&mut self, happened: Happened) -> Result<(), AllocError>
-        ensures performed { OnOk result (self.new ≡ record self.old { events = self.old.events ++ performed_of happened ∷ [] }) }
+        ensures performed { OnOk result (self.new ≡
+            record self.old { events = self.old.events ++ performed_of happened ∷ [] }) }
         ensures unchanged { OnErr result (self.new ≡ self.old) }
     {
         self.events.items.push(happened)?;
@@ -59,7 +61,8 @@ impl Conf {
     /// A name of the attacker becomes known.
     fn learn_name(&mut self) -> Result<(), AllocError>
         requires { self.old.next + 1 < 2 ^ 64 }
-        ensures named { OnOk result (configuration_of self.new ≡ changed Change.Name (configuration_of self.old)) }
+        ensures named { OnOk result (configuration_of self.new ≡
+            changed Change.Name (configuration_of self.old)) }
         ensures steps { OnOk result (self.new.steps ≡ self.old.steps) }
         ensures unchanged { OnErr result (self.new ≡ self.old) }
     {
@@ -70,7 +73,8 @@ impl Conf {
 
     /// The thread goes to the point, and another begins.
     fn split(&mut self, number: u32, point: u32, begun: Thread) -> Result<(), AllocError>
-        ensures split { OnOk result (configuration_of self.new ≡ changed (Change.Split number point begun) (configuration_of self.old)) }
+        ensures split { OnOk result (configuration_of self.new ≡
+            changed (Change.Split number point begun) (configuration_of self.old)) }
         ensures steps { OnOk result (self.new.steps ≡ self.old.steps) }
         ensures unchanged { OnErr result (self.new ≡ self.old) }
     {
@@ -81,7 +85,8 @@ impl Conf {
 
     /// The thread goes to the point, and the value becomes known.
     fn hear(&mut self, number: u32, point: u32, value: Value) -> Result<(), AllocError>
-        ensures heard { OnOk result (configuration_of self.new ≡ changed (Change.Hear number point value) (configuration_of self.old)) }
+        ensures heard { OnOk result (configuration_of self.new ≡
+            changed (Change.Hear number point value) (configuration_of self.old)) }
         ensures steps { OnOk result (self.new.steps ≡ self.old.steps) }
         ensures unchanged { OnErr result (self.new ≡ self.old) }
     {
@@ -92,7 +97,8 @@ impl Conf {
 
     /// The thread goes to the point, and the event is performed.
     fn mark(&mut self, number: u32, point: u32, happened: Happened) -> Result<(), AllocError>
-        ensures marked { OnOk result (configuration_of self.new ≡ changed (Change.Mark number point happened) (configuration_of self.old)) }
+        ensures marked { OnOk result (configuration_of self.new ≡
+            changed (Change.Mark number point happened) (configuration_of self.old)) }
         ensures steps { OnOk result (self.new.steps ≡ self.old.steps) }
         ensures unchanged { OnErr result (self.new ≡ self.old) }
     {
@@ -104,7 +110,8 @@ impl Conf {
     /// The change is made whole, or for want of memory not at all.
     pub fn change(&mut self, change: Change) -> Result<(), AllocError>
         requires { self.old.next + 1 < 2 ^ 64 }
-        ensures changed { OnOk result (configuration_of self.new ≡ changed change (configuration_of self.old)) }
+        ensures changed { OnOk result (configuration_of self.new ≡
+            changed change (configuration_of self.old)) }
         ensures steps { OnOk result (self.new.steps ≡ self.old.steps) }
         ensures unchanged { OnErr result (self.new ≡ self.old) }
     {

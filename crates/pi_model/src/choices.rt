@@ -34,8 +34,11 @@ pub fn take(
 ) -> Result<Change, ApplyError>
     requires of_protocol { IsConfigurationOf (protocol_of protocol.now) conf.now }
     requires points { length (nodes (process_of protocol.now.main)) < 2 ^ 32 }
-    ensures possible { IfOk result (λ change. IsPossible (protocol_of protocol.now) (configuration_of conf.now) (calculus.Take number label) (changed change (configuration_of conf.now))) }
-    ensures refused { IfErr result (λ e. IsErrorOf (protocol_of protocol.now) (configuration_of conf.now) (calculus.Take number label) e) }
+    ensures possible { IfOk result (λ change.
+        IsPossible (protocol_of protocol.now) (configuration_of conf.now)
+        (calculus.Take number label) (changed change (configuration_of conf.now))) }
+    ensures refused { IfErr result (λ e. IsErrorOf (protocol_of protocol.now)
+        (configuration_of conf.now) (calculus.Take number label) e) }
 {
     let at = standing_of(protocol, conf, number)?;
     match at.process {
@@ -66,7 +69,8 @@ fn some_match(
     pattern: &Pat,
     values: &[Value],
 ) -> Result<bool, AllocError>
-    ensures { IfOk result (λ b. b ≡ some_matches environment.now (pattern_of pattern.now) (map value_of values.now)) }
+    ensures { IfOk result (λ b. b ≡ some_matches environment.now (pattern_of pattern.now)
+        (map value_of values.now)) }
 {
     for value in values {
         if matched(alloc, environment, pattern, value)?.is_some() {
@@ -86,8 +90,11 @@ pub fn fail(
 ) -> Result<Change, ApplyError>
     requires of_protocol { IsConfigurationOf (protocol_of protocol.now) conf.now }
     requires points { length (nodes (process_of protocol.now.main)) < 2 ^ 32 }
-    ensures possible { IfOk result (λ change. IsPossible (protocol_of protocol.now) (configuration_of conf.now) (calculus.Fail number) (changed change (configuration_of conf.now))) }
-    ensures refused { IfErr result (λ e. IsErrorOf (protocol_of protocol.now) (configuration_of conf.now) (calculus.Fail number) e) }
+    ensures possible { IfOk result (λ change.
+        IsPossible (protocol_of protocol.now) (configuration_of conf.now) (calculus.Fail number)
+        (changed change (configuration_of conf.now))) }
+    ensures refused { IfErr result (λ e. IsErrorOf (protocol_of protocol.now)
+        (configuration_of conf.now) (calculus.Fail number) e) }
 {
     let at = standing_of(protocol, conf, number)?;
     match at.process {

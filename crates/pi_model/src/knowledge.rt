@@ -24,7 +24,8 @@ use term_values::{Bound, is_value_of};
 /// Whether the value of the term is the one that is found first. Where it isn't, it may be known all the same.
 #[tactic(auto, using(crate::proofs::Members::of_members))]
 fn is_latest(conf: &Conf, term: &Term, bound: &Bound) -> bool
-    ensures { result ≡ true → knows (configuration_of conf.now) (value_of (bound_of bound.now) (term_of term.now)) ≡ true }
+    ensures { result ≡ true → knows (configuration_of conf.now)
+        (value_of (bound_of bound.now) (term_of term.now)) ≡ true }
 {
     match conf.known.latest_of(term_hash(term, bound)) {
         None => false,
@@ -35,7 +36,8 @@ fn is_latest(conf: &Conf, term: &Term, bound: &Bound) -> bool
 /// Whether the attacker knows the value of the term. A value that is known is mostly found at once; one that isn't
 /// takes a look at all.
 pub fn knows(conf: &Conf, term: &Term, bound: &Bound) -> bool
-    ensures { result ≡ knows (configuration_of conf.now) (value_of (bound_of bound.now) (term_of term.now)) }
+    ensures { result ≡ knows (configuration_of conf.now)
+        (value_of (bound_of bound.now) (term_of term.now)) }
 {
     if is_latest(conf, term, bound) {
         return true;
@@ -130,7 +132,8 @@ pub fn first_arity(rules: &[Rule], count: usize) -> bool
 /// The part of that number among the values, if it is there.
 #[tactic(auto, using(crate::proofs::Causes::of_items))]
 fn item(values: &[Value], number: u32) -> Option<&Value>
-    ensures { option_map (λ v. seen.value_of v.now) result ≡ numbered (items_of (trees (map seen.value_of values.now))) number }
+    ensures { option_map (λ v. seen.value_of v.now) result ≡
+        numbered (items_of (trees (map seen.value_of values.now))) number }
 {
     match number.checked_sub(1) {
         None => None,
@@ -141,7 +144,8 @@ fn item(values: &[Value], number: u32) -> Option<&Value>
 /// The part of that number of the value, if it is data and has one.
 #[tactic(auto, using(crate::proofs::Causes::of_parts))]
 pub fn part_of<'a>(protocol: &Protocol, number: u32, value: &'a Value) -> Option<&'a Value>
-    ensures { option_map (λ v. seen.value_of v.now) result ≡ part_of (protocol_of protocol.now) number (seen.value_of value.now) }
+    ensures { option_map (λ v. seen.value_of v.now) result ≡
+        part_of (protocol_of protocol.now) number (seen.value_of value.now) }
 {
     match value {
         Value::Free(_) | Value::Made(..) | Value::Fresh(_) => None,

@@ -30,8 +30,11 @@ pub fn split(
 ) -> Result<Change, ApplyError>
     requires of_protocol { IsConfigurationOf (protocol_of protocol.now) conf.now }
     requires points { length (nodes (process_of protocol.now.main)) < 2 ^ 32 }
-    ensures possible { IfOk result (λ change. IsPossible (protocol_of protocol.now) (configuration_of conf.now) (calculus.Split number) (changed change (configuration_of conf.now))) }
-    ensures refused { IfErr result (λ e. IsErrorOf (protocol_of protocol.now) (configuration_of conf.now) (calculus.Split number) e) }
+    ensures possible { IfOk result (λ change.
+        IsPossible (protocol_of protocol.now) (configuration_of conf.now) (calculus.Split number)
+        (changed change (configuration_of conf.now))) }
+    ensures refused { IfErr result (λ e. IsErrorOf (protocol_of protocol.now)
+        (configuration_of conf.now) (calculus.Split number) e) }
 {
     let at = standing_of(protocol, conf, number)?;
     match at.process {
@@ -54,8 +57,11 @@ pub fn copy(
 ) -> Result<Change, ApplyError>
     requires of_protocol { IsConfigurationOf (protocol_of protocol.now) conf.now }
     requires points { length (nodes (process_of protocol.now.main)) < 2 ^ 32 }
-    ensures possible { IfOk result (λ change. IsPossible (protocol_of protocol.now) (configuration_of conf.now) (calculus.Copy number) (changed change (configuration_of conf.now))) }
-    ensures refused { IfErr result (λ e. IsErrorOf (protocol_of protocol.now) (configuration_of conf.now) (calculus.Copy number) e) }
+    ensures possible { IfOk result (λ change.
+        IsPossible (protocol_of protocol.now) (configuration_of conf.now) (calculus.Copy number)
+        (changed change (configuration_of conf.now))) }
+    ensures refused { IfErr result (λ e. IsErrorOf (protocol_of protocol.now)
+        (configuration_of conf.now) (calculus.Copy number) e) }
 {
     let at = standing_of(protocol, conf, number)?;
     match at.process {
@@ -77,8 +83,11 @@ pub fn make(
 ) -> Result<Change, ApplyError>
     requires of_protocol { IsConfigurationOf (protocol_of protocol.now) conf.now }
     requires points { length (nodes (process_of protocol.now.main)) < 2 ^ 32 }
-    ensures possible { IfOk result (λ change. IsPossible (protocol_of protocol.now) (configuration_of conf.now) (calculus.Make number) (changed change (configuration_of conf.now))) }
-    ensures refused { IfErr result (λ e. IsErrorOf (protocol_of protocol.now) (configuration_of conf.now) (calculus.Make number) e) }
+    ensures possible { IfOk result (λ change.
+        IsPossible (protocol_of protocol.now) (configuration_of conf.now) (calculus.Make number)
+        (changed change (configuration_of conf.now))) }
+    ensures refused { IfErr result (λ e. IsErrorOf (protocol_of protocol.now)
+        (configuration_of conf.now) (calculus.Make number) e) }
 {
     let at = standing_of(protocol, conf, number)?;
     match at.process {
@@ -101,8 +110,11 @@ pub fn hear(
 ) -> Result<Change, ApplyError>
     requires of_protocol { IsConfigurationOf (protocol_of protocol.now) conf.now }
     requires points { length (nodes (process_of protocol.now.main)) < 2 ^ 32 }
-    ensures possible { IfOk result (λ change. IsPossible (protocol_of protocol.now) (configuration_of conf.now) (calculus.Hear number) (changed change (configuration_of conf.now))) }
-    ensures refused { IfErr result (λ e. IsErrorOf (protocol_of protocol.now) (configuration_of conf.now) (calculus.Hear number) e) }
+    ensures possible { IfOk result (λ change.
+        IsPossible (protocol_of protocol.now) (configuration_of conf.now) (calculus.Hear number)
+        (changed change (configuration_of conf.now))) }
+    ensures refused { IfErr result (λ e. IsErrorOf (protocol_of protocol.now)
+        (configuration_of conf.now) (calculus.Hear number) e) }
 {
     let at = standing_of(protocol, conf, number)?;
     match at.process {
@@ -130,8 +142,11 @@ pub fn mark(
 ) -> Result<Change, ApplyError>
     requires of_protocol { IsConfigurationOf (protocol_of protocol.now) conf.now }
     requires points { length (nodes (process_of protocol.now.main)) < 2 ^ 32 }
-    ensures possible { IfOk result (λ change. IsPossible (protocol_of protocol.now) (configuration_of conf.now) (calculus.Mark number) (changed change (configuration_of conf.now))) }
-    ensures refused { IfErr result (λ e. IsErrorOf (protocol_of protocol.now) (configuration_of conf.now) (calculus.Mark number) e) }
+    ensures possible { IfOk result (λ change.
+        IsPossible (protocol_of protocol.now) (configuration_of conf.now) (calculus.Mark number)
+        (changed change (configuration_of conf.now))) }
+    ensures refused { IfErr result (λ e. IsErrorOf (protocol_of protocol.now)
+        (configuration_of conf.now) (calculus.Mark number) e) }
 {
     let at = standing_of(protocol, conf, number)?;
     match at.process {

@@ -38,7 +38,9 @@ pub fn received(
     value: &Value,
 ) -> Result<Thread, AllocError>
     requires { point + 1 < 2 ^ 32 }
-    ensures { IfOk result (λ t. thread_of t ≡ received point environment.now (matched environment.now (pattern_of pattern.now) (value_of value.now))) }
+    ensures { IfOk result (λ t. thread_of t ≡
+        received point environment.now (matched environment.now (pattern_of pattern.now)
+        (value_of value.now))) }
 {
     match matched(alloc, environment, pattern, value)? {
         None => Ok(Thread::Ended),
@@ -57,8 +59,11 @@ pub fn say(
 ) -> Result<Change, ApplyError>
     requires of_protocol { IsConfigurationOf (protocol_of protocol.now) conf.now }
     requires points { length (nodes (process_of protocol.now.main)) < 2 ^ 32 }
-    ensures possible { IfOk result (λ change. IsPossible (protocol_of protocol.now) (configuration_of conf.now) (calculus.Say number known) (changed change (configuration_of conf.now))) }
-    ensures refused { IfErr result (λ e. IsErrorOf (protocol_of protocol.now) (configuration_of conf.now) (calculus.Say number known) e) }
+    ensures possible { IfOk result (λ change.
+        IsPossible (protocol_of protocol.now) (configuration_of conf.now)
+        (calculus.Say number known) (changed change (configuration_of conf.now))) }
+    ensures refused { IfErr result (λ e. IsErrorOf (protocol_of protocol.now)
+        (configuration_of conf.now) (calculus.Say number known) e) }
 {
     let at = standing_of(protocol, conf, number)?;
     match at.process {
@@ -82,7 +87,9 @@ pub fn say(
 
 /// Whether the value of a term that is written where the one or the other stands is large.
 fn some_large_at_either(from: &Stand, to: &Stand) -> bool
-    ensures { result ≡ (list_any is_large (values_of from.now.environment.now (terms_at (process_of from.now.process.now))) || list_any is_large (values_of to.now.environment.now (terms_at (process_of to.now.process.now)))) }
+    ensures { result ≡ (list_any is_large (values_of from.now.environment.now
+        (terms_at (process_of from.now.process.now))) || list_any is_large
+        (values_of to.now.environment.now (terms_at (process_of to.now.process.now)))) }
 {
     some_large_at(from.process, from.environment) || some_large_at(to.process, to.environment)
 }
@@ -100,12 +107,19 @@ fn meet(
 ) -> Result<Change, ApplyError>
     requires of_protocol { IsConfigurationOf (protocol_of protocol.now) conf.now }
     requires points { length (nodes (process_of protocol.now.main)) < 2 ^ 32 }
-    requires sends { Stands (protocol_of protocol.now) (configuration_of conf.now) sender from.now.point from.now.environment.now (process_of from.now.process.now) }
-    requires sends_within { from.now.point + length (nodes (process_of from.now.process.now)) ≤ length (nodes (process_of protocol.now.main)) + 1 }
-    requires receives { Stands (protocol_of protocol.now) (configuration_of conf.now) receiver to.now.point to.now.environment.now (process_of to.now.process.now) }
-    requires receives_within { to.now.point + length (nodes (process_of to.now.process.now)) ≤ length (nodes (process_of protocol.now.main)) + 1 }
-    ensures possible { IfOk result (λ change. IsPossible (protocol_of protocol.now) (configuration_of conf.now) (calculus.Pass sender receiver) (changed change (configuration_of conf.now))) }
-    ensures refused { IfErr result (λ e. IsErrorOf (protocol_of protocol.now) (configuration_of conf.now) (calculus.Pass sender receiver) e) }
+    requires sends { Stands (protocol_of protocol.now) (configuration_of conf.now) sender
+        from.now.point from.now.environment.now (process_of from.now.process.now) }
+    requires sends_within { from.now.point + length (nodes (process_of from.now.process.now)) ≤
+        length (nodes (process_of protocol.now.main)) + 1 }
+    requires receives { Stands (protocol_of protocol.now) (configuration_of conf.now) receiver
+        to.now.point to.now.environment.now (process_of to.now.process.now) }
+    requires receives_within { to.now.point + length (nodes (process_of to.now.process.now)) ≤
+        length (nodes (process_of protocol.now.main)) + 1 }
+    ensures possible { IfOk result (λ change.
+        IsPossible (protocol_of protocol.now) (configuration_of conf.now)
+        (calculus.Pass sender receiver) (changed change (configuration_of conf.now))) }
+    ensures refused { IfErr result (λ e. IsErrorOf (protocol_of protocol.now)
+        (configuration_of conf.now) (calculus.Pass sender receiver) e) }
 {
     match from.process {
         Process::Output(channel, message, _) => match to.process {
@@ -138,8 +152,11 @@ pub fn pass(
 ) -> Result<Change, ApplyError>
     requires of_protocol { IsConfigurationOf (protocol_of protocol.now) conf.now }
     requires points { length (nodes (process_of protocol.now.main)) < 2 ^ 32 }
-    ensures possible { IfOk result (λ change. IsPossible (protocol_of protocol.now) (configuration_of conf.now) (calculus.Pass sender receiver) (changed change (configuration_of conf.now))) }
-    ensures refused { IfErr result (λ e. IsErrorOf (protocol_of protocol.now) (configuration_of conf.now) (calculus.Pass sender receiver) e) }
+    ensures possible { IfOk result (λ change.
+        IsPossible (protocol_of protocol.now) (configuration_of conf.now)
+        (calculus.Pass sender receiver) (changed change (configuration_of conf.now))) }
+    ensures refused { IfErr result (λ e. IsErrorOf (protocol_of protocol.now)
+        (configuration_of conf.now) (calculus.Pass sender receiver) e) }
 {
     if !is_thread(conf, sender) || !is_thread(conf, receiver) {
         return Err(ApplyError::Refused(StepError::NoThread));

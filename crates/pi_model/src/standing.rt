@@ -29,8 +29,11 @@ pub fn standing_of<'a>(
     number: u32,
 ) -> Result<Stand<'a>, StepError>
     requires { IsConfigurationOf (protocol_of protocol.now) conf.now }
-    ensures stands { IfOk result (λ at. Stands (protocol_of protocol.now) (configuration_of conf.now) number at.point at.environment.now (process_of at.process.now)) }
-    ensures within { IfOk result (λ at. at.point + length (nodes (process_of at.process.now)) ≤ length (nodes (process_of protocol.now.main)) + 1) }
+    ensures stands { IfOk result (λ at. Stands (protocol_of protocol.now)
+        (configuration_of conf.now) number at.point at.environment.now
+        (process_of at.process.now)) }
+    ensures within { IfOk result (λ at. at.point + length (nodes (process_of at.process.now)) ≤
+        length (nodes (process_of protocol.now.main)) + 1) }
     ensures nowhere { IfErr result (λ e. StandsNowhere (configuration_of conf.now) number e) }
 {
     match conf.threads.get(number) {

@@ -37,7 +37,8 @@ fn all_found<'a>(
     bound: &'a Bound<'a>,
     performed: &'a [Happened],
 ) -> bool
-    ensures { result ≡ all_found (drop from events.now) (bound_of bound.now) (map performed_of performed.now) }
+    ensures { result ≡ all_found (drop from events.now) (bound_of bound.now)
+        (map performed_of performed.now) }
 {
     if from >= events.items.len() {
         return true;
@@ -60,7 +61,9 @@ fn some_precede<'a>(
     bound: &'a Bound<'a>,
     performed: &'a [Happened],
 ) -> bool
-    ensures { result ≡ list_any (λ alternative. all_found alternative (bound_of bound.now) (map performed_of performed.now)) alternatives.now }
+    ensures { result ≡ list_any (λ alternative.
+        all_found alternative (bound_of bound.now) (map performed_of performed.now))
+        alternatives.now }
 {
     for alternative in &alternatives.items {
         if all_found(alternative, 0, bound, performed) {
@@ -77,7 +80,8 @@ fn is_unpreceded<'a>(
     before: &'a [Happened],
     happened: &'a Happened,
 ) -> bool
-    ensures { result ≡ unpreceded (event_of left.now) alternatives.now (map performed_of before.now) (performed_of happened.now) }
+    ensures { result ≡ unpreceded (event_of left.now) alternatives.now (map performed_of before.now)
+        (performed_of happened.now) }
 {
     if !fits(&Bound::Nothing, left, happened) {
         return false;
@@ -136,7 +140,8 @@ fn is_violated(query: &Query, conf: &Conf) -> bool
 #[tactic(auto, using(crate::proofs::Deciding::of_violations))]
 pub fn violated(protocol: &Protocol, conf: &Conf, query: u32) -> bool
     requires there { (0 < query) × (query ≤ length protocol.now.queries) }
-    ensures { (q : calculus.Query) → numbered protocol.now.queries query ≡ Some q → IsTrue result ↔ IsViolated q (configuration_of conf.now) }
+    ensures { (q : calculus.Query) → numbered protocol.now.queries query ≡ Some q →
+        IsTrue result ↔ IsViolated q (configuration_of conf.now) }
 {
     is_violated(protocol.query(query), conf)
 }

@@ -77,7 +77,8 @@ fn rules(
     at: usize,
 ) -> Result<((RuleSketch, Vec<RuleSketch>), usize), Fault>
     requires { at ≤ length classes.now }
-    ensures read { Gives rules_of result (list_at (most_of classes.now) Class.Semicolon (rule_at (most_of classes.now)) (words classes.now) at) }
+    ensures read { Gives rules_of result (list_at (most_of classes.now) Class.Semicolon
+        (rule_at (most_of classes.now)) (words classes.now) at) }
     ensures within { IsBehind classes.now at result }
 {
     let mut others = Vec::new(alloc);
@@ -94,7 +95,8 @@ fn rules(
 fn private(alloc: Global, classes: &[Class], at: usize) -> Result<(DeclarationSketch, usize), Fault>
     requires room { at < length classes.now }
     requires first { (words classes.now at).class ≡ Class.Private }
-    ensures read { Gives declaration_of result (declaration_by (most_of classes.now) Class.Private (words classes.now) at) }
+    ensures read { Gives declaration_of result
+        (declaration_by (most_of classes.now) Class.Private (words classes.now) at) }
     ensures within { IsBehind classes.now at result }
 {
     if is_at(classes, at + 1, Class::Free) {
@@ -127,7 +129,8 @@ fn private(alloc: Global, classes: &[Class], at: usize) -> Result<(DeclarationSk
 fn free(alloc: Global, classes: &[Class], at: usize) -> Result<(DeclarationSketch, usize), Fault>
     requires room { at < length classes.now }
     requires first { (words classes.now at).class ≡ Class.Free }
-    ensures read { Gives declaration_of result (declaration_by (most_of classes.now) Class.Free (words classes.now) at) }
+    ensures read { Gives declaration_of result
+        (declaration_by (most_of classes.now) Class.Free (words classes.now) at) }
     ensures within { IsBehind classes.now at result }
 {
     let ((name, others), end) = names(alloc, classes, at + 1)?;
@@ -146,7 +149,8 @@ fn free(alloc: Global, classes: &[Class], at: usize) -> Result<(DeclarationSketc
 fn fun(classes: &[Class], at: usize) -> Result<(DeclarationSketch, usize), Fault>
     requires room { at < length classes.now }
     requires first { (words classes.now at).class ≡ Class.Fun }
-    ensures read { Gives declaration_of result (declaration_by (most_of classes.now) Class.Fun (words classes.now) at) }
+    ensures read { Gives declaration_of result
+        (declaration_by (most_of classes.now) Class.Fun (words classes.now) at) }
     ensures within { IsBehind classes.now at result }
 {
     let ((name, arity), end) = sized(classes, at + 1)?;
@@ -165,7 +169,8 @@ fn fun(classes: &[Class], at: usize) -> Result<(DeclarationSketch, usize), Fault
 fn data(classes: &[Class], at: usize) -> Result<(DeclarationSketch, usize), Fault>
     requires room { at < length classes.now }
     requires first { (words classes.now at).class ≡ Class.Data }
-    ensures read { Gives declaration_of result (declaration_by (most_of classes.now) Class.Data (words classes.now) at) }
+    ensures read { Gives declaration_of result
+        (declaration_by (most_of classes.now) Class.Data (words classes.now) at) }
     ensures within { IsBehind classes.now at result }
 {
     let ((name, arity), end) = sized(classes, at + 1)?;
@@ -183,7 +188,8 @@ fn data(classes: &[Class], at: usize) -> Result<(DeclarationSketch, usize), Faul
 fn event(classes: &[Class], at: usize) -> Result<(DeclarationSketch, usize), Fault>
     requires room { at < length classes.now }
     requires first { (words classes.now at).class ≡ Class.Event }
-    ensures read { Gives declaration_of result (declaration_by (most_of classes.now) Class.Event (words classes.now) at) }
+    ensures read { Gives declaration_of result
+        (declaration_by (most_of classes.now) Class.Event (words classes.now) at) }
     ensures within { IsBehind classes.now at result }
 {
     let ((name, arity), end) = sized(classes, at + 1)?;
@@ -201,7 +207,8 @@ fn event(classes: &[Class], at: usize) -> Result<(DeclarationSketch, usize), Fau
 fn reduc(alloc: Global, classes: &[Class], at: usize) -> Result<(DeclarationSketch, usize), Fault>
     requires room { at < length classes.now }
     requires first { (words classes.now at).class ≡ Class.Reduc }
-    ensures read { Gives declaration_of result (declaration_by (most_of classes.now) Class.Reduc (words classes.now) at) }
+    ensures read { Gives declaration_of result
+        (declaration_by (most_of classes.now) Class.Reduc (words classes.now) at) }
     ensures within { IsBehind classes.now at result }
 {
     let ((rule, others), dot) = rules(alloc, classes, at + 1)?;
@@ -220,7 +227,8 @@ fn reduc(alloc: Global, classes: &[Class], at: usize) -> Result<(DeclarationSket
 fn query(alloc: Global, classes: &[Class], at: usize) -> Result<(DeclarationSketch, usize), Fault>
     requires room { at < length classes.now }
     requires first { (words classes.now at).class ≡ Class.Query }
-    ensures read { Gives declaration_of result (declaration_by (most_of classes.now) Class.Query (words classes.now) at) }
+    ensures read { Gives declaration_of result
+        (declaration_by (most_of classes.now) Class.Query (words classes.now) at) }
     ensures within { IsBehind classes.now at result }
 {
     let (question, dot) = question(alloc, classes, at + 1)?;
@@ -242,7 +250,8 @@ fn definition(
 ) -> Result<(DeclarationSketch, usize), Fault>
     requires room { at < length classes.now }
     requires first { (words classes.now at).class ≡ Class.Let }
-    ensures read { Gives declaration_of result (declaration_by (most_of classes.now) Class.Let (words classes.now) at) }
+    ensures read { Gives declaration_of result
+        (declaration_by (most_of classes.now) Class.Let (words classes.now) at) }
     ensures within { IsBehind classes.now at result }
 {
     let name = at + 1;
@@ -268,7 +277,8 @@ fn declaration(
     at: usize,
 ) -> Result<(DeclarationSketch, usize), Fault>
     requires { at ≤ length classes.now }
-    ensures read { Gives declaration_of result (declaration_at (most_of classes.now) (words classes.now) at) }
+    ensures read { Gives declaration_of result
+        (declaration_at (most_of classes.now) (words classes.now) at) }
     ensures within { IsBehind classes.now at result }
 {
     match class_at(classes, at) {
@@ -292,7 +302,8 @@ fn main_process(
     at: usize,
 ) -> Result<(ProcessSketch, usize), Fault>
     requires { at ≤ length classes.now }
-    ensures read { Gives (main_of at) result (main_at (most_of classes.now) (words classes.now) at) }
+    ensures read { Gives (main_of at) result (main_at (most_of classes.now) (words classes.now)
+        at) }
 {
     let first = mark(classes, at, Class::Process)?;
     let (process, end) = process(alloc, classes, first, 512)?;

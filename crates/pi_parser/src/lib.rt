@@ -86,7 +86,8 @@ pub fn parse(alloc: Global, source: &[u8], tokens: &Tokens) -> Result<Sketch, Pa
 
     // Tokens that have a sketch give it, and tokens that are refused give that refusal.
     ensures accepts { (f : FileSketch) → IsSpelled source.now tokens.now f → GivesSketch f result }
-    ensures refuses { (why : Refusal) (i : ℕ) → IsRefusedIn source.now tokens.now why i → GivesRefusal why (place_at source.now tokens.now i) result }
+    ensures refuses { (why : Refusal) (i : ℕ) → IsRefusedIn source.now tokens.now why i →
+        GivesRefusal why (place_at source.now tokens.now i) result }
 {
     match read(alloc, source, tokens) {
         Ok((sketch, _)) => Ok(sketch),

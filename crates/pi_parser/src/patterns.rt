@@ -23,7 +23,9 @@ fn patterns(
     left: usize,
 ) -> Result<(PatternsSketch, usize), Fault>
     requires { (at ≤ length classes.now) × (left ≤ 512) }
-    ensures read { Gives patterns_of result (built list_of (list_at (most_of classes.now) Class.Comma (pattern_at (most_of classes.now) left)) (words classes.now) at) }
+    ensures read { Gives patterns_of result (built list_of
+        (list_at (most_of classes.now) Class.Comma (pattern_at (most_of classes.now) left))
+        (words classes.now) at) }
     ensures within { IsBehind classes.now at result }
 {
     let mut items = Vec::new(alloc);
@@ -47,7 +49,8 @@ fn arguments(
     left: usize,
 ) -> Result<(PatternsSketch, usize), Fault>
     requires { (at ≤ length classes.now) × (left ≤ 512) }
-    ensures read { Gives patterns_of result (arguments_at (most_of classes.now) (pattern_at (most_of classes.now) left) (words classes.now) at) }
+    ensures read { Gives patterns_of result (arguments_at (most_of classes.now)
+        (pattern_at (most_of classes.now) left) (words classes.now) at) }
     ensures within { IfOk result (λ x. (at ≤ x.1) × (x.1 ≤ length classes.now)) }
 {
     if is_at(classes, at, Class::Open) {
@@ -70,7 +73,8 @@ fn named(
 ) -> Result<(PatternSketch, usize), Fault>
     requires room { (at < length classes.now) × (left ≤ 512) }
     requires name { (words classes.now at).class ≡ Class.Name }
-    ensures read { Gives pattern_of result (pattern_by (most_of classes.now) left (pattern_at (most_of classes.now) left) Class.Name (words classes.now) at) }
+    ensures read { Gives pattern_of result (pattern_by (most_of classes.now) left
+        (pattern_at (most_of classes.now) left) Class.Name (words classes.now) at) }
     ensures within { IsBehind classes.now at result }
 {
     let (arguments, behind) = arguments(alloc, classes, at + 1, left)?;
@@ -86,7 +90,8 @@ fn equal(
 ) -> Result<(PatternSketch, usize), Fault>
     requires room { (at < length classes.now) × (left ≤ 512) }
     requires equals { (words classes.now at).class ≡ Class.Equals }
-    ensures read { Gives pattern_of result (pattern_by (most_of classes.now) left (pattern_at (most_of classes.now) left) Class.Equals (words classes.now) at) }
+    ensures read { Gives pattern_of result (pattern_by (most_of classes.now) left
+        (pattern_at (most_of classes.now) left) Class.Equals (words classes.now) at) }
     ensures within { IsBehind classes.now at result }
 {
     let (term, behind) = term(alloc, classes, at + 1, left)?;
@@ -103,7 +108,8 @@ fn grouped(
 ) -> Result<(PatternSketch, usize), Fault>
     requires room { (at < length classes.now) × (left ≤ 512) }
     requires open { (words classes.now at).class ≡ Class.Open }
-    ensures read { Gives pattern_of result (pattern_by (most_of classes.now) left (pattern_at (most_of classes.now) left) Class.Open (words classes.now) at) }
+    ensures read { Gives pattern_of result (pattern_by (most_of classes.now) left
+        (pattern_at (most_of classes.now) left) Class.Open (words classes.now) at) }
     ensures within { IsBehind classes.now at result }
 {
     let (parts, behind) = patterns(alloc, classes, at + 1, left)?;
@@ -128,7 +134,8 @@ pub fn pattern(
     left: usize,
 ) -> Result<(PatternSketch, usize), Fault>
     requires { (at ≤ length classes.now) × (left ≤ 512) }
-    ensures read { Gives pattern_of result (pattern_at (most_of classes.now) left (words classes.now) at) }
+    ensures read { Gives pattern_of result (pattern_at (most_of classes.now) left
+        (words classes.now) at) }
     ensures within { IsBehind classes.now at result }
 {
     let class = class_at(classes, at);

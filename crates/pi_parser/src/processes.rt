@@ -25,7 +25,8 @@ fn next(
 ) -> Result<(NextSketch, usize), Fault>
     requires room { (at ≤ length classes.now) × (left ≤ 512) }
     requires other { same before Class.End ≡ false }
-    ensures read { Gives next_of result (next_at before (unit_at (most_of classes.now) left) (words classes.now) at) }
+    ensures read { Gives next_of result (next_at before (unit_at (most_of classes.now) left)
+        (words classes.now) at) }
     ensures within { IfOk result (λ x. (at ≤ x.1) × (x.1 ≤ length classes.now)) }
 {
     if is_at(classes, at, before) {
@@ -46,7 +47,9 @@ fn inner(
 ) -> Result<(UnitSketch, usize), Fault>
     requires room { (at < length classes.now) × (left ≤ 512) }
     requires first { (words classes.now at).class ≡ Class.Open }
-    ensures read { Gives unit_of result (unit_by (most_of classes.now) left (unit_at (most_of classes.now) left) (process_at (most_of classes.now) left) Class.Open (words classes.now) at) }
+    ensures read { Gives unit_of result (unit_by (most_of classes.now) left
+        (unit_at (most_of classes.now) left) (process_at (most_of classes.now) left) Class.Open
+        (words classes.now) at) }
     ensures within { IsBehind classes.now at result }
 {
     let (process, behind) = process(alloc, classes, at + 1, left)?;
@@ -64,7 +67,9 @@ fn replicated(
 ) -> Result<(UnitSketch, usize), Fault>
     requires room { (at < length classes.now) × (left ≤ 512) }
     requires first { (words classes.now at).class ≡ Class.Bang }
-    ensures read { Gives unit_of result (unit_by (most_of classes.now) left (unit_at (most_of classes.now) left) (process_at (most_of classes.now) left) Class.Bang (words classes.now) at) }
+    ensures read { Gives unit_of result (unit_by (most_of classes.now) left
+        (unit_at (most_of classes.now) left) (process_at (most_of classes.now) left) Class.Bang
+        (words classes.now) at) }
     ensures within { IsBehind classes.now at result }
 {
     let (unit, behind) = unit(alloc, classes, at + 1, left)?;
@@ -81,7 +86,9 @@ fn new(
 ) -> Result<(UnitSketch, usize), Fault>
     requires room { (at < length classes.now) × (left ≤ 512) }
     requires first { (words classes.now at).class ≡ Class.New }
-    ensures read { Gives unit_of result (unit_by (most_of classes.now) left (unit_at (most_of classes.now) left) (process_at (most_of classes.now) left) Class.New (words classes.now) at) }
+    ensures read { Gives unit_of result (unit_by (most_of classes.now) left
+        (unit_at (most_of classes.now) left) (process_at (most_of classes.now) left) Class.New
+        (words classes.now) at) }
     ensures within { IsBehind classes.now at result }
 {
     let name = at + 1;
@@ -100,7 +107,9 @@ fn output(
 ) -> Result<(UnitSketch, usize), Fault>
     requires room { (at < length classes.now) × (left ≤ 512) }
     requires first { (words classes.now at).class ≡ Class.Out }
-    ensures read { Gives unit_of result (unit_by (most_of classes.now) left (unit_at (most_of classes.now) left) (process_at (most_of classes.now) left) Class.Out (words classes.now) at) }
+    ensures read { Gives unit_of result (unit_by (most_of classes.now) left
+        (unit_at (most_of classes.now) left) (process_at (most_of classes.now) left) Class.Out
+        (words classes.now) at) }
     ensures within { IsBehind classes.now at result }
 {
     let inside = mark(classes, at + 1, Class::Open)?;
@@ -122,7 +131,9 @@ fn input(
 ) -> Result<(UnitSketch, usize), Fault>
     requires room { (at < length classes.now) × (left ≤ 512) }
     requires first { (words classes.now at).class ≡ Class.In }
-    ensures read { Gives unit_of result (unit_by (most_of classes.now) left (unit_at (most_of classes.now) left) (process_at (most_of classes.now) left) Class.In (words classes.now) at) }
+    ensures read { Gives unit_of result (unit_by (most_of classes.now) left
+        (unit_at (most_of classes.now) left) (process_at (most_of classes.now) left) Class.In
+        (words classes.now) at) }
     ensures within { IsBehind classes.now at result }
 {
     let inside = mark(classes, at + 1, Class::Open)?;
@@ -144,7 +155,9 @@ fn happens(
 ) -> Result<(UnitSketch, usize), Fault>
     requires room { (at < length classes.now) × (left ≤ 512) }
     requires first { (words classes.now at).class ≡ Class.Event }
-    ensures read { Gives unit_of result (unit_by (most_of classes.now) left (unit_at (most_of classes.now) left) (process_at (most_of classes.now) left) Class.Event (words classes.now) at) }
+    ensures read { Gives unit_of result (unit_by (most_of classes.now) left
+        (unit_at (most_of classes.now) left) (process_at (most_of classes.now) left) Class.Event
+        (words classes.now) at) }
     ensures within { IsBehind classes.now at result }
 {
     let (atom, behind) = atom(alloc, classes, at + 1, left)?;
@@ -162,7 +175,9 @@ fn let_in(
 ) -> Result<(UnitSketch, usize), Fault>
     requires room { (at < length classes.now) × (left ≤ 512) }
     requires first { (words classes.now at).class ≡ Class.Let }
-    ensures read { Gives unit_of result (unit_by (most_of classes.now) left (unit_at (most_of classes.now) left) (process_at (most_of classes.now) left) Class.Let (words classes.now) at) }
+    ensures read { Gives unit_of result (unit_by (most_of classes.now) left
+        (unit_at (most_of classes.now) left) (process_at (most_of classes.now) left) Class.Let
+        (words classes.now) at) }
     ensures within { IsBehind classes.now at result }
 {
     let (pattern, equals) = pattern(alloc, classes, at + 1, left)?;
@@ -187,7 +202,9 @@ fn if_then(
 ) -> Result<(UnitSketch, usize), Fault>
     requires room { (at < length classes.now) × (left ≤ 512) }
     requires first { (words classes.now at).class ≡ Class.If }
-    ensures read { Gives unit_of result (unit_by (most_of classes.now) left (unit_at (most_of classes.now) left) (process_at (most_of classes.now) left) Class.If (words classes.now) at) }
+    ensures read { Gives unit_of result (unit_by (most_of classes.now) left
+        (unit_at (most_of classes.now) left) (process_at (most_of classes.now) left) Class.If
+        (words classes.now) at) }
     ensures within { IsBehind classes.now at result }
 {
     let (first, equals) = term(alloc, classes, at + 1, left)?;
@@ -231,7 +248,8 @@ fn unit(
     left: usize,
 ) -> Result<(UnitSketch, usize), Fault>
     requires { (at ≤ length classes.now) × (left ≤ 512) }
-    ensures read { Gives unit_of result (unit_at (most_of classes.now) left (words classes.now) at) }
+    ensures read { Gives unit_of result (unit_at (most_of classes.now) left (words classes.now)
+        at) }
     ensures within { IsBehind classes.now at result }
 {
     let class = class_at(classes, at);
@@ -263,7 +281,8 @@ pub fn process(
     left: usize,
 ) -> Result<(ProcessSketch, usize), Fault>
     requires { (at ≤ length classes.now) × (left ≤ 512) }
-    ensures read { Gives process_of result (process_at (most_of classes.now) left (words classes.now) at) }
+    ensures read { Gives process_of result (process_at (most_of classes.now) left
+        (words classes.now) at) }
     ensures within { IsBehind classes.now at result }
 {
     if left == 0 {

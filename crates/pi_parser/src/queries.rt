@@ -17,7 +17,8 @@ use std::alloc::Global;
 /// `event atom`.
 fn happening(alloc: Global, classes: &[Class], at: usize) -> Result<(AtomSketch, usize), Fault>
     requires { at ≤ length classes.now }
-    ensures read { Gives atom_of result (happening_at (most_of classes.now) (words classes.now) at) }
+    ensures read { Gives atom_of result (happening_at (most_of classes.now) (words classes.now)
+        at) }
     ensures within { IsBehind classes.now at result }
 {
     let behind = mark(classes, at, Class::Event)?;
@@ -32,7 +33,8 @@ fn alternative(
     at: usize,
 ) -> Result<(AlternativeSketch, usize), Fault>
     requires { at ≤ length classes.now }
-    ensures read { Gives alternative_of result (alternative_at (most_of classes.now) (words classes.now) at) }
+    ensures read { Gives alternative_of result
+        (alternative_at (most_of classes.now) (words classes.now) at) }
     ensures within { IsBehind classes.now at result }
 {
     let mut others = Vec::new(alloc);
@@ -53,7 +55,9 @@ fn listed(
     at: usize,
 ) -> Result<(Vec<AlternativeSketch>, usize), Fault>
     requires { at ≤ length classes.now }
-    ensures read { Gives alternatives_of result (built list_of (list_at (most_of classes.now) Class.Or (alternative_at (most_of classes.now))) (words classes.now) at) }
+    ensures read { Gives alternatives_of result
+        (built list_of (list_at (most_of classes.now) Class.Or
+        (alternative_at (most_of classes.now))) (words classes.now) at) }
     ensures within { IsBehind classes.now at result }
 {
     let mut items = Vec::new(alloc);
@@ -75,7 +79,8 @@ fn alternatives(
     at: usize,
 ) -> Result<(Vec<AlternativeSketch>, usize), Fault>
     requires { at ≤ length classes.now }
-    ensures read { Gives alternatives_of result (alternatives_at (most_of classes.now) (words classes.now) at) }
+    ensures read { Gives alternatives_of result
+        (alternatives_at (most_of classes.now) (words classes.now) at) }
     ensures within { IsBehind classes.now at result }
 {
     if is_at(classes, at, Class::False) {
@@ -90,7 +95,8 @@ fn alternatives(
 fn attacker(alloc: Global, classes: &[Class], at: usize) -> Result<(QuerySketch, usize), Fault>
     requires room { at < length classes.now }
     requires first { (words classes.now at).class ≡ Class.Attacker }
-    ensures read { Gives question_of result (question_by (most_of classes.now) Class.Attacker (words classes.now) at) }
+    ensures read { Gives question_of result (question_by (most_of classes.now) Class.Attacker
+        (words classes.now) at) }
     ensures within { IsBehind classes.now at result }
 {
     let inside = mark(classes, at + 1, Class::Open)?;
@@ -114,7 +120,8 @@ fn correspondence(
 ) -> Result<(QuerySketch, usize), Fault>
     requires room { at < length classes.now }
     requires first { (words classes.now at).class ≡ Class.Event }
-    ensures read { Gives question_of result (question_by (most_of classes.now) Class.Event (words classes.now) at) }
+    ensures read { Gives question_of result (question_by (most_of classes.now) Class.Event
+        (words classes.now) at) }
     ensures within { IsBehind classes.now at result }
 {
     let (atom, implies) = atom(alloc, classes, at + 1, 512)?;
@@ -127,7 +134,8 @@ fn correspondence(
 #[tactic(auto, using(crate::proofs::Levels::question_other), unfolding(protocol_grammar::specs::Reading::question_at))]
 pub fn question(alloc: Global, classes: &[Class], at: usize) -> Result<(QuerySketch, usize), Fault>
     requires { at ≤ length classes.now }
-    ensures read { Gives question_of result (question_at (most_of classes.now) (words classes.now) at) }
+    ensures read { Gives question_of result (question_at (most_of classes.now) (words classes.now)
+        at) }
     ensures within { IsBehind classes.now at result }
 {
     match class_at(classes, at) {

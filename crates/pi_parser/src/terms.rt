@@ -22,7 +22,9 @@ pub fn terms(
     left: usize,
 ) -> Result<(TermsSketch, usize), Fault>
     requires { (at ≤ length classes.now) × (left ≤ 512) }
-    ensures read { Gives terms_of result (built list_of (list_at (most_of classes.now) Class.Comma (term_at (most_of classes.now) left)) (words classes.now) at) }
+    ensures read { Gives terms_of result (built list_of
+        (list_at (most_of classes.now) Class.Comma (term_at (most_of classes.now) left))
+        (words classes.now) at) }
     ensures within { IsBehind classes.now at result }
 {
     let mut items = Vec::new(alloc);
@@ -46,7 +48,8 @@ fn arguments(
     left: usize,
 ) -> Result<(TermsSketch, usize), Fault>
     requires { (at ≤ length classes.now) × (left ≤ 512) }
-    ensures read { Gives terms_of result (arguments_at (most_of classes.now) (term_at (most_of classes.now) left) (words classes.now) at) }
+    ensures read { Gives terms_of result (arguments_at (most_of classes.now)
+        (term_at (most_of classes.now) left) (words classes.now) at) }
     ensures within { IfOk result (λ x. (at ≤ x.1) × (x.1 ≤ length classes.now)) }
 {
     if is_at(classes, at, Class::Open) {
@@ -69,7 +72,8 @@ fn named(
 ) -> Result<(TermSketch, usize), Fault>
     requires room { (at < length classes.now) × (left ≤ 512) }
     requires name { (words classes.now at).class ≡ Class.Name }
-    ensures read { Gives term_of result (term_by (most_of classes.now) (term_at (most_of classes.now) left) Class.Name (words classes.now) at) }
+    ensures read { Gives term_of result (term_by (most_of classes.now)
+        (term_at (most_of classes.now) left) Class.Name (words classes.now) at) }
     ensures within { IsBehind classes.now at result }
 {
     let (arguments, behind) = arguments(alloc, classes, at + 1, left)?;
@@ -86,7 +90,8 @@ fn grouped(
 ) -> Result<(TermSketch, usize), Fault>
     requires room { (at < length classes.now) × (left ≤ 512) }
     requires open { (words classes.now at).class ≡ Class.Open }
-    ensures read { Gives term_of result (term_by (most_of classes.now) (term_at (most_of classes.now) left) Class.Open (words classes.now) at) }
+    ensures read { Gives term_of result (term_by (most_of classes.now)
+        (term_at (most_of classes.now) left) Class.Open (words classes.now) at) }
     ensures within { IsBehind classes.now at result }
 {
     let (parts, behind) = terms(alloc, classes, at + 1, left)?;
@@ -110,7 +115,8 @@ pub fn term(
     left: usize,
 ) -> Result<(TermSketch, usize), Fault>
     requires { (at ≤ length classes.now) × (left ≤ 512) }
-    ensures read { Gives term_of result (term_at (most_of classes.now) left (words classes.now) at) }
+    ensures read { Gives term_of result (term_at (most_of classes.now) left (words classes.now)
+        at) }
     ensures within { IsBehind classes.now at result }
 {
     let class = class_at(classes, at);
@@ -133,7 +139,8 @@ pub fn atom(
     left: usize,
 ) -> Result<(AtomSketch, usize), Fault>
     requires { (at ≤ length classes.now) × (left ≤ 512) }
-    ensures read { Gives atom_of result (atom_at (most_of classes.now) left (words classes.now) at) }
+    ensures read { Gives atom_of result (atom_at (most_of classes.now) left (words classes.now)
+        at) }
     ensures within { IsBehind classes.now at result }
 {
     if !is_at(classes, at, Class::Name) {

@@ -148,7 +148,8 @@ impl Protocol {
     #[tactic(auto, using(crate::proofs::Items::by_number))]
     pub fn rules(&self, destructor: u32) -> &[Rule]
         requires there { (0 < destructor) × (destructor ≤ length self.now.dtors) }
-        ensures { option_map (λ d. d.rules) (numbered self.now.dtors destructor) ≡ Some (map rule_of result.now) }
+        ensures { option_map (λ d. d.rules) (numbered self.now.dtors destructor) ≡
+            Some (map rule_of result.now) }
     {
         self.dtors.destructor(destructor).rules.items.as_slice()
     }

@@ -26,12 +26,14 @@ pub fn one_protocol()
 
 /// No bytes are refused for two reasons, or at two places.
 pub fn one_refusal()
-    ensures { (bytes : List ℕ) (r s : Refusal) (i j : ℕ) → Refuses bytes r i → Refuses bytes s j → (r ≡ s) × (i ≡ j) }
+    ensures { (bytes : List ℕ) (r s : Refusal) (i j : ℕ) → Refuses bytes r i → Refuses bytes s j →
+        (r ≡ s) × (i ≡ j) }
 {}
 
 /// Bytes that spell a protocol are not refused.
 pub fn never_both()
-    ensures { (bytes : List ℕ) (p : Protocol) (r : Refusal) (i : ℕ) → Spells bytes p → Refuses bytes r i → ⊥ }
+    ensures { (bytes : List ℕ) (p : Protocol) (r : Refusal) (i : ℕ) → Spells bytes p →
+        Refuses bytes r i → ⊥ }
 {}
 
 /// Bytes spell a protocol or are refused.
@@ -41,7 +43,8 @@ pub fn always_one()
 
 /// A main process that keeps the rules of scope has at most 4,096 points.
 pub fn main_process_points()
-    ensures { (s : Scope) (main : ProcessSketch) (p : Process) → main_process s main ≡ Ok p → length (nodes p) ≤ 4096 }
+    ensures { (s : Scope) (main : ProcessSketch) (p : Process) → main_process s main ≡ Ok p →
+        length (nodes p) ≤ 4096 }
 {}
 
 /// A protocol that bytes spell has at most 4,096 points.

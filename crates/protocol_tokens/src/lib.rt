@@ -18,12 +18,14 @@ pub fn one_list()
 
 /// Bytes are refused for one reason at one place at most.
 pub fn one_refusal()
-    ensures { (bytes : List ℕ) (r s : Refusal) (i j : ℕ) → Stops bytes r i → Stops bytes s j → (r ≡ s) × (i ≡ j) }
+    ensures { (bytes : List ℕ) (r s : Refusal) (i j : ℕ) → Stops bytes r i → Stops bytes s j →
+        (r ≡ s) × (i ≡ j) }
 {}
 
 /// Bytes that have tokens are not refused.
 pub fn never_both()
-    ensures { (bytes : List ℕ) (ts : List Token) (r : Refusal) (i : ℕ) → Lexed bytes ts → Stops bytes r i → ⊥ }
+    ensures { (bytes : List ℕ) (ts : List Token) (r : Refusal) (i : ℕ) → Lexed bytes ts →
+        Stops bytes r i → ⊥ }
 {}
 
 /// Bytes have tokens or are refused.
@@ -44,5 +46,6 @@ pub fn tokens_stand()
 /// Of bytes that have tokens, one of the pieces is a comment exactly where a `(` with a `*` right behind it stands
 /// anywhere in the bytes.
 pub fn comments_open()
-    ensures { (bytes : List ℕ) (ts : List Token) (lexed : Lexed bytes ts) → list_any is_comment lexed.pieces ≡ holds_comment bytes }
+    ensures { (bytes : List ℕ) (ts : List Token) (lexed : Lexed bytes ts) →
+        list_any is_comment lexed.pieces ≡ holds_comment bytes }
 {}

@@ -44,7 +44,8 @@ pub fn steps_of_read_protocols()
 
 /// The translation of a protocol that was read, and a query of it: each clause is within the limit of size.
 pub fn translations_of_read_protocols()
-    ensures { (bytes : List ℕ) (P : Protocol) (q : Query) (all : List (Clause Term)) (c : Clause Term) →
+    ensures { (bytes : List ℕ) (P : Protocol) (q : Query) (all : List (Clause Term))
+        (c : Clause Term) →
         Spells bytes P → Contains P.queries q → IsTranslation P q (Clauses all) → Has all c →
         IsWithinLimit c }
 {

@@ -15,11 +15,14 @@ ghost use Rattle.report_text.specs.Text.{SpellsReport};
 /// Claims that were read are what all bytes spell, and the text of a report is read as its claims. So bytes that are refused
 /// are no report's text, and a text has one list of claims.
 pub fn reports_are_read()
-    ensures there { (P : Protocol) (bytes : List ℕ) (claims : List Claim) (place : ℕ) (rest : List ℕ) →
+    ensures there { (P : Protocol) (bytes : List ℕ) (claims : List Claim) (place : ℕ)
+        (rest : List ℕ) →
         read_report P bytes ≡ Found claims place rest → SpellsReport P bytes claims }
-    ensures texts { (P : Protocol) (bytes : List ℕ) (claims : List Claim) → HasNames P → IsShort (length P.queries) →
+    ensures texts { (P : Protocol) (bytes : List ℕ) (claims : List Claim) → HasNames P →
+        IsShort (length P.queries) →
         SpellsReport P bytes claims → (place : ℕ) × (read_report P bytes ≡ Found claims place []) }
-    ensures refused { (P : Protocol) (bytes : List ℕ) (claims : List Claim) (place : ℕ) (code : Code) →
+    ensures refused { (P : Protocol) (bytes : List ℕ) (claims : List Claim) (place : ℕ)
+        (code : Code) →
         HasNames P → IsShort (length P.queries) →
         read_report P bytes ≡ Faulty place code → SpellsReport P bytes claims → ⊥ }
     ensures one { (P : Protocol) (bytes : List ℕ) (claims others : List Claim) →

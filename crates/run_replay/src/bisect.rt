@@ -30,7 +30,8 @@ fn violated_after(
     requires fewer { length steps.now < 2 ^ 32 }
     requires query { (0 < query) × (query ≤ length protocol.now.queries) }
     requires done { IsDoneSomewhere (protocol_of protocol.now) (map step_of steps.now) }
-    ensures { IfOk result (λ is_violated. TellsViolation (protocol_of protocol.now) (map step_of steps.now) query is_violated) }
+    ensures { IfOk result (λ is_violated. TellsViolation (protocol_of protocol.now)
+        (map step_of steps.now) query is_violated) }
 {
     match reach(alloc, protocol, steps)? {
         Reached::End(end) => Ok(violated(protocol, &end, query)),
@@ -50,7 +51,8 @@ pub fn first_violation(
     requires query { (0 < query) × (query ≤ length protocol.now.queries) }
     requires done { IsDoneSomewhere (protocol_of protocol.now) (map step_of steps.now) }
     requires violated { IsViolatedAtEnd (protocol_of protocol.now) (map step_of steps.now) query }
-    ensures { IfOk result (λ first. TellsFirst (protocol_of protocol.now) (map step_of steps.now) query (Some first)) }
+    ensures { IfOk result (λ first. TellsFirst (protocol_of protocol.now) (map step_of steps.now)
+        query (Some first)) }
 {
     steps_only_add();
     let mut low = 0;

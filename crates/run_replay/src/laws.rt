@@ -8,5 +8,6 @@ ghost use Rattle.run_replay.specs.Replay.{Replay, IsReplayOf};
 /// Replaying steps shows one thing: either no step is refused, and the end and each query's first violation
 /// are determined, or one step is the first that is refused, for one cause.
 pub fn one_replay()
-    ensures { (P : Protocol) (steps : List Step) (a b : Replay) → IsReplayOf P steps a → IsReplayOf P steps b → a ≡ b }
+    ensures { (P : Protocol) (steps : List Step) (a b : Replay) → IsReplayOf P steps a →
+        IsReplayOf P steps b → a ≡ b }
 {}

@@ -16,7 +16,8 @@ use std::alloc::{AllocError, Global};
 
 /// The step of an action with these numbers; `None` where they are not as many as it has.
 fn step(alloc: Global, action: Action, numbers: &[u32]) -> Result<Option<Step>, AllocError>
-    ensures { IfOk result (λ made. option_map step_of made ≡ step_with (action_of action) numbers.now) }
+    ensures { IfOk result (λ made. option_map step_of made ≡
+        step_with (action_of action) numbers.now) }
 {
     let step = match (action, numbers) {
         (Action::Build, [constructor, arguments @ ..]) => {

@@ -56,7 +56,8 @@ fn number(field: &[u8]) -> Option<u32>
 /// The numbers behind the first space of a line, which stand between spaces; `None` where one of the fields is
 /// no number.
 pub fn numbers(alloc: Global, behind: Option<&[u8]>) -> Result<Option<Vec<u32>>, AllocError>
-    ensures { IfOk result (λ found. option_map (λ v. v.items) found ≡ numerals (fields_of (option_copied behind.entry))) }
+    ensures { IfOk result (λ found. option_map (λ v. v.items) found ≡
+        numerals (fields_of (option_copied behind.entry))) }
 {
     let mut numbers = Vec::new(alloc);
     let mut rest = behind;

@@ -23,7 +23,8 @@ pub enum Reached {
 pub fn reach(alloc: Global, protocol: &Protocol, steps: &[Step]) -> Result<Reached, AllocError>
     requires limits { IsLimited (protocol_of protocol.now) }
     requires fewer { length steps.now < 2 ^ 32 }
-    ensures { IfOk result (λ reached. IsReached (protocol_of protocol.now) (map step_of steps.now) reached) }
+    ensures { IfOk result (λ reached. IsReached (protocol_of protocol.now) (map step_of steps.now)
+        reached) }
 {
     let mut conf = start(alloc, protocol)?;
     for step in steps {

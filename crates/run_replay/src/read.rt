@@ -21,8 +21,10 @@ pub fn read_run(alloc: Global, source: &[u8]) -> Result<Steps, RunError>
     ensures refused { IfErr result (λ error. IsRefusalOf source.now error) }
 
     // Bytes that spell steps give these, and bytes that are refused give that refusal.
-    ensures accepts { (steps : List calculus.Step) → SpellsRun source.now steps → GivesSteps steps result }
-    ensures refuses { (fault : Fault) (number : ℕ) → IsRefused source.now fault number → GivesRefusal fault number result }
+    ensures accepts { (steps : List calculus.Step) → SpellsRun source.now steps →
+        GivesSteps steps result }
+    ensures refuses { (fault : Fault) (number : ℕ) → IsRefused source.now fault number →
+        GivesRefusal fault number result }
 {
     reading_is_exact();
     let mut items = Vec::new(alloc);

@@ -51,8 +51,10 @@ fn first_of(
     requires limits { IsLimited (protocol_of protocol.now) }
     requires fewer { length steps.now < 2 ^ 32 }
     requires query { (0 < query) × (query ≤ length protocol.now.queries) }
-    requires done { IsDone (protocol_of protocol.now) (map step_of steps.now) (configuration_of end.now) }
-    ensures { IfOk result (λ first. TellsFirst (protocol_of protocol.now) (map step_of steps.now) query first) }
+    requires done { IsDone (protocol_of protocol.now) (map step_of steps.now)
+        (configuration_of end.now) }
+    ensures { IfOk result (λ first. TellsFirst (protocol_of protocol.now) (map step_of steps.now)
+        query first) }
 {
     steps_only_add();
     if violated(protocol, end, query) {
@@ -71,8 +73,10 @@ fn first_violations(
 ) -> Result<Firsts, AllocError>
     requires limits { IsLimited (protocol_of protocol.now) }
     requires fewer { length steps.now < 2 ^ 32 }
-    requires done { IsDone (protocol_of protocol.now) (map step_of steps.now) (configuration_of end.now) }
-    ensures { IfOk result (λ firsts. AreFirstViolations (protocol_of protocol.now) (map step_of steps.now) protocol.now.queries firsts) }
+    requires done { IsDone (protocol_of protocol.now) (map step_of steps.now)
+        (configuration_of end.now) }
+    ensures { IfOk result (λ firsts. AreFirstViolations (protocol_of protocol.now)
+        (map step_of steps.now) protocol.now.queries firsts) }
 {
     let mut items = Vec::new(alloc);
     for index in 0..protocol.count(Kind::Query) {
@@ -88,7 +92,8 @@ fn first_violations(
 pub fn replay(alloc: Global, protocol: &Protocol, steps: &[Step]) -> Result<Replayed, AllocError>
     requires limits { IsLimited (protocol_of protocol.now) }
     requires fewer { length steps.now < 2 ^ 32 }
-    ensures { IfOk result (λ replayed. Replays (protocol_of protocol.now) (map step_of steps.now) replayed) }
+    ensures { IfOk result (λ replayed. Replays (protocol_of protocol.now) (map step_of steps.now)
+        replayed) }
 {
     match reach(alloc, protocol, steps)? {
         Reached::End(end) => {

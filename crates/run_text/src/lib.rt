@@ -20,17 +20,20 @@ ghost use Rattle.run_text.specs.Laws.{HasAnswer, IsText, IsNumeral};
 
 /// Bytes spell at most one list of steps.
 pub fn one_run()
-    ensures { (bytes : List ℕ) (xs ys : List Step) → SpellsRun bytes xs → SpellsRun bytes ys → xs ≡ ys }
+    ensures { (bytes : List ℕ) (xs ys : List Step) → SpellsRun bytes xs → SpellsRun bytes ys →
+        xs ≡ ys }
 {}
 
 /// Bytes are refused for one fault at one line at most.
 pub fn one_refusal()
-    ensures { (bytes : List ℕ) (f g : Fault) (i j : ℕ) → IsRefused bytes f i → IsRefused bytes g j → (f ≡ g) × (i ≡ j) }
+    ensures { (bytes : List ℕ) (f g : Fault) (i j : ℕ) → IsRefused bytes f i → IsRefused bytes g j →
+        (f ≡ g) × (i ≡ j) }
 {}
 
 /// Bytes that spell steps are not refused.
 pub fn never_both()
-    ensures { (bytes : List ℕ) (steps : List Step) (fault : Fault) (number : ℕ) → SpellsRun bytes steps → IsRefused bytes fault number → ⊥ }
+    ensures { (bytes : List ℕ) (steps : List Step) (fault : Fault) (number : ℕ) →
+        SpellsRun bytes steps → IsRefused bytes fault number → ⊥ }
 {}
 
 /// Bytes spell steps or are refused.
@@ -41,7 +44,8 @@ pub fn always_one()
 /// Bytes spell steps exactly where they are the steps' text, of which the last line feed may be lacking, and
 /// each step has a line: its numbers have at most nine digits, and its line at most 256 bytes.
 pub fn texts_are_exact()
-    ensures { (bytes : List ℕ) (steps : List Step) → SpellsRun bytes steps ↔ (IsText bytes steps × AllByRecursion IsWritable steps) }
+    ensures { (bytes : List ℕ) (steps : List Step) →
+        SpellsRun bytes steps ↔ (IsText bytes steps × AllByRecursion IsWritable steps) }
 {}
 
 /// The numbers of a line are one to nine decimal digits, and no 0 stands before another digit.
@@ -51,11 +55,14 @@ pub fn numerals_are_decimal()
 
 /// What is computed of bytes is what they spell, or their refusal.
 pub fn reading_is_exact()
-    ensures steps { (bytes : List ℕ) (steps : List Step) → (reading bytes ≡ Ok steps) ↔ SpellsRun bytes steps }
-    ensures refusal { (bytes : List ℕ) (fault : Fault) (number : ℕ) → (reading bytes ≡ Err (fault, number)) ↔ IsRefused bytes fault number }
+    ensures steps { (bytes : List ℕ) (steps : List Step) →
+        (reading bytes ≡ Ok steps) ↔ SpellsRun bytes steps }
+    ensures refusal { (bytes : List ℕ) (fault : Fault) (number : ℕ) →
+        (reading bytes ≡ Err (fault, number)) ↔ IsRefused bytes fault number }
 {}
 
 /// Bytes spell no more steps than there are bytes.
 pub fn few_steps()
-    ensures { (bytes : List ℕ) (steps : List Step) → SpellsRun bytes steps → length steps ≤ length bytes }
+    ensures { (bytes : List ℕ) (steps : List Step) → SpellsRun bytes steps →
+        length steps ≤ length bytes }
 {}

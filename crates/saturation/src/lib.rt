@@ -20,7 +20,8 @@ pub fn one_log()
 /// The live clauses of a closed log of normal clauses are normal and cover all that a closed list has to: the given
 /// clauses, the goal among them, and what each solved one of them gives with each unsolved one.
 pub fn closed_logs_cover()
-    ensures { (given : List (Clause Term)) (budget : ℕ) (log : List Entry) (live : List (Clause Term)) →
+    ensures { (given : List (Clause Term)) (budget : ℕ) (log : List Entry)
+        (live : List (Clause Term)) →
         ((c : Clause Term) → Has given c → IsNormal c) →
         IsLog given budget log Closed → AreLive log live → MeetsCovers given live }
 {}

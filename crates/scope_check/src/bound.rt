@@ -42,7 +42,8 @@ pub fn bound_by(
     token: usize,
 ) -> Option<BoundName>
     requires { Lexed source.now tokens.now }
-    ensures { option_map name_of result ≡ rules.bound_as (texts source.now tokens.now) (map binding_of bindings.now) token }
+    ensures { option_map name_of result ≡ rules.bound_as (texts source.now tokens.now)
+        (map binding_of bindings.now) token }
 {
     for binding in bindings {
         if same_text(source, tokens, binding.token, token) {
@@ -56,7 +57,8 @@ pub fn bound_by(
 #[tactic(auto, using(crate::proofs::Lists::outside))]
 pub fn bound_as(bound: &Bound, source: &[u8], tokens: &Tokens, token: usize) -> Option<BoundName>
     requires { Lexed source.now tokens.now }
-    ensures { option_map name_of result ≡ rules.bound_as (texts source.now tokens.now) (bound_of bound.now) token }
+    ensures { option_map name_of result ≡ rules.bound_as (texts source.now tokens.now)
+        (bound_of bound.now) token }
 {
     match bound {
         Bound::Nothing => None,

@@ -110,7 +110,8 @@ fn constructor(
     size: usize,
 ) -> Result<Declared, Stop>
     requires { IsReady scope.now }
-    ensures read { Gives declared_of result (rules.constructor (scope_of scope.now) public is_data name size) }
+    ensures read { Gives declared_of result (rules.constructor (scope_of scope.now) public is_data
+        name size) }
     ensures room { OnOk result (naming.count_of (names_of scope.now.names.now) + 1 ≤ 1024) }
 {
     let word = new_symbol(alloc, scope, name)?;
@@ -174,7 +175,8 @@ fn further_rule(
     sketch: &RuleSketch,
 ) -> Result<Rule, Stop>
     requires { IsReady scope.now }
-    ensures { Gives rule_of result (rules.further_rule (scope_of scope.now) (sketched.rule_of first.now) (sketched.rule_of sketch.now)) }
+    ensures { Gives rule_of result (rules.further_rule (scope_of scope.now)
+        (sketched.rule_of first.now) (sketched.rule_of sketch.now)) }
 {
     if count_of_terms(&sketch.arguments) != count_of_terms(&first.arguments) {
         return Err(Stop::Fault(Code::Arity, sketch.first));
@@ -194,7 +196,9 @@ fn destructor(
     others: &[RuleSketch],
 ) -> Result<Dtor, Stop>
     requires { IsReady scope.now }
-    ensures read { Gives destructor_of result (rules.destructor (scope_of scope.now) token (sketched.rule_of first.now) (map sketched.rule_of others.now)) }
+    ensures read { Gives destructor_of result
+        (rules.destructor (scope_of scope.now) token (sketched.rule_of first.now)
+        (map sketched.rule_of others.now)) }
     ensures room { OnOk result (naming.count_of (names_of scope.now.names.now) + 1 ≤ 1024) }
 {
     let word = new_name(alloc, scope, first.first)?;
@@ -223,7 +227,8 @@ fn declare_free(
 ) -> Result<(), Stop>
     requires lexed { Lexed source.now tokens.now }
     requires few { naming.count_of (names_of names.old) ≤ 1024 }
-    ensures read { Turns (names_of names.new) result (rules.declare_free (texts source.now tokens.now) (names_of names.old) public name) }
+    ensures read { Turns (names_of names.new) result
+        (rules.declare_free (texts source.now tokens.now) (names_of names.old) public name) }
     ensures few { OnOk result (naming.count_of (names_of names.new) ≤ 1024) }
 {
     let scope = Scope {
@@ -247,7 +252,8 @@ fn declare_frees(
 ) -> Result<(), Stop>
     requires lexed { Lexed source.now tokens.now }
     requires few { naming.count_of (names_of names.old) ≤ 1024 }
-    ensures read { Turns (names_of names.new) result (rules.declare_frees (texts source.now tokens.now) (names_of names.old) public items.now) }
+    ensures read { Turns (names_of names.new) result
+        (rules.declare_frees (texts source.now tokens.now) (names_of names.old) public items.now) }
     ensures few { OnOk result (naming.count_of (names_of names.new) ≤ 1024) }
 {
     for name in items {
@@ -269,7 +275,9 @@ fn declare_constructor(
 ) -> Result<(), Stop>
     requires lexed { Lexed source.now tokens.now }
     requires few { naming.count_of (names_of names.old) ≤ 1024 }
-    ensures read { Turns (names_of names.new) result (rules.declare_constructor (texts source.now tokens.now) (names_of names.old) public is_data name size) }
+    ensures read { Turns (names_of names.new) result
+        (rules.declare_constructor (texts source.now tokens.now) (names_of names.old) public is_data
+        name size) }
     ensures few { OnOk result (naming.count_of (names_of names.new) ≤ 1024) }
 {
     let scope = Scope {
@@ -294,7 +302,9 @@ fn declare_destructor(
 ) -> Result<(), Stop>
     requires lexed { Lexed source.now tokens.now }
     requires few { naming.count_of (names_of names.old) ≤ 1024 }
-    ensures read { Turns (names_of names.new) result (rules.declare_destructor (texts source.now tokens.now) (names_of names.old) token (sketched.rule_of first.now) (map sketched.rule_of others.now)) }
+    ensures read { Turns (names_of names.new) result
+        (rules.declare_destructor (texts source.now tokens.now) (names_of names.old) token
+        (sketched.rule_of first.now) (map sketched.rule_of others.now)) }
     ensures few { OnOk result (naming.count_of (names_of names.new) ≤ 1024) }
 {
     let scope = Scope {
@@ -318,7 +328,8 @@ fn declare_event(
 ) -> Result<(), Stop>
     requires lexed { Lexed source.now tokens.now }
     requires few { naming.count_of (names_of names.old) ≤ 1024 }
-    ensures read { Turns (names_of names.new) result (rules.declare_event (texts source.now tokens.now) (names_of names.old) name size) }
+    ensures read { Turns (names_of names.new) result
+        (rules.declare_event (texts source.now tokens.now) (names_of names.old) name size) }
     ensures few { OnOk result (naming.count_of (names_of names.new) ≤ 1024) }
 {
     let scope = Scope {
@@ -342,7 +353,9 @@ fn declare_macro<'a>(
 ) -> Result<(), Stop>
     requires lexed { Lexed source.now tokens.now }
     requires few { naming.count_of (names_of names.old) ≤ 1024 }
-    ensures read { Turns (names_of names.new) result (rules.declare_macro (texts source.now tokens.now) (names_of names.old) name (process_of body.now)) }
+    ensures read { Turns (names_of names.new) result
+        (rules.declare_macro (texts source.now tokens.now) (names_of names.old) name
+        (process_of body.now)) }
     ensures few { OnOk result (naming.count_of (names_of names.new) ≤ 1024) }
 {
     let scope = Scope {
@@ -365,7 +378,9 @@ fn declare<'a>(
 ) -> Result<(), Stop>
     requires lexed { Lexed source.now tokens.now }
     requires few { naming.count_of (names_of names.old) ≤ 1024 }
-    ensures read { Turns (names_of names.new) result (rules.declare (texts source.now tokens.now) (names_of names.old) (sketched.declaration_of declaration.now)) }
+    ensures read { Turns (names_of names.new) result
+        (rules.declare (texts source.now tokens.now) (names_of names.old)
+        (sketched.declaration_of declaration.now)) }
     ensures few { OnOk result (naming.count_of (names_of names.new) ≤ 1024) }
 {
     match declaration {
@@ -410,7 +425,8 @@ pub fn declare_all<'a>(
     declarations: &'a [DeclarationSketch],
 ) -> Result<Names<'a>, Stop>
     requires { Lexed source.now tokens.now }
-    ensures read { Gives names_of result (rules.declare_all (texts source.now tokens.now) naming.no_names (map sketched.declaration_of declarations.now)) }
+    ensures read { Gives names_of result (rules.declare_all (texts source.now tokens.now)
+        naming.no_names (map sketched.declaration_of declarations.now)) }
     ensures few { IfOk result (λ found. naming.count_of (names_of found) ≤ 1024) }
 {
     let mut names = Names::new(alloc);

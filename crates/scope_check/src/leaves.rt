@@ -88,7 +88,8 @@ fn variable_of(source: &[u8], tokens: &Tokens, variables: &[usize], token: usize
 /// A variable of a rule or query, new where it stands first.
 fn variable(scope: &Scope, variables: &mut Vec<usize>, token: usize) -> Result<Term, Stop>
     requires { Lexed scope.now.source.now scope.now.tokens.now }
-    ensures { GivesWith term_of result variables.new.items (rules.variable (scope_of scope.now) variables.old.items token) }
+    ensures { GivesWith term_of result variables.new.items
+        (rules.variable (scope_of scope.now) variables.old.items token) }
 {
     match variable_of(scope.source, scope.tokens, variables, token) {
         Some(number) => Ok(Term::Var(narrow(number)?)),
@@ -103,7 +104,9 @@ fn variable(scope: &Scope, variables: &mut Vec<usize>, token: usize) -> Result<T
 /// A variable on the right of a rule, which stands on its left.
 fn known_variable(scope: &Scope, variables: &[usize], token: usize) -> Result<Term, Stop>
     requires { Lexed scope.now.source.now scope.now.tokens.now }
-    ensures { GivesWith term_of result variables.now (rules.known_variable (naming.variable_of (texts scope.now.source.now scope.now.tokens.now) variables.now token) variables.now token) }
+    ensures { GivesWith term_of result variables.now
+        (rules.known_variable (naming.variable_of (texts scope.now.source.now scope.now.tokens.now)
+        variables.now token) variables.now token) }
 {
     match variable_of(scope.source, scope.tokens, variables, token) {
         Some(number) => Ok(Term::Var(narrow(number)?)),
@@ -114,7 +117,9 @@ fn known_variable(scope: &Scope, variables: &[usize], token: usize) -> Result<Te
 /// A bare identifier in a process: what is bound, or else a declared name.
 fn process_leaf(scope: &Scope, alloc: Global, bound: &Bound, token: usize) -> Result<Term, Stop>
     requires { IsReady scope.now }
-    ensures { Gives term_of result (rules.process_leaf (naming.bound_as (texts scope.now.source.now scope.now.tokens.now) (bound_of bound.now) token) (naming.look (scope_of scope.now) token) token) }
+    ensures { Gives term_of result (rules.process_leaf
+        (naming.bound_as (texts scope.now.source.now scope.now.tokens.now) (bound_of bound.now)
+        token) (naming.look (scope_of scope.now) token) token) }
 {
     match bound_as(bound, scope.source, scope.tokens, token) {
         Some(BoundName::Variable(number)) => Ok(Term::Var(number)),
@@ -147,7 +152,8 @@ pub fn leaf(
     token: usize,
 ) -> Result<Term, Stop>
     requires { IsReady scope.now }
-    ensures { GivesWith term_of result variables.new.items (rules.leaf (scope_of scope.now) (setting_of setting.now) variables.old.items token) }
+    ensures { GivesWith term_of result variables.new.items
+        (rules.leaf (scope_of scope.now) (setting_of setting.now) variables.old.items token) }
 {
     match setting {
         Setting::Process(bound) => process_leaf(scope, alloc, bound, token),
@@ -180,7 +186,8 @@ pub fn taking(token: usize, number: u32, arity: usize, given: usize) -> Result<u
 /// The constructor of so many arguments that the token names.
 pub fn constructor(scope: &Scope, token: usize, given: usize) -> Result<u32, Stop>
     requires { IsReady scope.now }
-    ensures { Gives (λ n. n) result (rules.constructor token given (naming.look (scope_of scope.now) token)) }
+    ensures { Gives (λ n. n) result (rules.constructor token given
+        (naming.look (scope_of scope.now) token)) }
 {
     match look(scope, token) {
         Some(Meaning::Constructor { number, arity, .. }) => {
@@ -194,7 +201,8 @@ pub fn constructor(scope: &Scope, token: usize, given: usize) -> Result<u32, Sto
 /// The event of so many arguments that the token names.
 pub fn event_named(scope: &Scope, token: usize, given: usize) -> Result<u32, Stop>
     requires { IsReady scope.now }
-    ensures { Gives (λ n. n) result (rules.event_named token given (naming.look (scope_of scope.now) token)) }
+    ensures { Gives (λ n. n) result (rules.event_named token given
+        (naming.look (scope_of scope.now) token)) }
 {
     match look(scope, token) {
         Some(Meaning::Event { number, arity }) => taking(token, number, arity as usize, given),

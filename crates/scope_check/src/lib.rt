@@ -56,7 +56,9 @@ fn main_and_queries(
 ) -> Result<(Process, Queries), Stop>
     requires lexed { Lexed source.now tokens.now }
     requires few { naming.count_of (names_of names.now) ≤ 1024 }
-    ensures { Gives (λ x. (process_of x.0, x.1)) result (main_then_queries (texts source.now tokens.now) (names_of names.now) (file_of sketch.now)) }
+    ensures { Gives (λ x. (process_of x.0, x.1)) result
+        (main_then_queries (texts source.now tokens.now) (names_of names.now)
+        (file_of sketch.now)) }
 {
     main_process_points();
     let scope = Scope {
@@ -99,7 +101,8 @@ fn check_tokens(
     sketch: &Sketch,
 ) -> Result<Protocol, ScopeError>
     requires { Lexed source.now tokens.now }
-    ensures { AnswersScope source.now tokens.now (scope (texts source.now tokens.now) (file_of sketch.now)) result }
+    ensures { AnswersScope source.now tokens.now
+        (scope (texts source.now tokens.now) (file_of sketch.now)) result }
 {
     match protocol(alloc, source, tokens, sketch) {
         Ok(protocol) => Ok(protocol),
@@ -128,7 +131,8 @@ pub fn check_scope(alloc: Global, source: &[u8], sketch: &Sketch) -> Result<Prot
 
     // Bytes that spell a protocol give it, and bytes that the rules of scope refuse give that refusal.
     ensures accepts { (p : own.Protocol) → Spells source.now p → GivesProtocol p result }
-    ensures refuses { (code : Code) (place : ℕ) → Refuses source.now (Scoped code) place → GivesFault code place result }
+    ensures refuses { (code : Code) (place : ℕ) → Refuses source.now (Scoped code) place →
+        GivesFault code place result }
 {
     one_protocol();
     one_refusal();

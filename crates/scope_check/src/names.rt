@@ -87,7 +87,8 @@ pub enum Meaning {
 /// The declared name that is spelled so, with its number from 1.
 fn find_declared<'a>(items: &'a [Declared], word: &[u8]) -> Option<(u32, &'a Declared)>
     requires { length items.now ≤ 1024 }
-    ensures { rules.find_declared (map declared_of items.now) word.now ≡ option_map (λ found. (found.0, declared_of found.1.now)) result }
+    ensures { rules.find_declared (map declared_of items.now) word.now ≡
+        option_map (λ found. (found.0, declared_of found.1.now)) result }
 {
     let mut number = 1;
     for declared in items {
@@ -102,7 +103,8 @@ fn find_declared<'a>(items: &'a [Declared], word: &[u8]) -> Option<(u32, &'a Dec
 /// The destructor that is spelled so, with its number from 1.
 fn find_destructor<'a>(items: &'a [Dtor], word: &[u8]) -> Option<(u32, &'a Dtor)>
     requires { length items.now ≤ 1024 }
-    ensures { rules.find_from (λ d. d.word) 1 (map destructor_of items.now) word.now ≡ option_map (λ found. (found.0, destructor_of found.1.now)) result }
+    ensures { rules.find_from (λ d. d.word) 1 (map destructor_of items.now) word.now ≡
+        option_map (λ found. (found.0, destructor_of found.1.now)) result }
 {
     let mut number = 1;
     for destructor in items {
@@ -117,7 +119,8 @@ fn find_destructor<'a>(items: &'a [Dtor], word: &[u8]) -> Option<(u32, &'a Dtor)
 /// Whether a macro is spelled so.
 fn is_macro(source: &[u8], tokens: &Tokens, items: &[Macro], word: &[u8]) -> bool
     requires { Lexed source.now tokens.now }
-    ensures { result ≡ is_some (rules.find_from (λ m. texts source.now tokens.now m.name) 1 (map macro_of items.now) word.now) }
+    ensures { result ≡ is_some (rules.find_from (λ m. texts source.now tokens.now m.name) 1
+        (map macro_of items.now) word.now) }
 {
     for item in items {
         if text(source, tokens, item.name) == word {

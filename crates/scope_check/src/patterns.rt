@@ -23,7 +23,8 @@ use std::alloc::{AllocError, Global};
 /// The data constructor of so many arguments that the token names.
 fn data_constructor(scope: &Scope, token: usize, given: usize) -> Result<u32, Stop>
     requires { IsReady scope.now }
-    ensures { Gives (λ n. n) result (rules.data_constructor token given (naming.look (scope_of scope.now) token)) }
+    ensures { Gives (λ n. n) result (rules.data_constructor token given
+        (naming.look (scope_of scope.now) token)) }
 {
     match look(scope, token) {
         Some(
@@ -47,7 +48,8 @@ fn data_constructor(scope: &Scope, token: usize, given: usize) -> Result<u32, St
 /// An identifier, which binds the variable of that number and stands once in a pattern.
 fn binder(scope: &Scope, number: u32, found: &mut Vec<Binding>, token: usize) -> Result<Pat, Stop>
     requires { IsReady scope.now }
-    ensures { GivesWith pattern_of result (map binding_of found.new.items) (rules.binder (scope_of scope.now) number (map binding_of found.old.items) token) }
+    ensures { GivesWith pattern_of result (map binding_of found.new.items)
+        (rules.binder (scope_of scope.now) number (map binding_of found.old.items) token) }
 {
     if bound_by(scope.source, scope.tokens, found, token).is_some() {
         return Err(Stop::Fault(Code::Twice, token));
@@ -103,7 +105,9 @@ pub fn pattern(
     found: &mut Vec<Binding>,
 ) -> Result<Pat, Stop>
     requires { IsReady scope.now }
-    ensures { GivesWith pattern_of result (map binding_of found.new.items) (rules.pattern (scope_of scope.now) (bound_of outer.now) first (map binding_of found.old.items) (sketched.pattern_of sketch.now)) }
+    ensures { GivesWith pattern_of result (map binding_of found.new.items)
+        (rules.pattern (scope_of scope.now) (bound_of outer.now) first
+        (map binding_of found.old.items) (sketched.pattern_of sketch.now)) }
 {
     match sketch {
         PatternSketch::Named(token, arguments) => {
@@ -134,7 +138,9 @@ fn patterns(
     found: &mut Vec<Binding>,
 ) -> Result<Pats, Stop>
     requires { IsReady scope.now }
-    ensures { GivesWith (λ ps. ps) result (map binding_of found.new.items) (rules.patterns (scope_of scope.now) (bound_of outer.now) first (map binding_of found.old.items) (patterns_sketch sketches.now)) }
+    ensures { GivesWith (λ ps. ps) result (map binding_of found.new.items)
+        (rules.patterns (scope_of scope.now) (bound_of outer.now) first
+        (map binding_of found.old.items) (patterns_sketch sketches.now)) }
 {
     let mut items = Vec::new(alloc);
     for sketch in &sketches.items {

@@ -27,7 +27,8 @@ use std::alloc::{AllocError, Global};
 
 /// The numbers behind so many variables more. There is no memory for as many as would need more than 32 bits.
 fn with_variables(numbers: Numbers, found: &[Binding]) -> Result<Numbers, AllocError>
-    ensures { IfOk result (λ next. numbers_of next ≡ rules.with_variables (map binding_of found.now) (numbers_of numbers)) }
+    ensures { IfOk result (λ next. numbers_of next ≡
+        rules.with_variables (map binding_of found.now) (numbers_of numbers)) }
 {
     match numbers.variable.checked_add(narrow(found.len())?) {
         Some(variable) => Ok(Numbers {
@@ -73,7 +74,8 @@ pub fn process(
     numbers: Numbers,
 ) -> Result<(Process, Numbers), Stop>
     requires { IsReady scope.now }
-    ensures { Gives numbered_of result (reading_of (scope_of scope.now) macros.now (site_of site.now) (numbers_of numbers) (form_of start.entry)) }
+    ensures { Gives numbered_of result (reading_of (scope_of scope.now) macros.now
+        (site_of site.now) (numbers_of numbers) (form_of start.entry)) }
 {
     let found = open_form(&*scope, start, &*macros, &*site)?;
     let inside = Site {
@@ -96,7 +98,8 @@ fn at_point(
 ) -> Result<(Process, Numbers), Stop>
     requires ready { IsReady scope.now }
     requires point { IsTrue (is_point (form_of form)) }
-    ensures { Gives numbered_of result (reading_of (scope_of scope.now) macros.now (site_of site.now) (numbers_of numbers) (form_of form.entry)) }
+    ensures { Gives numbered_of result (reading_of (scope_of scope.now) macros.now
+        (site_of site.now) (numbers_of numbers) (form_of form.entry)) }
 {
     match form {
         Form::Both(unit, others) => both(unit, others, alloc, scope, macros, site, numbers),
@@ -148,7 +151,9 @@ fn both(
     numbers: Numbers,
 ) -> Result<(Process, Numbers), Stop>
     requires { IsReady scope.now }
-    ensures { Gives numbered_of result (reading_of (scope_of scope.now) macros.now (site_of site.now) (numbers_of numbers) (own.Process (sketched.unit_of unit.now) (own.beside (sketched.process_of others.now)))) }
+    ensures { Gives numbered_of result (reading_of (scope_of scope.now) macros.now
+        (site_of site.now) (numbers_of numbers)
+        (own.Process (sketched.unit_of unit.now) (own.beside (sketched.process_of others.now)))) }
 {
     let next = both_reached(scope, macros, site, numbers, unit)?;
     let inside = below(site);
@@ -172,7 +177,9 @@ fn replication(
     numbers: Numbers,
 ) -> Result<(Process, Numbers), Stop>
     requires { IsReady scope.now }
-    ensures { Gives numbered_of result (rules.unit (scope_of scope.now) (macros_of (scope_of scope.now) macros.now) (site_of site.now) (numbers_of numbers) (own.Replicated first (sketched.unit_of copied.now))) }
+    ensures { Gives numbered_of result (rules.unit (scope_of scope.now)
+        (macros_of (scope_of scope.now) macros.now) (site_of site.now) (numbers_of numbers)
+        (own.Replicated first (sketched.unit_of copied.now))) }
 {
     let next = reached(site, numbers, first)?;
     let inside = below(site);
@@ -193,7 +200,9 @@ fn restriction(
     numbers: Numbers,
 ) -> Result<(Process, Numbers), Stop>
     requires { IsReady scope.now }
-    ensures { Gives numbered_of result (rules.unit (scope_of scope.now) (macros_of (scope_of scope.now) macros.now) (site_of site.now) (numbers_of numbers) (own.New first name (sketched.next_of next.now))) }
+    ensures { Gives numbered_of result (rules.unit (scope_of scope.now)
+        (macros_of (scope_of scope.now) macros.now) (site_of site.now) (numbers_of numbers)
+        (own.New first name (sketched.next_of next.now))) }
 {
     let after = reached(site, numbers, first)?;
     let made = [Binding {
@@ -221,7 +230,10 @@ fn output(
     numbers: Numbers,
 ) -> Result<(Process, Numbers), Stop>
     requires { IsReady scope.now }
-    ensures { Gives numbered_of result (rules.unit (scope_of scope.now) (macros_of (scope_of scope.now) macros.now) (site_of site.now) (numbers_of numbers) (own.Output first (terms_seen.term_of channel.now) (terms_seen.term_of message.now) (sketched.next_of next.now))) }
+    ensures { Gives numbered_of result (rules.unit (scope_of scope.now)
+        (macros_of (scope_of scope.now) macros.now) (site_of site.now) (numbers_of numbers)
+        (own.Output first (terms_seen.term_of channel.now) (terms_seen.term_of message.now)
+        (sketched.next_of next.now))) }
 {
     let after = reached(site, numbers, first)?;
     let channel = process_term(channel, alloc, scope, site.bound)?;
@@ -248,7 +260,10 @@ fn input(
     numbers: Numbers,
 ) -> Result<(Process, Numbers), Stop>
     requires { IsReady scope.now }
-    ensures { Gives numbered_of result (rules.unit (scope_of scope.now) (macros_of (scope_of scope.now) macros.now) (site_of site.now) (numbers_of numbers) (own.Input first (terms_seen.term_of channel.now) (patterns_seen.pattern_of received.now) (sketched.next_of next.now))) }
+    ensures { Gives numbered_of result (rules.unit (scope_of scope.now)
+        (macros_of (scope_of scope.now) macros.now) (site_of site.now) (numbers_of numbers)
+        (own.Input first (terms_seen.term_of channel.now) (patterns_seen.pattern_of received.now)
+        (sketched.next_of next.now))) }
 {
     let after = reached(site, numbers, first)?;
     let channel = process_term(channel, alloc, scope, site.bound)?;
@@ -284,7 +299,9 @@ fn happening(
     numbers: Numbers,
 ) -> Result<(Process, Numbers), Stop>
     requires { IsReady scope.now }
-    ensures { Gives numbered_of result (rules.unit (scope_of scope.now) (macros_of (scope_of scope.now) macros.now) (site_of site.now) (numbers_of numbers) (own.Happens first (terms_seen.atom_of atom.now) (sketched.next_of next.now))) }
+    ensures { Gives numbered_of result (rules.unit (scope_of scope.now)
+        (macros_of (scope_of scope.now) macros.now) (site_of site.now) (numbers_of numbers)
+        (own.Happens first (terms_seen.atom_of atom.now) (sketched.next_of next.now))) }
 {
     let after = reached(site, numbers, first)?;
     let mut variables = Vec::new(alloc);
@@ -310,7 +327,10 @@ fn choice(
     numbers: Numbers,
 ) -> Result<(Process, Numbers), Stop>
     requires { IsReady scope.now }
-    ensures { Gives numbered_of result (rules.unit (scope_of scope.now) (macros_of (scope_of scope.now) macros.now) (site_of site.now) (numbers_of numbers) (own.Let first (patterns_seen.pattern_of matched.now) (terms_seen.term_of term.now) (sketched.unit_of unit.now) (sketched.next_of otherwise.now))) }
+    ensures { Gives numbered_of result (rules.unit (scope_of scope.now)
+        (macros_of (scope_of scope.now) macros.now) (site_of site.now) (numbers_of numbers)
+        (own.Let first (patterns_seen.pattern_of matched.now) (terms_seen.term_of term.now)
+        (sketched.unit_of unit.now) (sketched.next_of otherwise.now))) }
 {
     let after = reached(site, numbers, first)?;
     let mut found = Vec::new(alloc);
@@ -355,7 +375,10 @@ fn comparison(
     numbers: Numbers,
 ) -> Result<(Process, Numbers), Stop>
     requires { IsReady scope.now }
-    ensures { Gives numbered_of result (rules.unit (scope_of scope.now) (macros_of (scope_of scope.now) macros.now) (site_of site.now) (numbers_of numbers) (own.If first (terms_seen.term_of left.now) (terms_seen.term_of right.now) (sketched.unit_of unit.now) (sketched.next_of otherwise.now))) }
+    ensures { Gives numbered_of result (rules.unit (scope_of scope.now)
+        (macros_of (scope_of scope.now) macros.now) (site_of site.now) (numbers_of numbers)
+        (own.If first (terms_seen.term_of left.now) (terms_seen.term_of right.now)
+        (sketched.unit_of unit.now) (sketched.next_of otherwise.now))) }
 {
     let after = reached(site, numbers, first)?;
     let left = process_term(left, alloc, scope, site.bound)?;
@@ -386,7 +409,9 @@ fn continuation(
     numbers: Numbers,
 ) -> Result<(Process, Numbers), Stop>
     requires { IsReady scope.now }
-    ensures { Gives numbered_of result (rules.after (scope_of scope.now) (macros_of (scope_of scope.now) macros.now) (site_of site.now) (numbers_of numbers) first (sketched.next_of next.now)) }
+    ensures { Gives numbered_of result (rules.after (scope_of scope.now)
+        (macros_of (scope_of scope.now) macros.now) (site_of site.now) (numbers_of numbers) first
+        (sketched.next_of next.now)) }
 {
     match next {
         NextSketch::Omitted => Ok((Process::Nil, reached(site, numbers, first)?)),
@@ -397,7 +422,8 @@ fn continuation(
 /// The main process.
 pub fn main_process(alloc: Global, scope: &Scope, main: &ProcessSketch) -> Result<Process, Stop>
     requires { IsReady scope.now }
-    ensures { Gives process_of result (rules.main_process (scope_of scope.now) (sketched.process_of main.now)) }
+    ensures { Gives process_of result (rules.main_process (scope_of scope.now)
+        (sketched.process_of main.now)) }
 {
     let site = Site {
         bound: &Bound::Nothing,

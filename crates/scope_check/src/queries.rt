@@ -49,7 +49,9 @@ fn seen_at(seen: Seen, point: u32) -> Seen
 /// those that are seen by then, and the point behind the process.
 fn look_for(process: &Process, word: &[u8], point: u32, seen: Seen) -> (Seen, u32)
     requires { point + length (nodes (process_of process.now)) ≤ 4097 }
-    ensures seen { (before : List ℕ) → seen ≡ summary before → result.0 ≡ summary (before ++ rules.points_of word.now point (nodes (process_of process.now))) }
+    ensures seen { (before : List ℕ) → seen ≡ summary before →
+        result.0 ≡ summary (before ++ rules.points_of word.now point
+        (nodes (process_of process.now))) }
     ensures behind { result.1 ≡ point + length (nodes (process_of process.now)) }
 {
     match process {
@@ -76,7 +78,8 @@ fn look_for(process: &Process, word: &[u8], point: u32, seen: Seen) -> (Seen, u3
 fn attacker_new(scope: &Scope, main: &Process, token: usize) -> Result<Query, Stop>
     requires ready { IsReady scope.now }
     requires few { length (nodes (process_of main.now)) ≤ 4096 }
-    ensures { Gives query_of result (rules.only_point token (rules.points_of ((scope_of scope.now).text token) 1 (nodes (process_of main.now)))) }
+    ensures { Gives query_of result (rules.only_point token
+        (rules.points_of ((scope_of scope.now).text token) 1 (nodes (process_of main.now)))) }
 {
     let word = text(scope.source, scope.tokens, token);
     match look_for(main, word, 1, Seen::Nowhere).0 {
@@ -94,7 +97,8 @@ fn asked_event(
     variables: &mut Vec<usize>,
 ) -> Result<Atom, Stop>
     requires { IsReady scope.now }
-    ensures { GivesWith event_of result variables.new.items (rules.asked_event (scope_of scope.now) variables.old.items (sketched.atom_of sketch.now)) }
+    ensures { GivesWith event_of result variables.new.items
+        (rules.asked_event (scope_of scope.now) variables.old.items (sketched.atom_of sketch.now)) }
 {
     let (read, symbols) = event(sketch, alloc, scope, &Setting::Event, variables)?;
     if symbols > MOST_SYMBOLS {
@@ -111,7 +115,9 @@ fn alternative(
     variables: &mut Vec<usize>,
 ) -> Result<Atoms, Stop>
     requires { IsReady scope.now }
-    ensures { GivesWith (λ events. events) result variables.new.items (rules.alternative (scope_of scope.now) variables.old.items (files.alternative_of sketch.now)) }
+    ensures { GivesWith (λ events. events) result variables.new.items
+        (rules.alternative (scope_of scope.now) variables.old.items
+        (files.alternative_of sketch.now)) }
 {
     let mut items = Vec::new(alloc);
     items.push(asked_event(&sketch.atom, alloc, scope, variables)?)?;
@@ -132,7 +138,9 @@ fn alternatives(
     variables: &mut Vec<usize>,
 ) -> Result<Alternatives, Stop>
     requires { IsReady scope.now }
-    ensures { GivesWith (λ found. found) result variables.new.items (rules.alternatives (scope_of scope.now) variables.old.items (map files.alternative_of sketches.now)) }
+    ensures { GivesWith (λ found. found) result variables.new.items
+        (rules.alternatives (scope_of scope.now) variables.old.items
+        (map files.alternative_of sketches.now)) }
 {
     let mut items = Vec::new(alloc);
     for sketch in sketches {
@@ -151,7 +159,8 @@ fn question(
 ) -> Result<Query, Stop>
     requires ready { IsReady scope.now }
     requires few { length (nodes (process_of main.now)) ≤ 4096 }
-    ensures { Gives query_of result (rules.question (scope_of scope.now) (process_of main.now) token (files.question_of sketch.now)) }
+    ensures { Gives query_of result (rules.question (scope_of scope.now) (process_of main.now) token
+        (files.question_of sketch.now)) }
 {
     match sketch {
         QuerySketch::AttackerNew(_, name) => attacker_new(scope, main, *name),
@@ -180,7 +189,8 @@ pub fn queries(
 ) -> Result<Queries, Stop>
     requires ready { IsReady scope.now }
     requires few { length (nodes (process_of main.now)) ≤ 4096 }
-    ensures { Gives (λ found. found) result (rules.queries (scope_of scope.now) (process_of main.now) 0 (map files.declaration_of declarations.now)) }
+    ensures { Gives (λ found. found) result (rules.queries (scope_of scope.now)
+        (process_of main.now) 0 (map files.declaration_of declarations.now)) }
 {
     let mut items = Vec::new(alloc);
     for declaration in declarations {

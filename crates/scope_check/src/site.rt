@@ -85,7 +85,8 @@ fn counted(numbers: Numbers) -> Numbers
 
 /// The next point is met, which begins with this token.
 pub fn reached(site: &Site, numbers: Numbers, token: usize) -> Result<Numbers, Stop>
-    ensures read { Gives numbers_of result (rules.reached (site_of site.now) (numbers_of numbers) token) }
+    ensures read { Gives numbers_of result (rules.reached (site_of site.now) (numbers_of numbers)
+        token) }
     ensures room { OnOk result (site.now.above ≤ 511) }
 {
     if is_room(site, numbers) {
@@ -109,8 +110,12 @@ fn misuse(meaning: Option<Meaning>) -> Code
 #[tactic(auto, using(crate::proofs::Macros::macros_up_to))]
 pub fn used_macro(scope: &Scope, macros: &[Macro], token: usize) -> Result<usize, Stop>
     requires { IsReady scope.now }
-    ensures found { IfOk result (λ at. (at < length macros.now) × ((m : Macro) → m ≡ get_or macros.now at m → rules.used_macro (scope_of scope.now) (macros_of (scope_of scope.now) macros.now) token ≡ Ok (expansion_at (scope_of scope.now) macros.now at m))) }
-    ensures refused { IfErr result (λ e. Stops e (rules.used_macro (scope_of scope.now) (macros_of (scope_of scope.now) macros.now) token)) }
+    ensures found { IfOk result (λ at. (at < length macros.now) ×
+        ((m : Macro) → m ≡ get_or macros.now at m →
+        rules.used_macro (scope_of scope.now) (macros_of (scope_of scope.now) macros.now) token ≡
+        Ok (expansion_at (scope_of scope.now) macros.now at m))) }
+    ensures refused { IfErr result (λ e. Stops e
+        (rules.used_macro (scope_of scope.now) (macros_of (scope_of scope.now) macros.now) token)) }
 {
     let word = text(scope.source, scope.tokens, token);
     let mut at = macros.len();
@@ -127,7 +132,8 @@ pub fn used_macro(scope: &Scope, macros: &[Macro], token: usize) -> Result<usize
 #[tactic(auto, using(crate::proofs::Stopping::stops_step))]
 fn crowded(scope: &Scope, macros: &[Macro], unit: &UnitSketch) -> Stop
     requires { IsReady scope.now }
-    ensures { Stops result (rules.crowded (scope_of scope.now) (macros_of (scope_of scope.now) macros.now) (unit_of unit.now)) }
+    ensures { Stops result (rules.crowded (scope_of scope.now)
+        (macros_of (scope_of scope.now) macros.now) (unit_of unit.now)) }
 {
     match unit {
         UnitSketch::Macro(token) => match used_macro(scope, macros, *token) {
@@ -155,7 +161,9 @@ pub fn both_reached(
     unit: &UnitSketch,
 ) -> Result<Numbers, Stop>
     requires { IsReady scope.now }
-    ensures read { Gives numbers_of result (rules.both_reached (scope_of scope.now) (macros_of (scope_of scope.now) macros.now) (site_of site.now) (numbers_of numbers) (unit_of unit.now)) }
+    ensures read { Gives numbers_of result (rules.both_reached (scope_of scope.now)
+        (macros_of (scope_of scope.now) macros.now) (site_of site.now) (numbers_of numbers)
+        (unit_of unit.now)) }
     ensures room { OnOk result (site.now.above ≤ 511) }
 {
     if is_room(site, numbers) {
@@ -184,10 +192,16 @@ pub fn open_form<'a>(
     site: &Site,
 ) -> Result<Opened<'a>, Stop>
     requires { IsReady scope.now }
-    ensures found { IfOk result (λ found. (now : rules.Numbers) → reading_of (scope_of scope.now) available.now (site_of site.now) now (form_of start.entry) ≡ reading_of (scope_of scope.now) found.macros.now (used_at found.used (site_of site.now)) now (form_of found.form)) }
-    ensures lighter { IfOk result (λ found. weight_of found.macros.now (form_of found.form) ≤ weight_of available.now (form_of start.entry)) }
+    ensures found { IfOk result (λ found. (now : rules.Numbers) →
+        reading_of (scope_of scope.now) available.now (site_of site.now) now (form_of start.entry) ≡
+        reading_of (scope_of scope.now) found.macros.now (used_at found.used (site_of site.now)) now
+        (form_of found.form)) }
+    ensures lighter { IfOk result (λ found. weight_of found.macros.now (form_of found.form) ≤
+        weight_of available.now (form_of start.entry)) }
     ensures point { IfOk result (λ found. IsTrue (is_point (form_of found.form))) }
-    ensures refused { IfErr result (λ e. (now : rules.Numbers) → Stops e (reading_of (scope_of scope.now) available.now (site_of site.now) now (form_of start.entry))) }
+    ensures refused { IfErr result (λ e. (now : rules.Numbers) →
+        Stops e (reading_of (scope_of scope.now) available.now (site_of site.now) now
+        (form_of start.entry))) }
 {
     let mut form = start;
     let mut macros = available;

@@ -49,7 +49,8 @@ fn applied(
     symbols: u32,
 ) -> Result<(Term, u32), Stop>
     requires { symbols ≡ capped (sizes (trees arguments)) }
-    ensures read { Gives (λ x. term_of x.0) result (rules.sized token (node (calculus.Constructor constructor) arguments)) }
+    ensures read { Gives (λ x. term_of x.0) result
+        (rules.sized token (node (calculus.Constructor constructor) arguments)) }
     ensures counted { IfOk result (λ x. x.1 ≡ capped (size (term_of x.0))) }
 {
     let whole = plus(1, symbols);
@@ -96,7 +97,9 @@ pub fn term(
     variables: &mut Vec<usize>,
 ) -> Result<(Term, u32), Stop>
     requires { IsReady scope.now }
-    ensures read { GivesWith (λ x. term_of x.0) result variables.new.items (rules.term (scope_of scope.now) (setting_of setting.now) variables.old.items (sketched.term_of sketch.now)) }
+    ensures read { GivesWith (λ x. term_of x.0) result variables.new.items
+        (rules.term (scope_of scope.now) (setting_of setting.now) variables.old.items
+        (sketched.term_of sketch.now)) }
     ensures counted { IfOk result (λ x. x.1 ≡ capped (size (term_of x.0))) }
 {
     match sketch {
@@ -127,7 +130,9 @@ pub fn terms(
     variables: &mut Vec<usize>,
 ) -> Result<(Terms, u32), Stop>
     requires { IsReady scope.now }
-    ensures read { GivesWith (λ x. x.0) result variables.new.items (rules.terms (scope_of scope.now) (setting_of setting.now) variables.old.items (terms_sketch sketches.now)) }
+    ensures read { GivesWith (λ x. x.0) result variables.new.items
+        (rules.terms (scope_of scope.now) (setting_of setting.now) variables.old.items
+        (terms_sketch sketches.now)) }
     ensures counted { IfOk result (λ x. x.1 ≡ capped (sizes (trees x.0))) }
 {
     let mut items = Vec::new(alloc);
@@ -148,7 +153,8 @@ pub fn process_term(
     bound: &Bound,
 ) -> Result<Term, Stop>
     requires { IsReady scope.now }
-    ensures { Gives term_of result (rules.process_term (scope_of scope.now) (bound_of bound.now) (sketched.term_of sketch.now)) }
+    ensures { Gives term_of result (rules.process_term (scope_of scope.now) (bound_of bound.now)
+        (sketched.term_of sketch.now)) }
 {
     let mut variables = Vec::new(alloc);
     let (read, _) = term(
@@ -184,7 +190,8 @@ fn call(
     destructor: u32,
 ) -> Result<Expr, Stop>
     requires { IsReady scope.now }
-    ensures { Gives expression_of result (rules.call (scope_of scope.now) (bound_of bound.now) token destructor (terms_sketch sketches.now)) }
+    ensures { Gives expression_of result (rules.call (scope_of scope.now) (bound_of bound.now) token
+        destructor (terms_sketch sketches.now)) }
 {
     let mut variables = Vec::new(alloc);
     let setting = Setting::Process(bound);
@@ -198,7 +205,8 @@ fn call(
 /// A term as an expression.
 fn plain(sketch: &TermSketch, alloc: Global, scope: &Scope, bound: &Bound) -> Result<Expr, Stop>
     requires { IsReady scope.now }
-    ensures { Gives expression_of result (rules.plain (scope_of scope.now) (bound_of bound.now) (sketched.term_of sketch.now)) }
+    ensures { Gives expression_of result (rules.plain (scope_of scope.now) (bound_of bound.now)
+        (sketched.term_of sketch.now)) }
 {
     Ok(Expr::Term(process_term(sketch, alloc, scope, bound)?))
 }
@@ -211,7 +219,8 @@ fn expression_of(
     bound: &Bound,
 ) -> Result<Expr, Stop>
     requires { IsReady scope.now }
-    ensures { Gives expression_of result (rules.expression_of (scope_of scope.now) (bound_of bound.now) (sketched.term_of sketch.now)) }
+    ensures { Gives expression_of result (rules.expression_of (scope_of scope.now)
+        (bound_of bound.now) (sketched.term_of sketch.now)) }
 {
     if let TermSketch::Named(first, arguments) = sketch {
         let given = count_of(arguments);
@@ -233,7 +242,8 @@ pub fn expression(
     bound: &Bound,
 ) -> Result<Expr, Stop>
     requires { IsReady scope.now }
-    ensures { Gives expression_of result (rules.expression (scope_of scope.now) (bound_of bound.now) (sketched.term_of sketch.now)) }
+    ensures { Gives expression_of result (rules.expression (scope_of scope.now) (bound_of bound.now)
+        (sketched.term_of sketch.now)) }
 {
     expression_of(bare(sketch), alloc, scope, bound)
 }
@@ -247,7 +257,9 @@ pub fn event(
     variables: &mut Vec<usize>,
 ) -> Result<(Atom, u32), Stop>
     requires { IsReady scope.now }
-    ensures read { GivesWith (λ x. event_of x.0) result variables.new.items (rules.event (scope_of scope.now) (setting_of setting.now) variables.old.items (sketched.atom_of sketch.now)) }
+    ensures read { GivesWith (λ x. event_of x.0) result variables.new.items
+        (rules.event (scope_of scope.now) (setting_of setting.now) variables.old.items
+        (sketched.atom_of sketch.now)) }
     ensures counted { IfOk result (λ x. x.1 ≡ capped (1 + sizes (trees x.0.args))) }
 {
     let event = event_named(scope, sketch.first, count_of(&sketch.arguments))?;

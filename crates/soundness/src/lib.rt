@@ -20,9 +20,11 @@ use derivations::solved_clauses_suffice;
 /// the attacker makes it known.
 pub fn secrets_are_kept()
     ensures messages { (P : Protocol) (message : Message) (all clauses : List (Clause Term)) →
-        IsProper P (Secret message) → IsShown P (Secret message) all clauses → Holds P (Secret message) }
+        IsProper P (Secret message) → IsShown P (Secret message) all clauses →
+        Holds P (Secret message) }
     ensures names { (P : Protocol) (point : ℕ) (all clauses : List (Clause Term)) →
-        IsProper P (SecretNew point) → IsShown P (SecretNew point) all clauses → Holds P (SecretNew point) }
+        IsProper P (SecretNew point) → IsShown P (SecretNew point) all clauses →
+        Holds P (SecretNew point) }
 {
     solved_clauses_suffice()
 }

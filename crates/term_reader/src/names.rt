@@ -38,7 +38,9 @@ pub fn has_few_names(protocol: &Protocol) -> bool
 /// The first declaration with this word, and its number.
 fn find_declared<'a>(items: &'a [Declared], word: &[u8]) -> Option<(u32, &'a Declared)>
     requires { length items.now ≤ 1024 }
-    ensures { find_from 1 (map declared_of items.now) word.now ≡ option_map (λ found. record { number = found.0; declared = declared_of found.1.now }) result }
+    ensures { find_from 1 (map declared_of items.now) word.now ≡
+        option_map (λ found. record { number = found.0; declared = declared_of found.1.now })
+        result }
 {
     let mut number = 1;
     for declared in items {

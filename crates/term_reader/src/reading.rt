@@ -22,7 +22,8 @@ pub enum Read {
 /// What comes of the end of the bytes: they go on as with a line feed, with which no term goes on.
 #[tactic(auto, using(crate::proofs::Walk::walk))]
 fn at_end(place: usize, step: Step) -> Read
-    ensures read { (bytes : List ℕ) → place ≡ length bytes → read_of bytes result ≡ at_end place (step_of step) }
+    ensures read { (bytes : List ℕ) → place ≡ length bytes →
+        read_of bytes result ≡ at_end place (step_of step) }
     ensures within { EndsWithin place result }
 {
     match step {
@@ -44,7 +45,8 @@ pub fn read_term(
 ) -> Result<Read, AllocError>
     requires few { HasFewNames (protocol_of protocol.now) }
     requires within { at ≤ length bytes.now }
-    ensures read { IfOk result (λ read. read_of bytes.now read ≡ read_term (protocol_of protocol.now) (drop at bytes.now) at) }
+    ensures read { IfOk result (λ read. read_of bytes.now read ≡
+        read_term (protocol_of protocol.now) (drop at bytes.now) at) }
     ensures within { IfOk result (λ read. EndsWithin (length bytes.now) read) }
 {
     let mut reading = Reading {

@@ -59,7 +59,8 @@ fn opened(alloc: Global, heads: Heads, named: Named, from: usize) -> Result<Step
 
 /// The symbol is opened, unless it is too deep.
 fn opened_there(alloc: Global, heads: Heads, named: Named, from: usize) -> Result<Step, AllocError>
-    ensures { IfOk result (λ s. step_of s ≡ steps.unless_deep (heads_of heads) from (steps.opened (heads_of heads) (named_of named) from)) }
+    ensures { IfOk result (λ s. step_of s ≡ steps.unless_deep (heads_of heads) from
+        (steps.opened (heads_of heads) (named_of named) from)) }
 {
     if is_deep(&heads) {
         Ok(Step::Fault(from, Code::Count))
@@ -87,7 +88,8 @@ fn closed(head: Open, heads: Heads) -> Step
 
 /// The symbol with one more argument.
 fn with_argument(mut head: Open, term: Tree) -> Result<Open, AllocError>
-    ensures { IfOk result (λ o. open_of o ≡ record (open_of head) { arguments = head.arguments ++ term_of term ∷ [] }) }
+    ensures { IfOk result (λ o. open_of o ≡ record (open_of head)
+        { arguments = head.arguments ++ term_of term ∷ [] }) }
 {
     head.arguments.items.push(term)?;
     Ok(head)
@@ -95,7 +97,9 @@ fn with_argument(mut head: Open, term: Tree) -> Result<Open, AllocError>
 
 /// Another argument comes.
 fn go_on(term: Tree, head: Open, heads: Heads, from: usize) -> Result<Step, AllocError>
-    ensures { IfOk result (λ s. step_of s ≡ steps.goes (record (open_of head) { arguments = head.arguments ++ term_of term ∷ [] } ∷ heads_of heads) terms.Begins from) }
+    ensures { IfOk result (λ s. step_of s ≡ steps.goes
+        (record (open_of head) { arguments = head.arguments ++ term_of term ∷ [] } ∷ heads_of heads)
+        terms.Begins from) }
 {
     let longer = with_argument(head, term)?;
     let pushed = push_head(heads, longer)?;
@@ -104,7 +108,8 @@ fn go_on(term: Tree, head: Open, heads: Heads, from: usize) -> Result<Step, Allo
 
 /// The last argument ended.
 fn close(term: Tree, head: Open, heads: Heads) -> Result<Step, AllocError>
-    ensures { IfOk result (λ s. step_of s ≡ steps.closed (open_of head) (heads_of heads) (head.arguments ++ term_of term ∷ [])) }
+    ensures { IfOk result (λ s. step_of s ≡ steps.closed (open_of head) (heads_of heads)
+        (head.arguments ++ term_of term ∷ [])) }
 {
     let longer = with_argument(head, term)?;
     Ok(closed(longer, heads))
@@ -112,7 +117,8 @@ fn close(term: Tree, head: Open, heads: Heads) -> Result<Step, AllocError>
 
 /// An argument ended.
 fn after_argument(here: Here, term: Tree, head: Open, heads: Heads) -> Result<Step, AllocError>
-    ensures { IfOk result (λ s. step_of s ≡ steps.after_term here.at (term_of term) (open_of head ∷ heads_of heads) here.from here.byte) }
+    ensures { IfOk result (λ s. step_of s ≡ steps.after_term here.at (term_of term)
+        (open_of head ∷ heads_of heads) here.from here.byte) }
 {
     if here.byte == b',' && may_go_on(head.symbol) {
         return go_on(term, head, heads, here.from);
@@ -126,7 +132,8 @@ fn after_argument(here: Here, term: Tree, head: Open, heads: Heads) -> Result<St
 
 /// A term ended.
 fn after_term(here: Here, term: Tree, heads: Heads) -> Result<Step, AllocError>
-    ensures { IfOk result (λ s. step_of s ≡ steps.after_term here.at (term_of term) (heads_of heads) here.from here.byte) }
+    ensures { IfOk result (λ s. step_of s ≡ steps.after_term here.at (term_of term) (heads_of heads)
+        here.from here.byte) }
 {
     match pop_head(heads) {
         Popped::Empty(_) => Ok(Step::Ends(term)),
@@ -136,7 +143,8 @@ fn after_term(here: Here, term: Tree, heads: Heads) -> Result<Step, AllocError>
 
 /// A word begins.
 fn begin_word(alloc: Global, here: Here, heads: Heads) -> Result<Step, AllocError>
-    ensures { IfOk result (λ s. step_of s ≡ steps.goes (heads_of heads) (terms.InWord (here.byte ∷ [])) here.at) }
+    ensures { IfOk result (λ s. step_of s ≡ steps.goes (heads_of heads)
+        (terms.InWord (here.byte ∷ [])) here.at) }
 {
     let word = Vec::from_array(alloc, [here.byte])?;
     Ok(goes(heads, Mode::InWord(word), here.at))
@@ -168,7 +176,8 @@ fn begin_term(alloc: Global, here: Here, heads: Heads) -> Result<Step, AllocErro
 /// An argument begins, or the arguments end before the first.
 #[tactic(auto, using(crate::proofs::Closing::closing))]
 fn begin_argument(alloc: Global, here: Here, head: Open, heads: Heads) -> Result<Step, AllocError>
-    ensures { IfOk result (λ s. step_of s ≡ steps.at_begin here.at (open_of head ∷ heads_of heads) here.byte) }
+    ensures { IfOk result (λ s. step_of s ≡ steps.at_begin here.at (open_of head ∷ heads_of heads)
+        here.byte) }
 {
     if here.byte == b']' && may_be_empty(head.symbol, &head.arguments) {
         return Ok(closed(head, heads));
@@ -192,7 +201,8 @@ fn at_begin(alloc: Global, here: Here, heads: Heads) -> Result<Step, AllocError>
 
 /// A variable ended with these digits.
 fn after_variable(here: Here, heads: Heads, digits: &[u8]) -> Result<Step, AllocError>
-    ensures { IfOk result (λ s. step_of s ≡ steps.after_variable here.at (heads_of heads) here.from digits.now (numeral digits.now) here.byte) }
+    ensures { IfOk result (λ s. step_of s ≡ steps.after_variable here.at (heads_of heads) here.from
+        digits.now (numeral digits.now) here.byte) }
 {
     match number(digits) {
         None => Ok(Step::Fault(here.at.saturating_sub(digits.len()), Code::Number)),
@@ -202,7 +212,8 @@ fn after_variable(here: Here, heads: Heads, digits: &[u8]) -> Result<Step, Alloc
 
 /// A word alone ended that names this symbol.
 fn after_symbol(alloc: Global, here: Here, heads: Heads, named: Named) -> Result<Step, AllocError>
-    ensures { IfOk result (λ s. step_of s ≡ steps.after_name here.at (heads_of heads) here.from (Some (named_of named)) here.byte) }
+    ensures { IfOk result (λ s. step_of s ≡ steps.after_name here.at (heads_of heads) here.from
+        (Some (named_of named)) here.byte) }
 {
     if named.arity != 0 {
         return Ok(Step::Fault(here.from, Code::Arity));
@@ -223,7 +234,8 @@ fn after_name(
     heads: Heads,
     named: Option<Named>,
 ) -> Result<Step, AllocError>
-    ensures { IfOk result (λ s. step_of s ≡ steps.after_name here.at (heads_of heads) here.from (found_of named) here.byte) }
+    ensures { IfOk result (λ s. step_of s ≡ steps.after_name here.at (heads_of heads) here.from
+        (found_of named) here.byte) }
 {
     match named {
         None => Ok(Step::Fault(here.from, Code::Symbol)),
@@ -240,7 +252,8 @@ fn after_word(
     word: &[u8],
 ) -> Result<Step, AllocError>
     requires { HasFewNames (protocol_of protocol.now) }
-    ensures { IfOk result (λ s. step_of s ≡ steps.after_word (protocol_of protocol.now) here.at (heads_of heads) here.from word.now here.byte) }
+    ensures { IfOk result (λ s. step_of s ≡ steps.after_word (protocol_of protocol.now) here.at
+        (heads_of heads) here.from word.now here.byte) }
 {
     if !is_variable(word) {
         return after_name(alloc, here, heads, symbol_called(protocol, word));
@@ -253,7 +266,8 @@ fn after_word(
 
 /// A word before its arguments that names this, if anything.
 fn apply(alloc: Global, here: Here, heads: Heads, named: Option<Named>) -> Result<Step, AllocError>
-    ensures { IfOk result (λ s. step_of s ≡ steps.apply (heads_of heads) here.from (found_of named)) }
+    ensures { IfOk result (λ s. step_of s ≡ steps.apply (heads_of heads) here.from
+        (found_of named)) }
 {
     match named {
         None => Ok(Step::Fault(here.from, Code::Symbol)),
@@ -263,7 +277,8 @@ fn apply(alloc: Global, here: Here, heads: Heads, named: Option<Named>) -> Resul
 
 /// The word goes on.
 fn longer_word(here: Here, heads: Heads, mut word: Vec<u8>) -> Result<Step, AllocError>
-    ensures { IfOk result (λ s. step_of s ≡ steps.goes (heads_of heads) (terms.InWord (word.items ++ here.byte ∷ [])) here.from) }
+    ensures { IfOk result (λ s. step_of s ≡ steps.goes (heads_of heads)
+        (terms.InWord (word.items ++ here.byte ∷ [])) here.from) }
 {
     word.push(here.byte)?;
     Ok(goes(heads, Mode::InWord(word), here.from))
@@ -278,7 +293,8 @@ fn in_word(
     word: Vec<u8>,
 ) -> Result<Step, AllocError>
     requires { HasFewNames (protocol_of protocol.now) }
-    ensures { IfOk result (λ s. step_of s ≡ steps.in_word (protocol_of protocol.now) here.at (heads_of heads) here.from word.items here.byte) }
+    ensures { IfOk result (λ s. step_of s ≡ steps.in_word (protocol_of protocol.now) here.at
+        (heads_of heads) here.from word.items here.byte) }
 {
     if is_in_word(here.byte) {
         return longer_word(here, heads, word);
@@ -295,7 +311,8 @@ fn in_word(
 
 /// The text can't go on here, unless the term is too deep.
 fn no_further(here: Here, heads: &Heads, place: usize, code: Code) -> Step
-    ensures { step_of result ≡ steps.unless_deep (heads_of heads.now) here.from (terms.Fault place (code_of code)) }
+    ensures { step_of result ≡ steps.unless_deep (heads_of heads.now) here.from
+        (terms.Fault place (code_of code)) }
 {
     if is_deep(heads) {
         Step::Fault(here.from, Code::Count)
@@ -311,7 +328,8 @@ fn after_point(
     heads: Heads,
     named: Option<Named>,
 ) -> Result<Step, AllocError>
-    ensures { IfOk result (λ s. step_of s ≡ steps.after_point here.at (heads_of heads) here.from (found_of named) here.byte) }
+    ensures { IfOk result (λ s. step_of s ≡ steps.after_point here.at (heads_of heads) here.from
+        (found_of named) here.byte) }
 {
     match named {
         None => Ok(Step::Fault(here.from, Code::Symbol)),
@@ -333,7 +351,8 @@ fn after_digits(
     heads: Heads,
     name: &Pointed,
 ) -> Result<Step, AllocError>
-    ensures { IfOk result (λ s. step_of s ≡ steps.after_digits (protocol_of protocol.now) here.at (heads_of heads) here.from name.now.word.items name.now.digits.items here.byte) }
+    ensures { IfOk result (λ s. step_of s ≡ steps.after_digits (protocol_of protocol.now) here.at
+        (heads_of heads) here.from name.now.word.items name.now.digits.items here.byte) }
 {
     if name.digits.is_empty() {
         return Ok(no_further(here, &heads, here.at, Code::Syntax));
@@ -349,7 +368,8 @@ fn after_digits(
 
 /// The digits go on.
 fn more_digits(here: Here, heads: Heads, mut name: Pointed) -> Result<Step, AllocError>
-    ensures { IfOk result (λ s. step_of s ≡ steps.goes (heads_of heads) (terms.InDigits name.word.items (name.digits.items ++ here.byte ∷ [])) here.from) }
+    ensures { IfOk result (λ s. step_of s ≡ steps.goes (heads_of heads)
+        (terms.InDigits name.word.items (name.digits.items ++ here.byte ∷ [])) here.from) }
 {
     name.digits.push(here.byte)?;
     Ok(goes(heads, Mode::InDigits(name), here.from))
@@ -363,7 +383,8 @@ fn in_digits(
     heads: Heads,
     name: Pointed,
 ) -> Result<Step, AllocError>
-    ensures { IfOk result (λ s. step_of s ≡ steps.in_digits (protocol_of protocol.now) here.at (heads_of heads) here.from name.word.items name.digits.items here.byte) }
+    ensures { IfOk result (λ s. step_of s ≡ steps.in_digits (protocol_of protocol.now) here.at
+        (heads_of heads) here.from name.word.items name.digits.items here.byte) }
 {
     if here.byte.is_ascii_digit() {
         more_digits(here, heads, name)
@@ -374,7 +395,8 @@ fn in_digits(
 
 /// Behind the `@` of an attacker's name.
 fn at_bracket(alloc: Global, here: Here, heads: Heads) -> Result<Step, AllocError>
-    ensures { IfOk result (λ s. step_of s ≡ steps.at_bracket here.at (heads_of heads) here.from here.byte) }
+    ensures { IfOk result (λ s. step_of s ≡ steps.at_bracket here.at (heads_of heads) here.from
+        here.byte) }
 {
     if here.byte != b'[' {
         return Ok(Step::Fault(here.at, Code::Syntax));
@@ -395,7 +417,8 @@ pub fn step(
     byte: u8,
 ) -> Result<Step, AllocError>
     requires { HasFewNames (protocol_of protocol.now) }
-    ensures { IfOk result (λ s. step_of s ≡ steps.step (protocol_of protocol.now) at (reading_of reading) byte) }
+    ensures { IfOk result (λ s. step_of s ≡ steps.step (protocol_of protocol.now) at
+        (reading_of reading) byte) }
 {
     let Reading { heads, mode, from } = reading;
     let here = Here { at, byte, from };

@@ -62,7 +62,8 @@ pub trait Bank {
     /// The id of the symbol over the arguments.
     fn app(&mut self, symbol: Sym, args: &[Id]) -> Result<Id, AllocError>
         requires { AreKnown (trees self.old) args.now }
-        ensures names { IfOk result (λ id. Names (trees self.new) id (node (symbol_of symbol) (map (tree_at (trees self.old)) args.now))) }
+        ensures names { IfOk result (λ id. Names (trees self.new) id
+            (node (symbol_of symbol) (map (tree_at (trees self.old)) args.now))) }
         ensures grows { Grows (trees self.old) (trees self.new) }
         ensures err { OnErr result (trees self.new ≡ trees self.old) };
 

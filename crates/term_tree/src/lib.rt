@@ -28,11 +28,16 @@ pub fn symbols_are_told_apart()
 /// An id keeps its tree as the bank grows, and below a mark when the bank is cut back to it. What grew
 /// and is cut back is as before.
 pub fn ids_keep_their_trees()
-    ensures grown { (a b : List Term) (id : Id) → Grows a b → id.index < length a → tree_at b id ≡ tree_at a id }
-    ensures all_grown { (a b : List Term) (ids : List Id) → Grows a b → AreKnown a ids → AreKnown b ids × (map (tree_at b) ids ≡ map (tree_at a) ids) }
-    ensures named { (a b : List Term) (id : Id) (t : Term) → Grows a b → Names a id t → Names b id t }
-    ensures cut { (all : List Term) (n : ℕ) (id : Id) → id.index < n → tree_at (take n all) id ≡ tree_at all id }
-    ensures named_cut { (all : List Term) (n : ℕ) (id : Id) (t : Term) → id.index < n → Names all id t → Names (take n all) id t }
+    ensures grown { (a b : List Term) (id : Id) → Grows a b → id.index < length a →
+        tree_at b id ≡ tree_at a id }
+    ensures all_grown { (a b : List Term) (ids : List Id) → Grows a b → AreKnown a ids →
+        AreKnown b ids × (map (tree_at b) ids ≡ map (tree_at a) ids) }
+    ensures named { (a b : List Term) (id : Id) (t : Term) → Grows a b → Names a id t →
+        Names b id t }
+    ensures cut { (all : List Term) (n : ℕ) (id : Id) → id.index < n →
+        tree_at (take n all) id ≡ tree_at all id }
+    ensures named_cut { (all : List Term) (n : ℕ) (id : Id) (t : Term) → id.index < n →
+        Names all id t → Names (take n all) id t }
     ensures undone { (a b : List Term) → Grows a b → take (length a) b ≡ a }
 {}
 

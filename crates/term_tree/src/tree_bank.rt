@@ -62,7 +62,8 @@ impl TreeBank {
     fn add(&mut self, size: u64, shape: Shape) -> Result<Id, AllocError>
         requires args { HasArgs self.old shape }
         requires sized { size ≡ capped (size_of (tree_of self.old shape)) }
-        ensures ok { IfOk result (λ id. (id.index ≡ length self.old) × (self.new ≡ self.old ++ tree_of self.old shape ∷ [])) }
+        ensures ok { IfOk result (λ id. (id.index ≡ length self.old) ×
+            (self.new ≡ self.old ++ tree_of self.old shape ∷ [])) }
         ensures err { OnErr result (self.new ≡ self.old) }
     {
         let id = Id {

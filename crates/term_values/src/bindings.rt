@@ -26,7 +26,8 @@ pub enum Bound<'a> {
 #[tactic(auto, using(crate::proofs::Places::of_places))]
 #[cycle(place)]
 fn place<'a>(slot: Slot, term: &Term, value: &'a Value) -> Option<&'a Value>
-    ensures { option_map (λ v. value_of v.now) result ≡ bound_to (places (term_of term.now) (value_of value.now)) (name_of slot) }
+    ensures { option_map (λ v. value_of v.now) result ≡
+        bound_to (places (term_of term.now) (value_of value.now)) (name_of slot) }
 {
     match term {
         Term::Var(number) => {
@@ -53,7 +54,8 @@ fn place<'a>(slot: Slot, term: &Term, value: &'a Value) -> Option<&'a Value>
 #[tactic(auto, using(crate::proofs::Places::of_places))]
 #[cycle(place)]
 fn place_below<'a>(slot: Slot, terms: &Terms, value: &'a Value) -> Option<&'a Value>
-    ensures { option_map (λ v. value_of v.now) result ≡ bound_to (places_below (trees terms.now) (value_of value.now)) (name_of slot) }
+    ensures { option_map (λ v. value_of v.now) result ≡
+        bound_to (places_below (trees terms.now) (value_of value.now)) (name_of slot) }
 {
     match value {
         Value::Free(_) | Value::Made(..) | Value::Fresh(_) => None,
@@ -66,7 +68,8 @@ fn place_below<'a>(slot: Slot, terms: &Terms, value: &'a Value) -> Option<&'a Va
 #[tactic(auto, using(crate::proofs::Places::of_places))]
 #[cycle(place)]
 fn place_in<'a>(slot: Slot, terms: &Terms, values: &'a [Value]) -> Option<&'a Value>
-    ensures { option_map (λ v. value_of v.now) result ≡ bound_to (places_row (trees terms.now) (trees (map value_of values.now))) (name_of slot) }
+    ensures { option_map (λ v. value_of v.now) result ≡
+        bound_to (places_row (trees terms.now) (trees (map value_of values.now))) (name_of slot) }
 {
     for (index, term) in terms.items.iter().enumerate() {
         if index >= values.len() {
@@ -82,7 +85,8 @@ fn place_in<'a>(slot: Slot, terms: &Terms, values: &'a [Value]) -> Option<&'a Va
 /// What the slot is bound to, if it is.
 #[tactic(auto, using(crate::proofs::Places::of_places))]
 pub fn look_up<'a>(bound: &Bound<'a>, slot: Slot) -> Option<&'a Value>
-    ensures { option_map (λ v. value_of v.now) result ≡ bound_to (bound_of bound.now) (name_of slot) }
+    ensures { option_map (λ v. value_of v.now) result ≡
+        bound_to (bound_of bound.now) (name_of slot) }
 {
     match bound {
         Bound::Nothing => None,

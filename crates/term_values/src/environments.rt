@@ -79,7 +79,8 @@ impl Environment {
 
     /// One more binding, at the end.
     pub fn bind(&mut self, slot: Slot, value: Value) -> Result<(), AllocError>
-        ensures { OnOk result (self.new ≡ self.old ++ record { name = name_of slot; value = value_of value } ∷ []) }
+        ensures { OnOk result (self.new ≡ self.old ++ record
+            { name = name_of slot; value = value_of value } ∷ []) }
     {
         self.items.push((slot, value))?;
         Ok(())

@@ -16,7 +16,8 @@ use std::alloc::{AllocError, Global};
 
 /// What the slot is bound to; a slot that is not bound is the free name 0, which nothing declares.
 fn bound_value(slot: Slot, alloc: Global, environment: &Environment) -> Result<Value, AllocError>
-    ensures { IfOk result (λ v. value_of v ≡ calculus.value_of_bound environment.now (name_of slot)) }
+    ensures { IfOk result (λ v. value_of v ≡ calculus.value_of_bound environment.now
+        (name_of slot)) }
 {
     match environment.look_up(slot) {
         Some(value) => value.copy(alloc),
@@ -61,7 +62,8 @@ pub fn evaluate_all(
 
 /// Whether the slot is bound to the value.
 fn is_bound_to(slot: Slot, value: &Value, bound: &Bound) -> bool
-    ensures { result ≡ same_value (calculus.value_of_bound (bound_of bound.now) (name_of slot)) (value_of value.now) }
+    ensures { result ≡ same_value (calculus.value_of_bound (bound_of bound.now) (name_of slot))
+        (value_of value.now) }
 {
     match look_up(bound, slot) {
         Some(found) => is_same(found, value),
@@ -73,7 +75,8 @@ fn is_bound_to(slot: Slot, value: &Value, bound: &Bound) -> bool
 #[tactic(auto, using(crate::proofs::Rows::of_rows))]
 #[cycle(is_value_of)]
 pub fn is_value_of(term: &Term, value: &Value, bound: &Bound) -> bool
-    ensures { result ≡ same_value (calculus.value_of (bound_of bound.now) (term_of term.now)) (value_of value.now) }
+    ensures { result ≡ same_value (calculus.value_of (bound_of bound.now) (term_of term.now))
+        (value_of value.now) }
 {
     match term {
         Term::Var(number) => is_bound_to(Slot::Var(*number), value, bound),
@@ -96,7 +99,8 @@ pub fn is_value_of(term: &Term, value: &Value, bound: &Bound) -> bool
 #[tactic(auto, using(crate::proofs::Rows::of_rows))]
 #[cycle(is_value_of)]
 pub fn are_values_of(terms: &Terms, values: &[Value], bound: &Bound) -> bool
-    ensures { result ≡ same_values (calculus.values_of (bound_of bound.now) terms.now) (map value_of values.now) }
+    ensures { result ≡ same_values (calculus.values_of (bound_of bound.now) terms.now)
+        (map value_of values.now) }
 {
     if terms.items.len() != values.len() {
         return false;

@@ -50,7 +50,8 @@ pub fn value_by_rule(
     number: u32,
     arguments: &[Value],
 ) -> Result<Option<Value>, AllocError>
-    ensures { IfOk result (λ o. option_map value_of o ≡ by_rule (map rule_of rules.now) (map value_of arguments.now) number) }
+    ensures { IfOk result (λ o. option_map value_of o ≡
+        by_rule (map rule_of rules.now) (map value_of arguments.now) number) }
 {
     match rule_of(rules, number) {
         None => Ok(None),
@@ -67,7 +68,9 @@ fn called_at(
     terms: &Terms,
     number: u32,
 ) -> Result<Option<Value>, AllocError>
-    ensures { IfOk result (λ o. option_map value_of o ≡ calculus.value_at (protocol_of protocol.now) environment.now (Call destructor terms.now) number) }
+    ensures { IfOk result (λ o. option_map value_of o ≡
+        calculus.value_at (protocol_of protocol.now) environment.now (Call destructor terms.now)
+        number) }
 {
     let values = evaluate_all(terms, alloc, environment)?;
     let rules = rules_of(protocol, destructor);
@@ -82,7 +85,9 @@ pub fn value_at(
     expression: &Expr,
     label: u32,
 ) -> Result<Option<Value>, AllocError>
-    ensures { IfOk result (λ o. option_map value_of o ≡ calculus.value_at (protocol_of protocol.now) environment.now (expression_of expression.now) label) }
+    ensures { IfOk result (λ o. option_map value_of o ≡
+        calculus.value_at (protocol_of protocol.now) environment.now (expression_of expression.now)
+        label) }
 {
     match expression {
         Expr::Term(term) => {
@@ -101,7 +106,8 @@ pub fn value_at(
 /// The values that the rules give of the arguments, in their order.
 #[tactic(auto, unfolding(crate::specs::ByRules::by_rules))]
 fn values_by_rules(alloc: Global, rules: &[Rule], arguments: &[Value]) -> Result<Values, AllocError>
-    ensures { IfOk result (λ vs. vs ≡ by_rules (map rule_of rules.now) (map value_of arguments.now)) }
+    ensures { IfOk result (λ vs. vs ≡ by_rules (map rule_of rules.now)
+        (map value_of arguments.now)) }
 {
     let mut items = Vec::new(alloc);
     for rule in rules {
@@ -120,7 +126,8 @@ fn all_called(
     destructor: u32,
     terms: &Terms,
 ) -> Result<Values, AllocError>
-    ensures { IfOk result (λ vs. vs ≡ calculus.values_at (protocol_of protocol.now) environment.now (Call destructor terms.now)) }
+    ensures { IfOk result (λ vs. vs ≡ calculus.values_at (protocol_of protocol.now) environment.now
+        (Call destructor terms.now)) }
 {
     let values = evaluate_all(terms, alloc, environment)?;
     let rules = rules_of(protocol, destructor);
@@ -134,7 +141,8 @@ pub fn values_at(
     environment: &Environment,
     expression: &Expr,
 ) -> Result<Values, AllocError>
-    ensures { IfOk result (λ vs. vs ≡ calculus.values_at (protocol_of protocol.now) environment.now (expression_of expression.now)) }
+    ensures { IfOk result (λ vs. vs ≡ calculus.values_at (protocol_of protocol.now) environment.now
+        (expression_of expression.now)) }
 {
     match expression {
         Expr::Term(term) => {

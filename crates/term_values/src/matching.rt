@@ -21,7 +21,9 @@ fn matches(
     value: &Value,
     bindings: &mut Environment,
 ) -> Result<bool, AllocError>
-    ensures { IfOk result (λ b. option_map (λ bs. bindings.old ++ bs) (matched environment.now (pattern_of pattern.now) (value_of value.now)) ≡ cond b (Some bindings.new) None) }
+    ensures { IfOk result (λ b. option_map (λ bs. bindings.old ++ bs)
+        (matched environment.now (pattern_of pattern.now) (value_of value.now)) ≡
+        cond b (Some bindings.new) None) }
 {
     match pattern {
         Pat::Bind(number) => {
@@ -57,7 +59,9 @@ fn all_match(
     values: &[Value],
     bindings: &mut Environment,
 ) -> Result<bool, AllocError>
-    ensures { IfOk result (λ b. option_map (λ bs. bindings.old ++ bs) (matched_row environment.now (trees patterns.now) (trees (map value_of values.now))) ≡ cond b (Some bindings.new) None) }
+    ensures { IfOk result (λ b. option_map (λ bs. bindings.old ++ bs)
+        (matched_row environment.now (trees patterns.now) (trees (map value_of values.now))) ≡
+        cond b (Some bindings.new) None) }
 {
     if patterns.items.len() != values.len() {
         return Ok(false);
@@ -78,7 +82,8 @@ pub fn matched(
     pattern: &Pat,
     value: &Value,
 ) -> Result<Option<Environment>, AllocError>
-    ensures { IfOk result (λ o. o ≡ matched environment.now (pattern_of pattern.now) (value_of value.now)) }
+    ensures { IfOk result (λ o. o ≡ matched environment.now (pattern_of pattern.now)
+        (value_of value.now)) }
 {
     let mut bindings = Environment::new(alloc);
     if matches(pattern, alloc, environment, value, &mut bindings)? {

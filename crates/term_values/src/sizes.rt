@@ -71,7 +71,8 @@ pub fn some_large(values: &[Value]) -> bool
 
 /// How many of `room` symbols are left beside what the slot is bound to.
 fn room_beside_slot(slot: Slot, environment: &Environment, room: u64) -> Option<u64>
-    ensures { result ≡ room_after room (size (calculus.value_of_bound environment.now (name_of slot))) }
+    ensures { result ≡ room_after room (size (calculus.value_of_bound environment.now
+        (name_of slot))) }
 {
     match environment.look_up(slot) {
         Some(value) => room_beside(value, room),
@@ -82,7 +83,8 @@ fn room_beside_slot(slot: Slot, environment: &Environment, room: u64) -> Option<
 /// How many of `room` symbols are left beside the value of the term.
 #[cycle(term_room)]
 fn room_beside_term(term: &Term, environment: &Environment, room: u64) -> Option<u64>
-    ensures { result ≡ room_after room (size (calculus.value_of environment.now (term_of term.now))) }
+    ensures { result ≡ room_after room (size (calculus.value_of environment.now
+        (term_of term.now))) }
 {
     match term {
         Term::Var(number) => room_beside_slot(Slot::Var(*number), environment, room),
@@ -97,7 +99,8 @@ fn room_beside_term(term: &Term, environment: &Environment, room: u64) -> Option
 #[tactic(auto, using(crate::proofs::Room::of_rooms))]
 #[cycle(term_room)]
 fn room_beside_node(terms: &Terms, environment: &Environment, room: u64) -> Option<u64>
-    ensures { result ≡ room_after room (1 + sizes (binds (calculus.value_of_name environment.now) (trees terms.now))) }
+    ensures { result ≡ room_after room (1 + sizes
+        (binds (calculus.value_of_name environment.now) (trees terms.now))) }
 {
     let mut rest = match room.checked_sub(1) {
         None => return None,
@@ -137,7 +140,8 @@ pub fn some_large_term(terms: &Terms, environment: &Environment) -> bool
 /// Whether the value of a term with which the pattern compares has more symbols than the limit.
 #[cycle(compared)]
 pub fn some_large_compared(pattern: &Pat, environment: &Environment) -> bool
-    ensures { result ≡ list_any is_large (calculus.values_of environment.now (compared (pattern_of pattern.now))) }
+    ensures { result ≡ list_any is_large (calculus.values_of environment.now
+        (compared (pattern_of pattern.now))) }
 {
     match pattern {
         Pat::Bind(_) => false,
@@ -151,7 +155,8 @@ pub fn some_large_compared(pattern: &Pat, environment: &Environment) -> bool
 #[tactic(auto, using(crate::proofs::Room::of_compared))]
 #[cycle(compared)]
 fn some_large_compared_in(patterns: &Pats, environment: &Environment) -> bool
-    ensures { result ≡ list_any is_large (calculus.values_of environment.now (compared_row (trees patterns.now))) }
+    ensures { result ≡ list_any is_large (calculus.values_of environment.now
+        (compared_row (trees patterns.now))) }
 {
     for pattern in &patterns.items {
         if some_large_compared(pattern, environment) {
@@ -163,7 +168,8 @@ fn some_large_compared_in(patterns: &Pats, environment: &Environment) -> bool
 
 /// Whether the value of a term of the expression has.
 fn some_large_in(expression: &Expr, environment: &Environment) -> bool
-    ensures { result ≡ list_any is_large (calculus.values_of environment.now (terms_in (expression_of expression.now))) }
+    ensures { result ≡ list_any is_large (calculus.values_of environment.now
+        (terms_in (expression_of expression.now))) }
 {
     match expression {
         Expr::Term(term) => is_large_term(term, environment),
@@ -174,7 +180,8 @@ fn some_large_in(expression: &Expr, environment: &Environment) -> bool
 /// Whether the value of a term that is written at the root of the process has.
 #[tactic(auto, using(crate::proofs::Room::of_compared))]
 pub fn some_large_at(process: &Process, environment: &Environment) -> bool
-    ensures { result ≡ list_any is_large (calculus.values_of environment.now (terms_at (process_of process.now))) }
+    ensures { result ≡ list_any is_large (calculus.values_of environment.now
+        (terms_at (process_of process.now))) }
 {
     match process {
         Process::Output(channel, message, _) => {
@@ -193,7 +200,8 @@ pub fn some_large_at(process: &Process, environment: &Environment) -> bool
 
 /// Whether the value of a term that is written at the root of the process, or one of these values, has.
 pub fn some_large_beside(process: &Process, environment: &Environment, values: &[Value]) -> bool
-    ensures { result ≡ (list_any is_large (calculus.values_of environment.now (terms_at (process_of process.now))) || list_any is_large (map value_of values.now)) }
+    ensures { result ≡ (list_any is_large (calculus.values_of environment.now
+        (terms_at (process_of process.now))) || list_any is_large (map value_of values.now)) }
 {
     some_large_at(process, environment) || some_large(values)
 }

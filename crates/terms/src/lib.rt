@@ -12,7 +12,8 @@ ghost use Rattle.terms.specs.Binding.{Binding, bound_to, NeverLeadsBack, Solves,
 /// the names of variables.
 pub fn most_general_unifiers()
     ensures exists { (a b : Term) (u : Subst) → Unifies u a b → (s : Subst) × IsMgu a b s }
-    ensures unique { (a b : Term) (s t : Subst) → IsMgu a b s → IsMgu a b t → (q r : Subst) × ((x : ℕ) → after q s x ≡ t x) × ((x : ℕ) → after r t x ≡ s x) × IsRenaming s q r }
+    ensures unique { (a b : Term) (s t : Subst) → IsMgu a b s → IsMgu a b t → (q r : Subst) ×
+        ((x : ℕ) → after q s x ≡ t x) × ((x : ℕ) → after r t x ≡ s x) × IsRenaming s q r }
 {}
 
 /// Whether two terms have a unifier is decided.
@@ -23,20 +24,25 @@ pub fn unification_is_decided()
 /// Two substitutions that factor through each other are the same up to the names of variables. So whatever
 /// is accepted, what is most general among it is unique up to these names.
 pub fn most_general_is_unique()
-    ensures { (s t : Subst) → Factors t s → Factors s t → (q r : Subst) × ((x : ℕ) → after q s x ≡ t x) × ((x : ℕ) → after r t x ≡ s x) × IsRenaming s q r }
+    ensures { (s t : Subst) → Factors t s → Factors s t → (q r : Subst) ×
+        ((x : ℕ) → after q s x ≡ t x) × ((x : ℕ) → after r t x ≡ s x) × IsRenaming s q r }
 {}
 
 /// A list of equations is one equation, of a symbol over the left sides and over the right ones; so where it
 /// has a unifier it has a most general one. Likewise for matching.
 pub fn equations_are_one_equation()
-    ensures unifiers { (s : Subst) (f : Sym) (xs ys : List Term) → UnifiesAll s xs ys ↔ Unifies s (node f xs) (node f ys) }
-    ensures matches { (s : Subst) (f : Sym) (xs ys : List Term) → MatchesAll s xs ys ↔ Matches s (node f xs) (node f ys) }
-    ensures exists { (xs ys : List Term) (u : Subst) → UnifiesAll u xs ys → (s : Subst) × IsMostGeneral (λ r. UnifiesAll r xs ys) s }
+    ensures unifiers { (s : Subst) (f : Sym) (xs ys : List Term) →
+        UnifiesAll s xs ys ↔ Unifies s (node f xs) (node f ys) }
+    ensures matches { (s : Subst) (f : Sym) (xs ys : List Term) →
+        MatchesAll s xs ys ↔ Matches s (node f xs) (node f ys) }
+    ensures exists { (xs ys : List Term) (u : Subst) → UnifiesAll u xs ys → (s : Subst) ×
+        IsMostGeneral (λ r. UnifiesAll r xs ys) s }
 {}
 
 /// Whether a term matches onto another is decided.
 pub fn matching_is_decided()
-    ensures { (general special : Term) → ((s : Subst) × Matches s general special) ⊎ ((s : Subst) → Matches s general special → ⊥) }
+    ensures { (general special : Term) → ((s : Subst) × Matches s general special) ⊎
+        ((s : Subst) → Matches s general special → ⊥) }
 {}
 
 /// What bindings of which none leads back stand for solves them, each solution factors through it, a
@@ -45,5 +51,6 @@ pub fn bindings_stand_for_a_solution()
     ensures solves { (bs : List Binding) → NeverLeadsBack bs → Solves (resolved bs) bs }
     ensures most { (bs : List Binding) (s : Subst) → Solves s bs → Factors s (resolved bs) }
     ensures unbound { (bs : List Binding) (x : ℕ) → bound_to bs x ≡ None → resolved bs x ≡ Leaf x }
-    ensures bound { (bs : List Binding) → NeverLeadsBack bs → (x : ℕ) (t : Term) → bound_to bs x ≡ Some t → (y : ℕ) → IsFalse (has_var x (resolved bs y)) }
+    ensures bound { (bs : List Binding) → NeverLeadsBack bs → (x : ℕ) (t : Term) →
+        bound_to bs x ≡ Some t → (y : ℕ) → IsFalse (has_var x (resolved bs y)) }
 {}

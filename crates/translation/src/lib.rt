@@ -57,7 +57,8 @@ pub fn translations_have_one_goal()
     ensures last { (P : Protocol) (q : Query) (all : List (Clause Term)) →
         IsTranslation P q (Clauses all) → (before : List (Clause Term)) × (goal : Clause Term)
         × (all ≡ before ++ goal ∷ []) × (goal_clauses P q ≡ goal ∷ [])
-        × (is_bad goal.conclusion ≡ true) × AllByRecursion (λ c. is_bad c.conclusion ≡ false) before }
+        × (is_bad goal.conclusion ≡ true) × AllByRecursion (λ c. is_bad c.conclusion ≡ false)
+        before }
     ensures one { (P : Protocol) (q : Query) →
         (goal : Clause Term) × (goal_clauses P q ≡ goal ∷ []) }
 {}

@@ -20,7 +20,9 @@ use term_tree::{Bank, Id, Node};
 fn spare<B: Bank>(bank: &B, binds: &Binds, id: Id, most: u64) -> Option<u64>
     requires known { id.index < length (B.trees bank.now) }
     requires ready { IsReady (B.trees bank.now) binds.now.pairs }
-    ensures { let symbols = size (bind (resolved (seen (B.trees bank.now) binds.now.pairs)) (tree_at (B.trees bank.now) id)) in MatchOption result (most < symbols) (λ left. left + symbols ≡ most) }
+    ensures { let symbols = size (bind (resolved (seen (B.trees bank.now) binds.now.pairs))
+        (tree_at (B.trees bank.now) id)) in MatchOption result (most < symbols)
+        (λ left. left + symbols ≡ most) }
 {
     if most == 0 {
         return None;
@@ -52,9 +54,15 @@ pub fn apply_bound<B: Bank>(
     requires known { id.index < length (B.trees bank.old) }
     requires ready { IsReady (B.trees bank.old) binds.now.pairs }
     ensures grows { Grows (B.trees bank.old) (B.trees bank.new) }
-    ensures outcome { let term = bind (resolved (seen (B.trees bank.old) binds.now.pairs)) (tree_at (B.trees bank.old) id) in IfOk result (λ found. MatchOption found ((most < size term) × (B.trees bank.new ≡ B.trees bank.old)) (λ built. (size term ≤ most) × Names (B.trees bank.new) built term)) }
-    ensures unchanged { ((x : ℕ) → IsTrue (has_var x (tree_at (B.trees bank.old) id)) → id_of binds.now.pairs x ≡ None) → B.trees bank.new ≡ B.trees bank.old }
-    ensures itself { ((x : ℕ) → IsTrue (has_var x (tree_at (B.trees bank.old) id)) → id_of binds.now.pairs x ≡ None) → IfOk result (λ found. IfSome found (λ built. built ≡ id)) }
+    ensures outcome { let term = bind (resolved (seen (B.trees bank.old) binds.now.pairs))
+        (tree_at (B.trees bank.old) id) in IfOk result
+        (λ found. MatchOption found ((most < size term) × (B.trees bank.new ≡ B.trees bank.old))
+        (λ built. (size term ≤ most) × Names (B.trees bank.new) built term)) }
+    ensures unchanged { ((x : ℕ) → IsTrue (has_var x (tree_at (B.trees bank.old) id)) →
+        id_of binds.now.pairs x ≡ None) → B.trees bank.new ≡ B.trees bank.old }
+    ensures itself { ((x : ℕ) → IsTrue (has_var x (tree_at (B.trees bank.old) id)) →
+        id_of binds.now.pairs x ≡ None) → IfOk result
+        (λ found. IfSome found (λ built. built ≡ id)) }
     ensures err { OnErr result (B.trees bank.new ≡ B.trees bank.old) }
 {
     if spare(bank, binds, id, most).is_none() {

@@ -86,11 +86,15 @@ impl Binds {
         ensures room { self.old.room ≤ self.new.room + 1 }
 
         // Over a bank that has the term: what the bindings are then.
-        ensures seen { (all : List Term) → seen all self.new.pairs ≡ record { var = var; to = tree_at all id } ∷ seen all self.old.pairs }
-        ensures bindings { (all : List Term) → AreBindings all self.old.pairs → id.index < length all → AreBindings all self.new.pairs }
+        ensures seen { (all : List Term) → seen all self.new.pairs ≡
+            record { var = var; to = tree_at all id } ∷ seen all self.old.pairs }
+        ensures bindings { (all : List Term) → AreBindings all self.old.pairs →
+            id.index < length all → AreBindings all self.new.pairs }
 
         // Ready bindings stay ready where the variable does not stand in what the term stands for.
-        ensures ready { (all : List Term) → IsReady all self.old.pairs → id.index < length all → IsFalse (has_var var (bind (resolved (seen all self.old.pairs)) (tree_at all id))) → IsReady all self.new.pairs }
+        ensures ready { (all : List Term) → IsReady all self.old.pairs → id.index < length all →
+            IsFalse (has_var var (bind (resolved (seen all self.old.pairs)) (tree_at all id))) →
+            IsReady all self.new.pairs }
     {
         let _ = self.trail.push(Bound { var, id });
         let _ = self.table.insert(var, id);

@@ -59,7 +59,11 @@ fn match_from<B: Bank>(
     requires bindings { AreBindings (B.trees bank.now) binds.old.pairs }
     ensures bindings { AreBindings (B.trees bank.now) binds.new.pairs }
     ensures extends { Extends binds.old.pairs binds.new.pairs }
-    ensures outcome { IfOk result (λ yes. MatchBool yes (HasMatches (B.trees bank.now) binds.old.pairs binds.new.pairs (tree_at (B.trees bank.now) general) (tree_at (B.trees bank.now) special)) (NoMatch (B.trees bank.now) binds.old.pairs (tree_at (B.trees bank.now) general) (tree_at (B.trees bank.now) special))) }
+    ensures outcome { IfOk result (λ yes. MatchBool yes
+        (HasMatches (B.trees bank.now) binds.old.pairs binds.new.pairs
+        (tree_at (B.trees bank.now) general) (tree_at (B.trees bank.now) special))
+        (NoMatch (B.trees bank.now) binds.old.pairs (tree_at (B.trees bank.now) general)
+        (tree_at (B.trees bank.now) special))) }
 {
     match bank.node(general) {
         Node::Var(x) => match binds.look(x) {
@@ -110,7 +114,11 @@ pub fn match_onto<B: Bank>(
     requires special_known { special.index < length (B.trees bank.now) }
     requires bindings { AreBindings (B.trees bank.now) binds.old.pairs }
     ensures bindings { AreBindings (B.trees bank.now) binds.new.pairs }
-    ensures outcome { IfOk result (λ yes. MatchBool yes (Matched (B.trees bank.now) binds.old.pairs binds.new.pairs (tree_at (B.trees bank.now) general) (tree_at (B.trees bank.now) special)) (NoMatch (B.trees bank.now) binds.old.pairs (tree_at (B.trees bank.now) general) (tree_at (B.trees bank.now) special))) }
+    ensures outcome { IfOk result (λ yes. MatchBool yes
+        (Matched (B.trees bank.now) binds.old.pairs binds.new.pairs
+        (tree_at (B.trees bank.now) general) (tree_at (B.trees bank.now) special))
+        (NoMatch (B.trees bank.now) binds.old.pairs (tree_at (B.trees bank.now) general)
+        (tree_at (B.trees bank.now) special))) }
     ensures no_match { IfOk result (λ yes. yes ≡ false → binds.new.pairs ≡ binds.old.pairs) }
     ensures err { OnErr result (binds.new.pairs ≡ binds.old.pairs) }
 {
@@ -141,7 +149,13 @@ fn match_each<B: Bank>(
     requires bindings { AreBindings (B.trees bank.now) binds.old.pairs }
     ensures bindings { AreBindings (B.trees bank.now) binds.new.pairs }
     ensures extends { Extends binds.old.pairs binds.new.pairs }
-    ensures outcome { IfOk result (λ yes. MatchBool yes (HasAllMatches (B.trees bank.now) binds.old.pairs binds.new.pairs (map (tree_at (B.trees bank.now)) generals.now) (map (tree_at (B.trees bank.now)) specials.now)) (NoMatchOfAll (B.trees bank.now) binds.old.pairs (map (tree_at (B.trees bank.now)) generals.now) (map (tree_at (B.trees bank.now)) specials.now))) }
+    ensures outcome { IfOk result (λ yes. MatchBool yes
+        (HasAllMatches (B.trees bank.now) binds.old.pairs binds.new.pairs
+        (map (tree_at (B.trees bank.now)) generals.now)
+        (map (tree_at (B.trees bank.now)) specials.now))
+        (NoMatchOfAll (B.trees bank.now) binds.old.pairs
+        (map (tree_at (B.trees bank.now)) generals.now)
+        (map (tree_at (B.trees bank.now)) specials.now))) }
 {
     'each: for (i, general) in generals.iter().enumerate() {
         if !match_from(bank, binds, *general, specials[i])? {
@@ -167,7 +181,13 @@ pub fn match_all_onto<B: Bank>(
     requires paired { length generals.now ≡ length specials.now }
     requires bindings { AreBindings (B.trees bank.now) binds.old.pairs }
     ensures bindings { AreBindings (B.trees bank.now) binds.new.pairs }
-    ensures outcome { IfOk result (λ yes. MatchBool yes (MatchedAll (B.trees bank.now) binds.old.pairs binds.new.pairs (map (tree_at (B.trees bank.now)) generals.now) (map (tree_at (B.trees bank.now)) specials.now)) (NoMatchOfAll (B.trees bank.now) binds.old.pairs (map (tree_at (B.trees bank.now)) generals.now) (map (tree_at (B.trees bank.now)) specials.now))) }
+    ensures outcome { IfOk result (λ yes. MatchBool yes
+        (MatchedAll (B.trees bank.now) binds.old.pairs binds.new.pairs
+        (map (tree_at (B.trees bank.now)) generals.now)
+        (map (tree_at (B.trees bank.now)) specials.now))
+        (NoMatchOfAll (B.trees bank.now) binds.old.pairs
+        (map (tree_at (B.trees bank.now)) generals.now)
+        (map (tree_at (B.trees bank.now)) specials.now))) }
     ensures no_match { IfOk result (λ yes. yes ≡ false → binds.new.pairs ≡ binds.old.pairs) }
     ensures err { OnErr result (binds.new.pairs ≡ binds.old.pairs) }
 {

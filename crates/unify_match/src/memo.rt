@@ -40,7 +40,8 @@ impl Memo {
     /// Passes a pair, and remembers it unless it is one of the first.
     #[inline(never)]
     pub fn pass(&mut self, first: usize, second: usize) -> Result<(), AllocError>
-        ensures { (q : ℕ × ℕ) → is_remembered self.new q ≡ true → (is_remembered self.old q ≡ true) ⊎ (q ≡ (first, second)) }
+        ensures { (q : ℕ × ℕ) → is_remembered self.new q ≡ true →
+            (is_remembered self.old q ≡ true) ⊎ (q ≡ (first, second)) }
     {
         if self.passed < UNREMEMBERED {
             self.passed += 1;

@@ -87,7 +87,8 @@ fn argument<B: Bank>(bank: &B, id: Id, place: usize) -> Id
     requires known { id.index < length (B.trees bank.now) }
     requires there { place < length (arguments (tree_at (B.trees bank.now) id)) }
     ensures known { result.index < length (B.trees bank.now) }
-    ensures is { tree_at (B.trees bank.now) result ≡ slice_index_or (arguments (tree_at (B.trees bank.now) id)) place (Leaf 0) }
+    ensures is { tree_at (B.trees bank.now) result ≡
+        slice_index_or (arguments (tree_at (B.trees bank.now) id)) place (Leaf 0) }
 {
     match bank.node(id) {
         Node::Var(_) => id,
@@ -100,7 +101,8 @@ fn argument<B: Bank>(bank: &B, id: Id, place: usize) -> Id
 fn symbol<B: Bank>(bank: &B, id: Id) -> Sym
     requires known { id.index < length (B.trees bank.now) }
     requires some { 0 < length (arguments (tree_at (B.trees bank.now) id)) }
-    ensures { tree_at (B.trees bank.now) id ≡ node (symbol_of result) (arguments (tree_at (B.trees bank.now) id)) }
+    ensures { tree_at (B.trees bank.now) id ≡
+        node (symbol_of result) (arguments (tree_at (B.trees bank.now) id)) }
 {
     match bank.node(id) {
         Node::Var(_) => Sym::Attacker,
@@ -116,8 +118,11 @@ fn renamed<B: Bank>(bank: &mut B, change: Substitution<'_>, id: Id) -> Result<Id
     requires ready { CanChange (B.trees bank.old) change (tree_at (B.trees bank.old) id) }
     requires last { (x : ℕ) → tree_at (B.trees bank.old) id ≡ Leaf x → IsFinal change x }
     ensures grows { Grows (B.trees bank.old) (B.trees bank.new) }
-    ensures names { IfOk result (λ made. Names (B.trees bank.new) made (bind (subst_of (B.trees bank.old) change.entry) (tree_at (B.trees bank.old) id))) }
-    ensures itself { bind (subst_of (B.trees bank.old) change.entry) (tree_at (B.trees bank.old) id) ≡ tree_at (B.trees bank.old) id → (B.trees bank.new ≡ B.trees bank.old) × (result ≡ Ok id) }
+    ensures names { IfOk result (λ made. Names (B.trees bank.new) made
+        (bind (subst_of (B.trees bank.old) change.entry) (tree_at (B.trees bank.old) id))) }
+    ensures itself { bind (subst_of (B.trees bank.old) change.entry)
+        (tree_at (B.trees bank.old) id) ≡ tree_at (B.trees bank.old) id →
+        (B.trees bank.new ≡ B.trees bank.old) × (result ≡ Ok id) }
 {
     match bank.node(id) {
         Node::Var(number) => {
@@ -148,10 +153,15 @@ fn rebuild<B: Bank>(
     requires known { id.index < length (B.trees bank.old) }
     requires ready { CanChange (B.trees bank.old) change (tree_at (B.trees bank.old) id) }
     ensures grows { Grows (B.trees bank.old) (B.trees bank.new) }
-    ensures names { IfOk result (λ made. Names (B.trees bank.new) made (bind (subst_of (B.trees bank.old) change.entry) (tree_at (B.trees bank.old) id))) }
+    ensures names { IfOk result (λ made. Names (B.trees bank.new) made
+        (bind (subst_of (B.trees bank.old) change.entry) (tree_at (B.trees bank.old) id))) }
     ensures stack { OnOk result (stack.new.items ≡ stack.old.items) }
-    ensures unchanged { bind (subst_of (B.trees bank.old) change.entry) (tree_at (B.trees bank.old) id) ≡ tree_at (B.trees bank.old) id → B.trees bank.new ≡ B.trees bank.old }
-    ensures itself { bind (subst_of (B.trees bank.old) change.entry) (tree_at (B.trees bank.old) id) ≡ tree_at (B.trees bank.old) id → IfOk result (λ made. made ≡ id) }
+    ensures unchanged { bind (subst_of (B.trees bank.old) change.entry)
+        (tree_at (B.trees bank.old) id) ≡ tree_at (B.trees bank.old) id →
+        B.trees bank.new ≡ B.trees bank.old }
+    ensures itself { bind (subst_of (B.trees bank.old) change.entry)
+        (tree_at (B.trees bank.old) id) ≡ tree_at (B.trees bank.old) id →
+        IfOk result (λ made. made ≡ id) }
 {
     let end = led(bank, change, id);
     let count = arity(bank, end);
@@ -188,9 +198,14 @@ pub fn substituted<B: Bank>(
     requires known { id.index < length (B.trees bank.old) }
     requires ready { CanChange (B.trees bank.old) change (tree_at (B.trees bank.old) id) }
     ensures grows { Grows (B.trees bank.old) (B.trees bank.new) }
-    ensures names { IfOk result (λ made. Names (B.trees bank.new) made (bind (subst_of (B.trees bank.old) change.entry) (tree_at (B.trees bank.old) id))) }
-    ensures unchanged { bind (subst_of (B.trees bank.old) change.entry) (tree_at (B.trees bank.old) id) ≡ tree_at (B.trees bank.old) id → B.trees bank.new ≡ B.trees bank.old }
-    ensures itself { bind (subst_of (B.trees bank.old) change.entry) (tree_at (B.trees bank.old) id) ≡ tree_at (B.trees bank.old) id → IfOk result (λ made. made ≡ id) }
+    ensures names { IfOk result (λ made. Names (B.trees bank.new) made
+        (bind (subst_of (B.trees bank.old) change.entry) (tree_at (B.trees bank.old) id))) }
+    ensures unchanged { bind (subst_of (B.trees bank.old) change.entry)
+        (tree_at (B.trees bank.old) id) ≡ tree_at (B.trees bank.old) id →
+        B.trees bank.new ≡ B.trees bank.old }
+    ensures itself { bind (subst_of (B.trees bank.old) change.entry)
+        (tree_at (B.trees bank.old) id) ≡ tree_at (B.trees bank.old) id →
+        IfOk result (λ made. made ≡ id) }
     ensures err { OnErr result (B.trees bank.new ≡ B.trees bank.old) }
 {
     let mark = bank.mark();

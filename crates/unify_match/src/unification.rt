@@ -24,7 +24,9 @@ use term_tree::{Bank, Id, Node};
 fn stands_in<B: Bank>(bank: &B, binds: &Binds, number: u32, id: Id) -> Result<bool, AllocError>
     requires known { id.index < length (B.trees bank.now) }
     requires ready { IsReady (B.trees bank.now) binds.now.pairs }
-    ensures { IfOk result (λ found. found ≡ has_var number (bind (resolved (seen (B.trees bank.now) binds.now.pairs)) (tree_at (B.trees bank.now) id))) }
+    ensures { IfOk result (λ found. found ≡ has_var number
+        (bind (resolved (seen (B.trees bank.now) binds.now.pairs))
+        (tree_at (B.trees bank.now) id))) }
 {
     let mut clear = Memo::new(binds.allocator());
     occurs(bank, binds, &mut clear, number, id)
@@ -47,7 +49,10 @@ fn bind_apart<B: Bank>(
     requires apart { IsApart (B.trees bank.now) binds.old.pairs number id }
     ensures ready { IsReady (B.trees bank.now) binds.new.pairs }
     ensures grown { Grown (B.trees bank.now) binds.old.pairs binds.new.pairs }
-    ensures outcome { IfOk result (λ yes. MatchBool yes (HasSolutions (B.trees bank.now) binds.old.pairs binds.new.pairs (Leaf number) (tree_at (B.trees bank.now) id)) (NoUnifier (B.trees bank.now) binds.old.pairs (Leaf number) (tree_at (B.trees bank.now) id))) }
+    ensures outcome { IfOk result (λ yes. MatchBool yes
+        (HasSolutions (B.trees bank.now) binds.old.pairs binds.new.pairs (Leaf number)
+        (tree_at (B.trees bank.now) id)) (NoUnifier (B.trees bank.now) binds.old.pairs (Leaf number)
+        (tree_at (B.trees bank.now) id))) }
 {
     if stands_in(bank, binds, number, id)? {
         return Ok(false);
@@ -72,7 +77,11 @@ fn unify_from<B: Bank>(
     ensures ready { IsReady (B.trees bank.now) binds.new.pairs }
     ensures made { AreMade (B.trees bank.now) binds.new.pairs made.new }
     ensures grown { Grown (B.trees bank.now) binds.old.pairs binds.new.pairs }
-    ensures outcome { IfOk result (λ yes. MatchBool yes (HasSolutions (B.trees bank.now) binds.old.pairs binds.new.pairs (tree_at (B.trees bank.now) left) (tree_at (B.trees bank.now) right)) (NoUnifier (B.trees bank.now) binds.old.pairs (tree_at (B.trees bank.now) left) (tree_at (B.trees bank.now) right))) }
+    ensures outcome { IfOk result (λ yes. MatchBool yes
+        (HasSolutions (B.trees bank.now) binds.old.pairs binds.new.pairs
+        (tree_at (B.trees bank.now) left) (tree_at (B.trees bank.now) right))
+        (NoUnifier (B.trees bank.now) binds.old.pairs (tree_at (B.trees bank.now) left)
+        (tree_at (B.trees bank.now) right))) }
 {
     if left.index == right.index {
         return Ok(true);
@@ -118,7 +127,11 @@ pub fn unify<B: Bank>(bank: &B, left: Id, right: Id, binds: &mut Binds) -> Resul
     requires right_known { right.index < length (B.trees bank.now) }
     requires ready { IsReady (B.trees bank.now) binds.old.pairs }
     ensures ready { IsReady (B.trees bank.now) binds.new.pairs }
-    ensures outcome { IfOk result (λ yes. MatchBool yes (Unified (B.trees bank.now) binds.old.pairs binds.new.pairs (tree_at (B.trees bank.now) left) (tree_at (B.trees bank.now) right)) (NoUnifier (B.trees bank.now) binds.old.pairs (tree_at (B.trees bank.now) left) (tree_at (B.trees bank.now) right))) }
+    ensures outcome { IfOk result (λ yes. MatchBool yes
+        (Unified (B.trees bank.now) binds.old.pairs binds.new.pairs
+        (tree_at (B.trees bank.now) left) (tree_at (B.trees bank.now) right))
+        (NoUnifier (B.trees bank.now) binds.old.pairs (tree_at (B.trees bank.now) left)
+        (tree_at (B.trees bank.now) right))) }
     ensures no_unifier { IfOk result (λ yes. yes ≡ false → binds.new.pairs ≡ binds.old.pairs) }
     ensures err { OnErr result (binds.new.pairs ≡ binds.old.pairs) }
 {
@@ -152,7 +165,12 @@ fn unify_each<B: Bank>(
     requires made { AreMade (B.trees bank.now) binds.old.pairs made.old }
     ensures ready { IsReady (B.trees bank.now) binds.new.pairs }
     ensures grown { Grown (B.trees bank.now) binds.old.pairs binds.new.pairs }
-    ensures outcome { IfOk result (λ yes. MatchBool yes (HasAllSolutions (B.trees bank.now) binds.old.pairs binds.new.pairs (map (tree_at (B.trees bank.now)) lefts.now) (map (tree_at (B.trees bank.now)) rights.now)) (NoUnifierOfAll (B.trees bank.now) binds.old.pairs (map (tree_at (B.trees bank.now)) lefts.now) (map (tree_at (B.trees bank.now)) rights.now))) }
+    ensures outcome { IfOk result (λ yes. MatchBool yes
+        (HasAllSolutions (B.trees bank.now) binds.old.pairs binds.new.pairs
+        (map (tree_at (B.trees bank.now)) lefts.now) (map (tree_at (B.trees bank.now)) rights.now))
+        (NoUnifierOfAll (B.trees bank.now) binds.old.pairs
+        (map (tree_at (B.trees bank.now)) lefts.now)
+        (map (tree_at (B.trees bank.now)) rights.now))) }
 {
     'each: for (i, left) in lefts.iter().enumerate() {
         if !unify_from(bank, binds, made, *left, rights[i])? {
@@ -177,7 +195,12 @@ pub fn unify_all<B: Bank>(
     requires paired { length lefts.now ≡ length rights.now }
     requires ready { IsReady (B.trees bank.now) binds.old.pairs }
     ensures ready { IsReady (B.trees bank.now) binds.new.pairs }
-    ensures outcome { IfOk result (λ yes. MatchBool yes (UnifiedAll (B.trees bank.now) binds.old.pairs binds.new.pairs (map (tree_at (B.trees bank.now)) lefts.now) (map (tree_at (B.trees bank.now)) rights.now)) (NoUnifierOfAll (B.trees bank.now) binds.old.pairs (map (tree_at (B.trees bank.now)) lefts.now) (map (tree_at (B.trees bank.now)) rights.now))) }
+    ensures outcome { IfOk result (λ yes. MatchBool yes
+        (UnifiedAll (B.trees bank.now) binds.old.pairs binds.new.pairs
+        (map (tree_at (B.trees bank.now)) lefts.now) (map (tree_at (B.trees bank.now)) rights.now))
+        (NoUnifierOfAll (B.trees bank.now) binds.old.pairs
+        (map (tree_at (B.trees bank.now)) lefts.now)
+        (map (tree_at (B.trees bank.now)) rights.now))) }
     ensures no_unifier { IfOk result (λ yes. yes ≡ false → binds.new.pairs ≡ binds.old.pairs) }
     ensures err { OnErr result (binds.new.pairs ≡ binds.old.pairs) }
 {

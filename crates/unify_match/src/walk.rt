@@ -46,7 +46,9 @@ pub fn occurs<B: Bank>(
     requires ready { IsReady (B.trees bank.now) binds.now.pairs }
     requires clear { AreClear (B.trees bank.now) binds.now.pairs number clear.old }
     ensures clear { AreClear (B.trees bank.now) binds.now.pairs number clear.new }
-    ensures found { IfOk result (λ found. found ≡ has_var number (bind (resolved (seen (B.trees bank.now) binds.now.pairs)) (tree_at (B.trees bank.now) id))) }
+    ensures found { IfOk result (λ found. found ≡
+        has_var number (bind (resolved (seen (B.trees bank.now) binds.now.pairs))
+        (tree_at (B.trees bank.now) id))) }
 {
     let end = walk(bank, binds, id);
     match bank.node(end) {

@@ -39,7 +39,8 @@ fn read_all<B: Bank>(alloc: Global, bank: &B, clauses: &Clauses) -> Result<Plain
 fn translated(alloc: Global, protocol: &Protocol, query: u32) -> Result<Outcome, AllocError>
     requires loaded { IsLoaded (protocol_of protocol.now) }
     requires there { (0 < query) × (query ≤ length protocol.now.queries) }
-    ensures { IfOk result (λ outcome. IsListOf (protocol_of protocol.now) query (outcome_of outcome)) }
+    ensures { IfOk result (λ outcome. IsListOf (protocol_of protocol.now) query
+        (outcome_of outcome)) }
 {
     let mut bank = TreeBank::new(alloc)?;
     match translate(alloc, &mut bank, protocol, query)? {
@@ -76,10 +77,14 @@ pub(crate) fn list_file<F: Files>(alloc: Global, file: &str, query: u64, files: 
     ensures held_stays { (name : List ℕ) → F.held files.new name ≡ F.held files.old name }
     ensures read_faults_rise { (name : List ℕ) → F.faults files.old name ≤ F.faults files.new name }
     ensures used { outcome_of result.outcome ≢ own.Usage }
-    ensures fault { outcome_of result.outcome ≡ own.ReadFault → IsFaultCounted (F.faults files.old file.now) (F.faults files.new file.now) }
-    ensures source { IsSpelledAt (F.held files.old file.now) (option_map protocol_of result.protocol) }
+    ensures fault { outcome_of result.outcome ≡ own.ReadFault →
+        IsFaultCounted (F.faults files.old file.now) (F.faults files.new file.now) }
+    ensures source { IsSpelledAt (F.held files.old file.now)
+        (option_map protocol_of result.protocol) }
     ensures words { HasWords (option_map protocol_of result.protocol) (outcome_of result.outcome) }
-    ensures listed { outcome_of result.outcome ≢ own.ReadFault → OfFile (F.held files.old file.now) (λ bytes. Lists bytes query (outcome_of result.outcome)) }
+    ensures listed { outcome_of result.outcome ≢ own.ReadFault →
+        OfFile (F.held files.old file.now) (λ bytes.
+        Lists bytes query (outcome_of result.outcome)) }
 {
     one_protocol();
     one_refusal();

@@ -41,9 +41,12 @@ pub(crate) fn load_text<F: Files>(
     ensures held_stays { (any : List ℕ) → F.held files.new any ≡ F.held files.old any }
     ensures read_faults_rise { (any : List ℕ) → F.faults files.old any ≤ F.faults files.new any }
     ensures within { IfOk result (λ bytes. vec_len bytes ≤ most) }
-    ensures whole { IfOk result (λ bytes. IfSome (F.held files.old name.now) (λ all. bytes.items ≡ all)) }
-    ensures long { result ≡ Err unloaded.TooLong → OfFile (F.held files.old name.now) (λ bytes. most < length bytes) }
-    ensures failed { result ≡ Err unloaded.Failed → IsFaultCounted (F.faults files.old name.now) (F.faults files.new name.now) }
+    ensures whole { IfOk result (λ bytes. IfSome (F.held files.old name.now)
+        (λ all. bytes.items ≡ all)) }
+    ensures long { result ≡ Err unloaded.TooLong →
+        OfFile (F.held files.old name.now) (λ bytes. most < length bytes) }
+    ensures failed { result ≡ Err unloaded.Failed →
+        IsFaultCounted (F.faults files.old name.now) (F.faults files.new name.now) }
 {
     match files.load(name, most + 1) {
         Err(LoadError::Failed) => Err(Unloaded::Failed),
@@ -116,8 +119,11 @@ pub(crate) fn load_protocol<F: Files>(
     ensures read_faults_rise { (name : List ℕ) → F.faults files.old name ≤ F.faults files.new name }
     ensures limited { IfOk result (λ protocol. IsLimited (protocol_of protocol)) }
     ensures loaded { IfOk result (λ protocol. IsLoaded (protocol_of protocol)) }
-    ensures spelled { IfOk result (λ protocol. OfFile (F.held files.old file.now) (λ bytes. Spells bytes (protocol_of protocol))) }
-    ensures unread { IfErr result (λ outcome. IsUnread (IsFaultCounted (F.faults files.old file.now) (F.faults files.new file.now)) (F.held files.old file.now) (outcome_of outcome)) }
+    ensures spelled { IfOk result (λ protocol.
+        OfFile (F.held files.old file.now) (λ bytes. Spells bytes (protocol_of protocol))) }
+    ensures unread { IfErr result (λ outcome.
+        IsUnread (IsFaultCounted (F.faults files.old file.now) (F.faults files.new file.now))
+        (F.held files.old file.now) (outcome_of outcome)) }
 {
     match load_text(file, MOST_BYTES, files) {
         Err(why) => Err(not_loaded(why)),

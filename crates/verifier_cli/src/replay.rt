@@ -53,8 +53,11 @@ fn load_run<F: Files>(alloc: Global, run: &str, files: &mut F) -> Result<Steps, 
     ensures held_stays { (name : List ℕ) → F.held files.new name ≡ F.held files.old name }
     ensures read_faults_rise { (name : List ℕ) → F.faults files.old name ≤ F.faults files.new name }
     ensures few { IfOk result (λ steps. length steps < 2 ^ 32) }
-    ensures spelled { IfOk result (λ steps. OfFile (F.held files.old run.now) (λ bytes. SpellsSteps bytes steps)) }
-    ensures unread { IfErr result (λ outcome. IsUnreadRun (IsFaultCounted (F.faults files.old run.now) (F.faults files.new run.now)) (F.held files.old run.now) (outcome_of outcome)) }
+    ensures spelled { IfOk result (λ steps. OfFile (F.held files.old run.now)
+        (λ bytes. SpellsSteps bytes steps)) }
+    ensures unread { IfErr result (λ outcome.
+        IsUnreadRun (IsFaultCounted (F.faults files.old run.now) (F.faults files.new run.now))
+        (F.held files.old run.now) (outcome_of outcome)) }
 {
     run_text::few_steps();
     match load_text(run, MOST_RUN_BYTES, files) {
@@ -85,8 +88,11 @@ fn replay_run<F: Files>(alloc: Global, protocol: &Protocol, run: &str, files: &m
     ensures held_stays { (name : List ℕ) → F.held files.new name ≡ F.held files.old name }
     ensures read_faults_rise { (name : List ℕ) → F.faults files.old name ≤ F.faults files.new name }
     ensures kind { IsOfRun (outcome_of result) }
-    ensures fault { outcome_of result ≡ own.ReadFault → IsFaultCounted (F.faults files.old run.now) (F.faults files.new run.now) }
-    ensures shown { outcome_of result ≢ own.ReadFault → OfFile (F.held files.old run.now) (λ text. RunsOn (protocol_of protocol.now) text (outcome_of result)) }
+    ensures fault { outcome_of result ≡ own.ReadFault →
+        IsFaultCounted (F.faults files.old run.now) (F.faults files.new run.now) }
+    ensures shown { outcome_of result ≢ own.ReadFault →
+        OfFile (F.held files.old run.now) (λ text.
+        RunsOn (protocol_of protocol.now) text (outcome_of result)) }
 {
     run_text::one_run();
     run_text::one_refusal();
@@ -103,8 +109,13 @@ pub(crate) fn replay_file<F: Files>(alloc: Global, file: &str, run: &str, files:
     ensures read_faults_rise { (name : List ℕ) → F.faults files.old name ≤ F.faults files.new name }
     ensures used { outcome_of result ≢ own.Usage }
     ensures words { HasWords None (outcome_of result) }
-    ensures fault { outcome_of result ≡ own.ReadFault → IsFaultCounted (F.faults files.old file.now) (F.faults files.new file.now) ⊎ (OfFile (F.held files.old file.now) (λ bytes. (P : syntax.Protocol) × Spells bytes P) × IsFaultCounted (F.faults files.old run.now) (F.faults files.new run.now)) }
-    ensures replayed { outcome_of result ≢ own.ReadFault → OfFile (F.held files.old file.now) (λ bytes. Replays bytes (F.held files.old run.now) (outcome_of result)) }
+    ensures fault { outcome_of result ≡ own.ReadFault →
+        IsFaultCounted (F.faults files.old file.now) (F.faults files.new file.now) ⊎
+        (OfFile (F.held files.old file.now) (λ bytes. (P : syntax.Protocol) × Spells bytes P) ×
+        IsFaultCounted (F.faults files.old run.now) (F.faults files.new run.now)) }
+    ensures replayed { outcome_of result ≢ own.ReadFault →
+        OfFile (F.held files.old file.now) (λ bytes.
+        Replays bytes (F.held files.old run.now) (outcome_of result)) }
 {
     one_protocol();
     one_refusal();

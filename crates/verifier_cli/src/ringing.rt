@@ -86,7 +86,8 @@ fn verify_ring(alloc: Global, stages: u64, text: &[u8]) -> Decision
     requires spells { Spells text.now (ring_protocol stages) }
     ensures used { outcome_of result.outcome ≢ own.Usage }
     ensures read { outcome_of result.outcome ≢ own.ReadFault }
-    ensures source { IsSpelledAt (Some (ring_text stages)) (option_map protocol_of result.protocol) }
+    ensures source { IsSpelledAt (Some (ring_text stages))
+        (option_map protocol_of result.protocol) }
     ensures words { HasWords (option_map protocol_of result.protocol) (outcome_of result.outcome) }
     ensures rings { Rings stages (outcome_of result.outcome) }
 {
@@ -117,7 +118,8 @@ pub(crate) fn ring(alloc: Global, stages: u64) -> Decision
     requires most { stages ≤ 400 }
     ensures used { outcome_of result.outcome ≢ own.Usage }
     ensures read { outcome_of result.outcome ≢ own.ReadFault }
-    ensures source { IsSpelledAt (Some (ring_text stages)) (option_map protocol_of result.protocol) }
+    ensures source { IsSpelledAt (Some (ring_text stages))
+        (option_map protocol_of result.protocol) }
     ensures words { HasWords (option_map protocol_of result.protocol) (outcome_of result.outcome) }
     ensures rings { Rings stages (outcome_of result.outcome) }
 {

@@ -29,7 +29,8 @@ fn verdict_line(
     protocol: &Protocol,
     verdict: &Verdict,
 ) -> Result<Vec<u8>, AllocError>
-    ensures { IfOk result (λ text. text.items ≡ verdict_line (protocol_of protocol.now) verdict.now) }
+    ensures { IfOk result (λ text. text.items ≡
+        verdict_line (protocol_of protocol.now) verdict.now) }
 {
     match verdict {
         Verdict::Proved(_) => b"proved\n".to_vec(alloc),

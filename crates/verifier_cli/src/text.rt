@@ -140,7 +140,8 @@ fn entry_at(log: &PlainLog, number: usize) -> Option<&PlainEntry>
 
 /// What is written behind the number of a query that is proved: its line's end, and the certificate.
 fn proved_text(alloc: Global, protocol: &Protocol, cert: &Cert) -> Result<Vec<u8>, AllocError>
-    ensures { IfOk result (λ text. text.items ≡ line (codes "proved") ++ certificate_text (protocol_of protocol.now) cert.now []) }
+    ensures { IfOk result (λ text. text.items ≡
+        line (codes "proved") ++ certificate_text (protocol_of protocol.now) cert.now []) }
 {
     let mut text = b"proved\n".to_vec(alloc)?;
     let words = write_cert(alloc, protocol, cert)?;
@@ -155,7 +156,9 @@ fn unmet_text(
     log: &PlainLog,
     number: usize,
 ) -> Result<Vec<u8>, AllocError>
-    ensures { IfOk result (λ text. text.items ≡ line (codes "unknown clause " ++ entry_text (protocol_of protocol.now) (numbered log.now number))) }
+    ensures { IfOk result (λ text. text.items ≡
+        line (codes "unknown clause " ++ entry_text (protocol_of protocol.now)
+        (numbered log.now number))) }
 {
     let mut text = b"unknown clause ".to_vec(alloc)?;
     match entry_at(log, number) {
@@ -171,7 +174,8 @@ fn unmet_text(
 
 /// The same where the budget is spent on so many entries.
 fn budget_line(alloc: Global, entries: usize) -> Result<String, AllocError>
-    ensures { IfOk result (λ text. string_bytes text ≡ line (codes "unknown budget " ++ decimal entries)) }
+    ensures { IfOk result (λ text. string_bytes text ≡
+        line (codes "unknown budget " ++ decimal entries)) }
 {
     let mut text = String::new(alloc);
     writeln!(text, "unknown budget {entries}")?;
@@ -180,7 +184,8 @@ fn budget_line(alloc: Global, entries: usize) -> Result<String, AllocError>
 
 /// The same where a pair of entries is too large.
 fn pair_line(alloc: Global, solved: usize, unsolved: usize) -> Result<String, AllocError>
-    ensures { IfOk result (λ text. string_bytes text ≡ line (codes "unknown size pair " ++ decimal solved ++ codes " " ++ decimal unsolved)) }
+    ensures { IfOk result (λ text. string_bytes text ≡
+        line (codes "unknown size pair " ++ decimal solved ++ codes " " ++ decimal unsolved)) }
 {
     let mut text = String::new(alloc);
     write!(text, "unknown size pair {solved}")?;
@@ -190,7 +195,8 @@ fn pair_line(alloc: Global, solved: usize, unsolved: usize) -> Result<String, Al
 
 /// The same where the visit of a point is too large.
 fn visit_line(alloc: Global, point: u32) -> Result<String, AllocError>
-    ensures { IfOk result (λ text. string_bytes text ≡ line (codes "unknown size point " ++ decimal point)) }
+    ensures { IfOk result (λ text. string_bytes text ≡
+        line (codes "unknown size point " ++ decimal point)) }
 {
     let mut text = String::new(alloc);
     writeln!(text, "unknown size point {point}")?;
@@ -203,7 +209,8 @@ pub(crate) fn verdict_text(
     protocol: &Protocol,
     verdict: &Verdict,
 ) -> Result<Vec<u8>, AllocError>
-    ensures { IfOk result (λ text. text.items ≡ verdict_text (protocol_of protocol.now) verdict.now) }
+    ensures { IfOk result (λ text. text.items ≡
+        verdict_text (protocol_of protocol.now) verdict.now) }
 {
     match verdict {
         Verdict::Proved(cert) => proved_text(alloc, protocol, cert),
@@ -218,7 +225,8 @@ pub(crate) fn verdict_text(
 
 /// What begins the line of a query.
 fn query_words(alloc: Global, number: u64) -> Result<String, AllocError>
-    ensures { IfOk result (λ text. string_bytes text ≡ codes "query " ++ decimal number ++ codes " ") }
+    ensures { IfOk result (λ text. string_bytes text ≡
+        codes "query " ++ decimal number ++ codes " ") }
 {
     format!(in alloc; "query {number} ")
 }
@@ -229,7 +237,8 @@ fn verdicts_text(
     protocol: &Protocol,
     verdicts: &Verdicts,
 ) -> Result<Vec<u8>, AllocError>
-    ensures { IfOk result (λ text. text.items ≡ verdict_lines 1 verdicts.now (protocol_of protocol.now)) }
+    ensures { IfOk result (λ text. text.items ≡
+        verdict_lines 1 verdicts.now (protocol_of protocol.now)) }
 {
     let mut text = Vec::new(alloc);
     'each: for (place, verdict) in verdicts.items.iter().enumerate() {
@@ -248,7 +257,8 @@ fn protocol_refusal(
     column: u64,
     code: ProtocolCode,
 ) -> Result<String, AllocError>
-    ensures { IfOk result (λ text. string_bytes text ≡ line (refusal_text (own.Protocol row column (refusal_by code)))) }
+    ensures { IfOk result (λ text. string_bytes text ≡
+        line (refusal_text (own.Protocol row column (refusal_by code)))) }
 {
     let mut text = String::new(alloc);
     write!(text, "refused {row}:{column}")?;
@@ -268,7 +278,8 @@ fn report_refusal(alloc: Global, row: u64, code: ReportCode) -> Result<String, A
 
 /// The line that refuses the text of a run at one of its lines.
 fn run_refusal(alloc: Global, row: u64, code: RunCode) -> Result<String, AllocError>
-    ensures { IfOk result (λ text. string_bytes text ≡ line (refusal_text (own.Run row (run_refusal_by code)))) }
+    ensures { IfOk result (λ text. string_bytes text ≡
+        line (refusal_text (own.Run row (run_refusal_by code)))) }
 {
     let mut text = String::new(alloc);
     writeln!(text, "refused run {row} {code}")?;
@@ -380,7 +391,8 @@ fn done_text(alloc: Global, steps: u64, firsts: &Firsts) -> Result<String, Alloc
 
 /// The text of a replay up to a step that is refused.
 fn stuck_text(alloc: Global, number: u64, error: StepError) -> Result<String, AllocError>
-    ensures { IfOk result (λ text. string_bytes text ≡ replay_text (own.Stuck number (errors.refusal_of error))) }
+    ensures { IfOk result (λ text. string_bytes text ≡
+        replay_text (own.Stuck number (errors.refusal_of error))) }
 {
     let code = StepCode(error);
     let mut text = String::new(alloc);
@@ -405,7 +417,8 @@ fn clauses_text(
     protocol: &Protocol,
     clauses: &PlainClauses,
 ) -> Result<Vec<u8>, AllocError>
-    ensures { IfOk result (λ text. text.items ≡ clause_lines (protocol_of protocol.now) clauses.now) }
+    ensures { IfOk result (λ text. text.items ≡
+        clause_lines (protocol_of protocol.now) clauses.now) }
 {
     let mut text = Vec::new(alloc);
     'each: for clause in &clauses.items {
@@ -418,7 +431,8 @@ fn clauses_text(
 
 /// The line that tells at which point a translation is too large.
 fn point_line(alloc: Global, point: u32) -> Result<String, AllocError>
-    ensures { IfOk result (λ text. string_bytes text ≡ line (codes "size point " ++ decimal point)) }
+    ensures { IfOk result (λ text. string_bytes text ≡
+        line (codes "size point " ++ decimal point)) }
 {
     let mut text = String::new(alloc);
     writeln!(text, "size point {point}")?;
@@ -440,7 +454,8 @@ fn verified_text(
     protocol: Option<&Protocol>,
     verdicts: &Verdicts,
 ) -> Result<Vec<u8>, AllocError>
-    ensures { IfOk result (λ text. text.items ≡ in_words (verdict_lines 1 verdicts.now) (words_of protocol.entry)) }
+    ensures { IfOk result (λ text. text.items ≡
+        in_words (verdict_lines 1 verdicts.now) (words_of protocol.entry)) }
 {
     match protocol {
         Some(protocol) => verdicts_text(alloc, protocol, verdicts),
@@ -454,7 +469,8 @@ fn listed_text(
     protocol: Option<&Protocol>,
     clauses: &PlainClauses,
 ) -> Result<Vec<u8>, AllocError>
-    ensures { IfOk result (λ text. text.items ≡ in_words (λ own. clause_lines own clauses.now) (words_of protocol.entry)) }
+    ensures { IfOk result (λ text. text.items ≡
+        in_words (λ own. clause_lines own clauses.now) (words_of protocol.entry)) }
 {
     match protocol {
         Some(protocol) => clauses_text(alloc, protocol, clauses),
@@ -468,7 +484,8 @@ fn ringed_text(
     protocol: Option<&Protocol>,
     ring: &Ring,
 ) -> Result<Vec<u8>, AllocError>
-    ensures { IfOk result (λ text. text.items ≡ in_words (summary_lines ring.now) (words_of protocol.entry)) }
+    ensures { IfOk result (λ text. text.items ≡
+        in_words (summary_lines ring.now) (words_of protocol.entry)) }
 {
     match protocol {
         Some(protocol) => summary_text(alloc, protocol, ring),
@@ -483,7 +500,8 @@ pub fn outcome_text(
     protocol: Option<&Protocol>,
     outcome: &Outcome,
 ) -> Result<Vec<u8>, AllocError>
-    ensures { IfOk result (λ text. text.items ≡ outcome_bytes (words_of protocol.entry) (outcome_of outcome.now)) }
+    ensures { IfOk result (λ text. text.items ≡
+        outcome_bytes (words_of protocol.entry) (outcome_of outcome.now)) }
 {
     match outcome {
         Outcome::Usage => USAGE.to_vec(alloc),

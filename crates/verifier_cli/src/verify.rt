@@ -43,10 +43,14 @@ pub(crate) fn verify_file<F: Files>(
     ensures held_stays { (name : List ℕ) → F.held files.new name ≡ F.held files.old name }
     ensures read_faults_rise { (name : List ℕ) → F.faults files.old name ≤ F.faults files.new name }
     ensures used { outcome_of result.outcome ≢ own.Usage }
-    ensures fault { outcome_of result.outcome ≡ own.ReadFault → IsFaultCounted (F.faults files.old file.now) (F.faults files.new file.now) }
-    ensures source { IsSpelledAt (F.held files.old file.now) (option_map protocol_of result.protocol) }
+    ensures fault { outcome_of result.outcome ≡ own.ReadFault →
+        IsFaultCounted (F.faults files.old file.now) (F.faults files.new file.now) }
+    ensures source { IsSpelledAt (F.held files.old file.now)
+        (option_map protocol_of result.protocol) }
     ensures words { HasWords (option_map protocol_of result.protocol) (outcome_of result.outcome) }
-    ensures verified { outcome_of result.outcome ≢ own.ReadFault → OfFile (F.held files.old file.now) (λ bytes. Verifies bytes budget (outcome_of result.outcome)) }
+    ensures verified { outcome_of result.outcome ≢ own.ReadFault →
+        OfFile (F.held files.old file.now) (λ bytes.
+        Verifies bytes budget (outcome_of result.outcome)) }
 {
     one_protocol();
     one_refusal();
