@@ -28,3 +28,4 @@ pub use crate::plain::{PlainClause, PlainFact, PlainFacts, Tree, Trees};
 pub use crate::same::{is_among, same_fact};
 pub use crate::selectable::{are_solved, is_selectable, is_variable_known};
 pub use crate::size::{size_of, size_of_fact};
+pub use derivations::norm_keeps_instances;

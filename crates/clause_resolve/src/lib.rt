@@ -22,6 +22,7 @@ mod stop;
 
 pub use crate::apart::{Apart, set_apart};
 pub use crate::resolving::{Resolved, resolve_apart, resolvents};
+pub use derivations::resolution_keeps_instances;
 
 /// A clause that is set apart stays so as the bank grows, and its ids name trees.
 pub fn what_is_apart_outlasts_growth()
