@@ -9,7 +9,7 @@ use Rattle.protocol_grammar.specs.Classes.{source}
 use Rattle.protocol_grammar.specs.Sketch.{FileSketch}
 use Rattle.protocol_grammar.specs.Spelling.{IsSketch}
 use Rattle.protocol_grammar.specs.Refusals.{IsUnexpected, IsTooDeep}
-use Rattle.protocol_scope.specs.Answers.{Code, Unknown, Twice, Arity, Kind, LooseVariable, TooMany, AmbiguousNew, fault}
+use Rattle.protocol_scope.specs.Answers.{Code, fault}
 use Rattle.protocol_scope.specs.Names.{Texts}
 use Rattle.protocol_scope.specs.Scope.{scope}
 
@@ -51,22 +51,6 @@ pub data Refusal : Type 0 where
   Scoped : (code : Code) → Refusal
   -- they are more than 1,048,576
   LongFile : Refusal
-
--- the code that a refusal is printed with
-abbrev pub number_of : Refusal → ℕ
-number_of (Lexical piece.BadByte) = 1
-number_of (Lexical piece.OpenComment) = 2
-number_of (Lexical piece.LongNumber) = 3
-number_of Unexpected = 4
-number_of TooDeep = 5
-number_of (Scoped Unknown) = 6
-number_of (Scoped Twice) = 7
-number_of (Scoped Arity) = 8
-number_of (Scoped Kind) = 9
-number_of (Scoped LooseVariable) = 10
-number_of (Scoped TooMany) = 11
-number_of (Scoped AmbiguousNew) = 12
-number_of LongFile = 13
 
 -- no file of the grammar goes on with the token at this place, or at the end
 pub record IsUnexpectedAt (bytes : List ℕ) (place : ℕ) : Type 0 where
