@@ -1,14 +1,16 @@
 -- The text of verdicts is a report that claims what they say, and what is found of it.
-use Rattle.std.proofs.Common.{◌≡◌, ℕ, zero, suc, ◌+◌, ◌≤◌, ◌==◌, false, List, [], ◌∷◌, ◌++◌, length, map, Option, None, Some, inl, inr, refl, sym, ap, subst, ◌∙◌, arith, codes, append_assoc}
+use Rattle.std.proofs.Common.{◌≡◌, ℕ, zero, suc, ◌+◌, ◌≤◌, ◌==◌, true, false, List, [], ◌∷◌, ◌++◌, length, map, Option, None, Some, inl, inr, refl, sym, ap, subst, ◌∙◌, arith, codes, append_assoc}
 use Rattle.std.specs.Prelude.{Contains}
 use Rattle.std.specs.Fmt.{decimal}
 use Rattle.std.specs.List.{AllByRecursion}
 use Rattle.std.proofs.lemmas.Bool.Decides.{nat_tests}
 use Rattle.std.proofs.lemmas.List.{length-map}
+use Rattle.calculus.specs.Bounds.{most_report_bytes}
 use Rattle.calculus.specs.Syntax.{Query, Protocol}
 use Rattle.calculus.specs.Points.{numbered}
 use Rattle.calculus.proofs.Items.{each-contains}
 use Rattle.well_formed.specs.Limits.{IsSmallQuery, IsWithinLimits}
+use Rattle.command_words.specs.Request.{Verify}
 use Rattle.protocol_scope.specs.Spells.{Spells}
 use Rattle.protocol_scope.specs.Words.{HasWords}
 use Rattle.certificates.specs.Certificate.{Certificate}
@@ -33,8 +35,9 @@ use Rattle.verifier_cli.specs.declared.outcome.Finding.TheVariants.{Ruled, Missi
 use Rattle.verifier_cli.specs.Outcome.{Outcome, Usage, Verified, Checked, Listed, ListLarge, NoQuery, Replayed, Ring, Refused, ReadFault, Memory}
 use Rattle.verifier_cli.specs.Command.{Becomes, Verifies}
 use Rattle.verifier_cli.specs.Checking.{MakesClaims, IsFindingOf, AreFindingsOf, IsCheckOf, ChecksReport}
-use Rattle.verifier_cli.specs.Text.{line, entry_text, verdict_text, verdict_lines}
-use Rattle.verifier_cli.specs.ReadBack.{finding_of, IsReadBack}
+use Rattle.verifier_cli.specs.Listing.{IsSource, IsTextOf}
+use Rattle.verifier_cli.specs.Text.{HasWords as IsWorded, line, entry_text, verdict_text, verdict_lines, outcome_bytes}
+use Rattle.verifier_cli.specs.ReadBack.{finding_of, IsReportOf, IsReadBack}
 use Rattle.verifier_cli.proofs.Followed.{certificate_followed}
 use Rattle.verifier_cli.proofs.Held.{of_held}
 use Rattle.verifier_cli.proofs.OneLine.{IsOneLine, joined, decimal_in_line, clause_in_line}
@@ -220,3 +223,11 @@ read_back laws bytes budget (Refused refusal) within verified = tt
 read_back laws bytes budget Usage within verified = tt
 read_back laws bytes budget ReadFault within verified = tt
 read_back laws bytes budget Memory within verified = tt
+
+-- the text that is written of verdicts is the one that is read back
+report_of : (file bytes text : List ℕ) (budget : ℕ) (held : List ℕ → Option (List ℕ)) (vs : List Verdict) (protocol : Option Protocol) → IsSource (Some (Verify file budget)) held protocol → IsWorded protocol (Verified vs) → text ≡ outcome_bytes protocol (Verified vs) → held file ≡ Some bytes → length text ≤ most_report_bytes → IsReportOf bytes vs text
+report_of file bytes text budget held vs None source words is told fits = let never : true ≡ false = words in absurd (cc)
+report_of file bytes text budget held vs (Some P) source words is told fits = record { protocol = P; spelled = of_held (held file) (λ b. Spells b P) bytes told source; is = is; fits = fits }
+
+pub written_is_report : (file bytes text : List ℕ) (budget : ℕ) (held : List ℕ → Option (List ℕ)) (vs : List Verdict) → IsTextOf (Some (Verify file budget)) held (Verified vs) text → held file ≡ Some bytes → length text ≤ most_report_bytes → IsReportOf bytes vs text
+written_is_report file bytes text budget held vs written told fits = report_of file bytes text budget held vs written.protocol written.source written.words written.is told fits

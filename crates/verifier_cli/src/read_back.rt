@@ -1,9 +1,13 @@
 //! What `check` comes to on a report that `verify` wrote: a law of what the two calls are said to come to.
 
-ghost use Rattle.std.specs.Prelude.{◌≤◌, ℕ, List};
+ghost use Rattle.std.specs.Prelude.{◌≡◌, ◌≤◌, ℕ, List, Option, Some, length};
+ghost use Rattle.calculus.specs.Bounds.{most_report_bytes};
+ghost use Rattle.command_words.specs.Request as request;
+ghost use Rattle.query_verify.specs.declared.answers.Verdict as told;
 ghost use Rattle.verifier_cli.specs.Command.{Verifies};
+ghost use Rattle.verifier_cli.specs.Listing.{IsTextOf};
 ghost use Rattle.verifier_cli.specs.Outcome as own;
-ghost use Rattle.verifier_cli.specs.ReadBack.{IsReadBack};
+ghost use Rattle.verifier_cli.specs.ReadBack.{IsReadBack, IsReportOf};
 
 use certificate_text::spelled_protocols_have_names;
 use certificates::one_ruling;
@@ -23,3 +27,11 @@ pub(crate) fn verdicts_are_read_back()
     first_certificates_are_accepted();
     one_ruling();
 }
+
+/// What `verify` writes of verdicts, where the file holds these bytes, is the text that is read back, unless it is too long.
+pub fn written_verdicts_are_reports()
+    ensures { (file bytes text : List ℕ) (budget : ℕ) (held : List ℕ → Option (List ℕ))
+        (verdicts : List told.Verdict) →
+        IsTextOf (Some (request.Verify file budget)) held (own.Verified verdicts) text →
+        held file ≡ Some bytes → length text ≤ most_report_bytes → IsReportOf bytes verdicts text }
+{}
