@@ -13,45 +13,33 @@ fn word(alloc: Global, bytes: &[u8]) -> Result<Word, AllocError> {
     })
 }
 
-fn declared(
-    alloc: Global,
-    bytes: &[u8],
-    arity: u32,
-    is_data: bool,
-) -> Result<Declared, AllocError> {
-    Ok(Declared {
-        word: word(alloc, bytes)?,
-        arity,
-        public: true,
-        is_data,
-    })
-}
+/// The words of declarations, how many arguments they have, and which constructors are data.
+const FREES: [(&str, u32, bool); 2] = [("c", 0, false), ("k", 0, false)];
 
-fn frees(alloc: Global) -> Result<Declarations, AllocError> {
-    let channel = declared(alloc, b"c", 0, false)?;
-    let key = declared(alloc, b"k", 0, false)?;
-    Ok(Declarations {
-        items: Vec::from_array(alloc, [channel, key])?,
-    })
-}
+const CONSTRUCTORS: [(&str, u32, bool); 3] = [
+    ("enc", 2, false),
+    ("pair", 2, true),
+    ("hash", 1, false),
+];
 
-fn constructors(alloc: Global) -> Result<Declarations, AllocError> {
-    let enc = declared(alloc, b"enc", 2, false)?;
-    let pair = declared(alloc, b"pair", 2, true)?;
-    let hash = declared(alloc, b"hash", 1, false)?;
-    Ok(Declarations {
-        items: Vec::from_array(alloc, [enc, pair, hash])?,
-    })
-}
+const EVENTS: [(&str, u32, bool); 4] = [
+    ("begin", 1, false),
+    ("end", 1, false),
+    ("done", 0, false),
+    ("v1", 1, false),
+];
 
-fn events(alloc: Global) -> Result<Declarations, AllocError> {
-    let begin = declared(alloc, b"begin", 1, false)?;
-    let end = declared(alloc, b"end", 1, false)?;
-    let done = declared(alloc, b"done", 0, false)?;
-    let named = declared(alloc, b"v1", 1, false)?;
-    Ok(Declarations {
-        items: Vec::from_array(alloc, [begin, end, done, named])?,
-    })
+fn declarations(alloc: Global, table: &[(&str, u32, bool)]) -> Result<Declarations, AllocError> {
+    let mut items = Vec::new(alloc);
+    for (name, arity, is_data) in table {
+        items.push(Declared {
+            word: word(alloc, name.as_bytes())?,
+            arity: *arity,
+            public: true,
+            is_data: *is_data,
+        })?;
+    }
+    Ok(Declarations { items })
 }
 
 fn new(alloc: Global, name: &[u8], next: Process) -> Result<Process, AllocError> {
@@ -81,20 +69,25 @@ fn main_process(alloc: Global) -> Result<Process, AllocError> {
     Ok(Process::Par(first, second))
 }
 
-/// The protocol, with so many queries.
-pub fn protocol(alloc: Global, queries: u32) -> Result<Protocol, AllocError> {
+/// So many queries.
+fn queries_of(alloc: Global, count: u32) -> Result<Queries, AllocError> {
     let mut items = Vec::new(alloc);
-    for _ in 0..queries {
+    for _ in 0..count {
         items.push(Query::SecretNew(3))?;
     }
+    Ok(Queries { items })
+}
+
+/// The protocol, with so many queries.
+pub fn protocol(alloc: Global, queries: u32) -> Result<Protocol, AllocError> {
     Ok(Protocol {
-        frees: frees(alloc)?,
-        ctors: constructors(alloc)?,
+        frees: declarations(alloc, &FREES)?,
+        ctors: declarations(alloc, &CONSTRUCTORS)?,
         dtors: Dtors {
             items: Vec::new(alloc),
         },
-        events: events(alloc)?,
-        queries: Queries { items },
+        events: declarations(alloc, &EVENTS)?,
+        queries: queries_of(alloc, queries)?,
         main: main_process(alloc)?,
     })
 }

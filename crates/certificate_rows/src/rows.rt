@@ -8,8 +8,25 @@ use crate::lines::Change;
 use crate::reading::{answer, changes, claims, fronts};
 use crate::settings::Setting;
 use crate::texts::text_of;
-use row_tables::{Line, Rows, compared};
+use row_tables::{Line, Rows, compared, named};
 use std::alloc::{AllocError, Global};
+
+/// A row about the report that was set last.
+#[derive(Clone, Copy)]
+enum Row {
+    Claims,
+    Fronts,
+    Changes(Change),
+}
+
+/// The first words of these rows.
+const ROWS: [(&str, Row); 5] = [
+    ("claims", Row::Claims),
+    ("fronts", Row::Fronts),
+    ("left_out", Row::Changes(Change::LeftOut)),
+    ("doubled", Row::Changes(Change::Doubled)),
+    ("exchanged", Row::Changes(Change::Exchanged)),
+];
 
 impl Rows for Setting {
     fn new(alloc: Global, _name: &str) -> Result<Setting, AllocError> {
@@ -21,20 +38,25 @@ impl Rows for Setting {
         if self.set(alloc, word, text)? {
             return Ok(Line::Setting);
         }
-        match word.as_bytes() {
-            b"claims" => Ok(compared(claims(alloc, self.queries, &self.file)?, text)),
-            b"fronts" => Ok(compared(fronts(alloc, self.queries, &self.file)?, text)),
-            b"left_out" => Ok(compared(changed(alloc, self, Change::LeftOut)?, text)),
-            b"doubled" => Ok(compared(changed(alloc, self, Change::Doubled)?, text)),
-            b"exchanged" => Ok(compared(changed(alloc, self, Change::Exchanged)?, text)),
-            _ => answered(alloc, self, word, text),
-        }
+        line_of(alloc, self, word, text)
     }
 }
 
-/// The faults of the report that was set last, with each of its lines changed so.
-fn changed(alloc: Global, setting: &Setting, change: Change) -> Result<String, AllocError> {
-    changes(alloc, setting.queries, &setting.file, change)
+/// What a row shows, and whether it expects that.
+fn line_of(alloc: Global, setting: &Setting, word: &str, text: &str) -> Result<Line, AllocError> {
+    match named(&ROWS, word) {
+        Some(row) => Ok(compared(shown(alloc, setting, row)?, text)),
+        None => answered(alloc, setting, word, text),
+    }
+}
+
+/// What a row about the report that was set last shows.
+fn shown(alloc: Global, setting: &Setting, row: Row) -> Result<String, AllocError> {
+    match row {
+        Row::Claims => claims(alloc, setting.queries, &setting.file),
+        Row::Fronts => fronts(alloc, setting.queries, &setting.file),
+        Row::Changes(change) => changes(alloc, setting.queries, &setting.file, change),
+    }
 }
 
 /// A row that expects this answer for a text: the name of an error, or `ok`.

@@ -1,10 +1,11 @@
 //! What the lines of a table set for the rows below them.
 
-use crate::texts::text_of;
+use crate::texts::bytes_of;
+use row_tables::named;
 use std::alloc::{AllocError, Global};
 
 /// What is set for the rows that follow.
-#[derive(Debug, Drop)]
+#[derive(Drop)]
 pub struct Setting {
     /// How many queries the protocol has.
     pub queries: u32,
@@ -15,6 +16,25 @@ pub struct Setting {
     /// The text that rows speak of which give none of their own.
     pub file: Vec<u8>,
 }
+
+/// What a line sets.
+#[derive(Clone, Copy)]
+enum Part {
+    Kind,
+    Queries,
+    Front,
+    More,
+    File,
+}
+
+/// The first words of the lines that set something.
+const PARTS: [(&str, Part); 5] = [
+    ("read", Part::Kind),
+    ("queries", Part::Queries),
+    ("front", Part::Front),
+    ("more", Part::More),
+    ("file", Part::File),
+];
 
 impl Setting {
     /// Reports about one query, and nothing else is set.
@@ -29,14 +49,24 @@ impl Setting {
 
     /// Sets what a line says, and tells whether it is one that sets something.
     pub fn set(&mut self, alloc: Global, word: &str, text: &str) -> Result<bool, AllocError> {
-        match word.as_bytes() {
-            b"read" => self.is_alone = text == "certificates",
-            b"queries" => self.queries = text.parse::<u32>().unwrap_or(0),
-            b"front" => self.front = text_of(alloc, &[], text)?.bytes,
-            b"more" => self.file = text_of(alloc, &self.file, text)?.bytes,
-            b"file" => self.file = text_of(alloc, &self.front, text)?.bytes,
-            _ => return Ok(false),
+        match named(&PARTS, word) {
+            Some(part) => {
+                self.set_part(alloc, part, text)?;
+                Ok(true)
+            }
+            None => Ok(false),
         }
-        Ok(true)
+    }
+
+    /// Sets a part to what the text says.
+    fn set_part(&mut self, alloc: Global, part: Part, text: &str) -> Result<(), AllocError> {
+        match part {
+            Part::Kind => self.is_alone = text == "certificates",
+            Part::Queries => self.queries = text.parse::<u32>().unwrap_or(0),
+            Part::Front => self.front = bytes_of(alloc, &[], text)?,
+            Part::More => self.file = bytes_of(alloc, &self.file, text)?,
+            Part::File => self.file = bytes_of(alloc, &self.front, text)?,
+        }
+        Ok(())
     }
 }

@@ -8,7 +8,7 @@ use std::alloc::{AllocError, Global};
 const NO_TEXT: u8 = 0xff;
 
 /// A text, and the place of its mark.
-#[derive(Debug, Drop)]
+#[derive(Drop)]
 pub struct Text {
     pub bytes: Vec<u8>,
     pub mark: Option<usize>,
@@ -17,10 +17,20 @@ pub struct Text {
 /// A text as far as it is read: within a repetition, where that begins, and how often it stands.
 #[derive(Drop)]
 struct Reader {
-    text: Text,
+    bytes: Vec<u8>,
+    mark: Option<usize>,
     in_count: bool,
     start: usize,
     count: u32,
+}
+
+/// The byte that stands for this one in a text.
+fn meant(byte: u8) -> u8 {
+    match byte {
+        b'/' => b'\n',
+        b'\\' => NO_TEXT,
+        _ => byte,
+    }
 }
 
 impl Reader {
@@ -31,17 +41,23 @@ impl Reader {
             return Ok(());
         }
         match byte {
-            b'#' => self.text.mark = Some(self.text.bytes.len()),
-            b'/' => self.text.bytes.push(b'\n')?,
-            b'\\' => self.text.bytes.push(NO_TEXT)?,
-            b'{' => {
-                self.in_count = true;
-                self.count = 0;
-            }
+            b'#' => self.set_mark(),
+            b'{' => self.open(),
             b'}' => return self.close(alloc),
-            _ => self.text.bytes.push(byte)?,
+            _ => self.bytes.push(meant(byte))?,
         }
         Ok(())
+    }
+
+    /// Marks the place.
+    fn set_mark(&mut self) {
+        self.mark = Some(self.bytes.len());
+    }
+
+    /// Begins a repetition.
+    fn open(&mut self) {
+        self.in_count = true;
+        self.count = 0;
     }
 
     /// Reads a digit of a count, or the space behind it.
@@ -51,31 +67,31 @@ impl Reader {
             self.count = self.count.saturating_mul(10).saturating_add(digit);
         } else {
             self.in_count = false;
-            self.start = self.text.bytes.len();
+            self.start = self.bytes.len();
         }
     }
 
     /// Ends a repetition.
     fn close(&mut self, alloc: Global) -> Result<(), AllocError> {
-        let repeated = match self.text.bytes.get(self.start..) {
-            Some(rest) => Vec::from_slice(alloc, rest)?,
-            None => Vec::new(alloc),
-        };
-        self.text.bytes.truncate(self.start);
+        let repeated = behind(alloc, &self.bytes, self.start)?;
+        self.bytes.truncate(self.start);
         for _ in 0..self.count {
-            self.text.bytes.extend_from_slice(&repeated)?;
+            self.bytes.extend_from_slice(&repeated)?;
         }
         Ok(())
     }
 }
 
+/// The bytes from a place on.
+fn behind(alloc: Global, bytes: &[u8], start: usize) -> Result<Vec<u8>, AllocError> {
+    Vec::from_slice(alloc, bytes.get(start..).unwrap_or(&[]))
+}
+
 /// The text that is written so, behind this front.
 pub fn text_of(alloc: Global, front: &[u8], written: &str) -> Result<Text, AllocError> {
     let mut reader = Reader {
-        text: Text {
-            bytes: Vec::from_slice(alloc, front)?,
-            mark: None,
-        },
+        bytes: Vec::from_slice(alloc, front)?,
+        mark: None,
         in_count: false,
         start: 0,
         count: 0,
@@ -83,5 +99,12 @@ pub fn text_of(alloc: Global, front: &[u8], written: &str) -> Result<Text, Alloc
     for byte in written.as_bytes() {
         reader.read(alloc, *byte)?;
     }
-    Ok(reader.text)
+    let Reader { bytes, mark, .. } = reader;
+    Ok(Text { bytes, mark })
+}
+
+/// The bytes of the text that is written so, behind this front.
+pub fn bytes_of(alloc: Global, front: &[u8], written: &str) -> Result<Vec<u8>, AllocError> {
+    let Text { bytes, .. } = text_of(alloc, front, written)?;
+    Ok(bytes)
 }

@@ -23,3 +23,5 @@ pub mod Visiting
 pub mod Repeating
 pub mod Reading
 pub mod Translating
+pub mod Linear
+pub mod Sounding

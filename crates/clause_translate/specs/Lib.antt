@@ -12,3 +12,4 @@ pub mod Choices
 pub mod Short
 pub mod Jobs
 pub mod Whole
+pub mod Soundness

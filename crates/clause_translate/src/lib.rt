@@ -13,6 +13,7 @@ mod numbers;
 mod outputs;
 mod place;
 mod raw;
+mod runs;
 mod spans;
 mod substituted;
 mod unified;
@@ -20,4 +21,5 @@ mod visit;
 mod visits;
 mod whole;
 
+pub use crate::runs::translations_abstract_runs;
 pub use crate::whole::{Translated, translate};

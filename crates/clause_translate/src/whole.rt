@@ -14,9 +14,11 @@ ghost use Rattle.clause_form.specs.Seen.{clause_at, AreClausesIn, NameClauses};
 ghost use Rattle.query_derive.specs.GoalRows.{OfQuery};
 ghost use Rattle.clause_translate.specs.Short.{IsShortProcess, HasShortRules};
 ghost use Rattle.clause_translate.specs.Whole.{IsVisited, Translates, IsKept};
+ghost use Rattle.clause_translate.specs.Soundness.{IsSound};
 
 use crate::listing::Listing;
 use crate::place::Place;
+use crate::runs::translations_abstract_runs;
 use crate::visit::Visit;
 use crate::visits::visit_process;
 use attacker_clauses::attacker_list;
@@ -116,8 +118,12 @@ fn translate_grown<B: Bank>(
 /// What the protocol and the query of that number are translated into: the attacker's clauses, those of the visits of
 /// the main process in pre-order, and the goal; or the point of the first visit that is too large.
 ///
-/// The conditions hold of each protocol that is read. `Err` comes only for want of memory; then, and where a visit is
-/// too large, the bank is as before.
+/// The clauses abstract every run of the protocol: by an abstraction that is one to one on the run's values, what the
+/// attacker knows is derived from them with all events that were performed, and each event with those before it.
+///
+/// The conditions hold of each protocol that is read. `Err` comes for want of memory, and, as if for that, where a number
+/// doesn't fit: a point or a new variable past 32 bits, or a message or a copy's number that has, under a unifier, more
+/// symbols than 64 bits count. On `Err`, and where a visit is too large, the bank is as before.
 pub fn translate<B: Bank>(
     alloc: Global,
     bank: &mut B,
@@ -132,9 +138,12 @@ pub fn translate<B: Bank>(
     ensures grows { Grows (B.trees bank.old) (B.trees bank.new) }
     ensures translates { IfOk result (λ found. Translates (protocol_of protocol.now) query
         (B.trees bank.new) found) }
+    ensures runs { IfOk result (λ found. IsSound (protocol_of protocol.now)
+        (B.trees bank.new) found) }
     ensures large { IfOk result (λ found. IsKept (B.trees bank.old) (B.trees bank.new) found) }
     ensures err { OnErr result (B.trees bank.new ≡ B.trees bank.old) }
 {
+    translations_abstract_runs();
     let mark = bank.mark();
     match translate_grown(alloc, bank, protocol, query) {
         Ok(Translated::Clauses(all)) => Ok(Translated::Clauses(all)),

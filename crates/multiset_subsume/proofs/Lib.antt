@@ -8,3 +8,4 @@ pub mod Confining
 pub mod Searching
 pub mod FirstRows
 pub mod Refuting
+pub mod Parting

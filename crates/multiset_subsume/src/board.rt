@@ -13,13 +13,15 @@ use std::alloc::{AllocError, Global};
 use term_tree::{Bank, Node};
 
 /// The hypotheses of the special clause, at whose positions those of the general one are placed, and the variables of
-/// which the general one has `att` hypotheses: their terms have to be known at further positions.
+/// which the general one has `att` hypotheses: their terms have to be known at further positions. Where it is divided,
+/// the hypotheses of the general clause fall into parts that share no variable that isn't bound.
 #[derive(Drop)]
 pub(crate) struct Board<'a, B> {
     pub alloc: Global,
     pub bank: &'a B,
     pub hyps: &'a [Fact],
     pub loose: &'a [u32],
+    pub is_divided: bool,
 }
 
 /// Adds a hypothesis, if it isn't `att` of a variable.

@@ -13,10 +13,10 @@ ghost use Rattle.multiset_subsume.specs.Boards.{AreLinkedOn, CanPlaceOn, HoldsOn
 ghost use Rattle.multiset_subsume.specs.Boards.{IsNextRow, IsFirstByOn, IsFirstWith, NowhereWith};
 
 use crate::board::{Board, firm_of, loose_of};
+use crate::parts::{placed_apart, stands_apart};
 use crate::placing::{Placing, begun, put};
 use crate::quick::shows_no_row;
 use crate::row::Row;
-use crate::search::{can_place, can_stand};
 use clause_form::{Clause, Fact};
 use std::alloc::{AllocError, Global};
 use term_tree::Bank;
@@ -47,7 +47,7 @@ fn least_row<B: Bank>(
 {
     let end = known[0];
     'each: for p in 0..end {
-        match can_stand(board, placing, fact, rest, p)? {
+        match stands_apart(board, placing, fact, rest, p)? {
             None => {}
             Some(mut row) => {
                 row.insert(0, p)?;
@@ -138,7 +138,7 @@ fn first_row<B: Bank>(
         board.now.loose.now placing.binds.pairs placing.taken.items
         (map (λ f. fact_of f.now) facts.now) row)) }
 {
-    match can_place(board, &mut placing, facts)? {
+    match placed_apart(board, &mut placing, facts)? {
         None => Ok(None),
         Some(known) => Ok(Some(ordered(board, placing, facts, known)?)),
     }
@@ -205,6 +205,7 @@ pub fn cover_row<B: Bank>(
         bank,
         hyps: &special.hyps.items,
         loose: &loose,
+        is_divided: false,
     };
     first_matched(&board, &facts, &general.concl, &special.concl)
 }

@@ -10,6 +10,7 @@ ghost use Rattle.multiset_subsume.specs.Boards.{facts_at, IsBoard, IsPlacing, Is
 ghost use Rattle.multiset_subsume.specs.Boards.{CannotPut, CanPlaceOn};
 
 use crate::board::Board;
+use crate::linking::in_largest_part;
 use crate::placing::{Placing, fits};
 use clause_form::Fact;
 use std::alloc::AllocError;
@@ -238,8 +239,8 @@ fn overcrowded<B: Bank>(
     Ok(count > room_of(&area))
 }
 
-/// The index of the fact to be placed next, the most constrained; `None` where there are more facts than positions
-/// for them.
+/// The index of the fact to be placed next, the most constrained, or one of the largest part where none is constrained;
+/// `None` where there are more facts than positions for them.
 pub(crate) fn next_of<B: Bank>(
     board: &Board<'_, B>,
     placing: &mut Placing,
@@ -262,5 +263,12 @@ pub(crate) fn next_of<B: Bank>(
     if overcrowded(board, placing, unplaced, choice)? {
         return Ok(None);
     }
-    Ok(Some(choice.at))
+    if choice.count < MOST_COUNTED {
+        return Ok(Some(choice.at));
+    }
+    if !board.is_divided {
+        return Ok(Some(choice.at));
+    }
+    let at = in_largest_part(board, &placing.binds, unplaced)?;
+    Ok(Some(at))
 }

@@ -157,6 +157,7 @@ pub fn row_holds<B: Bank>(
         bank,
         hyps: &special.hyps.items,
         loose: &loose,
+        is_divided: false,
     };
     holds_matched(&board, &facts, &general.concl, &special.concl, &row.items)
 }

@@ -122,7 +122,7 @@ fn place_beside<B: Bank>(
 
 /// Positions for the rest, with the fact at a position, if it can stand there.
 #[cycle(placing)]
-pub(crate) fn can_stand<B: Bank>(
+fn can_stand<B: Bank>(
     board: &Board<'_, B>,
     placing: &mut Placing,
     fact: &Fact,

@@ -46,43 +46,6 @@ term_other most below w.Zero s at n0 n1 = refl
 term_other most below w.Number s at n0 n1 = refl
 term_other most below w.End s at n0 n1 = refl
 
-pub begins_term_other : (c : Class) → c ≢ w.Name → c ≢ w.Open → begins_term c ≡ false
-begins_term_other w.Private n0 n1 = refl
-begins_term_other w.Free n0 n1 = refl
-begins_term_other w.Fun n0 n1 = refl
-begins_term_other w.Data n0 n1 = refl
-begins_term_other w.Reduc n0 n1 = refl
-begins_term_other w.Event n0 n1 = refl
-begins_term_other w.Query n0 n1 = refl
-begins_term_other w.Attacker n0 n1 = refl
-begins_term_other w.Process n0 n1 = refl
-begins_term_other w.New n0 n1 = refl
-begins_term_other w.False n0 n1 = refl
-begins_term_other w.Let n0 n1 = refl
-begins_term_other w.In n0 n1 = refl
-begins_term_other w.Out n0 n1 = refl
-begins_term_other w.If n0 n1 = refl
-begins_term_other w.Then n0 n1 = refl
-begins_term_other w.Else n0 n1 = refl
-begins_term_other w.Later n0 n1 = refl
-begins_term_other w.Open n0 n1 = absurd (n1 refl)
-begins_term_other w.Close n0 n1 = refl
-begins_term_other w.Comma n0 n1 = refl
-begins_term_other w.Semicolon n0 n1 = refl
-begins_term_other w.Dot n0 n1 = refl
-begins_term_other w.Slash n0 n1 = refl
-begins_term_other w.Equals n0 n1 = refl
-begins_term_other w.Implies n0 n1 = refl
-begins_term_other w.Bar n0 n1 = refl
-begins_term_other w.Or n0 n1 = refl
-begins_term_other w.And n0 n1 = refl
-begins_term_other w.Bang n0 n1 = refl
-begins_term_other w.Arrow n0 n1 = refl
-begins_term_other w.Name n0 n1 = absurd (n0 refl)
-begins_term_other w.Zero n0 n1 = refl
-begins_term_other w.Number n0 n1 = refl
-begins_term_other w.End n0 n1 = refl
-
 pub pattern_other : (most left : ℕ) (below : Reader PatternSketch) (c : Class) (s : Source) (at : ℕ) → c ≢ w.Name → c ≢ w.Equals → c ≢ w.Open → pattern_by most left below c s at ≡ Unexpected at
 pattern_other most left below w.Private s at n0 n1 n2 = refl
 pattern_other most left below w.Free s at n0 n1 n2 = refl

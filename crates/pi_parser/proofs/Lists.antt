@@ -16,9 +16,6 @@ step_fault (fault.Unexpected i) o f h = ap (λ p. step p f) h
 step_fault (fault.TooDeep i) o f h = ap (λ p. step p f) h
 step_fault (fault.Memory m) o f h = tt
 
-pub step_found : {X Y : Type 0} (o : Read X) (f : X → ℕ → Read Y) (x : X) (e : ℕ) → o ≡ Found x e → step o f ≡ f x e
-step_found o f x e h = ap (λ p. step p f) h
-
 -- what stands behind a list
 abbrev pub others : {X : Type 0} → ℕ → Class → Reader X → Reader (List X)
 others m c r = built others_of (optional c (list_at m c r))

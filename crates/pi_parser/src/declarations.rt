@@ -6,6 +6,7 @@ ghost use Rattle.protocol_grammar.specs.Reading.{built, list_at, rule_at, sized_
 ghost use Rattle.pi_parser.specs.Gives.{Gives, IsBehind, most_of};
 ghost use Rattle.pi_parser.specs.Files.{names_of, sized_of, rule_of, rules_of, declaration_of, main_of, file_of};
 
+use crate::MOST_LEVELS;
 use crate::error::Fault;
 use crate::processes::process;
 use crate::queries::question;
@@ -55,10 +56,10 @@ fn rule(alloc: Global, classes: &[Class], at: usize) -> Result<(RuleSketch, usiz
 {
     let open = mark(classes, at, Class::Name)?;
     let inside = mark(classes, open, Class::Open)?;
-    let (arguments, close) = terms(alloc, classes, inside, 512)?;
+    let (arguments, close) = terms(alloc, classes, inside, MOST_LEVELS)?;
     let arrow = mark(classes, close, Class::Close)?;
     let right = mark(classes, arrow, Class::Arrow)?;
-    let (value, end) = term(alloc, classes, right, 512)?;
+    let (value, end) = term(alloc, classes, right, MOST_LEVELS)?;
     Ok((
         RuleSketch {
             first: at,
@@ -257,7 +258,7 @@ fn definition(
     let name = at + 1;
     let equals = mark(classes, name, Class::Name)?;
     let right = mark(classes, equals, Class::Equals)?;
-    let (process, dot) = process(alloc, classes, right, 512)?;
+    let (process, dot) = process(alloc, classes, right, MOST_LEVELS)?;
     let end = mark(classes, dot, Class::Dot)?;
     Ok((
         DeclarationSketch::Definition {
@@ -306,7 +307,7 @@ fn main_process(
         at) }
 {
     let first = mark(classes, at, Class::Process)?;
-    let (process, end) = process(alloc, classes, first, 512)?;
+    let (process, end) = process(alloc, classes, first, MOST_LEVELS)?;
     if fits_at(classes, end, Class::End) {
         Ok((process, end + 1))
     } else {

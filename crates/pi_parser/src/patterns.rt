@@ -22,7 +22,7 @@ fn patterns(
     at: usize,
     left: usize,
 ) -> Result<(PatternsSketch, usize), Fault>
-    requires { (at ≤ length classes.now) × (left ≤ 512) }
+    requires { at ≤ length classes.now }
     ensures read { Gives patterns_of result (built list_of
         (list_at (most_of classes.now) Class.Comma (pattern_at (most_of classes.now) left))
         (words classes.now) at) }
@@ -48,7 +48,7 @@ fn arguments(
     at: usize,
     left: usize,
 ) -> Result<(PatternsSketch, usize), Fault>
-    requires { (at ≤ length classes.now) × (left ≤ 512) }
+    requires { at ≤ length classes.now }
     ensures read { Gives patterns_of result (arguments_at (most_of classes.now)
         (pattern_at (most_of classes.now) left) (words classes.now) at) }
     ensures within { IfOk result (λ x. (at ≤ x.1) × (x.1 ≤ length classes.now)) }
@@ -71,7 +71,7 @@ fn named(
     at: usize,
     left: usize,
 ) -> Result<(PatternSketch, usize), Fault>
-    requires room { (at < length classes.now) × (left ≤ 512) }
+    requires room { at < length classes.now }
     requires name { (words classes.now at).class ≡ Class.Name }
     ensures read { Gives pattern_of result (pattern_by (most_of classes.now) left
         (pattern_at (most_of classes.now) left) Class.Name (words classes.now) at) }
@@ -88,7 +88,7 @@ fn equal(
     at: usize,
     left: usize,
 ) -> Result<(PatternSketch, usize), Fault>
-    requires room { (at < length classes.now) × (left ≤ 512) }
+    requires room { at < length classes.now }
     requires equals { (words classes.now at).class ≡ Class.Equals }
     ensures read { Gives pattern_of result (pattern_by (most_of classes.now) left
         (pattern_at (most_of classes.now) left) Class.Equals (words classes.now) at) }
@@ -106,7 +106,7 @@ fn grouped(
     at: usize,
     left: usize,
 ) -> Result<(PatternSketch, usize), Fault>
-    requires room { (at < length classes.now) × (left ≤ 512) }
+    requires room { at < length classes.now }
     requires open { (words classes.now at).class ≡ Class.Open }
     ensures read { Gives pattern_of result (pattern_by (most_of classes.now) left
         (pattern_at (most_of classes.now) left) Class.Open (words classes.now) at) }
@@ -133,7 +133,7 @@ pub fn pattern(
     at: usize,
     left: usize,
 ) -> Result<(PatternSketch, usize), Fault>
-    requires { (at ≤ length classes.now) × (left ≤ 512) }
+    requires { at ≤ length classes.now }
     ensures read { Gives pattern_of result (pattern_at (most_of classes.now) left
         (words classes.now) at) }
     ensures within { IsBehind classes.now at result }

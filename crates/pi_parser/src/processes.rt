@@ -23,7 +23,7 @@ fn next(
     left: usize,
     before: Class,
 ) -> Result<(NextSketch, usize), Fault>
-    requires room { (at ≤ length classes.now) × (left ≤ 512) }
+    requires room { at ≤ length classes.now }
     requires other { same before Class.End ≡ false }
     ensures read { Gives next_of result (next_at before (unit_at (most_of classes.now) left)
         (words classes.now) at) }
@@ -45,7 +45,7 @@ fn inner(
     at: usize,
     left: usize,
 ) -> Result<(UnitSketch, usize), Fault>
-    requires room { (at < length classes.now) × (left ≤ 512) }
+    requires room { at < length classes.now }
     requires first { (words classes.now at).class ≡ Class.Open }
     ensures read { Gives unit_of result (unit_by (most_of classes.now) left
         (unit_at (most_of classes.now) left) (process_at (most_of classes.now) left) Class.Open
@@ -65,7 +65,7 @@ fn replicated(
     at: usize,
     left: usize,
 ) -> Result<(UnitSketch, usize), Fault>
-    requires room { (at < length classes.now) × (left ≤ 512) }
+    requires room { at < length classes.now }
     requires first { (words classes.now at).class ≡ Class.Bang }
     ensures read { Gives unit_of result (unit_by (most_of classes.now) left
         (unit_at (most_of classes.now) left) (process_at (most_of classes.now) left) Class.Bang
@@ -84,7 +84,7 @@ fn new(
     at: usize,
     left: usize,
 ) -> Result<(UnitSketch, usize), Fault>
-    requires room { (at < length classes.now) × (left ≤ 512) }
+    requires room { at < length classes.now }
     requires first { (words classes.now at).class ≡ Class.New }
     ensures read { Gives unit_of result (unit_by (most_of classes.now) left
         (unit_at (most_of classes.now) left) (process_at (most_of classes.now) left) Class.New
@@ -105,7 +105,7 @@ fn output(
     at: usize,
     left: usize,
 ) -> Result<(UnitSketch, usize), Fault>
-    requires room { (at < length classes.now) × (left ≤ 512) }
+    requires room { at < length classes.now }
     requires first { (words classes.now at).class ≡ Class.Out }
     ensures read { Gives unit_of result (unit_by (most_of classes.now) left
         (unit_at (most_of classes.now) left) (process_at (most_of classes.now) left) Class.Out
@@ -129,7 +129,7 @@ fn input(
     at: usize,
     left: usize,
 ) -> Result<(UnitSketch, usize), Fault>
-    requires room { (at < length classes.now) × (left ≤ 512) }
+    requires room { at < length classes.now }
     requires first { (words classes.now at).class ≡ Class.In }
     ensures read { Gives unit_of result (unit_by (most_of classes.now) left
         (unit_at (most_of classes.now) left) (process_at (most_of classes.now) left) Class.In
@@ -153,7 +153,7 @@ fn happens(
     at: usize,
     left: usize,
 ) -> Result<(UnitSketch, usize), Fault>
-    requires room { (at < length classes.now) × (left ≤ 512) }
+    requires room { at < length classes.now }
     requires first { (words classes.now at).class ≡ Class.Event }
     ensures read { Gives unit_of result (unit_by (most_of classes.now) left
         (unit_at (most_of classes.now) left) (process_at (most_of classes.now) left) Class.Event
@@ -173,7 +173,7 @@ fn let_in(
     at: usize,
     left: usize,
 ) -> Result<(UnitSketch, usize), Fault>
-    requires room { (at < length classes.now) × (left ≤ 512) }
+    requires room { at < length classes.now }
     requires first { (words classes.now at).class ≡ Class.Let }
     ensures read { Gives unit_of result (unit_by (most_of classes.now) left
         (unit_at (most_of classes.now) left) (process_at (most_of classes.now) left) Class.Let
@@ -200,7 +200,7 @@ fn if_then(
     at: usize,
     left: usize,
 ) -> Result<(UnitSketch, usize), Fault>
-    requires room { (at < length classes.now) × (left ≤ 512) }
+    requires room { at < length classes.now }
     requires first { (words classes.now at).class ≡ Class.If }
     ensures read { Gives unit_of result (unit_by (most_of classes.now) left
         (unit_at (most_of classes.now) left) (process_at (most_of classes.now) left) Class.If
@@ -247,7 +247,7 @@ fn unit(
     at: usize,
     left: usize,
 ) -> Result<(UnitSketch, usize), Fault>
-    requires { (at ≤ length classes.now) × (left ≤ 512) }
+    requires { at ≤ length classes.now }
     ensures read { Gives unit_of result (unit_at (most_of classes.now) left (words classes.now)
         at) }
     ensures within { IsBehind classes.now at result }
@@ -280,7 +280,7 @@ pub fn process(
     at: usize,
     left: usize,
 ) -> Result<(ProcessSketch, usize), Fault>
-    requires { (at ≤ length classes.now) × (left ≤ 512) }
+    requires { at ≤ length classes.now }
     ensures read { Gives process_of result (process_at (most_of classes.now) left
         (words classes.now) at) }
     ensures within { IsBehind classes.now at result }

@@ -7,6 +7,7 @@ ghost use Rattle.pi_parser.specs.Gives.{Gives, IsBehind, most_of};
 ghost use Rattle.pi_parser.specs.Terms.{atom_of};
 ghost use Rattle.pi_parser.specs.Files.{alternative_of, alternatives_of, question_of};
 
+use crate::MOST_LEVELS;
 use crate::error::Fault;
 use crate::sketch::{AlternativeSketch, AtomSketch, QuerySketch};
 use crate::terms::{atom, term};
@@ -22,7 +23,7 @@ fn happening(alloc: Global, classes: &[Class], at: usize) -> Result<(AtomSketch,
     ensures within { IsBehind classes.now at result }
 {
     let behind = mark(classes, at, Class::Event)?;
-    atom(alloc, classes, behind, 512)
+    atom(alloc, classes, behind, MOST_LEVELS)
 }
 
 /// Events, `&&` between two of them.
@@ -106,7 +107,7 @@ fn attacker(alloc: Global, classes: &[Class], at: usize) -> Result<(QuerySketch,
         let behind = mark(classes, close, Class::Close)?;
         Ok((QuerySketch::AttackerNew(at, name), behind))
     } else {
-        let (message, close) = term(alloc, classes, inside, 512)?;
+        let (message, close) = term(alloc, classes, inside, MOST_LEVELS)?;
         let behind = mark(classes, close, Class::Close)?;
         Ok((QuerySketch::Attacker(at, message), behind))
     }
@@ -124,7 +125,7 @@ fn correspondence(
         (words classes.now) at) }
     ensures within { IsBehind classes.now at result }
 {
-    let (atom, implies) = atom(alloc, classes, at + 1, 512)?;
+    let (atom, implies) = atom(alloc, classes, at + 1, MOST_LEVELS)?;
     let right = mark(classes, implies, Class::Implies)?;
     let (alternatives, behind) = alternatives(alloc, classes, right)?;
     Ok((QuerySketch::Correspondence(at, atom, alternatives), behind))

@@ -21,7 +21,7 @@ pub fn terms(
     at: usize,
     left: usize,
 ) -> Result<(TermsSketch, usize), Fault>
-    requires { (at ≤ length classes.now) × (left ≤ 512) }
+    requires { at ≤ length classes.now }
     ensures read { Gives terms_of result (built list_of
         (list_at (most_of classes.now) Class.Comma (term_at (most_of classes.now) left))
         (words classes.now) at) }
@@ -47,7 +47,7 @@ fn arguments(
     at: usize,
     left: usize,
 ) -> Result<(TermsSketch, usize), Fault>
-    requires { (at ≤ length classes.now) × (left ≤ 512) }
+    requires { at ≤ length classes.now }
     ensures read { Gives terms_of result (arguments_at (most_of classes.now)
         (term_at (most_of classes.now) left) (words classes.now) at) }
     ensures within { IfOk result (λ x. (at ≤ x.1) × (x.1 ≤ length classes.now)) }
@@ -70,7 +70,7 @@ fn named(
     at: usize,
     left: usize,
 ) -> Result<(TermSketch, usize), Fault>
-    requires room { (at < length classes.now) × (left ≤ 512) }
+    requires room { at < length classes.now }
     requires name { (words classes.now at).class ≡ Class.Name }
     ensures read { Gives term_of result (term_by (most_of classes.now)
         (term_at (most_of classes.now) left) Class.Name (words classes.now) at) }
@@ -88,7 +88,7 @@ fn grouped(
     at: usize,
     left: usize,
 ) -> Result<(TermSketch, usize), Fault>
-    requires room { (at < length classes.now) × (left ≤ 512) }
+    requires room { at < length classes.now }
     requires open { (words classes.now at).class ≡ Class.Open }
     ensures read { Gives term_of result (term_by (most_of classes.now)
         (term_at (most_of classes.now) left) Class.Open (words classes.now) at) }
@@ -114,7 +114,7 @@ pub fn term(
     at: usize,
     left: usize,
 ) -> Result<(TermSketch, usize), Fault>
-    requires { (at ≤ length classes.now) × (left ≤ 512) }
+    requires { at ≤ length classes.now }
     ensures read { Gives term_of result (term_at (most_of classes.now) left (words classes.now)
         at) }
     ensures within { IsBehind classes.now at result }
@@ -138,7 +138,7 @@ pub fn atom(
     at: usize,
     left: usize,
 ) -> Result<(AtomSketch, usize), Fault>
-    requires { (at ≤ length classes.now) × (left ≤ 512) }
+    requires { at ≤ length classes.now }
     ensures read { Gives atom_of result (atom_at (most_of classes.now) left (words classes.now)
         at) }
     ensures within { IsBehind classes.now at result }

@@ -17,7 +17,7 @@ const ANOTHER: u8 = 1;
 const FAILED: u8 = 7;
 
 /// What a line of a table is.
-#[derive(Debug, Drop)]
+#[derive(Drop)]
 pub enum Line {
     /// A setting, a part of a row that goes on, a comment or nothing.
     Setting,
@@ -35,6 +35,16 @@ pub trait Rows: Drop {
     /// Does what a line says: sets something for the rows below, or compares what a row shows with what it expects. The line
     /// is neither empty nor a comment.
     fn follow(&mut self, alloc: Global, line: &str) -> Result<Line, AllocError>;
+}
+
+/// What a table of names has for this name, if anything.
+pub fn named<T: Copy>(table: &[(&str, T)], name: &str) -> Option<T> {
+    for (word, value) in table {
+        if *word == name {
+            return Some(*value);
+        }
+    }
+    None
 }
 
 /// A row that shows this, and expects that.

@@ -1,0 +1,23 @@
+-- Well-scoped protocols have linear patterns.
+use Rattle.std.proofs.Common.{ℕ, ◌+◌, List, [], ◌∷◌, ◌++◌}
+use Rattle.calculus.specs.Syntax.{Name, Made, Process, Nil, Output, Input, Parallel, Replication, New, Let, Event, Protocol}
+use Rattle.calculus.specs.Points.{point_after}
+use Rattle.well_formed.specs.Signature.{Signature, signature_of}
+use Rattle.well_formed.specs.Terms.{bound_by}
+use Rattle.well_formed.specs.Processes.{HasLinearPatterns, IsProcessBelow}
+use Rattle.well_formed.specs.WellFormed.{IsWellScoped}
+
+linear : (signature : Signature) (bound : List Name) (point : ℕ) (p : Process) → IsProcessBelow signature bound point p → HasLinearPatterns p
+linear signature bound point Nil below = tt
+linear signature bound point (Output channel message next) below = linear signature bound (point + 1) next below.2
+linear signature bound point (Input channel pattern next) below = (below.1.linear, linear signature (bound_by pattern ++ bound) (point + 1) next below.2)
+linear signature bound point (Parallel left right) below = (linear signature bound (point + 1) left below.0, linear signature bound (point_after (point + 1) left) right below.1)
+linear signature bound point (Replication copied) below = linear signature bound (point + 1) copied below
+linear signature bound point (New word next) below = linear signature (Made point ∷ bound) (point + 1) next below.1
+linear signature bound point (Let pattern expression next otherwise) below =
+    (below.0.linear, linear signature (bound_by pattern ++ bound) (point + 1) next below.2, linear signature bound (point_after (point + 1) next) otherwise below.3)
+linear signature bound point (Event performed next) below = linear signature bound (point + 1) next below.1
+
+-- no pattern of a protocol that is well scoped binds a variable twice
+pub linear_patterns : (P : Protocol) → IsWellScoped P → HasLinearPatterns P.main
+linear_patterns P scoped = linear (signature_of P) [] 1 P.main scoped.process

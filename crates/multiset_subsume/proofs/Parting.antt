@@ -1,0 +1,60 @@
+-- Some of the facts can be placed by themselves where all can.
+use Rattle.std.proofs.Common.{◌≡◌, ◌∙◌, ℕ, ◌+◌, ◌<◌, ◌≤◌, Bool, true, false, cond, Option, None, MatchOption, List, [], ◌∷◌, ◌++◌, length, map, take, get_or, ap, sym, subst, append-nil, Bor}
+use Rattle.std.proofs.lemmas.List.{map-append, take_more, take_all}
+use Rattle.terms.specs.Term.{Term}
+use Rattle.clauses.specs.Fact as horn
+use Rattle.clauses.specs.Fact.{fact_under}
+use Rattle.clauses.specs.Flat.{flat_under}
+use Rattle.clauses.specs.Inclusion.{Picks, IsWithin}
+use Rattle.clauses.specs.Inclusion as inclusion
+use Rattle.clauses.proofs.Inclusion.{within_self, within-trans, within-map, within-append, within-more_right}
+use Rattle.term_tree.specs.declared.bank.Id.{Id}
+use Rattle.unify_match.specs.declared.bound.Bound.{Bound}
+use Rattle.clause_form.specs.declared.facts.Fact.{Fact}
+use Rattle.clause_form.specs.Seen.{fact_at, IsFactIn, AreFactsIn}
+use Rattle.placements.specs.Takes.{left}
+use Rattle.placements.specs.Placing.{all_known}
+use Rattle.multiset_subsume.specs.Boards.{facts_at, CanPlaceOn}
+use Rattle.multiset_subsume.proofs.Listing.{unref}
+
+pick_known : (all : List Term) {fs rest : List (horn.Fact Id)} {f : horn.Fact Id} → Picks fs f rest → AreFactsIn all fs → IsFactIn all f × AreFactsIn all rest
+pick_known all inclusion.here known = known
+pick_known all (inclusion.there pick) known = let below = pick_known all pick known.1 in (below.0, (known.0, below.1))
+
+-- some of known facts are known
+pub within_known : (all : List Term) (part facts : List (horn.Fact Id)) → IsWithin part facts → AreFactsIn all facts → AreFactsIn all part
+within_known all [] facts within known = tt
+within_known all (f ∷ part) facts (rest, pick, within) known = let one = pick_known all pick known in (one.0, within_known all part rest within one.1)
+
+-- what can be placed with loose parts can be placed in part, and without them
+pub part_placed : (all : List Term) (hyps : List (horn.Fact Id)) (loose none : List ℕ) (pairs : List Bound) (taken : List Bool) (facts part : List (horn.Fact Id)) → none ≡ [] → IsWithin part facts → CanPlaceOn all hyps loose pairs taken facts → CanPlaceOn all hyps none pairs taken part
+part_placed all hyps loose none pairs taken facts part is within can =
+    let f = fact_under can.by in
+    let these = map f (facts_at all part) in
+    let those = map f (facts_at all facts) in
+    let free = left taken (facts_at all hyps) in
+    let among : IsWithin these those = within-map f (facts_at all part) (facts_at all facts) (within-map (fact_at all) part facts within) in
+    let inside : IsWithin these free = within-trans these (those ++ flat_under can.by (all_known loose)) free (within-more_right these those (flat_under can.by (all_known loose)) among) can.within in
+    subst (λ (xs : List ℕ). CanPlaceOn all hyps xs pairs taken part) (sym is) (record {
+      by = can.by;
+      agrees = can.agrees;
+      within = subst (λ (ys : List (horn.Fact Term)). IsWithin ys free) (sym (append-nil these)) inside;
+    })
+
+-- a fact more, of which the part may be one
+pub member_more : (facts : List (Bor Fact)) (i : ℕ) (f : Bor Fact) (b : Bool) (old new : List (horn.Fact Id)) → i < length facts → f ≡ get_or facts i f → new ≡ cond b (old ++ unref f ∷ []) old → IsWithin old (map unref (take i facts)) → IsWithin new (map unref (take (i + 1) facts))
+member_more facts i f b old new within is are so_far = subst (λ (fs : List (horn.Fact Id)). IsWithin fs (map unref (take (i + 1) facts))) (sym are) (subst (λ (fs : List (horn.Fact Id)). IsWithin (cond b (old ++ unref f ∷ []) old) fs) (sym more) (go b)) where
+  more : map unref (take (i + 1) facts) ≡ map unref (take i facts) ++ unref f ∷ []
+  more = ap (map unref) (take_more facts i f within) ∙ (map-append unref (take i facts) (get_or facts i f ∷ []) ∙ ap (λ (h : Bor Fact). map unref (take i facts) ++ unref h ∷ []) (sym is))
+
+  go : (c : Bool) → IsWithin (cond c (old ++ unref f ∷ []) old) (map unref (take i facts) ++ unref f ∷ [])
+  go true = within-append old (unref f ∷ []) (map unref (take i facts)) (unref f ∷ []) so_far (within_self (unref f ∷ []))
+  go false = within-more_right old (map unref (take i facts)) (unref f ∷ []) so_far
+
+-- in the end all facts were looked at
+pub member_all : (facts : List (Bor Fact)) (i : ℕ) (part : List (horn.Fact Id)) → length facts ≤ i → IsWithin part (map unref (take i facts)) → IsWithin part (map unref facts)
+member_all facts i part past within = subst (λ (fs : List (Bor Fact)). IsWithin part (map unref fs)) (take_all i facts past) within
+
+-- what is told where nothing was found
+pub at_none : {X : Type 0} (P : Type 0) (o : Option X) (Q : X → Type 0) → o ≡ None → MatchOption o P Q → P
+at_none {X} P o Q e told = let here : MatchOption None P Q = subst (λ (p : Option X). MatchOption p P Q) e told in here

@@ -1,0 +1,27 @@
+use Rattle.std.proofs.Common.{◌≡◌, List, [], map, refl, subst, sym, Bor}
+use Rattle.clauses.specs.Inclusion.{IsWithin}
+use Rattle.clause_form.specs.declared.facts.Fact.{Fact}
+use Rattle.clause_form.specs.Facts.{fact_of}
+use Rattle.clause_form.specs.Seen.{AreFactsIn}
+use Rattle.multiset_subsume.specs.Boards.{CanPlaceOn, HoldsOn}
+use Rattle.multiset_subsume.proofs.Listing.{unref}
+use Rattle.multiset_subsume.proofs.Parting.{within_known, part_placed, at_none}
+use Rattle.multiset_subsume.proofs.parts.part_may_stand.Goals as goal
+
+pub can_place-requires-clause-facts : goal.can_place-requires-clause-facts
+can_place-requires-clause-facts g c =
+    let all = g.B.Bank.trees c.args.board.now.bank.now in
+    let same : c.deref.result.now ≡ c.in_ok-part.part.items = c.deref.ensures.value in
+    subst (λ (fs : List (Bor Fact)). AreFactsIn all (map unref fs)) (sym same) (within_known all (map unref c.in_ok-part.part.items) (map unref c.args.facts.now) c.in_ok-part.ensures c.requires.facts)
+
+pub returns-clause-refused : goal.returns-clause-refused
+returns-clause-refused g c e can =
+    let all = g.B.Bank.trees c.args.board.now.bank.now in
+    let hyps = map fact_of c.args.board.now.hyps.now in
+    let pairs = c.args.placing.now.binds.pairs in
+    let taken = c.args.placing.now.taken.items in
+    let facts = map unref c.args.facts.now in
+    let part = map unref c.deref.result.now in
+    let same : c.deref.result.now ≡ c.in_ok-part.part.items = c.deref.ensures.value in
+    let within : IsWithin part facts = subst (λ (fs : List (Bor Fact)). IsWithin (map unref fs) facts) (sym same) c.in_ok-part.ensures in
+    at_none (CanPlaceOn all hyps [] pairs taken part → ⊥) c.in_ok-can_place.field-0 (λ row. HoldsOn all hyps [] pairs taken part row.items) c.in-None.is c.in_ok-can_place.ensures.outcome (part_placed all hyps c.args.board.now.loose.now [] pairs taken facts part refl within can)
