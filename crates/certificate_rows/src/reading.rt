@@ -1,7 +1,6 @@
 //! The readers of certificates and reports, and the writer.
 
 use crate::lines::{Change, changed, line_count};
-use crate::protocol::protocol;
 use cert_reader::{CertError, Claim, Claims, code_and_place, read_cert, read_report};
 use cert_text::{Cert, write_cert};
 use pi_tree::Protocol;
@@ -107,18 +106,17 @@ fn report_answer(alloc: Global, protocol: &Protocol, bytes: &[u8]) -> Result<Str
     }
 }
 
-/// What is answered of a text: of a certificate, or of a report about so many queries.
+/// What is answered of a text: of a certificate, or of a report.
 pub fn answer(
     alloc: Global,
-    queries: u32,
+    protocol: &Protocol,
     is_alone: bool,
     bytes: &[u8],
 ) -> Result<String, AllocError> {
-    let protocol = protocol(alloc, queries)?;
     if is_alone {
-        cert_answer(alloc, &protocol, bytes)
+        cert_answer(alloc, protocol, bytes)
     } else {
-        report_answer(alloc, &protocol, bytes)
+        report_answer(alloc, protocol, bytes)
     }
 }
 
@@ -148,9 +146,8 @@ fn claims_text(alloc: Global, claims: &Claims) -> Result<String, AllocError> {
 }
 
 /// What a report claims.
-pub fn claims(alloc: Global, queries: u32, bytes: &[u8]) -> Result<String, AllocError> {
-    let protocol = protocol(alloc, queries)?;
-    match report_of(alloc, &protocol, bytes) {
+pub fn claims(alloc: Global, protocol: &Protocol, bytes: &[u8]) -> Result<String, AllocError> {
+    match report_of(alloc, protocol, bytes) {
         Ok(claims) => claims_text(alloc, &claims),
         Err(refusal) => refusal_text(alloc, &refusal),
     }
@@ -181,11 +178,10 @@ fn front_text(alloc: Global, protocol: &Protocol, front: &[u8]) -> Result<String
 
 /// The sizes of the fronts of a report that are reports themselves or are refused for something else than their end, and
 /// the fault of these.
-pub fn fronts(alloc: Global, queries: u32, bytes: &[u8]) -> Result<String, AllocError> {
-    let protocol = protocol(alloc, queries)?;
+pub fn fronts(alloc: Global, protocol: &Protocol, bytes: &[u8]) -> Result<String, AllocError> {
     let mut text = String::new(alloc);
     for size in 0..bytes.len() {
-        text.push_str(front_text(alloc, &protocol, &bytes[..size])?.as_str())?;
+        text.push_str(front_text(alloc, protocol, &bytes[..size])?.as_str())?;
     }
     Ok(text)
 }
@@ -208,18 +204,16 @@ fn change_text(
     }
 }
 
-/// The faults of a report about so many queries of which one line is changed, each behind the number of the line, where
-/// there is one.
+/// The faults of a report of which one line is changed, each behind the number of the line, where there is one.
 pub fn changes(
     alloc: Global,
-    queries: u32,
+    protocol: &Protocol,
     bytes: &[u8],
     change: Change,
 ) -> Result<String, AllocError> {
-    let protocol = protocol(alloc, queries)?;
     let mut text = String::new(alloc);
     for line in 0..line_count(bytes) {
-        text.push_str(change_text(alloc, &protocol, bytes, line, change)?.as_str())?;
+        text.push_str(change_text(alloc, protocol, bytes, line, change)?.as_str())?;
     }
     Ok(text)
 }

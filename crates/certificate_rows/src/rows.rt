@@ -5,9 +5,11 @@
 //! of the report that was set last.
 
 use crate::lines::Change;
+use crate::protocol::protocol;
 use crate::reading::{answer, changes, claims, fronts};
 use crate::settings::Setting;
 use crate::texts::text_of;
+use pi_tree::Protocol;
 use row_tables::{Line, Rows, compared, named};
 use std::alloc::{AllocError, Global};
 
@@ -42,28 +44,56 @@ impl Rows for Setting {
     }
 }
 
-/// What a row shows, and whether it expects that.
+/// What a row shows of the protocol, and whether it expects that. Nothing else owns a protocol: that is dear to prove.
 fn line_of(alloc: Global, setting: &Setting, word: &str, text: &str) -> Result<Line, AllocError> {
+    let protocol = protocol(alloc, setting.queries)?;
+    line_for(alloc, &protocol, setting, word, text)
+}
+
+/// The same with the protocol.
+fn line_for(
+    alloc: Global,
+    protocol: &Protocol,
+    setting: &Setting,
+    word: &str,
+    text: &str,
+) -> Result<Line, AllocError> {
     match named(&ROWS, word) {
-        Some(row) => Ok(compared(shown(alloc, setting, row)?, text)),
-        None => answered(alloc, setting, word, text),
+        Some(row) => Ok(compared(shown(alloc, protocol, &setting.file, row)?, text)),
+        None => answered(alloc, protocol, setting, word, text),
     }
 }
 
 /// What a row about the report that was set last shows.
-fn shown(alloc: Global, setting: &Setting, row: Row) -> Result<String, AllocError> {
+fn shown(alloc: Global, protocol: &Protocol, file: &[u8], row: Row) -> Result<String, AllocError> {
     match row {
-        Row::Claims => claims(alloc, setting.queries, &setting.file),
-        Row::Fronts => fronts(alloc, setting.queries, &setting.file),
-        Row::Changes(change) => changes(alloc, setting.queries, &setting.file, change),
+        Row::Claims => claims(alloc, protocol, file),
+        Row::Fronts => fronts(alloc, protocol, file),
+        Row::Changes(change) => changes(alloc, protocol, file, change),
     }
 }
 
 /// A row that expects this answer for a text: the name of an error, or `ok`.
-fn answered(alloc: Global, setting: &Setting, name: &str, text: &str) -> Result<Line, AllocError> {
+fn answered(
+    alloc: Global,
+    protocol: &Protocol,
+    setting: &Setting,
+    name: &str,
+    text: &str,
+) -> Result<Line, AllocError> {
     let file = text_of(alloc, &setting.front, text)?;
-    let shown = answer(alloc, setting.queries, setting.is_alone, &file.bytes)?;
-    match file.mark {
+    let shown = answer(alloc, protocol, setting.is_alone, &file.bytes)?;
+    marked(alloc, shown, name, file.mark)
+}
+
+/// A row that shows this, and expects the name, with the place of the mark where there is one.
+fn marked(
+    alloc: Global,
+    shown: String,
+    name: &str,
+    mark: Option<usize>,
+) -> Result<Line, AllocError> {
+    match mark {
         None => Ok(compared(shown, name)),
         Some(place) => {
             let expected = format!(in alloc; "{name}({place})")?;
