@@ -9,4 +9,5 @@ pub mod CoverRows
 pub mod Looking
 pub mod Passing
 pub mod Reaching
-pub mod Linear
+pub mod Proper
+pub mod Sufficing

@@ -4,3 +4,4 @@ pub mod Arguments
 pub mod Rulings
 pub mod Answers
 pub mod Shaping
+pub mod Sufficing

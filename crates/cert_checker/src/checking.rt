@@ -15,7 +15,9 @@ ghost use Rattle.cert_checker.specs.Reached.{HasShapes};
 ghost use Rattle.cert_checker.specs.declared.ruling.Ruling.TheVariants.{Accepted};
 ghost use Rattle.cert_checker.specs.Rulings.{ruling_of};
 ghost use Rattle.cert_checker.specs.Answers.{AreFit, clauses_at};
+ghost use Rattle.cert_checker.specs.Sufficing.{SolvedOnesSuffice};
 
+use crate::accepted_certificates_suffice;
 use crate::arguments::goal_arguments;
 use crate::checker::Checker;
 use crate::judging::judge;
@@ -81,12 +83,14 @@ fn check_in_bank<B: Bank>(
 }
 
 /// What is ruled of a certificate of the protocol's query of that number: that it is accepted, or the first obligation that
-/// isn't met. Where it is accepted, no run of the protocol beside the attacker violates the query. Nothing is searched for:
+/// isn't met. Where it is accepted, what is derived from the translation is derived by the certificate's solved clauses alone,
+/// with the same events, and no run of the protocol beside the attacker violates the query. Nothing is searched for:
 /// each row is looked at once. The memory taken is bounded by the sizes of the certificate and the translation, since what a
 /// pair of clauses gives is dropped before the next.
 ///
 /// The conditions hold of each protocol that is read. Nothing is asked of the certificate: a symbol of it that the protocol
-/// doesn't declare is like any other. `Err` comes only for want of memory.
+/// doesn't declare is like any other. `Err` comes for want of memory, and where `translate` answers it since a number doesn't
+/// fit.
 pub fn check_cert(
     alloc: Global,
     protocol: &Protocol,
@@ -100,9 +104,13 @@ pub fn check_cert(
     requires there { IsThere (protocol_of protocol.now) OfQueries query }
     ensures ruled { IfOk result (λ ruling. OfQuery (protocol_of protocol.now) query (λ q.
         IsRuled (protocol_of protocol.now) q cert.now (ruling_of ruling))) }
+    ensures suffices { IfOk result (λ ruling. ruling ≡ Accepted →
+        OfQuery (protocol_of protocol.now) query (λ q.
+        SolvedOnesSuffice (protocol_of protocol.now) q cert.now.clauses)) }
     ensures holds { IfOk result (λ ruling. ruling ≡ Accepted →
         OfQuery (protocol_of protocol.now) query (λ q. Holds (protocol_of protocol.now) q)) }
 {
+    accepted_certificates_suffice();
     accepted_queries_hold();
     let mut bank = TreeBank::new(alloc)?;
     check_in_bank(alloc, &mut bank, protocol, query, cert)

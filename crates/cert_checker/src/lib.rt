@@ -10,10 +10,11 @@ ghost use Rattle.translation.specs.Translation.{LargeAt, IsTranslation};
 ghost use Rattle.certificates.specs.Certificate.{Certificate, bad_arguments, numbered_from, pairs_of};
 ghost use Rattle.certificates.specs.Certificate.{CoverRowHolds, GoalHolds};
 ghost use Rattle.certificates.specs.Ruling as certificates;
-ghost use Rattle.certificates.specs.Ruling.{NoneLeft, bad_ones, IsRuled};
+ghost use Rattle.certificates.specs.Ruling.{Accepted, NoneLeft, bad_ones, IsRuled};
 ghost use Rattle.cert_checker.specs.Stages.{FirstMisshapen, FirstUnshown, AreShown, FirstOpen};
 ghost use Rattle.cert_checker.specs.Reached.{clauses_of, HasShapes, IsTranslatedTo};
 ghost use Rattle.cert_checker.specs.Reached.{HasCovered, HasClosed};
+ghost use Rattle.cert_checker.specs.Sufficing.{SolvedOnesSuffice};
 
 mod arguments;
 mod checker;
@@ -28,6 +29,9 @@ mod shaping;
 
 pub use crate::checking::check_cert;
 pub use crate::ruling::Ruling;
+use certificates::accepted_certificates_show;
+use derivations::solved_clauses_suffice;
+use translation::one_translation;
 
 /// What is ruled of a certificate, by how far its check comes: the first stage that fails says it, and where none does, the
 /// rows that are left.
@@ -55,3 +59,14 @@ pub fn stages_make_rulings()
         AreShown (GoalHolds P q) (bad_ones (clauses_of cert)) cert.goals goals →
         NoneLeft cert left goals ruling → IsRuled P q cert ruling }
 {}
+
+/// What is derived from the translation is derived by the solved clauses of an accepted certificate alone, with the same
+/// events (Blanchet 2001, section 4).
+pub fn accepted_certificates_suffice()
+    ensures { (P : Protocol) (q : Query) (cert : Certificate) → IsRuled P q cert Accepted →
+        SolvedOnesSuffice P q cert.clauses }
+{
+    accepted_certificates_show();
+    one_translation();
+    solved_clauses_suffice();
+}

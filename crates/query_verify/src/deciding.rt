@@ -106,8 +106,8 @@ fn decided<B: Bank>(
 /// The verdict of the query of that number with the budget: exactly the one that the definitions give. A new bank is made
 /// for it.
 ///
-/// The conditions hold of each protocol that is read, and of each budget that a command may name. `Err` comes only for want
-/// of memory.
+/// The conditions hold of each protocol that is read, and of each budget that a command may name. `Err` comes for want of
+/// memory, and where `translate` answers it since a number doesn't fit.
 pub fn verdict(
     alloc: Global,
     protocol: &Protocol,
@@ -140,8 +140,8 @@ pub fn verdict(
 
 /// The verdicts of all queries with the budget, one for each, in order.
 ///
-/// The conditions hold of each protocol that is read, and of each budget that a command may name. `Err` comes only for want
-/// of memory.
+/// The conditions hold of each protocol that is read, and of each budget that a command may name. `Err` comes for want of
+/// memory, and where `translate` answers it since a number doesn't fit.
 pub fn verdicts(alloc: Global, protocol: &Protocol, budget: u64) -> Result<Verdicts, AllocError>
     requires limits { IsWithinLimits (protocol_of protocol.now) }
     requires rules { HasProperRules (protocol_of protocol.now) }

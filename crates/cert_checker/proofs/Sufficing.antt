@@ -1,0 +1,12 @@
+-- Translations that are one have one list of clauses.
+use Rattle.std.proofs.Common.{◌≡◌, List, [], ap}
+use Rattle.terms.specs.Term.{Term}
+use Rattle.clauses.specs.Fact.{Clause}
+use Rattle.translation.specs.Translation.{Translated, Clauses, LargeAt}
+
+abbrev list_of : Translated → List (Clause Term)
+list_of (Clauses all) = all
+list_of (LargeAt point) = []
+
+pub one_list : (a b : List (Clause Term)) → Clauses a ≡ Clauses b → a ≡ b
+one_list a b e = ap list_of e
