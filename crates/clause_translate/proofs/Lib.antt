@@ -13,6 +13,7 @@ pub mod Happening
 pub mod Receiving
 pub mod Solving
 pub mod Standing
+pub mod Building
 pub mod Parts
 pub mod Choosing
 pub mod Ruling

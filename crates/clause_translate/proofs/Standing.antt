@@ -65,7 +65,7 @@ standing_over_at old s scope i d most within e =
     subst (λ (l : Scope). some_standing_over most l ≡ true) (stood_is s old scope) (any_at (λ b. is_over most b.term) (stood s old) scope i d within e)
 
 -- a fact with a term that is over the limit is over it
-over_size : (most : ℕ) (t : Term) → is_over most t ≡ true → most < size t
+pub over_size : (most : ℕ) (t : Term) → is_over most t ≡ true → most < size t
 over_size most t e = go (nat_le (size t) most) refl e where
   go : (b : Bool) → nat_le (size t) most ≡ b → not b ≡ true → most < size t
   go true h k = absurd (let same = k in cc)
@@ -74,7 +74,7 @@ over_size most t e = go (nat_le (size t) most) refl e where
 over_is : (most n : ℕ) → most < n → not (nat_le n most) ≡ true
 over_is most n h = let e : nat_le n most ≡ false = grind (arith, nat_tests) in ap not e
 
-or_cases : (a b : Bool) (Q : Type 0) → (a || b) ≡ true → (a ≡ true → Q) → (b ≡ true → Q) → Q
+pub or_cases : (a b : Bool) (Q : Type 0) → (a || b) ≡ true → (a ≡ true → Q) → (b ≡ true → Q) → Q
 or_cases true b Q e f h = f refl
 or_cases false b Q e f h = h e
 

@@ -1,9 +1,9 @@
 -- Terms and facts under bindings, over a bank that grows.
-use Rattle.std.proofs.Common.{◌≡◌, ℕ, ◌<◌, ◌≤◌, Bool, true, false, not, ◌||◌, nat_le, Option, Some, None, List, [], ◌∷◌, length, map, get_or, refl, ap, sym, subst, arith}
-use Rattle.std.specs.Prelude.{MatchOption}
+use Rattle.std.proofs.Common.{◌≡◌, ℕ, ◌<◌, Bool, true, false, not, ◌||◌, nat_le, Option, Some, None, List, [], ◌∷◌, length, map, get_or, refl, ap, sym, subst, ◌∙◌, arith}
 use Rattle.std.specs.List.{list_any}
 use Rattle.std.proofs.lemmas.Bool.Decides.{nat_tests}
 use Rattle.trees.specs.Tree.{bind, size}
+use Rattle.calculus.specs.Bounds.{most_symbols}
 use Rattle.terms.specs.Term.{Term, Subst}
 use Rattle.terms.specs.Binding.{resolved}
 use Rattle.clauses.specs.Fact.{Mess, fact_under}
@@ -17,13 +17,9 @@ use Rattle.clause_form.specs.declared.facts.Fact as declared
 use Rattle.clause_form.specs.Facts.{fact_of}
 use Rattle.clause_form.specs.Seen.{fact_at, NamesFact}
 use Rattle.clause_form.proofs.Renumber.{under_at}
+use Rattle.clause_translate.specs.Built.{IsUnder}
 use Rattle.clause_translate.specs.Sizes.{is_over, some_over, some_over_in, some_fact_over}
 use Rattle.clause_translate.proofs.Lists.{any_at}
-
--- what apply_bound tells
-abbrev pub Applied : List Term → List Term → List Bound → Id → ℕ → Option Id → Type 0
-Applied now new pairs id most found =
-    MatchOption found ((most < size (bind (resolved (seen now pairs)) (tree_at now id))) × (new ≡ now)) (λ built. (size (bind (resolved (seen now pairs)) (tree_at now id)) ≤ most) × Names new built (bind (resolved (seen now pairs)) (tree_at now id)))
 
 pub over_is : (most : ℕ) (t : Term) → most < size t → is_over most t ≡ true
 over_is most t h = let e : nat_le (size t) most ≡ false = grind (arith, nat_tests) in ap not e
@@ -38,20 +34,14 @@ module _ (old now : List Term) (pairs : List Bound) (grows : Grows old now) (rea
   same_under_at id = let bindings = seen-grows old now pairs grows ready.known in λ i. bind (resolved (bindings i)) (tree_at now id)
 
   -- a term that is over
-  pub over_later : (new : List Term) (id : Id) (most : ℕ) (found : Option Id) → id.index < length old → found ≡ None → Applied now new pairs id most found → is_over most (bind (resolved (seen old pairs)) (tree_at old id)) ≡ true
-  over_later new id most found known none applied =
-      let over = subst (λ o. Applied now new pairs id most o) none applied in
-      over_is most (bind (resolved (seen old pairs)) (tree_at old id)) (let same = ap size (same_under id known) in let more = over.0 in omega arith)
+  pub over_later : (new : List Term) (id : Id) (found : Option Id) → id.index < length old → found ≡ None → IsUnder now new pairs id found → is_over most_symbols (bind (resolved (seen old pairs)) (tree_at old id)) ≡ true
+  over_later new id found known none under = ap (is_over most_symbols) (sym (same_under id known)) ∙ subst (λ o. IsUnder now new pairs id o) none under
 
-  pub names_later : (new : List Term) (id made : Id) (most : ℕ) (found : Option Id) → id.index < length old → found ≡ Some made → Applied now new pairs id most found → Names new made (bind (resolved (seen old pairs)) (tree_at old id))
-  names_later new id made most found known some applied =
-      let built = subst (λ o. Applied now new pairs id most o) some applied in
-      subst (λ t. Names new made t) (same_under id known) built.1
+  pub names_later : (new : List Term) (id made : Id) (found : Option Id) → id.index < length old → found ≡ Some made → IsUnder now new pairs id found → Names new made (bind (resolved (seen old pairs)) (tree_at old id))
+  names_later new id made found known some under = subst (λ t. Names new made t) (same_under id known) (subst (λ o. IsUnder now new pairs id o) some under)
 
-  pub names_at : (new : List Term) (id made : Id) (most : ℕ) (found : Option Id) → found ≡ Some made → Applied now new pairs id most found → Names new made (under_at (resolved (seen old pairs)) now id)
-  names_at new id made most found some applied =
-      let built = subst (λ o. Applied now new pairs id most o) some applied in
-      subst (λ t. Names new made t) (same_under_at id) built.1
+  pub names_at : (new : List Term) (id made : Id) (found : Option Id) → found ≡ Some made → IsUnder now new pairs id found → Names new made (under_at (resolved (seen old pairs)) now id)
+  names_at new id made found some under = subst (λ t. Names new made t) (same_under_at id) (subst (λ o. IsUnder now new pairs id o) some under)
 
 -- one of the terms is over
 pub some_over_at : (old : List Term) (s : Subst) (ids : List Id) (i : ℕ) (d : Id) (most : ℕ) → i < length ids → is_over most (bind s (tree_at old (get_or ids i d))) ≡ true → some_over most (map (bind s) (map (tree_at old) ids)) ≡ true

@@ -1,5 +1,6 @@
 pub mod Places
 pub mod Sizes
+pub mod Built
 pub mod Numbers
 pub mod Spans
 pub mod Visits

@@ -1,7 +1,8 @@
 //! Visits under unifiers.
 
-ghost use Rattle.std.specs.Prelude.{◌≡◌, ◌<◌, true, length, map, IfOk, MatchOption};
+ghost use Rattle.std.specs.Prelude.{◌≡◌, ◌<◌, true, length, map, IfOk, OnOk, MatchOption};
 ghost use Rattle.trees.specs.Tree.{bind};
+ghost use Rattle.calculus.specs.Bounds.{most_symbols};
 ghost use Rattle.terms.specs.Binding.{resolved};
 ghost use Rattle.term_tree.specs.Bank.{tree_at, AreKnown, Grows};
 ghost use Rattle.unify_match.specs.Seen.{seen, IsReady};
@@ -10,17 +11,18 @@ ghost use Rattle.clause_form.specs.Seen.{NameTerms};
 ghost use Rattle.clause_terms.specs.Scopes.{scope_at, IsScopeIn, NamesScope};
 ghost use Rattle.clause_terms.specs.Slots.{held_of};
 ghost use Rattle.clause_translate.specs.Sizes.{some_standing_over};
+ghost use Rattle.clause_translate.specs.Built.{AreBuilt};
 ghost use Rattle.clause_translate.specs.Visits.{visit_at, IsVisitIn, NamesVisit};
 ghost use Rattle.clause_translate.specs.Solving.{AreRowsApart, AreRowsSolved, AreSolved, AreUnsolvable, HasBelow, NamesKnown};
 
-use crate::substituted::{facts_under, terms_under};
+use crate::built::Built;
+use crate::substituted::{facts_under, term_under, terms_under};
 use crate::visit::Visit;
 use clause_form::{Facts, Ids};
 use clause_terms::{Scope, Standing};
-use pi_tree::MOST_SYMBOLS;
 use std::alloc::{AllocError, Global};
 use term_tree::{Bank, Id};
-use unify_match::{Binds, apply_bound, unify, unify_all};
+use unify_match::{Binds, unify, unify_all};
 
 /// The terms that have to become one.
 #[derive(Clone, Copy)]
@@ -88,26 +90,29 @@ pub fn unified<B: Bank>(
     }
 }
 
-/// The scope under the bindings; none where a term of it has more than `most` symbols. On `Err` the bank may have grown.
+/// The scope under the bindings; none where a term of it has more symbols than the limit. On `Err` the bank may have
+/// grown.
 fn scope_under<B: Bank>(
     alloc: Global,
     bank: &mut B,
     binds: &Binds,
+    built: &mut Built,
     scope: &[Standing],
-    most: u64,
 ) -> Result<Option<Scope>, AllocError>
     requires known { IsScopeIn (B.trees bank.old) (map held_of scope.now) }
     requires ready { IsReady (B.trees bank.old) binds.now.pairs }
+    requires built { AreBuilt (B.trees bank.old) binds.now.pairs built.old }
     ensures grows { Grows (B.trees bank.old) (B.trees bank.new) }
+    ensures built { OnOk result (AreBuilt (B.trees bank.new) binds.now.pairs built.new) }
     ensures under { let made = map (translation.standing_under
         (resolved (seen (B.trees bank.old) binds.now.pairs)))
         (scope_at (B.trees bank.old) (map held_of scope.now)) in
-        IfOk result (λ found. MatchOption found (some_standing_over most made ≡ true)
+        IfOk result (λ found. MatchOption found (some_standing_over most_symbols made ≡ true)
         (λ scope. NamesScope (B.trees bank.new) scope made)) }
 {
     let mut items = Vec::new(alloc);
     'each: for standing in scope {
-        match apply_bound(bank, standing.term, binds, most)? {
+        match term_under(alloc, bank, binds, built, standing.term)? {
             None => return Ok(None),
             Some(term) => items.push(Standing {
                 slot: standing.slot,
@@ -118,22 +123,25 @@ fn scope_under<B: Bank>(
     Ok(Some(Scope { items }))
 }
 
-/// The terms under the bindings. There is no memory for one whose symbols no number counts. On `Err` the bank may have
-/// grown.
+/// The terms under the bindings. There is no memory for one that has more symbols than the limit. On `Err` the bank may
+/// have grown.
 fn all_terms_under<B: Bank>(
     alloc: Global,
     bank: &mut B,
     binds: &Binds,
+    built: &mut Built,
     terms: &[Id],
 ) -> Result<Ids, AllocError>
     requires known { AreKnown (B.trees bank.old) terms.now }
     requires ready { IsReady (B.trees bank.old) binds.now.pairs }
+    requires built { AreBuilt (B.trees bank.old) binds.now.pairs built.old }
     ensures grows { Grows (B.trees bank.old) (B.trees bank.new) }
+    ensures built { OnOk result (AreBuilt (B.trees bank.new) binds.now.pairs built.new) }
     ensures names { IfOk result (λ ids. NameTerms (B.trees bank.new) ids
         (map (bind (resolved (seen (B.trees bank.old) binds.now.pairs)))
         (map (tree_at (B.trees bank.old)) terms.now))) }
 {
-    match terms_under(alloc, bank, binds, terms, u64::MAX)? {
+    match terms_under(alloc, bank, binds, built, terms)? {
         None => Err(AllocError),
         Some(made) => Ok(made),
     }
@@ -145,26 +153,23 @@ fn known_under<B: Bank>(
     alloc: Global,
     bank: &mut B,
     binds: &Binds,
+    built: &mut Built,
     visit: &Visit,
 ) -> Result<Option<(Scope, Facts)>, AllocError>
     requires visit { IsVisitIn (B.trees bank.old) visit.now }
     requires ready { IsReady (B.trees bank.old) binds.now.pairs }
+    requires built { AreBuilt (B.trees bank.old) binds.now.pairs built.old }
     ensures grows { Grows (B.trees bank.old) (B.trees bank.new) }
+    ensures built { OnOk result (AreBuilt (B.trees bank.new) binds.now.pairs built.new) }
     ensures under { let made = translation.visit_under
         (resolved (seen (B.trees bank.old) binds.now.pairs))
         (visit_at (B.trees bank.old) visit.now) in
         IfOk result (λ found. MatchOption found (translation.is_large_visit made ≡ true)
         (λ known. NamesKnown (B.trees bank.new) known.0 known.1 made)) }
 {
-    match scope_under(alloc, bank, binds, &visit.scope.items, MOST_SYMBOLS)? {
+    match scope_under(alloc, bank, binds, built, &visit.scope.items)? {
         None => Ok(None),
-        Some(scope) => match facts_under(
-            alloc,
-            bank,
-            binds,
-            &visit.hypotheses.items,
-            MOST_SYMBOLS,
-        )? {
+        Some(scope) => match facts_under(alloc, bank, binds, built, &visit.hypotheses.items)? {
             None => Ok(None),
             Some(hypotheses) => Ok(Some((scope, hypotheses))),
         },
@@ -176,10 +181,12 @@ fn past_under<B: Bank>(
     alloc: Global,
     bank: &mut B,
     binds: &Binds,
+    built: &mut Built,
     visit: &Visit,
 ) -> Result<(Ids, Ids), AllocError>
     requires visit { IsVisitIn (B.trees bank.old) visit.now }
     requires ready { IsReady (B.trees bank.old) binds.now.pairs }
+    requires built { AreBuilt (B.trees bank.old) binds.now.pairs built.old }
     ensures grows { Grows (B.trees bank.old) (B.trees bank.new) }
     ensures messages { IfOk result (λ past. NameTerms (B.trees bank.new) past.0
         (map (bind (resolved (seen (B.trees bank.old) binds.now.pairs)))
@@ -188,8 +195,8 @@ fn past_under<B: Bank>(
         (map (bind (resolved (seen (B.trees bank.old) binds.now.pairs)))
         (map (tree_at (B.trees bank.old)) visit.now.sessions))) }
 {
-    let messages = all_terms_under(alloc, bank, binds, &visit.messages.items)?;
-    let sessions = all_terms_under(alloc, bank, binds, &visit.sessions.items)?;
+    let messages = all_terms_under(alloc, bank, binds, built, &visit.messages.items)?;
+    let sessions = all_terms_under(alloc, bank, binds, built, &visit.sessions.items)?;
     Ok((messages, sessions))
 }
 
@@ -211,10 +218,11 @@ pub fn visit_under<B: Bank>(
         IfOk result (λ found. MatchOption found (translation.is_large_visit made ≡ true)
         (λ w. NamesVisit (B.trees bank.new) w made)) }
 {
-    match known_under(alloc, bank, binds, visit)? {
+    let mut built = Built::new(alloc);
+    match known_under(alloc, bank, binds, &mut built, visit)? {
         None => Ok(None),
         Some((scope, hypotheses)) => {
-            let (messages, sessions) = past_under(alloc, bank, binds, visit)?;
+            let (messages, sessions) = past_under(alloc, bank, binds, &mut built, visit)?;
             Ok(Some(Visit {
                 scope,
                 hypotheses,

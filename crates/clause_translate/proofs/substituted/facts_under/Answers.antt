@@ -1,3 +1,4 @@
+use Rattle.calculus.specs.Bounds.{most_symbols}
 use Rattle.terms.specs.Binding.{resolved}
 use Rattle.unify_match.specs.Seen.{seen}
 use Rattle.unify_match.proofs.SeenLemmas.{IsReady-grows}
@@ -12,29 +13,31 @@ use Rattle.clause_translate.proofs.substituted.facts_under.Goals as goal
 pub fact_under-requires-clause-known : goal.fact_under-requires-clause-known
 fact_under-requires-clause-known g c =
     let old = g.B.Bank.trees c.args.bank.now in
-    IsFactIn-grows old (g.B.Bank.trees c.each.bank) (fact_of c.fact-item.result) c.each.invariant.grows (fact_known_at old c.args.facts.now c.each.fact-index c.fact-item.result c.fact-item.is c.requires.known c.each-test.true)
+    IsFactIn-grows old (g.B.Bank.trees c.each.bank) (fact_of c.fact-item.result) c.each.invariant.0.grows (fact_known_at old c.args.facts.now c.each.fact-index c.fact-item.result c.fact-item.is c.requires.known c.each-test.true)
 
 pub fact_under-requires-clause-ready : goal.fact_under-requires-clause-ready
-fact_under-requires-clause-ready g c = IsReady-grows (g.B.Bank.trees c.args.bank.now) (g.B.Bank.trees c.each.bank) c.args.binds.now.pairs c.each.invariant.grows c.requires.ready
+fact_under-requires-clause-ready g c = IsReady-grows (g.B.Bank.trees c.args.bank.now) (g.B.Bank.trees c.each.bank) c.args.binds.now.pairs c.each.invariant.0.grows c.requires.ready
 
 pub returns-in-None-clause-under : goal.returns-in-None-clause-under
 returns-in-None-clause-under g c =
     let old = g.B.Bank.trees c.args.bank.now in
     let known = fact_known_at old c.args.facts.now c.each.fact-index c.fact-item.result c.fact-item.is c.requires.known c.each-test.true in
-    some_fact_over_at old (resolved (seen old c.args.binds.now.pairs)) c.args.facts.now c.each.fact-index c.fact-item.result c.args.most c.each-test.true c.fact-item.is
-    (fact_over_later old (g.B.Bank.trees c.each.bank) (g.B.Bank.trees c.fact_under.new.bank) c.args.binds.now.pairs c.each.invariant.grows c.requires.ready (fact_of c.fact-item.result) c.args.most c.in_ok-fact_under.field-0 known c.in-None.is c.in_ok-fact_under.ensures.under)
+    some_fact_over_at old (resolved (seen old c.args.binds.now.pairs)) c.args.facts.now c.each.fact-index c.fact-item.result most_symbols c.each-test.true c.fact-item.is
+    (fact_over_later old (g.B.Bank.trees c.each.bank) (g.B.Bank.trees c.fact_under.new.bank) c.args.binds.now.pairs c.each.invariant.0.grows c.requires.ready (fact_of c.fact-item.result) most_symbols c.in_ok-fact_under.field-0 known c.in-None.is c.in_ok-fact_under.ensures.under)
 
 pub each-preserved : goal.each-preserved
 each-preserved g c =
     let old = g.B.Bank.trees c.args.bank.now in
     let now = g.B.Bank.trees c.each.bank in
-    let known = fact_known_at old c.args.facts.now c.each.fact-index c.fact-item.result c.fact-item.is c.requires.known c.each-test.true in
-    facts_renumbered_on old now (g.B.Bank.trees c.fact_under.new.bank) (resolved (seen old c.args.binds.now.pairs)) c.args.facts.now c.each.fact-index c.fact-item.result c.each.items.items c.push.new.self.items c.in-Some.made
-    c.each.invariant c.each-test.true c.fact-item.is known c.fact_under.ensures.grows
-    (fact_named_at old now (g.B.Bank.trees c.fact_under.new.bank) c.args.binds.now.pairs c.each.invariant.grows c.requires.ready (fact_of c.fact-item.result) c.in-Some.made c.args.most c.in_ok-fact_under.field-0 c.in-Some.is c.in_ok-fact_under.ensures.under)
-    c.in_ok-push-in-Some.ensures.items
+    let known = fact_known_at old c.args.facts.now c.each.fact-index c.fact-item.result c.fact-item.is c.requires.known c.each-test.true in (
+      facts_renumbered_on old now (g.B.Bank.trees c.fact_under.new.bank) (resolved (seen old c.args.binds.now.pairs)) c.args.facts.now c.each.fact-index c.fact-item.result c.each.items.items c.push.new.self.items c.in-Some.made
+          c.each.invariant.0 c.each-test.true c.fact-item.is known c.fact_under.ensures.grows
+          (fact_named_at old now (g.B.Bank.trees c.fact_under.new.bank) c.args.binds.now.pairs c.each.invariant.0.grows c.requires.ready (fact_of c.fact-item.result) c.in-Some.made most_symbols c.in_ok-fact_under.field-0 c.in-Some.is c.in_ok-fact_under.ensures.under)
+          c.in_ok-push-in-Some.ensures.items,
+      c.in_ok-fact_under.ensures.built,
+    )
 
 pub returns-clause-under : goal.returns-clause-under
 returns-clause-under g c =
     let old = g.B.Bank.trees c.args.bank.now in
-    facts_renumbered old (g.B.Bank.trees c.each.bank) (resolved (seen old c.args.binds.now.pairs)) c.args.facts.now c.each.fact-index c.each.items.items c.each.invariant c.each-test.false
+    facts_renumbered old (g.B.Bank.trees c.each.bank) (resolved (seen old c.args.binds.now.pairs)) c.args.facts.now c.each.fact-index c.each.items.items c.each.invariant.0 c.each-test.false

@@ -1,3 +1,4 @@
+use Rattle.calculus.specs.Bounds.{most_symbols}
 use Rattle.terms.specs.Binding.{resolved}
 use Rattle.unify_match.specs.Seen.{seen}
 use Rattle.unify_match.proofs.SeenLemmas.{IsReady-grows}
@@ -6,30 +7,32 @@ use Rattle.clause_translate.proofs.Standing.{stood_on, stood_all, standing_over_
 use Rattle.clause_translate.proofs.Under.{over_later, names_later}
 use Rattle.clause_translate.proofs.unified.scope_under.Goals as goal
 
-pub apply_bound-requires-clause-known : goal.apply_bound-requires-clause-known
-apply_bound-requires-clause-known g c =
-    scope_known_later (g.B.Bank.trees c.args.bank.now) (g.B.Bank.trees c.each.bank) c.args.scope.now c.each.standing-index _ c.each.invariant.grows c.requires.known c.each-test.true
+pub term_under-requires-clause-known : goal.term_under-requires-clause-known
+term_under-requires-clause-known g c =
+    scope_known_later (g.B.Bank.trees c.args.bank.now) (g.B.Bank.trees c.each.bank) c.args.scope.now c.each.standing-index _ c.each.invariant.0.grows c.requires.known c.each-test.true
 
-pub apply_bound-requires-clause-ready : goal.apply_bound-requires-clause-ready
-apply_bound-requires-clause-ready g c = IsReady-grows (g.B.Bank.trees c.args.bank.now) (g.B.Bank.trees c.each.bank) c.args.binds.now.pairs c.each.invariant.grows c.requires.ready
+pub term_under-requires-clause-ready : goal.term_under-requires-clause-ready
+term_under-requires-clause-ready g c = IsReady-grows (g.B.Bank.trees c.args.bank.now) (g.B.Bank.trees c.each.bank) c.args.binds.now.pairs c.each.invariant.0.grows c.requires.ready
 
 pub returns-in-None-clause-under : goal.returns-in-None-clause-under
 returns-in-None-clause-under g c =
     let old = g.B.Bank.trees c.args.bank.now in
-    standing_over_at old (resolved (seen old c.args.binds.now.pairs)) c.args.scope.now c.each.standing-index _ c.args.most c.each-test.true
-    (over_later old (g.B.Bank.trees c.each.bank) c.args.binds.now.pairs c.each.invariant.grows c.requires.ready (g.B.Bank.trees c.apply_bound.new.bank) _ c.args.most c.in_ok-apply_bound.field-0
-    (scope_known_at old c.args.scope.now c.each.standing-index _ c.requires.known c.each-test.true) c.in-None.is c.in_ok-apply_bound.ensures.outcome)
+    standing_over_at old (resolved (seen old c.args.binds.now.pairs)) c.args.scope.now c.each.standing-index _ most_symbols c.each-test.true
+    (over_later old (g.B.Bank.trees c.each.bank) c.args.binds.now.pairs c.each.invariant.0.grows c.requires.ready (g.B.Bank.trees c.term_under.new.bank) _ c.in_ok-term_under.field-0
+    (scope_known_at old c.args.scope.now c.each.standing-index _ c.requires.known c.each-test.true) c.in-None.is c.in_ok-term_under.ensures.under)
 
 pub each-preserved : goal.each-preserved
 each-preserved g c =
-    let old = g.B.Bank.trees c.args.bank.now in
-    stood_on old (g.B.Bank.trees c.each.bank) (g.B.Bank.trees c.apply_bound.new.bank) (resolved (seen old c.args.binds.now.pairs)) c.args.scope.now c.each.standing-index _ c.each.items.items c.push.new.self.items c.in-Some.term
-    c.each.invariant c.each-test.true c.apply_bound.ensures.grows
-    (names_later old (g.B.Bank.trees c.each.bank) c.args.binds.now.pairs c.each.invariant.grows c.requires.ready (g.B.Bank.trees c.apply_bound.new.bank) _ c.in-Some.term c.args.most c.in_ok-apply_bound.field-0
-    (scope_known_at old c.args.scope.now c.each.standing-index _ c.requires.known c.each-test.true) c.in-Some.is c.in_ok-apply_bound.ensures.outcome)
-    c.in_ok-push-in-Some.ensures.items
+    let old = g.B.Bank.trees c.args.bank.now in (
+      stood_on old (g.B.Bank.trees c.each.bank) (g.B.Bank.trees c.term_under.new.bank) (resolved (seen old c.args.binds.now.pairs)) c.args.scope.now c.each.standing-index _ c.each.items.items c.push.new.self.items c.in-Some.term
+          c.each.invariant.0 c.each-test.true c.term_under.ensures.grows
+          (names_later old (g.B.Bank.trees c.each.bank) c.args.binds.now.pairs c.each.invariant.0.grows c.requires.ready (g.B.Bank.trees c.term_under.new.bank) _ c.in-Some.term c.in_ok-term_under.field-0
+          (scope_known_at old c.args.scope.now c.each.standing-index _ c.requires.known c.each-test.true) c.in-Some.is c.in_ok-term_under.ensures.under)
+          c.in_ok-push-in-Some.ensures.items,
+      c.in_ok-term_under.ensures.built,
+    )
 
 pub returns-clause-under : goal.returns-clause-under
 returns-clause-under g c =
     let old = g.B.Bank.trees c.args.bank.now in
-    stood_all old (g.B.Bank.trees c.each.bank) (resolved (seen old c.args.binds.now.pairs)) c.args.scope.now c.each.standing-index c.each.items.items c.each.invariant c.each-test.false
+    stood_all old (g.B.Bank.trees c.each.bank) (resolved (seen old c.args.binds.now.pairs)) c.args.scope.now c.each.standing-index c.each.items.items c.each.invariant.0 c.each-test.false

@@ -10,14 +10,17 @@ use Rattle.clause_translate.proofs.Named.{visit_later}
 use Rattle.clause_translate.proofs.Parts.{terms_same, visit_under_named}
 use Rattle.clause_translate.proofs.unified.visit_under.Goals as goal
 
+pub known_under-requires-clause-built : goal.known_under-requires-clause-built
+known_under-requires-clause-built g c = c.new-built.ensures (g.B.Bank.trees c.args.bank.now) c.args.binds.now.pairs
+
 pub past_under-requires-clause-visit : goal.past_under-requires-clause-visit
 past_under-requires-clause-visit g c = (visit_later (g.B.Bank.trees c.args.bank.now) (g.B.Bank.trees c.known_under.new.bank) c.args.visit.now c.known_under.ensures.grows c.requires.visit).known
 
 pub past_under-requires-clause-ready : goal.past_under-requires-clause-ready
 past_under-requires-clause-ready g c = IsReady-grows (g.B.Bank.trees c.args.bank.now) (g.B.Bank.trees c.known_under.new.bank) c.args.binds.now.pairs c.known_under.ensures.grows c.requires.ready
 
-pub returns-in_ok-messages-in-Some-clause-under : goal.returns-in_ok-messages-in-Some-clause-under
-returns-in_ok-messages-in-Some-clause-under g c =
+pub returns-clause-under : goal.returns-clause-under
+returns-clause-under g c =
     let old = g.B.Bank.trees c.args.bank.now in
     let mid = g.B.Bank.trees c.known_under.new.bank in
     let new = g.B.Bank.trees c.past_under.new.bank in
