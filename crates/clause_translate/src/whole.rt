@@ -123,7 +123,7 @@ fn translate_grown<B: Bank>(
 ///
 /// The conditions hold of each protocol that is read. `Err` comes for want of memory, and, as if for that, where a number
 /// doesn't fit: a point or a new variable past 32 bits, or a message or a copy's number that has, under a unifier, more
-/// symbols than 64 bits count. On `Err`, and where a visit is too large, the bank is as before.
+/// symbols than the limit. On `Err`, and where a visit is too large, the bank is as before.
 pub fn translate<B: Bank>(
     alloc: Global,
     bank: &mut B,
