@@ -17,11 +17,11 @@ use Rattle.calculus.proofs.Rules.{same_values-sound, same_values-refl, places_ro
 use Rattle.pi_model.proofs.Members.{any-contains, any-of}
 use Rattle.pi_model.specs.Correspondences.{bound_by, fits, all_found, unpreceded, is_made_at, some_unpreceded, is_violated}
 
-and_true : (a b : Bool) → (a && b) ≡ true → (a ≡ true) × (b ≡ true)
+pub and_true : (a b : Bool) → (a && b) ≡ true → (a ≡ true) × (b ≡ true)
 and_true true b h = (refl, h)
 and_true false b h = cc
 
-both_true : (a b : Bool) → a ≡ true → b ≡ true → (a && b) ≡ true
+pub both_true : (a b : Bool) → a ≡ true → b ≡ true → (a && b) ≡ true
 both_true true b h k = k
 both_true false b h k = cc
 
@@ -45,14 +45,14 @@ agree s e terms same =
     trees-injective (values_of s terms) (values_of e terms) (sym (binds-trees (value_of_name s) terms) ∙ (row ∙ binds-trees (value_of_name e) terms))
 
 -- an environment whose bindings are those of e
-abbrev Within : Environment → Environment → Type 0
+abbrev pub Within : Environment → Environment → Type 0
 Within e s = AllByRecursion (Follows (value_of_name e)) s
 
 row_of : (e : Environment) (terms : List Term) → trees (values_of e terms) ≡ binds (value_of_name e) (trees terms)
 row_of e terms = sym (binds-trees (value_of_name e) terms)
 
 -- what stands at the places of an instance is what e has there
-within-places : (e s : Environment) (terms : List Term) → Within e s → Within e (s ++ places_row (trees terms) (trees (values_of e terms)))
+pub within-places : (e s : Environment) (terms : List Term) → Within e s → Within e (s ++ places_row (trees terms) (trees (values_of e terms)))
 within-places e s terms h =
     rw (row_of e terms) (each-append (Follows (value_of_name e)) s (places_row (trees terms) (binds (value_of_name e) (trees terms))) h (places_row_follow (value_of_name e) (trees terms)))
 
@@ -69,7 +69,7 @@ values-at-places : (e s : Environment) (terms : List Term) → Within e s → va
 values-at-places e s terms h = agree (s ++ places_row (trees terms) (trees (values_of e terms))) e terms (same-at-places e s terms h)
 
 -- an instance under an extension fits
-fits-instance : (e s : Environment) (t : EventTerm) → Within e s → fits s t (instance e t) ≡ true
+pub fits-instance : (e s : Environment) (t : EventTerm) → Within e s → fits s t (instance e t) ≡ true
 fits-instance e s t h =
     both_true (nat_eq t.event t.event) (same_values (values_of (bound_by s t (instance e t)) t.arguments) (values_of e t.arguments)) (eq-eqb t.event t.event refl)
     (ap (λ vs. same_values vs (values_of e t.arguments)) (values-at-places e s t.arguments h) ∙ same_values-refl (values_of e t.arguments))
@@ -87,7 +87,7 @@ bound_by-leaf s t p e x o =
     let found = bound_at_places (bound_by s t p) s t.arguments x o in
     subst (λ (vs : List Value). is_some (bound_to (s ++ places_row (trees t.arguments) (trees vs)) x) ≡ true) e found
 
-value-stays : (front back : Environment) (x : Name) → is_some (bound_to front x) ≡ true → value_of_bound (front ++ back) x ≡ value_of_bound front x
+pub value-stays : (front back : Environment) (x : Name) → is_some (bound_to front x) ≡ true → value_of_bound (front ++ back) x ≡ value_of_bound front x
 value-stays front back x h = ap (λ o. unwrap_or o (Leaf (FreeName 0))) (bound_front front back x h)
 
 leaf-stays : (s later : Environment) (t : EventTerm) (p : Performed) → values_of (bound_by s t p) t.arguments ≡ p.arguments → (x : Name) → other_leaf (trees t.arguments) x ≡ false → value_of_name (bound_by s t p ++ later) x ≡ value_of_name (bound_by s t p) x
@@ -95,7 +95,7 @@ leaf-stays s later t p e (Free n) o = refl
 leaf-stays s later t p e (Made q) o = value-stays (bound_by s t p) later (Made q) (bound_by-leaf s t p e (Made q) o)
 leaf-stays s later t p e (Variable i) o = value-stays (bound_by s t p) later (Variable i) (bound_by-leaf s t p e (Variable i) o)
 
-fits-stays : (s later : Environment) (t : EventTerm) (p : Performed) → fits s t p ≡ true → instance (bound_by s t p ++ later) t ≡ p
+pub fits-stays : (s later : Environment) (t : EventTerm) (p : Performed) → fits s t p ≡ true → instance (bound_by s t p ++ later) t ≡ p
 fits-stays s later t p h =
     let both = and_true (nat_eq t.event p.event) (same_values (values_of (bound_by s t p) t.arguments) p.arguments) h in
     let arguments : values_of (bound_by s t p) t.arguments ≡ p.arguments = same_values-sound (values_of (bound_by s t p) t.arguments) p.arguments both.1 in
@@ -111,7 +111,7 @@ found-next t es s performed p (later, others) among fit =
     )
 
 -- where all are found, an extension puts them among the performed events
-found-sound : (es : List EventTerm) (s : Environment) (performed : List Performed) → all_found es s performed ≡ true → (later : Environment) × AllPerformed (s ++ later) es performed
+pub found-sound : (es : List EventTerm) (s : Environment) (performed : List Performed) → all_found es s performed ≡ true → (later : Environment) × AllPerformed (s ++ later) es performed
 found-sound [] s performed h = ([], tt)
 found-sound (t ∷ es) s performed h =
     let found = any-contains (λ p. fits s t p && all_found es (bound_by s t p) performed) performed h in
@@ -119,7 +119,7 @@ found-sound (t ∷ es) s performed h =
     found-next t es s performed found.0 (found-sound es (bound_by s t found.0) performed both.1) found.1 both.0
 
 -- and where an extension does, all are found
-found-complete : (es : List EventTerm) (e s : Environment) (performed : List Performed) → Within e s → AllPerformed e es performed → all_found es s performed ≡ true
+pub found-complete : (es : List EventTerm) (e s : Environment) (performed : List Performed) → Within e s → AllPerformed e es performed → all_found es s performed ≡ true
 found-complete [] e s performed h all = refl
 found-complete (t ∷ es) e s performed h all =
     any-of (λ p. fits s t p && all_found es (bound_by s t p) performed) performed (instance e t) all.0

@@ -7,5 +7,7 @@ pub mod Naming
 pub mod Passing
 pub mod Keeping
 pub mod Told
-pub mod Searching
 pub mod Deciding
+pub mod Picking
+pub mod Searching
+pub mod Choosing

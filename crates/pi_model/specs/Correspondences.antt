@@ -1,9 +1,9 @@
--- A decision of queries: events are tried in the places of an alternative, one after another.
-use Rattle.std.specs.Prelude.{ℕ, Bool, true, false, not, ◌&&◌, ◌||◌, nat_eq, List, [], ◌∷◌, ◌++◌}
-use Rattle.std.specs.List.{list_any}
+-- A decision of queries: the events of an alternative are looked for one after another.
+use Rattle.std.specs.Prelude.{◌≡◌, ℕ, Bool, true, false, not, ◌&&◌, ◌||◌, nat_eq, List, [], ◌∷◌, ◌++◌}
+use Rattle.std.specs.List.{AllByRecursion, list_any}
 use Rattle.trees.specs.Tree.{Leaf, Node, trees}
 use Rattle.calculus.specs.Syntax.{EventTerm, Query, Secret, SecretNew, Correspondence}
-use Rattle.calculus.specs.Values.{FreeName, MadeName, AttackerName, Value, Environment, same_values, value_of, values_of}
+use Rattle.calculus.specs.Values.{FreeName, MadeName, AttackerName, Value, Environment, same_values, value_of_name, value_of, values_of}
 use Rattle.calculus.specs.Matching.{places_row}
 use Rattle.calculus.specs.Runs.{Performed, Configuration, knows}
 
@@ -14,6 +14,10 @@ bound_by s e p = s ++ places_row (trees e.arguments) (trees p.arguments)
 -- whether the performed event is an instance of the event, under an extension of what is bound
 abbrev pub fits : Environment → EventTerm → Performed → Bool
 fits s e p = nat_eq e.event p.event && same_values (values_of (bound_by s e p) e.arguments) p.arguments
+
+-- each binding is the one that counts for its name
+abbrev pub IsConsistent : Environment → Type 0
+IsConsistent s = AllByRecursion (λ b. b.value ≡ value_of_name s b.name) s
 
 -- whether one extension finds all the events among the performed ones
 abbrev pub all_found : List EventTerm → Environment → List Performed → Bool

@@ -9,3 +9,4 @@ pub mod Changes
 pub mod Answers
 pub mod Choices
 pub mod Correspondences
+pub mod Alternatives

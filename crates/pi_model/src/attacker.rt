@@ -34,10 +34,7 @@ pub fn build(
     if !takes(protocol, constructor, numbers.items.len()) {
         return Err(ApplyError::Refused(StepError::WrongForm));
     }
-    let values = match known_values(alloc, conf, numbers)? {
-        None => return Err(ApplyError::Refused(StepError::NoKnowledge)),
-        Some(values) => values,
-    };
+    let values = known_values(alloc, conf, numbers)?.ok_or(StepError::NoKnowledge)?;
     if !is_public_constructor(protocol, constructor) {
         return Err(ApplyError::Refused(StepError::NotPublic));
     }
@@ -98,17 +95,10 @@ pub fn part(
     ensures refused { IfErr result (λ e. IsErrorOf (protocol_of protocol.now)
         (configuration_of conf.now) (calculus.Part value part) e) }
 {
-    let whole = match known_value(conf, value) {
-        None => return Err(ApplyError::Refused(StepError::NoKnowledge)),
-        Some(whole) => whole,
-    };
-    match part_of(protocol, part, whole) {
-        None => Err(ApplyError::Refused(StepError::WrongForm)),
-        Some(found) => {
-            if is_large(found) {
-                return Err(ApplyError::Refused(StepError::Large));
-            }
-            Ok(Change::Learn(found.copy(alloc)?))
-        }
+    let whole = known_value(conf, value).ok_or(StepError::NoKnowledge)?;
+    let found = part_of(protocol, part, whole).ok_or(StepError::WrongForm)?;
+    if is_large(found) {
+        return Err(ApplyError::Refused(StepError::Large));
     }
+    Ok(Change::Learn(found.copy(alloc)?))
 }

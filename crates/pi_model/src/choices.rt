@@ -43,14 +43,12 @@ pub fn take(
     let at = standing_of(protocol, conf, number)?;
     match at.process {
         Process::Let(pattern, expression, _, _) => {
-            let value = match value_at(alloc, protocol, at.environment, expression, label)? {
-                None => return Err(ApplyError::Refused(StepError::NoRule)),
-                Some(value) => value,
-            };
-            let bindings = match matched(alloc, at.environment, pattern, &value)? {
-                None => return Err(ApplyError::Refused(StepError::NoRule)),
-                Some(bindings) => bindings,
-            };
+            let value = value_at(alloc, protocol, at.environment, expression, label)?.ok_or(
+                StepError::NoRule,
+            )?;
+            let bindings = matched(alloc, at.environment, pattern, &value)?.ok_or(
+                StepError::NoRule,
+            )?;
             if some_large_at(at.process, at.environment) || is_large(&value) {
                 return Err(ApplyError::Refused(StepError::Large));
             }

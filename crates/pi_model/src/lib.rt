@@ -2,6 +2,7 @@
 //! of all of them, by the definitions of the crate `calculus`.
 #![tactic(auto)]
 
+mod alternatives;
 pub mod application;
 mod attacker;
 mod changes;

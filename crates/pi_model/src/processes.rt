@@ -10,7 +10,7 @@ ghost use Rattle.pi_model.specs.Configurations.{configuration_of, IsConfiguratio
 ghost use Rattle.pi_model.specs.Plans.{IsPossible, IsErrorOf};
 
 use crate::changes::Change;
-use crate::configurations::{Conf, known_value};
+use crate::configurations::Conf;
 use crate::errors::{ApplyError, StepError};
 use crate::happenings::Happened;
 use crate::knowledge::knows;
@@ -18,7 +18,7 @@ use crate::standing::{point_after, standing_of};
 use crate::threads::Thread;
 use pi_tree::{Process, Protocol, Value};
 use std::alloc::Global;
-use term_values::{Bound, Environment, Slot, evaluate, evaluate_all, some_large_at};
+use term_values::{Bound, Slot, evaluate, evaluate_all, some_large_at};
 
 /// The thread at a parallel composition becomes two.
 #[tactic(auto, using(crate::proofs::ThreadSteps::of_split, crate::proofs::Points::of_points))]

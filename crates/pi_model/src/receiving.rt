@@ -71,10 +71,7 @@ pub fn say(
             if !knows(conf, channel, &Bound::All(at.environment)) {
                 return Err(ApplyError::Refused(StepError::UnknownChannel));
             }
-            let value = match known_value(conf, known) {
-                None => return Err(ApplyError::Refused(StepError::NoKnowledge)),
-                Some(value) => value,
-            };
+            let value = known_value(conf, known).ok_or(StepError::NoKnowledge)?;
             if some_large_at(at.process, at.environment) {
                 return Err(ApplyError::Refused(StepError::Large));
             }

@@ -5,7 +5,7 @@ ghost use Rattle.calculus.specs.Points.{numbered, replaced};
 ghost use Rattle.pi_model.specs.Threads.{thread_of};
 ghost use Rattle.pi_model.specs.Moves.{moved, moved_to};
 
-use std::alloc::{AllocError, Global};
+use std::alloc::AllocError;
 use std::marker::Model;
 use term_values::Environment;
 

@@ -1,7 +1,6 @@
-//! Whether a configuration violates a query (Blanchet 2016, sections 2.3 and 3.2). No memory is taken: what
-//! an event binds is looked up where it stands.
+//! Whether a configuration violates a query (Blanchet 2016, sections 2.3 and 3.2). No memory is taken.
 
-ghost use Rattle.std.specs.Prelude.{◌≡◌, ◌<◌, ◌≤◌, [], Some, IsTrue, ◌↔◌, map, drop, length};
+ghost use Rattle.std.specs.Prelude.{◌≡◌, ◌<◌, ◌≤◌, [], Some, IsTrue, ◌↔◌, map, length};
 ghost use Rattle.std.specs.List.{list_any};
 ghost use Rattle.calculus.specs.Points.{numbered};
 ghost use Rattle.calculus.specs.Secrecy.{IsViolated};
@@ -9,71 +8,19 @@ ghost use Rattle.calculus.specs.Syntax as calculus;
 ghost use Rattle.pi_tree.specs.Events.{event_of};
 ghost use Rattle.pi_tree.specs.Queries.{query_of};
 ghost use Rattle.pi_tree.specs.Values.{value_of};
-ghost use Rattle.term_values.specs.Bound.{bound_of};
 ghost use Rattle.pi_model.specs.Configurations.{configuration_of};
-ghost use Rattle.pi_model.specs.Correspondences.{fits, all_found, unpreceded, some_unpreceded, is_made_at, is_violated};
+ghost use Rattle.pi_model.specs.Correspondences.{unpreceded, some_unpreceded, is_made_at, is_violated};
 ghost use Rattle.pi_model.specs.Happenings.{performed_of};
 
+use crate::alternatives::{beside, fits, some_precede};
 use crate::configurations::Conf;
 use crate::happenings::{Happened, Happenings};
 use crate::knowledge::knows;
-use pi_tree::{Alternatives, Atom, Atoms, Protocol, Query, Value};
-use term_values::{Bound, are_values_of};
-
-/// Whether the performed event is an instance of the event under an extension of what is bound.
-fn fits<'a>(bound: &'a Bound<'a>, event: &'a Atom, happened: &'a Happened) -> bool
-    ensures { result ≡ fits (bound_of bound.now) (event_of event.now) (performed_of happened.now) }
-{
-    let extended = Bound::Beside(bound, &event.args, &happened.args.items);
-    event.event == happened.event && are_values_of(&event.args, &happened.args.items, &extended)
-}
-
-/// Whether an extension of what is bound finds all the events from that index on among the performed ones.
-/// Events are tried in each place, one after another.
-#[tactic(auto, using(crate::proofs::Searching::of_events))]
-fn all_found<'a>(
-    events: &'a Atoms,
-    from: usize,
-    bound: &'a Bound<'a>,
-    performed: &'a [Happened],
-) -> bool
-    ensures { result ≡ all_found (drop from events.now) (bound_of bound.now)
-        (map performed_of performed.now) }
-{
-    if from >= events.items.len() {
-        return true;
-    }
-    let event = &events.items[from];
-    for happened in performed {
-        if fits(bound, event, happened) {
-            let extended = Bound::Beside(bound, &event.args, &happened.args.items);
-            if all_found(events, from + 1, &extended, performed) {
-                return true;
-            }
-        }
-    }
-    false
-}
-
-/// Whether all events of one of the alternatives are found.
-fn some_precede<'a>(
-    alternatives: &'a Alternatives,
-    bound: &'a Bound<'a>,
-    performed: &'a [Happened],
-) -> bool
-    ensures { result ≡ list_any (λ alternative.
-        all_found alternative (bound_of bound.now) (map performed_of performed.now))
-        alternatives.now }
-{
-    for alternative in &alternatives.items {
-        if all_found(alternative, 0, bound, performed) {
-            return true;
-        }
-    }
-    false
-}
+use pi_tree::{Alternatives, Atom, Protocol, Query, Value};
+use term_values::Bound;
 
 /// Whether the event is an instance of the left side that no alternative precedes.
+#[tactic(auto, using(crate::proofs::Searching::of_search))]
 fn is_unpreceded<'a>(
     left: &'a Atom,
     alternatives: &'a Alternatives,
@@ -87,7 +34,7 @@ fn is_unpreceded<'a>(
         return false;
     }
     let nothing = Bound::Nothing;
-    let bound = Bound::Beside(&nothing, &left.args, &happened.args.items);
+    let bound = beside(&nothing, left, happened);
     !some_precede(alternatives, &bound, before)
 }
 

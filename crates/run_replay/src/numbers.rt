@@ -5,6 +5,7 @@ ghost use Rattle.std.specs.List.{list_all};
 ghost use Rattle.std.specs.Char.{is_ascii_digit};
 ghost use Rattle.std.specs.Str.{all_ascii_digits};
 ghost use Rattle.std.specs.Str.Parse.{digits_value};
+ghost use Rattle.calculus.specs.Bounds.{most_digits};
 ghost use Rattle.run_text.specs.Reading.{is_numeral, numeral, numerals};
 ghost use Rattle.run_replay.specs.Cut.{fields_of};
 
@@ -18,8 +19,8 @@ fn all_digits(field: &[u8]) -> bool
     field.iter().all(|b| b.is_ascii_digit())
 }
 
-#[tactic(auto, using(crate::proofs::Digits::all_digits_is))]
 /// Whether the field is 1 to 9 digits, of which a 0 stands first only alone.
+#[tactic(auto, using(crate::proofs::Digits::all_digits_is))]
 fn is_numeral(field: &[u8]) -> bool
     ensures { result ≡ is_numeral field.now }
 {
@@ -32,7 +33,7 @@ fn is_numeral(field: &[u8]) -> bool
 /// The number that the digits spell.
 fn value(digits: &[u8]) -> u32
     requires all { all_ascii_digits digits.now ≡ true }
-    requires few { length digits.now ≤ 9 }
+    requires few { length digits.now ≤ most_digits }
     ensures { result ≡ digits_value 10 digits.now }
 {
     let mut value = 0;

@@ -3,7 +3,7 @@ use Rattle.std.specs.List.{list_any}
 use Rattle.term_values.specs.Bound.{bound_of}
 use Rattle.pi_model.specs.Correspondences.{all_found}
 use Rattle.pi_model.specs.Happenings.{performed_of}
-use Rattle.pi_model.proofs.violations.some_precede.Given as goal
+use Rattle.pi_model.proofs.alternatives.some_precede.Given as goal
 
 abbrev pub invariant-loop-alternative : goal.invariant-loop-alternative
 invariant-loop-alternative l =
