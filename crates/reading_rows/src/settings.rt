@@ -1,10 +1,11 @@
 //! What the lines of a table set for the rows below them.
 
 use crate::texts::text_of;
+use row_tables::named;
 use std::alloc::{AllocError, Global};
 
 /// How far a file is read.
-#[derive(Clone, Copy, Debug, PartialEq, Eq)]
+#[derive(Clone, Copy)]
 pub enum Stage {
     Tokens,
     Sketch,
@@ -12,7 +13,7 @@ pub enum Stage {
 }
 
 /// What is set for the rows that follow.
-#[derive(Debug, Drop)]
+#[derive(Drop)]
 pub struct Setting {
     /// How far files are read.
     pub stage: Stage,
@@ -23,6 +24,26 @@ pub struct Setting {
     /// The file that rows speak of which give none of their own.
     pub file: Vec<u8>,
 }
+
+/// What a line sets.
+#[derive(Clone, Copy)]
+enum Part {
+    Stage,
+    Front,
+    Piece,
+    File,
+}
+
+/// The first words of the lines that set something.
+const PARTS: [(&str, Part); 4] = [
+    ("read", Part::Stage),
+    ("front", Part::Front),
+    ("piece", Part::Piece),
+    ("file", Part::File),
+];
+
+/// The stages by their names; a file is read up to its protocol where a line names another.
+const STAGES: [(&str, Stage); 2] = [("tokens", Stage::Tokens), ("sketch", Stage::Sketch)];
 
 impl Setting {
     /// Files are read up to their tokens, and nothing else is set.
@@ -37,22 +58,23 @@ impl Setting {
 
     /// Sets what a line says, and tells whether it is one that sets something.
     pub fn set(&mut self, alloc: Global, word: &str, text: &str) -> Result<bool, AllocError> {
-        match word.as_bytes() {
-            b"read" => self.stage = stage_of(text),
-            b"front" => self.front = text_of(alloc, &[], &self.piece, text)?.bytes,
-            b"piece" => self.piece = text_of(alloc, &[], &self.piece, text)?.bytes,
-            b"file" => self.file = text_of(alloc, &self.front, &self.piece, text)?.bytes,
-            _ => return Ok(false),
+        match named(&PARTS, word) {
+            Some(part) => {
+                self.set_part(alloc, part, text)?;
+                Ok(true)
+            }
+            None => Ok(false),
         }
-        Ok(true)
     }
-}
 
-/// The stage of that name; the last one for any other.
-fn stage_of(name: &str) -> Stage {
-    match name.as_bytes() {
-        b"tokens" => Stage::Tokens,
-        b"sketch" => Stage::Sketch,
-        _ => Stage::Protocol,
+    /// Sets a part to what the text says.
+    fn set_part(&mut self, alloc: Global, part: Part, text: &str) -> Result<(), AllocError> {
+        match part {
+            Part::Stage => self.stage = named(&STAGES, text).unwrap_or(Stage::Protocol),
+            Part::Front => self.front = text_of(alloc, &[], &self.piece, text)?.bytes,
+            Part::Piece => self.piece = text_of(alloc, &[], &self.piece, text)?.bytes,
+            Part::File => self.file = text_of(alloc, &self.front, &self.piece, text)?.bytes,
+        }
+        Ok(())
     }
 }

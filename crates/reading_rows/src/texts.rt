@@ -6,7 +6,7 @@
 use std::alloc::{AllocError, Global};
 
 /// A text, and the place of its mark.
-#[derive(Debug, Drop)]
+#[derive(Drop)]
 pub struct Text {
     pub bytes: Vec<u8>,
     pub mark: Option<usize>,
