@@ -1,9 +1,9 @@
 //! Each beginning of a file.
 
+use crate::calls::answered;
 use crate::settings::Setting;
 use hv_io::{MemFiles, MemSink};
 use std::alloc::{AllocError, Global};
-use verifier_cli::top;
 
 /// What comes of a beginning of a file.
 enum Answered {
@@ -15,18 +15,29 @@ enum Answered {
     Other,
 }
 
-/// What comes of a file.
-fn call_on(alloc: Global, words: &[String], file: &[u8]) -> Result<Answered, AllocError> {
+/// The file alone.
+fn files_of(alloc: Global, file: &[u8]) -> Result<MemFiles, AllocError> {
     let mut files = MemFiles::new(alloc)?;
     files.add("first.pi", file)?;
+    Ok(files)
+}
+
+/// What comes of a file.
+fn call_on(alloc: Global, words: &[String], file: &[u8]) -> Result<Answered, AllocError> {
+    let mut files = files_of(alloc, file)?;
     let mut out = MemSink::new(alloc, 1000)?;
-    let status = top(alloc, words, &mut files, &mut out).status;
-    if status <= 1 && out.written().starts_with(b"query 1 ") {
-        Ok(Answered::Verdict)
-    } else if status == 3 && out.written().starts_with(b"refused ") {
-        Ok(Answered::Refused)
+    let answer = answered(alloc, words, &mut files, &mut out);
+    Ok(came(answer.status, out.written()))
+}
+
+/// What came of a call with this status, which wrote this.
+fn came(status: u8, written: &[u8]) -> Answered {
+    if status <= 1 && written.starts_with(b"query 1 ") {
+        Answered::Verdict
+    } else if status == 3 && written.starts_with(b"refused ") {
+        Answered::Refused
     } else {
-        Ok(Answered::Other)
+        Answered::Other
     }
 }
 

@@ -2,12 +2,23 @@
 
 ghost use Rattle.std.specs.Prelude.{◌≡◌, ◌<◌, ◌≤◌, true};
 ghost use Rattle.pi_tree.specs.Protocols.{protocol_of};
-ghost use Rattle.pi_tree.specs.Accessors.{IsThere, HasWord};
+ghost use Rattle.pi_tree.specs.Accessors.{IsThere};
+ghost use Rattle.pi_tree.specs.declared.accessors.Kind.TheVariants.{Free, Ctor, Dtor, Event, Point};
 
 use crate::reading::protocol;
 use crate::settings::Setting;
 use pi_tree::{Kind, Process, Protocol, Query};
 use std::alloc::{AllocError, Global};
+
+/// The kinds of what has a number, in the order in which they are told.
+const KINDS: [Kind; 6] = [
+    Kind::Free,
+    Kind::Ctor,
+    Kind::Dtor,
+    Kind::Event,
+    Kind::Query,
+    Kind::Point,
+];
 
 /// Whether there is one of the kind with that number.
 fn is_there(protocol: &Protocol, kind: Kind, number: u32) -> bool
@@ -21,66 +32,52 @@ fn spelled(word: &[u8]) -> &str {
     std::str::from_utf8(word).unwrap_or("no text")
 }
 
-/// The free names: their words, and whether they are public.
-fn free_names(alloc: Global, protocol: &Protocol) -> Result<String, AllocError> {
-    let mut text = String::new(alloc);
-    for index in 0..protocol.count(Kind::Free) {
-        let word = spelled(protocol.word(Kind::Free, index + 1));
-        let is_public = protocol.is_public(Kind::Free, index + 1);
-        text.push_str(format!(in alloc; "free {word} {is_public}; ")?.as_str())?;
-    }
-    Ok(text)
+/// A free name: its word, and whether it is public.
+fn free_name(alloc: Global, protocol: &Protocol, number: u32) -> Result<String, AllocError>
+    requires { IsThere (protocol_of protocol.now) Free number }
+{
+    let word = spelled(protocol.word(Kind::Free, number));
+    let is_public = protocol.is_public(Kind::Free, number);
+    format!(in alloc; "free {word} {is_public}; ")
 }
 
-/// The constructors: their words and arities, and whether they are public and data.
-fn constructors(alloc: Global, protocol: &Protocol) -> Result<String, AllocError> {
-    let mut text = String::new(alloc);
-    for index in 0..protocol.count(Kind::Ctor) {
-        let word = spelled(protocol.word(Kind::Ctor, index + 1));
-        let arity = protocol.arity(Kind::Ctor, index + 1);
-        let is_public = protocol.is_public(Kind::Ctor, index + 1);
-        let is_data = protocol.is_data(index + 1);
-        text.push_str(format!(in alloc; "fun {word}/{arity} {is_public} {is_data}; ")?.as_str())?;
-    }
-    Ok(text)
+/// A constructor: its word and arity, and whether it is public and data.
+fn constructor(alloc: Global, protocol: &Protocol, number: u32) -> Result<String, AllocError>
+    requires { IsThere (protocol_of protocol.now) Ctor number }
+{
+    let word = spelled(protocol.word(Kind::Ctor, number));
+    let arity = protocol.arity(Kind::Ctor, number);
+    let is_public = protocol.is_public(Kind::Ctor, number);
+    let is_data = protocol.is_data(number);
+    format!(in alloc; "fun {word}/{arity} {is_public} {is_data}; ")
 }
 
-/// The destructors: their words and arities, and how many rules they have.
-fn destructors(alloc: Global, protocol: &Protocol) -> Result<String, AllocError> {
-    let mut text = String::new(alloc);
-    for index in 0..protocol.count(Kind::Dtor) {
-        let word = spelled(protocol.word(Kind::Dtor, index + 1));
-        let arity = protocol.arity(Kind::Dtor, index + 1);
-        let rules = protocol.rules(index + 1).len();
-        text.push_str(format!(in alloc; "reduc {word}/{arity} {rules}; ")?.as_str())?;
-    }
-    Ok(text)
+/// A destructor: its word and arity, and how many rules it has.
+fn destructor(alloc: Global, protocol: &Protocol, number: u32) -> Result<String, AllocError>
+    requires { IsThere (protocol_of protocol.now) Dtor number }
+{
+    let word = spelled(protocol.word(Kind::Dtor, number));
+    let arity = protocol.arity(Kind::Dtor, number);
+    let rules = protocol.rules(number).len();
+    format!(in alloc; "reduc {word}/{arity} {rules}; ")
 }
 
-/// The events: their words and arities.
-fn events(alloc: Global, protocol: &Protocol) -> Result<String, AllocError> {
-    let mut text = String::new(alloc);
-    for index in 0..protocol.count(Kind::Event) {
-        let word = spelled(protocol.word(Kind::Event, index + 1));
-        let arity = protocol.arity(Kind::Event, index + 1);
-        text.push_str(format!(in alloc; "event {word}/{arity}; ")?.as_str())?;
-    }
-    Ok(text)
+/// An event: its word and arity.
+fn event(alloc: Global, protocol: &Protocol, number: u32) -> Result<String, AllocError>
+    requires { IsThere (protocol_of protocol.now) Event number }
+{
+    let word = spelled(protocol.word(Kind::Event, number));
+    let arity = protocol.arity(Kind::Event, number);
+    format!(in alloc; "event {word}/{arity}; ")
 }
 
-/// What the queries ask for.
-fn queries(alloc: Global, protocol: &Protocol) -> Result<String, AllocError> {
-    let mut text = String::new(alloc);
-    for index in 0..protocol.count(Kind::Query) {
-        match protocol.query(index + 1) {
-            Query::Secret(_) => text.push_str("secret; ")?,
-            Query::SecretNew(point) => {
-                text.push_str(format!(in alloc; "secret {point}; ")?.as_str())?;
-            }
-            Query::Corr { .. } => text.push_str("correspondence; ")?,
-        }
+/// What a query asks for.
+fn query_text(alloc: Global, query: &Query) -> Result<String, AllocError> {
+    match query {
+        Query::Secret(_) => String::from_str(alloc, "secret; "),
+        Query::SecretNew(point) => format!(in alloc; "secret {point}; "),
+        Query::Corr { .. } => String::from_str(alloc, "correspondence; "),
     }
-    Ok(text)
 }
 
 /// The form of a node, by a letter; of a restriction the word too.
@@ -108,28 +105,52 @@ fn word_at(protocol: &Protocol, point: u32) -> &str {
     }
 }
 
-/// The points: the form of the node, the word of a restriction, and how many arguments a name that is made there has.
-fn points(alloc: Global, protocol: &Protocol) -> Result<String, AllocError> {
+/// A point: the form of the node, the word of a restriction, and how many arguments a name that is made there has.
+fn point(alloc: Global, protocol: &Protocol, number: u32) -> Result<String, AllocError>
+    requires { IsThere (protocol_of protocol.now) Point number }
+{
+    let form = form(protocol.node(number));
+    let word = word_at(protocol, number);
+    let arguments = protocol.name_args(number);
+    format!(in alloc; "{form}{word} {arguments}; ")
+}
+
+/// What the protocol tells of what has that number.
+fn told(alloc: Global, protocol: &Protocol, kind: Kind, number: u32) -> Result<String, AllocError>
+    requires { IsThere (protocol_of protocol.now) kind number }
+{
+    match kind {
+        Kind::Free => free_name(alloc, protocol, number),
+        Kind::Ctor => constructor(alloc, protocol, number),
+        Kind::Dtor => destructor(alloc, protocol, number),
+        Kind::Event => event(alloc, protocol, number),
+        Kind::Query => query_text(alloc, protocol.query(number)),
+        Kind::Point => point(alloc, protocol, number),
+    }
+}
+
+/// The same of all of a kind.
+fn all_told(alloc: Global, protocol: &Protocol, kind: Kind) -> Result<String, AllocError> {
     let mut text = String::new(alloc);
-    for index in 0..protocol.count(Kind::Point) {
-        let form = form(protocol.node(index + 1));
-        let word = word_at(protocol, index + 1);
-        let arguments = protocol.name_args(index + 1);
-        text.push_str(format!(in alloc; "{form}{word} {arguments}; ")?.as_str())?;
+    for index in 0..protocol.count(kind) {
+        text.push_str(told(alloc, protocol, kind, index + 1)?.as_str())?;
     }
     Ok(text)
 }
 
 /// All that the protocol tells.
-pub fn description(alloc: Global, setting: &Setting) -> Result<String, AllocError> {
-    let Some(protocol) = protocol(alloc, setting.source()) else {
-        return String::from_str(alloc, "no protocol");
-    };
-    let mut text = free_names(alloc, &protocol)?;
-    text.push_str(constructors(alloc, &protocol)?.as_str())?;
-    text.push_str(destructors(alloc, &protocol)?.as_str())?;
-    text.push_str(events(alloc, &protocol)?.as_str())?;
-    text.push_str(queries(alloc, &protocol)?.as_str())?;
-    text.push_str(points(alloc, &protocol)?.as_str())?;
+fn protocol_text(alloc: Global, protocol: &Protocol) -> Result<String, AllocError> {
+    let mut text = String::new(alloc);
+    for kind in KINDS {
+        text.push_str(all_told(alloc, protocol, kind)?.as_str())?;
+    }
     Ok(text)
+}
+
+/// All that the protocol tells that the source spells, if it spells one.
+pub fn description(alloc: Global, setting: &Setting) -> Result<String, AllocError> {
+    match protocol(alloc, setting.source()) {
+        Some(protocol) => protocol_text(alloc, &protocol),
+        None => String::from_str(alloc, "no protocol"),
+    }
 }

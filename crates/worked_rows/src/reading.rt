@@ -1,19 +1,37 @@
 //! The readers, called by themselves.
 
+ghost use Rattle.protocol_tokens.specs.Lexed.{Lexed};
+ghost use Rattle.protocol_scope.specs.Spells.{IsSketchOf};
+ghost use Rattle.pi_parser.specs.Files.{file_of};
+
 use crate::settings::Setting;
 use command_words::read_words;
-use pi_lexer::lex;
-use pi_parser::parse;
+use pi_lexer::{Tokens, lex};
+use pi_parser::{Sketch, parse};
 use pi_tree::Protocol;
 use run_replay::read_run;
 use scope_check::check_scope;
 use std::alloc::{AllocError, Global};
 
+/// The protocol that the sketch is of, if it is one's.
+fn protocol_of_sketch(alloc: Global, file: &[u8], sketch: &Sketch) -> Option<Protocol>
+    requires { IsSketchOf file.now (file_of sketch.now) }
+{
+    check_scope(alloc, file, sketch).ok()
+}
+
+/// The protocol that the tokens spell, if they spell one.
+fn protocol_of_tokens(alloc: Global, file: &[u8], tokens: &Tokens) -> Option<Protocol>
+    requires { Lexed file.now tokens.now }
+{
+    let sketch = parse(alloc, file, tokens).ok()?;
+    protocol_of_sketch(alloc, file, &sketch)
+}
+
 /// The protocol that the file spells, if it spells one.
 pub fn protocol(alloc: Global, file: &[u8]) -> Option<Protocol> {
     let tokens = lex(alloc, file).ok()?;
-    let sketch = parse(alloc, file, &tokens).ok()?;
-    check_scope(alloc, file, &sketch).ok()
+    protocol_of_tokens(alloc, file, &tokens)
 }
 
 /// The request that the words make.

@@ -8,27 +8,58 @@ use crate::ends::ended;
 use crate::reading::{copy, request, steps};
 use crate::settings::Setting;
 use crate::texts::bytes_of;
-use row_tables::{Line, Rows, unknown};
+use row_tables::{Line, Rows, named, unknown};
 use std::alloc::{AllocError, Global};
 
-/// What a row of that kind shows, if there are rows of that kind.
-fn shown(alloc: Global, setting: &Setting, kind: &str) -> Result<Option<String>, AllocError> {
-    let shown = match kind.as_bytes() {
-        b"call" => call(alloc, setting)?,
-        b"verdicts" => verdicts(alloc, setting)?,
-        b"checked" => checked(alloc, setting)?,
-        b"calm-call" => calm_call(alloc, setting)?,
-        b"calm-status" => calm_status(alloc, setting)?,
-        b"beginnings" => beginnings(alloc, setting)?,
-        b"request" => request(alloc, setting)?,
-        b"steps" => steps(alloc, setting)?,
-        b"end" => ended(alloc, setting)?,
-        b"copy" => copy(alloc, setting)?,
-        b"description" => description(alloc, setting)?,
-        b"absences" => absences(alloc, setting)?,
-        _ => return Ok(None),
-    };
-    Ok(Some(shown))
+/// What a row is about.
+#[derive(Clone, Copy)]
+enum Kind {
+    Call,
+    Verdicts,
+    Checked,
+    CalmCall,
+    CalmStatus,
+    Beginnings,
+    Request,
+    Steps,
+    End,
+    Copy,
+    Description,
+    Absences,
+}
+
+/// The kinds by the first words of their rows.
+const KINDS: [(&str, Kind); 12] = [
+    ("call", Kind::Call),
+    ("verdicts", Kind::Verdicts),
+    ("checked", Kind::Checked),
+    ("calm-call", Kind::CalmCall),
+    ("calm-status", Kind::CalmStatus),
+    ("beginnings", Kind::Beginnings),
+    ("request", Kind::Request),
+    ("steps", Kind::Steps),
+    ("end", Kind::End),
+    ("copy", Kind::Copy),
+    ("description", Kind::Description),
+    ("absences", Kind::Absences),
+];
+
+/// What a row of that kind shows.
+fn shown(alloc: Global, setting: &Setting, kind: Kind) -> Result<String, AllocError> {
+    match kind {
+        Kind::Call => call(alloc, setting),
+        Kind::Verdicts => verdicts(alloc, setting),
+        Kind::Checked => checked(alloc, setting),
+        Kind::CalmCall => calm_call(alloc, setting),
+        Kind::CalmStatus => calm_status(alloc, setting),
+        Kind::Beginnings => beginnings(alloc, setting),
+        Kind::Request => request(alloc, setting),
+        Kind::Steps => steps(alloc, setting),
+        Kind::End => ended(alloc, setting),
+        Kind::Copy => copy(alloc, setting),
+        Kind::Description => description(alloc, setting),
+        Kind::Absences => absences(alloc, setting),
+    }
 }
 
 /// A row that shows this, and expects these bytes.
@@ -50,9 +81,17 @@ impl Rows for Setting {
         if self.set(alloc, word, text)? {
             return Ok(Line::Setting);
         }
-        match shown(alloc, self, word)? {
-            None => unknown(alloc),
-            Some(shown) => Ok(compared(shown, &bytes_of(alloc, text)?)),
+        row_line(alloc, self, word, text)
+    }
+}
+
+/// A row that begins with this word, and expects that text.
+fn row_line(alloc: Global, setting: &Setting, word: &str, text: &str) -> Result<Line, AllocError> {
+    match named(&KINDS, word) {
+        Some(kind) => {
+            let shown = shown(alloc, setting, kind)?;
+            Ok(compared(shown, &bytes_of(alloc, text)?))
         }
+        None => unknown(alloc),
     }
 }

@@ -2,6 +2,7 @@
 
 use crate::texts::bytes_of;
 use hv_io::{CalmFiles, MemFiles};
+use row_tables::named;
 use std::alloc::{AllocError, Global};
 
 /// The words of a call, the files that it may load, and what fails. Whatever is set stays so in the rows below.
@@ -24,6 +25,39 @@ pub struct Setting {
     /// How many bytes the sink takes in a call.
     pub width: usize,
 }
+
+/// What a line sets.
+#[derive(Clone, Copy)]
+enum Part {
+    Anew,
+    Words,
+    File,
+    Report,
+    Front,
+    Run,
+    NoFile,
+    NoReport,
+    NoRun,
+    FailingLoad,
+    FailingWrite,
+    Width,
+}
+
+/// The first words of the lines that set something.
+const PARTS: [(&str, Part); 12] = [
+    ("anew", Part::Anew),
+    ("words", Part::Words),
+    ("file", Part::File),
+    ("report", Part::Report),
+    ("front", Part::Front),
+    ("run", Part::Run),
+    ("no-file", Part::NoFile),
+    ("no-report", Part::NoReport),
+    ("no-run", Part::NoRun),
+    ("failing-load", Part::FailingLoad),
+    ("failing-write", Part::FailingWrite),
+    ("width", Part::Width),
+];
 
 /// The words of a line, cut at each blank.
 pub fn words_of(alloc: Global, line: &str) -> Result<Vec<String>, AllocError> {
@@ -56,22 +90,38 @@ impl Setting {
 
     /// Sets what a line says; false where it sets nothing.
     pub fn set(&mut self, alloc: Global, word: &str, text: &str) -> Result<bool, AllocError> {
-        match word.as_bytes() {
-            b"anew" => *self = Setting::new(alloc)?,
-            b"words" => self.words = words_of(alloc, text)?,
-            b"file" => self.file = Some(bytes_of(alloc, text)?),
-            b"report" => self.report = Some(bytes_of(alloc, text)?),
-            b"front" => self.front = bytes_of(alloc, text)?,
-            b"run" => self.run = Some(bytes_of(alloc, text)?),
-            b"no-file" => self.file = None,
-            b"no-report" => self.report = None,
-            b"no-run" => self.run = None,
-            b"failing-load" => self.failing_load = number_of(text),
-            b"failing-write" => self.failing_write = number_of(text),
-            b"width" => self.width = number_of(text) as usize,
-            _ => return Ok(false),
+        match named(&PARTS, word) {
+            Some(part) => {
+                self.set_part(alloc, part, text)?;
+                Ok(true)
+            }
+            None => Ok(false),
         }
-        Ok(true)
+    }
+
+    /// Sets a part to what the text says, or takes it away.
+    fn set_part(&mut self, alloc: Global, part: Part, text: &str) -> Result<(), AllocError> {
+        match part {
+            Part::Anew => self.set_anew(alloc)?,
+            Part::Words => self.words = words_of(alloc, text)?,
+            Part::File => self.file = Some(bytes_of(alloc, text)?),
+            Part::Report => self.report = Some(bytes_of(alloc, text)?),
+            Part::Front => self.front = bytes_of(alloc, text)?,
+            Part::Run => self.run = Some(bytes_of(alloc, text)?),
+            Part::NoFile => self.file = None,
+            Part::NoReport => self.report = None,
+            Part::NoRun => self.run = None,
+            Part::FailingLoad => self.failing_load = number_of(text),
+            Part::FailingWrite => self.failing_write = number_of(text),
+            Part::Width => self.width = number_of(text) as usize,
+        }
+        Ok(())
+    }
+
+    /// Takes away all that was set.
+    fn set_anew(&mut self, alloc: Global) -> Result<(), AllocError> {
+        *self = Setting::new(alloc)?;
+        Ok(())
     }
 
     /// The bytes of the protocol's file.
@@ -94,6 +144,15 @@ impl Setting {
     /// The files, of which a load may fail.
     pub fn files(&self, alloc: Global) -> Result<MemFiles, AllocError> {
         let mut files = MemFiles::new(alloc)?;
+        self.put_files(&mut files)?;
+        if self.run.is_some() {
+            self.put_run(alloc, &mut files)?;
+        }
+        Ok(files)
+    }
+
+    /// Adds the files of the protocol and the report, and sets which load fails.
+    fn put_files(&self, files: &mut MemFiles) -> Result<(), AllocError> {
         files.fail_at(self.failing_load)?;
         if let Some(file) = &self.file {
             files.add("first.pi", file)?;
@@ -101,10 +160,14 @@ impl Setting {
         if let Some(report) = &self.report {
             files.add("first.report", report)?;
         }
-        if self.run.is_some() {
-            files.add("first.run", &self.steps(alloc)?)?;
-        }
-        Ok(files)
+        Ok(())
+    }
+
+    /// Adds the run's file.
+    fn put_run(&self, alloc: Global, files: &mut MemFiles) -> Result<(), AllocError> {
+        let run = self.steps(alloc)?;
+        files.add("first.run", &run)?;
+        Ok(())
     }
 
     /// The protocol's file, of which no load fails.
