@@ -4,7 +4,9 @@ pub mod Threads
 pub mod Moves
 pub mod Happenings
 pub mod Configurations
+pub mod PointProps
 pub mod Plans
+pub mod Running
 pub mod Changes
 pub mod Answers
 pub mod Choices

@@ -20,6 +20,7 @@ use crate::configurations::Conf;
 use crate::errors::ApplyError;
 use crate::processes::{copy, hear, make, mark, split};
 use crate::receiving::{pass, say};
+use crate::running::Run;
 use crate::steps::Step;
 use pi_tree::Protocol;
 use std::alloc::Global;
@@ -35,24 +36,25 @@ fn plan(alloc: Global, protocol: &Protocol, conf: &Conf, step: &Step) -> Result<
     ensures refused { IfErr result (λ e. IsErrorOf (protocol_of protocol.now)
         (configuration_of conf.now) (step_of step.now) e) }
 {
+    let run = Run {
+        alloc,
+        protocol,
+        conf,
+    };
     match step {
-        Step::Build(constructor, arguments) => {
-            build(alloc, protocol, conf, *constructor, arguments)
-        }
-        Step::Reduce(destructor, rule, arguments) => {
-            reduce(alloc, protocol, conf, *destructor, *rule, arguments)
-        }
-        Step::Part(value, number) => part(alloc, protocol, conf, *value, *number),
+        Step::Build(constructor, arguments) => build(&run, *constructor, arguments),
+        Step::Reduce(destructor, rule, arguments) => reduce(&run, *destructor, *rule, arguments),
+        Step::Part(value, number) => part(&run, *value, *number),
         Step::Fresh => Ok(Change::Name),
-        Step::Split(thread) => split(alloc, protocol, conf, *thread),
-        Step::Copy(thread) => copy(alloc, protocol, conf, *thread),
-        Step::Make(thread) => make(alloc, protocol, conf, *thread),
-        Step::Pass(sender, receiver) => pass(alloc, protocol, conf, *sender, *receiver),
-        Step::Hear(thread) => hear(alloc, protocol, conf, *thread),
-        Step::Say(thread, value) => say(alloc, protocol, conf, *thread, *value),
-        Step::Take(thread, label) => take(alloc, protocol, conf, *thread, *label),
-        Step::Fail(thread) => fail(alloc, protocol, conf, *thread),
-        Step::Mark(thread) => mark(alloc, protocol, conf, *thread),
+        Step::Split(thread) => split(&run, *thread),
+        Step::Copy(thread) => copy(&run, *thread),
+        Step::Make(thread) => make(&run, *thread),
+        Step::Pass(sender, receiver) => pass(&run, *sender, *receiver),
+        Step::Hear(thread) => hear(&run, *thread),
+        Step::Say(thread, value) => say(&run, *thread, *value),
+        Step::Take(thread, label) => take(&run, *thread, *label),
+        Step::Fail(thread) => fail(&run, *thread),
+        Step::Mark(thread) => mark(&run, *thread),
     }
 }
 

@@ -16,6 +16,7 @@ pub mod known;
 pub mod laws;
 mod processes;
 mod receiving;
+mod running;
 mod standing;
 pub mod steps;
 pub mod threads;

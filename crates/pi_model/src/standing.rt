@@ -1,16 +1,16 @@
 //! Where a thread stands, and which points come after.
 
-ghost use Rattle.std.specs.Prelude.{◌≡◌, ◌+◌, ◌^◌, ◌<◌, ◌≤◌, length, IfOk, IfErr};
-ghost use Rattle.calculus.specs.Points.{nodes, point_after};
+ghost use Rattle.std.specs.Prelude.{◌≡◌, ◌^◌, ◌<◌, IfOk, IfErr};
+ghost use Rattle.calculus.specs.Points.{point_after};
 ghost use Rattle.pi_tree.specs.Processes.{process_of};
-ghost use Rattle.pi_tree.specs.Protocols.{protocol_of};
-ghost use Rattle.pi_model.specs.Configurations.{configuration_of, IsConfigurationOf};
-ghost use Rattle.pi_model.specs.Plans.{Stands, StandsNowhere};
+ghost use Rattle.pi_model.specs.Configurations.{configuration_of};
+ghost use Rattle.pi_model.specs.Plans.{StandsNowhere};
+ghost use Rattle.pi_model.specs.Running.{StandsIn, IsWithin};
 
-use crate::configurations::Conf;
 use crate::errors::StepError;
+use crate::running::Run;
 use crate::threads::Thread;
-use pi_tree::{Process, Protocol};
+use pi_tree::Process;
 use term_values::Environment;
 
 /// Where a thread stands: the point, what the thread has bound, and the process that is there.
@@ -23,27 +23,19 @@ pub struct Stand<'a> {
 
 /// Where the thread of that number stands, if there is one that has not ended.
 #[tactic(auto, using(crate::proofs::Points::of_standing))]
-pub fn standing_of<'a>(
-    protocol: &'a Protocol,
-    conf: &'a Conf,
-    number: u32,
-) -> Result<Stand<'a>, StepError>
-    requires { IsConfigurationOf (protocol_of protocol.now) conf.now }
-    ensures stands { IfOk result (λ at. Stands (protocol_of protocol.now)
-        (configuration_of conf.now) number at.point at.environment.now
-        (process_of at.process.now)) }
-    ensures within { IfOk result (λ at. at.point + length (nodes (process_of at.process.now)) ≤
-        length (nodes (process_of protocol.now.main)) + 1) }
-    ensures nowhere { IfErr result (λ e. StandsNowhere (configuration_of conf.now) number e) }
+pub fn standing_of<'a>(run: &Run<'a>, number: u32) -> Result<Stand<'a>, StepError>
+    ensures stands { IfOk result (StandsIn run.now number) }
+    ensures within { IfOk result (IsWithin run.now) }
+    ensures nowhere { IfErr result (StandsNowhere (configuration_of run.now.conf.now) number) }
 {
-    match conf.threads.get(number) {
+    match run.conf.threads.get(number) {
         None => Err(StepError::NoThread),
         Some(thread) => match thread {
             Thread::Ended => Err(StepError::WrongForm),
             Thread::At(point, environment) => Ok(Stand {
                 point: *point,
                 environment,
-                process: protocol.node(*point),
+                process: run.protocol.node(*point),
             }),
         },
     }

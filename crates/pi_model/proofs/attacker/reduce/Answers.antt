@@ -9,7 +9,7 @@ use Rattle.pi_model.proofs.attacker.reduce.Goals as goal
 
 pub returns-in-None-2-clause-refused : goal.returns-in-None-2-clause-refused
 returns-in-None-2-clause-refused c =
-    reduce-no_rule (protocol_of c.args.protocol.now) (configuration_of c.args.conf.now) c.args.destructor c.args.rule c.args.numbers.now (map value_of c.deref.result.now)
+    reduce-no_rule (protocol_of c.args.run.now.protocol.now) (configuration_of c.args.run.now.conf.now) c.args.destructor c.args.rule c.args.numbers.now (map value_of c.deref.result.now)
     (map rule_of c.rules_of-rules.result.now) c.rules_of-rules.ensures
     (ap (first_arity (map rule_of c.rules_of-rules.result.now)) (sym (let counted : c.len.result ≡ length c.args.numbers.now = omega (arith, ap length c.numbers.view_is) in counted)) ∙ sym c.first_arity.ensures ∙ c.if-not-first_arity.false)
     (sym c.in_ok-known_values.ensures ∙ c.in-Some.is ∙ ap Some (sym (ap (map value_of) c.deref.ensures.value ∙ c.values.view_is)))
@@ -17,7 +17,7 @@ returns-in-None-2-clause-refused c =
 
 pub returns-then-is_large-clause-refused : goal.returns-then-is_large-clause-refused
 returns-then-is_large-clause-refused c =
-    reduce-large (protocol_of c.args.protocol.now) (configuration_of c.args.conf.now) c.args.destructor c.args.rule c.args.numbers.now (map value_of c.deref.result.now) (value_of c.in-Some-2.value)
+    reduce-large (protocol_of c.args.run.now.protocol.now) (configuration_of c.args.run.now.conf.now) c.args.destructor c.args.rule c.args.numbers.now (map value_of c.deref.result.now) (value_of c.in-Some-2.value)
     (map rule_of c.rules_of-rules.result.now) c.rules_of-rules.ensures
     (ap (first_arity (map rule_of c.rules_of-rules.result.now)) (sym (let counted : c.len.result ≡ length c.args.numbers.now = omega (arith, ap length c.numbers.view_is) in counted)) ∙ sym c.first_arity.ensures ∙ c.if-not-first_arity.false)
     (sym c.in_ok-known_values.ensures ∙ c.in-Some.is ∙ ap Some (sym (ap (map value_of) c.deref.ensures.value ∙ c.values.view_is)))
@@ -25,7 +25,7 @@ returns-then-is_large-clause-refused c =
 
 pub returns-clause-possible : goal.returns-clause-possible
 returns-clause-possible c =
-    reduce-possible (protocol_of c.args.protocol.now) (configuration_of c.args.conf.now) c.args.destructor c.args.rule c.args.numbers.now (map value_of c.deref.result.now) (value_of c.in-Some-2.value)
+    reduce-possible (protocol_of c.args.run.now.protocol.now) (configuration_of c.args.run.now.conf.now) c.args.destructor c.args.rule c.args.numbers.now (map value_of c.deref.result.now) (value_of c.in-Some-2.value)
     (map rule_of c.rules_of-rules.result.now) c.rules_of-rules.ensures
     (ap (first_arity (map rule_of c.rules_of-rules.result.now)) (sym (let counted : c.len.result ≡ length c.args.numbers.now = omega (arith, ap length c.numbers.view_is) in counted)) ∙ sym c.first_arity.ensures ∙ c.if-not-first_arity.false)
     (sym c.in_ok-known_values.ensures ∙ c.in-Some.is ∙ ap Some (sym (ap (map value_of) c.deref.ensures.value ∙ c.values.view_is)))

@@ -17,18 +17,18 @@ use Rattle.pi_model.proofs.choices.fail.Goals as goal
 pub returns-then-branch-clause-refused : goal.returns-then-branch-clause-refused
 returns-then-branch-clause-refused c =
     let at = c.in_ok-at.at in
-    fail-matches (protocol_of c.args.protocol.now) (configuration_of c.args.conf.now) c.args.number at.point at.environment.now
+    fail-matches (protocol_of c.args.run.now.protocol.now) (configuration_of c.args.run.now.conf.now) c.args.number at.point at.environment.now
     (pattern_of c.in-Let.pattern) (expression_of c.in-Let.expression) (process_of c.in-Let.next.value) (process_of c.in-Let.field-3.value) (map value_of c.deref.result.now)
-    (subst (λ q. Stands (protocol_of c.args.protocol.now) (configuration_of c.args.conf.now) c.args.number at.point at.environment.now (process_of q)) c.in-Let.is c.in_ok-at.ensures.stands)
+    (subst (λ q. Stands (protocol_of c.args.run.now.protocol.now) (configuration_of c.args.run.now.conf.now) c.args.number at.point at.environment.now (process_of q)) c.in-Let.is c.in_ok-at.ensures.stands)
     (ap (map value_of) c.deref.ensures.value ∙ c.values.view_is ∙ c.in_ok-values-in-Let.ensures)
     (sym c.in_ok-some_match-in-Let.ensures ∙ c.if-branch.true)
 
 pub returns-then-some_large_beside-clause-refused : goal.returns-then-some_large_beside-clause-refused
 returns-then-some_large_beside-clause-refused c =
     let at = c.in_ok-at.at in
-    fail-large (protocol_of c.args.protocol.now) (configuration_of c.args.conf.now) c.args.number at.point at.environment.now
+    fail-large (protocol_of c.args.run.now.protocol.now) (configuration_of c.args.run.now.conf.now) c.args.number at.point at.environment.now
     (pattern_of c.in-Let.pattern) (expression_of c.in-Let.expression) (process_of c.in-Let.next.value) (process_of c.in-Let.field-3.value) (map value_of c.deref.result.now)
-    (subst (λ q. Stands (protocol_of c.args.protocol.now) (configuration_of c.args.conf.now) c.args.number at.point at.environment.now (process_of q)) c.in-Let.is c.in_ok-at.ensures.stands)
+    (subst (λ q. Stands (protocol_of c.args.run.now.protocol.now) (configuration_of c.args.run.now.conf.now) c.args.number at.point at.environment.now (process_of q)) c.in-Let.is c.in_ok-at.ensures.stands)
     (ap (map value_of) c.deref.ensures.value ∙ c.values.view_is ∙ c.in_ok-values-in-Let.ensures)
     (sym c.in_ok-some_match-in-Let.ensures ∙ c.if-branch.false)
     (ap (λ q. list_any is_large (values_of at.environment.now (terms_at (process_of q))) || list_any is_large (map value_of c.deref.result.now)) (sym c.in-Let.is)
@@ -38,11 +38,11 @@ returns-then-some_large_beside-clause-refused c =
 pub returns-else-some_large_beside-clause-possible : goal.returns-else-some_large_beside-clause-possible
 returns-else-some_large_beside-clause-possible c =
     let at = c.in_ok-at.at in
-    subst (λ after. IsPossible (protocol_of c.args.protocol.now) (configuration_of c.args.conf.now) (calculus.Fail c.args.number) (advanced (configuration_of c.args.conf.now) c.args.number after))
+    subst (λ after. IsPossible (protocol_of c.args.run.now.protocol.now) (configuration_of c.args.run.now.conf.now) (calculus.Fail c.args.number) (advanced (configuration_of c.args.run.now.conf.now) c.args.number after))
     (sym (c.point_after.ensures ∙ ap (λ q. point_after (at.point + 1) (process_of q)) c.deref-in-Let-2.ensures))
-    (fail-possible (protocol_of c.args.protocol.now) (configuration_of c.args.conf.now) c.args.number at.point at.environment.now
+    (fail-possible (protocol_of c.args.run.now.protocol.now) (configuration_of c.args.run.now.conf.now) c.args.number at.point at.environment.now
     (pattern_of c.in-Let.pattern) (expression_of c.in-Let.expression) (process_of c.in-Let.next.value) (process_of c.in-Let.field-3.value) (map value_of c.deref.result.now)
-    (subst (λ q. Stands (protocol_of c.args.protocol.now) (configuration_of c.args.conf.now) c.args.number at.point at.environment.now (process_of q)) c.in-Let.is c.in_ok-at.ensures.stands)
+    (subst (λ q. Stands (protocol_of c.args.run.now.protocol.now) (configuration_of c.args.run.now.conf.now) c.args.number at.point at.environment.now (process_of q)) c.in-Let.is c.in_ok-at.ensures.stands)
     (ap (map value_of) c.deref.ensures.value ∙ c.values.view_is ∙ c.in_ok-values-in-Let.ensures)
     (sym c.in_ok-some_match-in-Let.ensures ∙ c.if-branch.false)
     (ap (λ q. list_any is_large (values_of at.environment.now (terms_at (process_of q))) || list_any is_large (map value_of c.deref.result.now)) (sym c.in-Let.is)

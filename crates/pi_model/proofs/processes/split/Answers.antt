@@ -10,8 +10,8 @@ use Rattle.pi_model.proofs.processes.split.Goals as goal
 pub returns-in_ok-copy-in-Par-clause-possible : goal.returns-in_ok-copy-in-Par-clause-possible
 returns-in_ok-copy-in-Par-clause-possible c =
     let at = c.in_ok-at.at in
-    split-possible (protocol_of c.args.protocol.now) (configuration_of c.args.conf.now) c.args.number at.point c.point_after-right.result at.environment.now c.in_ok-copy-in-Par.field-0
+    split-possible (protocol_of c.args.run.now.protocol.now) (configuration_of c.args.run.now.conf.now) c.args.number at.point c.point_after-right.result at.environment.now c.in_ok-copy-in-Par.field-0
     (process_of c.in-Par.left.value) (process_of c.in-Par.field-1.value)
-    (subst (λ q. Stands (protocol_of c.args.protocol.now) (configuration_of c.args.conf.now) c.args.number at.point at.environment.now (process_of q)) c.in-Par.is c.in_ok-at.ensures.stands)
+    (subst (λ q. Stands (protocol_of c.args.run.now.protocol.now) (configuration_of c.args.run.now.conf.now) c.args.number at.point at.environment.now (process_of q)) c.in-Par.is c.in_ok-at.ensures.stands)
     (c.point_after-right.ensures ∙ ap (λ q. point_after (at.point + 1) (process_of q)) c.deref.ensures)
     c.in_ok-copy-in-Par.ensures

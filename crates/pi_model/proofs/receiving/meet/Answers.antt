@@ -21,20 +21,20 @@ pub returns-then-not-is_value_of-clause-refused : goal.returns-then-not-is_value
 returns-then-not-is_value_of-clause-refused c =
     let from = c.args.from.now in
     let to = c.args.to.now in
-    pass-differ (protocol_of c.args.protocol.now) (configuration_of c.args.conf.now) c.args.sender c.args.receiver from.point to.point from.environment.now to.environment.now
+    pass-differ (protocol_of c.args.run.now.protocol.now) (configuration_of c.args.run.now.conf.now) c.args.sender c.args.receiver from.point to.point from.environment.now to.environment.now
     (term_of c.in-Output.channel) (term_of c.in-Output.message) (term_of c.in-Input.on) (pattern_of c.in-Input.pattern) (process_of c.in-Output.field-2.value) (process_of c.in-Input.field-2.value)
-    (subst (λ q. Stands (protocol_of c.args.protocol.now) (configuration_of c.args.conf.now) c.args.sender from.point from.environment.now (process_of q)) c.in-Output.is c.requires.sends)
-    (subst (λ q. Stands (protocol_of c.args.protocol.now) (configuration_of c.args.conf.now) c.args.receiver to.point to.environment.now (process_of q)) c.in-Input.is c.requires.receives)
+    (subst (λ q. Stands (protocol_of c.args.run.now.protocol.now) (configuration_of c.args.run.now.conf.now) c.args.sender from.point from.environment.now (process_of q)) c.in-Output.is c.requires.sends)
+    (subst (λ q. Stands (protocol_of c.args.run.now.protocol.now) (configuration_of c.args.run.now.conf.now) c.args.receiver to.point to.environment.now (process_of q)) c.in-Input.is c.requires.receives)
     (ap (same_value (values.value_of to.environment.now (term_of c.in-Input.on))) (sym c.in_ok-channel-in-Input.ensures) ∙ sym c.is_value_of.ensures ∙ c.if-not-is_value_of.true)
 
 pub returns-then-some_large_at_either-clause-refused : goal.returns-then-some_large_at_either-clause-refused
 returns-then-some_large_at_either-clause-refused c =
     let from = c.args.from.now in
     let to = c.args.to.now in
-    pass-large (protocol_of c.args.protocol.now) (configuration_of c.args.conf.now) c.args.sender c.args.receiver from.point to.point from.environment.now to.environment.now
+    pass-large (protocol_of c.args.run.now.protocol.now) (configuration_of c.args.run.now.conf.now) c.args.sender c.args.receiver from.point to.point from.environment.now to.environment.now
     (term_of c.in-Output.channel) (term_of c.in-Output.message) (term_of c.in-Input.on) (pattern_of c.in-Input.pattern) (process_of c.in-Output.field-2.value) (process_of c.in-Input.field-2.value)
-    (subst (λ q. Stands (protocol_of c.args.protocol.now) (configuration_of c.args.conf.now) c.args.sender from.point from.environment.now (process_of q)) c.in-Output.is c.requires.sends)
-    (subst (λ q. Stands (protocol_of c.args.protocol.now) (configuration_of c.args.conf.now) c.args.receiver to.point to.environment.now (process_of q)) c.in-Input.is c.requires.receives)
+    (subst (λ q. Stands (protocol_of c.args.run.now.protocol.now) (configuration_of c.args.run.now.conf.now) c.args.sender from.point from.environment.now (process_of q)) c.in-Output.is c.requires.sends)
+    (subst (λ q. Stands (protocol_of c.args.run.now.protocol.now) (configuration_of c.args.run.now.conf.now) c.args.receiver to.point to.environment.now (process_of q)) c.in-Input.is c.requires.receives)
     (ap (same_value (values.value_of to.environment.now (term_of c.in-Input.on))) (sym c.in_ok-channel-in-Input.ensures) ∙ sym c.is_value_of.ensures ∙ c.if-not-is_value_of.false)
     (ap (λ q. list_any is_large (values_of from.environment.now (terms_at (process_of q))) || list_any is_large (values_of to.environment.now (terms_at (process_of (Input c.in-Input.on c.in-Input.pattern c.in-Input.field-2))))) (sym c.in-Output.is)
     ∙ ap (λ q. list_any is_large (values_of from.environment.now (terms_at (process_of from.process.now))) || list_any is_large (values_of to.environment.now (terms_at (process_of q)))) (sym c.in-Input.is)
@@ -44,12 +44,12 @@ pub returns-in_ok-thread-in-Input-clause-possible : goal.returns-in_ok-thread-in
 returns-in_ok-thread-in-Input-clause-possible c =
     let from = c.args.from.now in
     let to = c.args.to.now in
-    subst (λ thread. IsPossible (protocol_of c.args.protocol.now) (configuration_of c.args.conf.now) (calculus.Pass c.args.sender c.args.receiver) (calculus.goes_on (advanced (configuration_of c.args.conf.now) c.args.sender (from.point + 1)) c.args.receiver thread))
+    subst (λ thread. IsPossible (protocol_of c.args.run.now.protocol.now) (configuration_of c.args.run.now.conf.now) (calculus.Pass c.args.sender c.args.receiver) (calculus.goes_on (advanced (configuration_of c.args.run.now.conf.now) c.args.sender (from.point + 1)) c.args.receiver thread))
     (sym (c.in_ok-thread-in-Input.ensures ∙ ap (λ v. received to.point to.environment.now (matched to.environment.now (pattern_of c.in-Input.pattern) v)) c.in_ok-message-in-Input.ensures))
-    (pass-possible (protocol_of c.args.protocol.now) (configuration_of c.args.conf.now) c.args.sender c.args.receiver from.point to.point from.environment.now to.environment.now
+    (pass-possible (protocol_of c.args.run.now.protocol.now) (configuration_of c.args.run.now.conf.now) c.args.sender c.args.receiver from.point to.point from.environment.now to.environment.now
     (term_of c.in-Output.channel) (term_of c.in-Output.message) (term_of c.in-Input.on) (pattern_of c.in-Input.pattern) (process_of c.in-Output.field-2.value) (process_of c.in-Input.field-2.value)
-    (subst (λ q. Stands (protocol_of c.args.protocol.now) (configuration_of c.args.conf.now) c.args.sender from.point from.environment.now (process_of q)) c.in-Output.is c.requires.sends)
-    (subst (λ q. Stands (protocol_of c.args.protocol.now) (configuration_of c.args.conf.now) c.args.receiver to.point to.environment.now (process_of q)) c.in-Input.is c.requires.receives)
+    (subst (λ q. Stands (protocol_of c.args.run.now.protocol.now) (configuration_of c.args.run.now.conf.now) c.args.sender from.point from.environment.now (process_of q)) c.in-Output.is c.requires.sends)
+    (subst (λ q. Stands (protocol_of c.args.run.now.protocol.now) (configuration_of c.args.run.now.conf.now) c.args.receiver to.point to.environment.now (process_of q)) c.in-Input.is c.requires.receives)
     (ap (same_value (values.value_of to.environment.now (term_of c.in-Input.on))) (sym c.in_ok-channel-in-Input.ensures) ∙ sym c.is_value_of.ensures ∙ c.if-not-is_value_of.false)
     (ap (λ q. list_any is_large (values_of from.environment.now (terms_at (process_of q))) || list_any is_large (values_of to.environment.now (terms_at (process_of (Input c.in-Input.on c.in-Input.pattern c.in-Input.field-2))))) (sym c.in-Output.is)
     ∙ ap (λ q. list_any is_large (values_of from.environment.now (terms_at (process_of from.process.now))) || list_any is_large (values_of to.environment.now (terms_at (process_of q)))) (sym c.in-Input.is)
