@@ -9,6 +9,8 @@ pub mod Keying
 pub mod Renumber
 pub mod Norming
 pub mod Bounding
+pub mod Occurring
 pub mod Testing
+pub mod Marking
 pub mod Told
 pub mod Keeping

@@ -10,3 +10,5 @@ pub mod Keys
 pub mod Bounds
 pub mod Normals
 pub mod Normality
+pub mod Occurrences
+pub mod Marks

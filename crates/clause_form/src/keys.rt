@@ -14,7 +14,7 @@ const FACTOR: u64 = 11400714819323198485;
 
 /// A key with one number more.
 #[tactic(auto, unfolding(crate::specs::Keys::mixed))]
-fn mixed(key: u64, number: u64) -> u64
+pub(crate) fn mixed(key: u64, number: u64) -> u64
     ensures { result ≡ mixed_key key number }
 {
     key.wrapping_mul(FACTOR).wrapping_add(number)

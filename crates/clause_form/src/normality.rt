@@ -1,7 +1,8 @@
 //! Whether a clause is its own norm: it is flat, and each rule of the norm leaves it as it is.
 
-ghost use Rattle.std.specs.Prelude.{◌≡◌, ◌↔◌, ◌+◌, ◌-◌, ◌^◌, ◌<◌, true, false, not, ◌&&◌, cond, min, length, map, flat_map, Some};
-ghost use Rattle.std.specs.List.{list_all};
+ghost use Rattle.std.specs.Prelude.{◌≡◌, ◌↔◌, ◌+◌, ◌-◌, ◌^◌, ◌<◌, true, false, not, ◌&&◌, cond, nat_eq, min, length, map, flat_map, Some};
+ghost use Rattle.std.specs.List.{count_by, list_all};
+ghost use Rattle.clauses.specs.Fact.{is_variable_known as is_variable_known_fact};
 ghost use Rattle.clauses.specs.Flat.{is_flat as is_flat_fact, is_flat_clause as is_flat_clause_of};
 ghost use Rattle.clauses.specs.Norm.{without_repeats, is_tautology as is_tautology_of, is_lonely as is_lonely_fact, without_lonely, generalized, everything_known, numbered, IsNormal};
 ghost use Rattle.clauses.specs.Variables.{leaves, fact_variables, clause_variables, times};
@@ -9,12 +10,25 @@ ghost use Rattle.term_tree.specs.Bank.{tree_at, AreKnown};
 ghost use Rattle.clause_form.specs.Facts.{fact_of};
 ghost use Rattle.clause_form.specs.Seen.{fact_at, clause_at, IsFactIn, AreFactsIn, IsClauseIn};
 ghost use Rattle.clause_form.specs.Normality.{are_different as are_different_facts, number_after, numbers_after, KeepsItsFacts, KeepsItsVariables};
+ghost use Rattle.clause_form.specs.Occurrences.{TellsTimes};
 
 use crate::facts::{Clause, Fact};
 use crate::flat::is_data_symbol;
+use crate::marks::are_many_different;
 use crate::normal::is_general;
+use crate::occurrences::count_in_clause;
 use crate::same::is_among;
+use crate::selectable::is_variable_known;
 use term_tree::{Bank, Id, Node};
+
+/// So many hypotheses are marked by their keys.
+const MARKED: usize = 32;
+
+/// The variables are counted in a table where so many hypotheses are `att` of one.
+const COUNTED: usize = 4;
+
+/// So many variables have a place in the table.
+const PLACED: usize = 4096;
 
 /// Whether a fact is flat: no `att` of a data constructor or a tuple.
 fn is_flat<B: Bank>(bank: &B, fact: &Fact) -> bool
@@ -72,6 +86,9 @@ fn has_no_repeats<B: Bank>(bank: &B, clause: &Clause) -> bool
     ensures { (result ≡ true) ↔ (without_repeats (clause_at (B.trees bank.now) clause.now) ≡
         clause_at (B.trees bank.now) clause.now) }
 {
+    if clause.hyps.items.len() >= MARKED {
+        return are_many_different(bank, &clause.hyps.items);
+    }
     are_different(bank, &clause.hyps.items)
 }
 
@@ -166,16 +183,33 @@ fn times_in_clause<B: Bank>(bank: &B, number: u32, clause: &Clause) -> u64
     times_in_facts(bank, number, &clause.hyps.items, found)
 }
 
-/// Whether the fact is `att` of a variable that occurs but once in the clause.
-fn is_lonely<B: Bank>(bank: &B, clause: &Clause, fact: &Fact) -> bool
+/// Whether a variable occurs but once in the clause. The table tells it of those that it has a place for.
+fn occurs_once<B: Bank>(bank: &B, clause: &Clause, table: &[u8], number: u32) -> bool
     requires clause { IsClauseIn (B.trees bank.now) clause.now }
+    requires table { TellsTimes table.now (clause_variables
+        (clause_at (B.trees bank.now) clause.now)) }
+    ensures { result ≡ nat_eq (times number (clause_variables
+        (clause_at (B.trees bank.now) clause.now))) 1 }
+{
+    let place = number as usize;
+    if place < table.len() {
+        return table[place] == 1;
+    }
+    times_in_clause(bank, number, clause) == 1
+}
+
+/// Whether the fact is `att` of a variable that occurs but once in the clause.
+fn is_lonely<B: Bank>(bank: &B, clause: &Clause, table: &[u8], fact: &Fact) -> bool
+    requires clause { IsClauseIn (B.trees bank.now) clause.now }
+    requires table { TellsTimes table.now (clause_variables
+        (clause_at (B.trees bank.now) clause.now)) }
     requires fact { IsFactIn (B.trees bank.now) (fact_of fact.now) }
     ensures { result ≡ is_lonely_fact (clause_variables (clause_at (B.trees bank.now) clause.now))
         (fact_at (B.trees bank.now) (fact_of fact.now)) }
 {
     match fact {
         Fact::Att(term) => match bank.node(*term) {
-            Node::Var(number) => times_in_clause(bank, number, clause) == 1,
+            Node::Var(number) => occurs_once(bank, clause, table, number),
             Node::App(_, _) => false,
         },
         Fact::Mess(..) | Fact::Ev(..) | Fact::Mev(..) | Fact::Bad(_) => false,
@@ -183,19 +217,47 @@ fn is_lonely<B: Bank>(bank: &B, clause: &Clause, fact: &Fact) -> bool
 }
 
 /// Whether none of the facts is `att` of a variable that occurs but once in the clause.
-fn none_lonely<B: Bank>(bank: &B, clause: &Clause, facts: &[Fact]) -> bool
+fn none_lonely<B: Bank>(bank: &B, clause: &Clause, table: &[u8], facts: &[Fact]) -> bool
     requires clause { IsClauseIn (B.trees bank.now) clause.now }
+    requires table { TellsTimes table.now (clause_variables
+        (clause_at (B.trees bank.now) clause.now)) }
     requires facts { AreFactsIn (B.trees bank.now) (map fact_of facts.now) }
     ensures { result ≡ list_all (λ h. not (is_lonely_fact
         (clause_variables (clause_at (B.trees bank.now) clause.now)) h))
         (map (fact_at (B.trees bank.now)) (map fact_of facts.now)) }
 {
     for fact in facts {
-        if is_lonely(bank, clause, fact) {
+        if is_lonely(bank, clause, table, fact) {
             return false;
         }
     }
     true
+}
+
+/// How many of the facts are `att` of a variable.
+fn variables_known<B: Bank>(bank: &B, facts: &[Fact]) -> usize
+    requires { AreFactsIn (B.trees bank.now) (map fact_of facts.now) }
+    ensures { result ≡ count_by is_variable_known_fact (map (fact_at (B.trees bank.now))
+        (map fact_of facts.now)) }
+{
+    let mut count = 0;
+    for fact in facts {
+        if is_variable_known(bank, fact) {
+            count += 1;
+        }
+    }
+    count
+}
+
+/// Whether no hypothesis says only that the attacker has something. The variables are counted first.
+fn has_none_lonely_counted<B: Bank>(bank: &B, clause: &Clause) -> bool
+    requires { IsClauseIn (B.trees bank.now) clause.now }
+    ensures { (result ≡ true) ↔ (without_lonely (clause_at (B.trees bank.now) clause.now) ≡
+        clause_at (B.trees bank.now) clause.now) }
+{
+    let mut table = [0u8; PLACED];
+    count_in_clause(bank, clause, &mut table);
+    none_lonely(bank, clause, &table, &clause.hyps.items)
 }
 
 /// Whether no hypothesis says only that the attacker has something.
@@ -204,7 +266,10 @@ fn has_none_lonely<B: Bank>(bank: &B, clause: &Clause) -> bool
     ensures { (result ≡ true) ↔ (without_lonely (clause_at (B.trees bank.now) clause.now) ≡
         clause_at (B.trees bank.now) clause.now) }
 {
-    none_lonely(bank, clause, &clause.hyps.items)
+    if variables_known(bank, &clause.hyps.items) >= COUNTED {
+        return has_none_lonely_counted(bank, clause);
+    }
+    none_lonely(bank, clause, &[], &clause.hyps.items)
 }
 
 /// Whether the fact is `att` of the variable 0.
@@ -338,7 +403,7 @@ fn keeps_its_variables<B: Bank>(bank: &B, clause: &Clause) -> bool
     requires { IsClauseIn (B.trees bank.now) clause.now }
     ensures { (result ≡ true) ↔ KeepsItsVariables (clause_at (B.trees bank.now) clause.now) }
 {
-    has_none_lonely(bank, clause) && is_own_general(bank, clause) && is_numbered(bank, clause)
+    is_numbered(bank, clause) && is_own_general(bank, clause) && has_none_lonely(bank, clause)
 }
 
 /// Whether a clause is its own norm, and flat. Takes no memory.
