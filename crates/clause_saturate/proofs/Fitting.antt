@@ -28,7 +28,9 @@ use Rattle.clause_saturate.specs.declared.walk.Walk.{Walk}
 use Rattle.clause_saturate.specs.Fit.{IsFit, AreFit}
 use Rattle.clause_saturate.specs.Logs.{TellEntries, TellLog}
 use Rattle.clause_saturate.specs.Beating.{clauses_of}
+use Rattle.clause_saturate.specs.Live.{AreListed}
 use Rattle.clause_saturate.specs.Walked.{Task, IsTask, IsWalked}
+use Rattle.clause_saturate.proofs.Listing.{listed_grows, listed_back}
 use Rattle.clause_saturate.proofs.Telling.{TellLog-grows, TellLog-back, log_length}
 
 -- a clause's ids name what they name
@@ -116,6 +118,9 @@ walked_fit all task walk at (log, w) =
     (λ e h. offers_normal task.given w.is_task.normal (below e.key log) e (w.up_to.sound e h).offered)
     (λ e h. offers_small task w.is_task (below e.key log) e (w.up_to.sound e h).offered)
 
+pub walked_listed : (all : List Term) (task : Task) (walk : Walk) (at : Key) → IsWalked all task walk at → AreListed all walk.items.items walk.live
+walked_listed all task walk at (log, w) = w.listed
+
 -- there are no more than the budget allows, and as many as the turn's number
 pub walked_within : (all : List Term) (task : Task) (walk : Walk) (at : Key) → IsWalked all task walk at → length walk.items.items ≤ walk.budget
 walked_within all task walk at (log, w) =
@@ -137,6 +142,7 @@ walked_grows a b task walk at grows (log, w) = (
     is_task = w.is_task;
     budget = w.budget;
     tell = TellLog-grows a b walk.items.items log grows w.tell;
+    listed = listed_grows a b walk.items.items walk.live grows (walked_fit a task walk at (log, w)) w.listed;
     up_to = w.up_to;
     within = w.within;
     reached = w.reached;
@@ -152,6 +158,7 @@ walked_back a b task old new from at grows same (log, was) (after, w) = (
     is_task = w.is_task;
     budget = w.budget;
     tell = TellLog-back a b new.items.items log after grows (subst (λ (es : List Entry). TellLog a es log) (sym same) was.tell) w.tell;
+    listed = listed_back a b new.items.items new.live grows (subst (λ (es : List Entry). AreFit a (clauses_of es)) (sym same) (walked_fit a task old from (log, was))) w.listed;
     up_to = w.up_to;
     within = w.within;
     reached = w.reached;

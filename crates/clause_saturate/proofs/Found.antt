@@ -1,5 +1,5 @@
 -- Two entries by their numbers: whether they are a due pair.
-use Rattle.std.proofs.Common.{◌≡◌, ◌∙◌, ℕ, zero, suc, ◌-◌, ◌<◌, ◌≤◌, Bool, true, false, Option, Some, None, List, [], ◌∷◌, IsNone, length, take, get_or, refl, ap, sym, subst, true≢false, arith}
+use Rattle.std.proofs.Common.{◌≡◌, ◌∙◌, ℕ, zero, suc, ◌-◌, ◌<◌, ◌≤◌, true, false, Option, Some, None, List, [], ◌∷◌, IsNone, length, take, get_or, refl, ap, sym, subst, true≢false, arith}
 use Rattle.std.specs.Prelude.{slice_get}
 use Rattle.terms.specs.Term.{Term}
 use Rattle.calculus.specs.Points.{numbered}
@@ -16,7 +16,7 @@ use Rattle.clause_saturate.specs.declared.log.Entry.{Entry}
 use Rattle.clause_saturate.specs.declared.walk.Pair.{Pair}
 use Rattle.clause_saturate.specs.Fit.{IsFit, AreFit}
 use Rattle.clause_saturate.specs.Beating.{clauses_of}
-use Rattle.clause_saturate.specs.Pairs.{major, minor, IsDuePair, NoDuePair, GivesAnswer, IsFoundFor}
+use Rattle.clause_saturate.specs.Pairs.{major, minor, IsDuePair, GivesAnswer, IsFoundFor}
 use Rattle.clause_saturate.proofs.Marking.{fit_at}
 
 -- what stands at an index has the number behind it
@@ -35,20 +35,6 @@ one_entry es n x y a b = let same : Some x ≡ Some y = sym a ∙ b in cc
 
 pub entry_known : (all : List Term) (es : List Entry) (n : ℕ) (x : Entry) → x ≡ get_or es (n - 1) x → 0 < n → n ≤ length es → AreFit all (clauses_of es) → IsClauseIn all x.clause
 entry_known all es n x is some within fit = (fit_at all es (n - 1) x is fit (omega arith)).known
-
-solved_as : (all : List Term) (es : List Entry) (n : ℕ) (x y : Entry) (b : Bool) → numbered es n ≡ Some x → numbered es n ≡ Some y → is_solved (clause_at all x.clause).hypotheses ≡ b → is_solved (clause_at all y.clause).hypotheses ≡ b
-solved_as all es n x y b p q h = subst (λ (z : Entry). is_solved (clause_at all z.clause).hypotheses ≡ b) (one_entry es n x y p q) h
-
--- both are solved, or neither is
-pub alike : (all : List Term) (es : List Entry) (later earlier : ℕ) (x y : Entry) (b : Bool) → numbered es later ≡ Some x → numbered es earlier ≡ Some y → is_solved (clause_at all x.clause).hypotheses ≡ b → is_solved (clause_at all y.clause).hypotheses ≡ b → NoDuePair all es later earlier
-alike all es later earlier x y b p q h i = λ last first at there live too. solved_as all es later x last b p at h ∙ sym (solved_as all es earlier y first b q there i)
-
--- one isn't live
-pub last_dead : (all : List Term) (es : List Entry) (later earlier : ℕ) (x : Entry) → numbered es later ≡ Some x → (x.by ≡ None → ⊥) → NoDuePair all es later earlier
-last_dead all es later earlier x p dead = λ last first at there live too. absurd (dead (ap (λ z. z.by) (one_entry es later x last p at) ∙ live))
-
-pub first_dead : (all : List Term) (es : List Entry) (later earlier : ℕ) (y : Entry) → numbered es earlier ≡ Some y → (y.by ≡ None → ⊥) → NoDuePair all es later earlier
-first_dead all es later earlier y q dead = λ last first at there live too. absurd (dead (ap (λ z. z.by) (one_entry es earlier y first q there) ∙ too))
 
 -- the later one is solved, or the earlier one
 pub later_solved : (all : List Term) (es : List Entry) (later earlier : ℕ) (x y : Entry) → earlier < later → numbered es later ≡ Some x → numbered es earlier ≡ Some y → x.by ≡ None → y.by ≡ None → is_solved (clause_at all x.clause).hypotheses ≡ true → is_solved (clause_at all y.clause).hypotheses ≡ false

@@ -6,3 +6,5 @@ pub mod Fitting
 pub mod Pairing
 pub mod Found
 pub mod Living
+pub mod Listing
+pub mod Partners

@@ -1,11 +1,11 @@
--- Walks over entries: which of them cover a clause, and which it beats.
-use Rattle.std.proofs.Common.{◌≡◌, ℕ, zero, suc, ◌+◌, ◌<◌, ◌≤◌, Bool, true, false, List, [], ◌∷◌, length, drop, get_or, set, MatchBool, refl, ap, sym, subst, inl, inr, arith}
+-- Walks over entries: which of them a clause beats.
+use Rattle.std.proofs.Common.{◌≡◌, ℕ, zero, suc, ◌+◌, ◌<◌, ◌≤◌, Bool, true, false, List, [], ◌∷◌, length, get_or, set, MatchBool, refl, ap, sym, subst, arith}
 use Rattle.terms.specs.Term.{Term}
 use Rattle.clauses.specs.Fact.{Clause}
 use Rattle.clause_form.specs.Seen.{IsClauseIn, AreClausesIn}
 use Rattle.clause_saturate.specs.declared.log.Entry.{Entry}
 use Rattle.clause_saturate.specs.Fit.{IsFit, AreFit}
-use Rattle.clause_saturate.specs.Beating.{clauses_of, LiveCovers, SomeLiveCovers, IsMarked, AreMarked}
+use Rattle.clause_saturate.specs.Beating.{clauses_of, IsMarked, AreMarked}
 
 -- what a test tells
 pub when_true : (P Q : Type 0) (b : Bool) → b ≡ true → MatchBool b P Q → P
@@ -24,33 +24,6 @@ got_at all (e ∷ es) (suc i) d fit within = got_at all es i d fit.1 (omega arit
 -- an entry among fit ones is fit
 pub fit_at : (all : List Term) (es : List Entry) (i : ℕ) (e : Entry) → e ≡ get_or es i e → AreFit all (clauses_of es) → i < length es → IsFit all e.clause
 fit_at all es i e is fit within = subst (λ (x : Entry). IsFit all x.clause) (sym is) (got_at all es i e fit within)
-
-covers_in : (all : List Term) (es : List Entry) (i : ℕ) (d : Entry) (c : Clause Term) → i < length es → LiveCovers all (get_or es i d) c → SomeLiveCovers all es c
-covers_in all [] i d c within h = absurd (omega arith)
-covers_in all (e ∷ es) zero d c within h = inl h
-covers_in all (e ∷ es) (suc i) d c within h = inr (covers_in all es i d c (omega arith) h)
-
--- an entry that covers is one of them
-pub covers_at : (all : List Term) (es : List Entry) (i : ℕ) (e : Entry) (c : Clause Term) → e ≡ get_or es i e → i < length es → LiveCovers all e c → SomeLiveCovers all es c
-covers_at all es i e c is within h = covers_in all es i e c within (subst (λ (x : Entry). LiveCovers all x c) is h)
-
-covers_later : (all : List Term) (es : List Entry) (i : ℕ) (d : Entry) (c : Clause Term) → i < length es → (LiveCovers all (get_or es i d) c → ⊥) → SomeLiveCovers all (drop i es) c → SomeLiveCovers all (drop (suc i) es) c
-covers_later all [] i d c within n h = absurd (omega arith)
-covers_later all (e ∷ es) zero d c within n (inl h) = absurd (n h)
-covers_later all (e ∷ es) zero d c within n (inr h) = h
-covers_later all (e ∷ es) (suc i) d c within n h = covers_later all es i d c (omega arith) n h
-
--- what covers from an entry on covers behind it, where that entry doesn't
-pub covers_on : (all : List Term) (es : List Entry) (i : ℕ) (e : Entry) (c : Clause Term) → e ≡ get_or es i e → i < length es → (LiveCovers all e c → ⊥) → SomeLiveCovers all (drop i es) c → SomeLiveCovers all (drop (i + 1) es) c
-covers_on all es i e c is within n h =
-    let next : suc i ≡ i + 1 = omega arith in
-    subst (λ k. SomeLiveCovers all (drop k es) c) next (covers_later all es i e c within (λ g. n (subst (λ (x : Entry). LiveCovers all x c) (sym is) g)) h)
-
-pub covers_past : (all : List Term) (es : List Entry) (i : ℕ) (c : Clause Term) → length es ≤ i → SomeLiveCovers all (drop i es) c → ⊥
-covers_past all [] zero c past h = h
-covers_past all [] (suc i) c past h = h
-covers_past all (e ∷ es) zero c past h = omega arith
-covers_past all (e ∷ es) (suc i) c past h = covers_past all es i c (omega arith) h
 
 -- the first i entries with their marks, the others as they were
 abbrev pub MarkedTo : List Term → Clause Term → ℕ → ℕ → List Entry → List Entry → Type 0

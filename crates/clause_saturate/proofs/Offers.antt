@@ -22,30 +22,30 @@ told all log clause copied origin at fit same is_origin = record {
   origin = is_origin;
 }
 
-pub covered_offer : (all : List Term) (items xs : List Entry) (c : Clause Term) (found : Bool) → found ≡ true → MatchBool found (SomeLiveCovers all xs c) (SomeLiveCovers all xs c → ⊥) → xs ≡ items → (log : List offered.Entry) → TellLog all items log → IsCoveredBy log c
-covered_offer all items xs c found is h same log tell =
-    covered_if_some all log 1 items log c tell (subst (λ (l : List Entry). SomeLiveCovers all l c) same (when_true (SomeLiveCovers all xs c) (SomeLiveCovers all xs c → ⊥) found is h))
+pub covered_offer : (all : List Term) (items : List Entry) (c : Clause Term) (found : Bool) → found ≡ true → MatchBool found (SomeLiveCovers all items c) (SomeLiveCovers all items c → ⊥) → (log : List offered.Entry) → TellLog all items log → IsCoveredBy log c
+covered_offer all items c found is h log tell =
+    covered_if_some all log 1 items log c tell (when_true (SomeLiveCovers all items c) (SomeLiveCovers all items c → ⊥) found is h)
 
-uncovered_offer : (all : List Term) (items xs : List Entry) (c : Clause Term) (found : Bool) → found ≡ false → MatchBool found (SomeLiveCovers all xs c) (SomeLiveCovers all xs c → ⊥) → xs ≡ items → (log : List offered.Entry) → TellLog all items log → IsCoveredBy log c → ⊥
-uncovered_offer all items xs c found is h same log tell covered =
-    when_false (SomeLiveCovers all xs c) (SomeLiveCovers all xs c → ⊥) found is h (subst (λ (l : List Entry). SomeLiveCovers all l c) (sym same) (some_if_covered all log 1 items log c tell covered))
+uncovered_offer : (all : List Term) (items : List Entry) (c : Clause Term) (found : Bool) → found ≡ false → MatchBool found (SomeLiveCovers all items c) (SomeLiveCovers all items c → ⊥) → (log : List offered.Entry) → TellLog all items log → IsCoveredBy log c → ⊥
+uncovered_offer all items c found is h log tell covered =
+    when_false (SomeLiveCovers all items c) (SomeLiveCovers all items c → ⊥) found is h (some_if_covered all log 1 items log c tell covered)
 
-pub due_offer : (all : List Term) (items xs : List Entry) (clause copied : Clause Id) (origin : Origin) (budget : ℕ) (found : Bool) → IsFit all clause → copied ≡ clause → found ≡ false → MatchBool found (SomeLiveCovers all xs (clause_at all clause)) (SomeLiveCovers all xs (clause_at all clause) → ⊥) → xs ≡ items → length items ≡ budget
+pub due_offer : (all : List Term) (items : List Entry) (clause copied : Clause Id) (origin : Origin) (budget : ℕ) (found : Bool) → IsFit all clause → copied ≡ clause → found ≡ false → MatchBool found (SomeLiveCovers all items (clause_at all clause)) (SomeLiveCovers all items (clause_at all clause) → ⊥) → length items ≡ budget
     → (log : List offered.Entry) (at : Key) → TellLog all items log → IsOrigin log origin at → IsDueEntry all log items items budget (record { key = at; clause = clause_at all clause }) (record { clause = copied; origin = origin; by = None })
-due_offer all items xs clause copied origin budget found fit same refused h whole full log at tell is_origin = record {
-  uncovered = uncovered_offer all items xs (clause_at all clause) found refused h whole log tell;
+due_offer all items clause copied origin budget found fit same refused h full log at tell is_origin = record {
+  uncovered = uncovered_offer all items (clause_at all clause) found refused h log tell;
   full = sym (log_length all items log tell) ∙ full;
   same = refl;
   tells = told all log clause copied origin at fit same is_origin;
   unbeaten = refl;
 }
 
-pub new_offer : (all : List Term) (items xs new : List Entry) (clause copied : Clause Id) (origin : Origin) (budget : ℕ) (found : Bool) → IsFit all clause → copied ≡ clause → found ≡ false → MatchBool found (SomeLiveCovers all xs (clause_at all clause)) (SomeLiveCovers all xs (clause_at all clause) → ⊥) → xs ≡ items → length items < budget
+pub new_offer : (all : List Term) (items new : List Entry) (clause copied : Clause Id) (origin : Origin) (budget : ℕ) (found : Bool) → IsFit all clause → copied ≡ clause → found ≡ false → MatchBool found (SomeLiveCovers all items (clause_at all clause)) (SomeLiveCovers all items (clause_at all clause) → ⊥) → length items < budget
     → IsPushed all items (record { clause = copied; origin = origin; by = None }) new → (log : List offered.Entry) (at : Key) → TellLog all items log → IsOrigin log origin at → IsAdded all log new budget (record { key = at; clause = clause_at all clause })
-new_offer all items xs new clause copied origin budget found fit same refused h whole room pushed log at tell is_origin =
+new_offer all items new clause copied origin budget found fit same refused h room pushed log at tell is_origin =
     let count = log_length all items log tell in
     record {
-      uncovered = uncovered_offer all items xs (clause_at all clause) found refused h whole log tell;
+      uncovered = uncovered_offer all items (clause_at all clause) found refused h log tell;
       room = omega (arith, count, room);
       tell = pushed_tells all log items new (record { clause = copied; origin = origin; by = None }) (record { key = at; clause = clause_at all clause }) tell pushed (ap (clause_at all) same) (told all log clause copied origin at fit same is_origin) refl;
     }

@@ -1,5 +1,5 @@
 -- Pairs of entries are due pairs of the log, and the walk goes on from pair to pair.
-use Rattle.std.proofs.Common.{◌≡◌, ◌⊎◌, ◌∙◌, ℕ, zero, suc, ◌+◌, ◌<◌, ◌≤◌, Bool, true, Option, Some, None, List, [], ◌∷◌, ◌++◌, length, map, get_or, refl, ap, sym, subst, inl, inr, true≢false, length-append, arith}
+use Rattle.std.proofs.Common.{◌≡◌, ◌⊎◌, ◌∙◌, ℕ, zero, suc, ◌+◌, ◌-◌, ◌<◌, ◌≤◌, Bool, true, Option, Some, None, List, [], ◌∷◌, ◌++◌, length, map, get_or, refl, ap, sym, subst, inl, inr, true≢false, length-append, arith}
 use Rattle.std.specs.Prelude.{slice_get}
 use Rattle.std.proofs.lemmas.Bool.{cases_lt}
 use Rattle.std.proofs.lemmas.Bool.Decides.{nat_tests}
@@ -19,7 +19,6 @@ use Rattle.saturation.proofs.Turns.{pair_undue, pair_apart, pair_offered, gives_
 use Rattle.term_tree.specs.Bank.{Grows}
 use Rattle.term_tree.specs.declared.bank.Id.{Id}
 use Rattle.clause_form.specs.Seen.{clause_at, NameClauses}
-use Rattle.clause_form.proofs.Copying.{NamesClause-grows}
 use Rattle.clause_resolve.specs.declared.resolving.Resolved.{Resolved}
 use Rattle.clause_resolve.specs.declared.resolving.Resolved.TheVariants as resolving
 use Rattle.clause_saturate.specs.declared.log.Entry.{Entry}
@@ -31,8 +30,10 @@ use Rattle.clause_saturate.specs.Logs.{IsSolvedAt, IsOrigin, TellEntries, TellLo
 use Rattle.clause_saturate.specs.Fit.{AreFit}
 use Rattle.clause_saturate.specs.Beating.{clauses_of, IsOfferMade}
 use Rattle.clause_saturate.proofs.Fitting.{walked_grows}
-use Rattle.clause_saturate.specs.Pairs.{major, minor, IsDuePair, NoDuePair, IsPairFound, GivesAnswer, IsMadeBy, IsFoundFor, AreSameOrMore}
+use Rattle.clause_saturate.specs.Live.{AreListed}
+use Rattle.clause_saturate.specs.Pairs.{major, minor, IsDuePair, NoDuePair, NoDuePairs, IsFirstPair, GivesAnswer, IsMadeBy, IsFoundFor, AreSameOrMore}
 use Rattle.clause_saturate.specs.Walked.{Task, IsAsked, IsAt, IsWalked}
+use Rattle.clause_saturate.proofs.Listing.{same_clause}
 use Rattle.clause_saturate.proofs.Telling.{log_length, unbeaten_none, none_unbeaten, IsSolvedAt-push, TellLog-grows}
 use Rattle.clause_saturate.proofs.Stepping.{IsNextLog, asked_on, asked_moved, offer_step, due_step}
 
@@ -154,6 +155,7 @@ moved all task walk m i n log order at up_to = (
     is_task = at.is_task;
     budget = at.budget;
     tell = at.tell;
+    listed = at.listed;
     up_to = up_to;
     within = at.within;
     reached = at.reached;
@@ -169,6 +171,32 @@ behind all task walk m i w = let next : suc i ≡ i + 1 = omega arith in subst (
 pub undue_step : (all : List Term) (task : Task) (walk : Walk) (m i : ℕ) → i < m → NoDuePair all walk.items.items m i → IsWalked all task walk (key m i 1) → IsWalked all task walk (key m (i + 1) 1)
 undue_step all task walk m i order none (log, at) =
     behind all task walk m i (moved all task walk m i 0 log order at (pair_undue task.given at.is_task.some log m i order at.up_to (undue all log walk.items.items m i at.tell none)))
+
+pub passed_by : (all : List Term) (task : Task) (walk : Walk) (m i j : ℕ) → i ≤ j → j ≤ m → NoDuePairs all walk.items.items m i j → IsWalked all task walk (key m i 1) → IsWalked all task walk (key m j 1)
+passed_by all task walk m i j order within none w =
+    let there : i + (j - i) ≡ j = omega (arith, order) in
+    subst (λ k. IsWalked all task walk (key m k 1)) there (go (j - i) (omega (arith, there, within)) (λ k from to. none k from (omega (arith, to, there))))
+  where
+    go : (n : ℕ) → i + n ≤ m → ((k : ℕ) → i ≤ k → k < i + n → NoDuePair all walk.items.items m k) → IsWalked all task walk (key m (i + n) 1)
+    go zero within none = let here : i ≡ i + 0 = omega arith in subst (λ k. IsWalked all task walk (key m k 1)) here w
+    go (suc n) within none =
+        let next : i + n + 1 ≡ i + suc n = omega arith in
+        subst (λ k. IsWalked all task walk (key m k 1)) next
+        (undue_step all task walk m (i + n) (omega (arith, within)) (none (i + n) (omega arith) (omega arith)) (go n (omega (arith, within)) (λ k from to. none k from (omega (arith, to)))))
+
+-- up to the next due pair
+pub next_walked : (all : List Term) (task : Task) (walk : Walk) (m i : ℕ) (pair : Pair) → IsFirstPair all walk.items.items m i pair → IsWalked all task walk (key m i 1) → IsWalked all task walk (key (major pair) (minor pair) 1)
+next_walked all task walk m i pair first w =
+    let order = first.due.order in
+    subst (λ k. IsWalked all task walk (key k (minor pair) 1)) (sym first.due.is_later) (passed_by all task walk m i (minor pair) first.from_there (omega (arith, order)) first.none w)
+
+pub next_due : (all : List Term) (entries : List Entry) (m i : ℕ) (pair : Pair) → IsFirstPair all entries m i pair → IsDuePair all entries (major pair) (minor pair) pair
+next_due all entries m i pair first = subst (λ k. IsDuePair all entries k (minor pair) pair) (sym first.due.is_later) first.due
+
+-- and on behind it
+pub next_passed : (all now : List Term) (task : Task) (old walk : Walk) (m i k : ℕ) (pair : Pair) → IsFirstPair all old.items.items m i pair → k ≡ minor pair + 1 → IsWalked now task walk (key (major pair) (minor pair + 1) 1) → IsWalked now task walk (key m k 1)
+next_passed all now task old walk m i k pair first is w =
+    subst (λ j. IsWalked now task walk (key m j 1)) (sym is) (subst (λ j. IsWalked now task walk (key j (minor pair + 1) 1)) first.due.is_later w)
 
 -- and one whose facts have no unifier
 pub apart_step : (all : List Term) (task : Task) (walk : Walk) (pair : Pair) → GivesAnswer all walk.items.items pair NoUnifier → IsWalked all task walk (key (major pair) (minor pair) 1) → IsWalked all task walk (key (major pair) (minor pair + 1) 1)
@@ -230,15 +258,15 @@ resolvent_origin pair k = Resolvent (k + 1) pair.solved pair.unsolved
 
 -- one more is offered
 pub offering_step : (all : List Term) (task : Task) (old new : Walk) (pair : Pair) (clauses : List (Clause Id)) (k : ℕ) (c : Clause Id) → IsOffering all task old pair clauses k → c ≡ get_or clauses k c → k < length clauses → (new.budget ≡ old.budget) × (new.asked ≡ old.asked)
-    → ((log : List offered.Entry) (at : Key) → TellLog all old.items.items log → IsOrigin log (resolvent_origin pair k) at → IsOfferMade all log old.items.items new.items.items old.budget (record { key = at; clause = clause_at all c }) None) → IsOffering all task new pair clauses (k + 1)
-offering_step all task old new pair clauses k c o is within kept made =
+    → AreListed all new.items.items new.live → ((log : List offered.Entry) (at : Key) → TellLog all old.items.items log → IsOrigin log (resolvent_origin pair k) at → IsOfferMade all log old.items.items new.items.items old.budget (record { key = at; clause = clause_at all c }) None) → IsOffering all task new pair clauses (k + 1)
+offering_step all task old new pair clauses k c o is within kept listed made =
     let m = major pair in
     let i = minor pair in
     let e : offered.Entry = record { key = key m i (suc k); clause = clause_at all c } in
     let number : suc k ≡ k + 1 = omega arith in
     let origin : IsOrigin o.log (resolvent_origin pair k) (key m i (suc k)) = (ap (λ j. key m i j) number, o.solved) in
     let offered_there = resolvent_offered task.given o.log m i (suc k) o.resolvents (clause_at all c) o.gives (named_number all clauses o.resolvents k c o.name.are is within) in
-    let went = offer_step all task old new o.log e o.at offered_there kept.0
+    let went = offer_step all task old new o.log e o.at offered_there kept.0 listed
     (λ after n. subst (IsAsked task.given (next e.key) after) (sym kept.1) (asked_on task.given o.log after e old.asked (λ t same. no_goal t o.order (parts_of_key (goal_key task.given t) (key m i (suc k)) same)) n o.at.asked)) (made o.log (key m i (suc k)) o.at.tell origin) in
     record {
       log = went.0;
@@ -332,17 +360,6 @@ pub found_same : (all now : List Term) (xs ys : List Entry) (pair : Pair) (found
 found_same all now xs ys pair found same h = subst (λ (es : List Entry). IsFoundFor all now es pair found) same h
 
 -- as the bank grows, a due pair stays one, with what it gives
-same_clause : (a b : List Term) (entries : List Entry) (n : ℕ) (x : Entry) → Grows a b → AreFit a (clauses_of entries) → numbered entries n ≡ Some x → clause_at b x.clause ≡ clause_at a x.clause
-same_clause a b entries zero x grows fit at = cc
-same_clause a b entries (suc k) x grows fit at = go entries k fit at
-  where
-    go : (es : List Entry) (k : ℕ) → AreFit a (clauses_of es) → slice_get es k ≡ Some x → clause_at b x.clause ≡ clause_at a x.clause
-    go [] k fit at = cc
-    go (e ∷ es) zero fit at =
-        let same : e ≡ x = cc in
-        subst (λ (z : Entry). clause_at b z.clause ≡ clause_at a z.clause) same (NamesClause-grows a b e.clause (clause_at a e.clause) grows (record { known = fit.0.known; is = refl })).is
-    go (e ∷ es) (suc k) fit at = go es k fit.1 at
-
 pub made_grows : (a b : List Term) (entries : List Entry) (pair : Pair) (clauses : List (Clause Id)) → Grows a b → IsMadeBy a b entries pair clauses → AreFit a (clauses_of entries) → IsMadeBy b b entries pair clauses
 made_grows a b entries pair clauses grows made fit =
     let due = made.gives.due in
@@ -384,8 +401,3 @@ too_large_step all now task walk pair xs found is grows same h w =
 
 pub made_step : (all now : List Term) (pair : Pair) (xs ys : List Entry) (found : Resolved) (clauses : List (Clause Id)) → found ≡ resolving.Clauses clauses → xs ≡ ys → IsFoundFor all now xs pair found → IsMadeBy all now ys pair clauses
 made_step all now pair xs ys found clauses is same h = subst (λ (f : Resolved). IsFoundFor all now ys pair f) is (found_same all now xs ys pair found same h)
-
-pub none_step : (all : List Term) (task : Task) (walk : Walk) (m i : ℕ) (xs : List Entry) (found : Option Pair) → i < m → found ≡ None → xs ≡ walk.items.items → IsPairFound all xs m i found → IsWalked all task walk (key m i 1) → IsWalked all task walk (key m (i + 1) 1)
-none_step all task walk m i xs found order is same h w =
-    let none : NoDuePair all xs m i = subst (λ (o : Option Pair). IsPairFound all xs m i o) is h in
-    undue_step all task walk m i order (subst (λ (es : List Entry). NoDuePair all es m i) same none) w

@@ -16,6 +16,7 @@ use Rattle.clause_saturate.specs.declared.walk.Walk.{Walk}
 use Rattle.clause_saturate.specs.declared.walk.Stop.{Stop}
 use Rattle.clause_saturate.specs.Logs.{IsOrigin, TellLog, IsClosedLog, IsSpentLog}
 use Rattle.clause_saturate.specs.Beating.{IsOfferMade}
+use Rattle.clause_saturate.specs.Live.{AreListed}
 use Rattle.clause_saturate.specs.Walked.{Task, IsTask, IsAsked, IsAt, IsWalked, HasOffered, HasPassed, behind_goal}
 use Rattle.clause_saturate.proofs.Telling.{log_length}
 
@@ -52,28 +53,30 @@ asked_moved given from to log true ascends none was = (was.0, ascends (goal_key 
 asked_moved given from to log false ascends none was = λ t h ends. was t (none t h) ends
 
 -- one offer of the walk
-pub offer_step : (all : List Term) (task : Task) (old new : Walk) (log : List offered.Entry) (e : offered.Entry) → IsAt all task old e.key log → IsOffered task.given log e → new.budget ≡ old.budget → ((after : List offered.Entry) → IsNextLog log e after → IsAsked task.given (next e.key) after new.asked)
+pub offer_step : (all : List Term) (task : Task) (old new : Walk) (log : List offered.Entry) (e : offered.Entry) → IsAt all task old e.key log → IsOffered task.given log e → new.budget ≡ old.budget → AreListed all new.items.items new.live → ((after : List offered.Entry) → IsNextLog log e after → IsAsked task.given (next e.key) after new.asked)
     → IsOfferMade all log old.items.items new.items.items old.budget e None → (after : List offered.Entry) × IsNextLog log e after × IsAt all task new (next e.key) after
-offer_step all task old new log e at offered same asked (inl covered) = (
+offer_step all task old new log e at offered same listed asked (inl covered) = (
   log,
   inl refl,
   record {
     is_task = at.is_task;
     budget = same ∙ at.budget;
     tell = subst (λ (xs : List Entry). TellLog all xs log) (sym covered.1) at.tell;
+    listed = listed;
     up_to = skipped task.given log e at.up_to offered covered.0;
     within = at.within;
     reached = at.reached;
     asked = asked log (inl refl);
   },
 )
-offer_step all task old new log e at offered same asked (inr added) = (
+offer_step all task old new log e at offered same listed asked (inr added) = (
   log ++ e ∷ [],
   inr refl,
   record {
     is_task = at.is_task;
     budget = same ∙ at.budget;
     tell = added.tell;
+    listed = listed;
     up_to = pushed task.given log e at.up_to offered added.uncovered;
     within = (let room = added.room in let budget = at.budget in let count : length (log ++ e ∷ []) ≡ length log + 1 = length-append log (e ∷ []) in omega (arith, room, budget, count));
     reached = (let reached = at.reached in let count : length (log ++ e ∷ []) ≡ length log + 1 = length-append log (e ∷ []) in omega (arith, reached, count));
@@ -105,13 +108,14 @@ due_step all task old new log e due at offered made =
     }
 
 -- the walk begins before the first given clause
-pub walk_begins : (all : List Term) (task : Task) (walk : Walk) → IsTask task → walk.items.items ≡ [] → walk.budget ≡ task.budget → walk.asked ≡ false → IsWalked all task walk (key 0 0 1)
-walk_begins all task walk is_task none budget asked = (
+pub walk_begins : (all : List Term) (task : Task) (walk : Walk) → IsTask task → walk.items.items ≡ [] → walk.budget ≡ task.budget → walk.asked ≡ false → AreListed all walk.items.items walk.live → IsWalked all task walk (key 0 0 1)
+walk_begins all task walk is_task none budget asked listed = (
   [],
   record {
     is_task = is_task;
     budget = budget;
     tell = subst (λ (xs : List Entry). TellLog all xs []) (sym none) tt;
+    listed = listed;
     up_to = begun task.given is_task.some;
     within = omega arith;
     reached = omega arith;
@@ -124,16 +128,16 @@ walk_begins all task walk is_task none budget asked = (
 
 -- a given clause but the last is offered
 pub given_step : (all : List Term) (task : Task) (old new : Walk) (k : ℕ) (c : Clause Term) (due : Option Entry) → IsWalked all task old (key 0 0 k) → k < length task.given → numbered task.given k ≡ Some c → (new.budget ≡ old.budget) × (new.asked ≡ old.asked)
-    → ((log : List offered.Entry) → TellLog all old.items.items log → IsOfferMade all log old.items.items new.items.items old.budget (record { key = key 0 0 k; clause = c }) due) → HasOffered all task new (key 0 0 (suc k)) due
-given_step all task old new k c None (log, at) few is kept made =
+    → AreListed all new.items.items new.live → ((log : List offered.Entry) → TellLog all old.items.items log → IsOfferMade all log old.items.items new.items.items old.budget (record { key = key 0 0 k; clause = c }) due) → HasOffered all task new (key 0 0 (suc k)) due
+given_step all task old new k c None (log, at) few is kept listed made =
     let e : offered.Entry = record { key = key 0 0 k; clause = c } in
-    let went = offer_step all task old new log e at (inl (record { number = k; no_goal = few; at = refl; clause = is })) kept.0
+    let went = offer_step all task old new log e at (inl (record { number = k; no_goal = few; at = refl; clause = is })) kept.0 listed
     (λ after n. subst (IsAsked task.given (key 0 0 (suc k)) after) (sym kept.1) (asked_on task.given log after e old.asked (λ t same. apart t few (parts_of_key (goal_key task.given t) (key 0 0 k) same).2) n at.asked)) (made log at.tell) in
     (went.0, went.2)
   where
     apart : (t : ℕ) → k < length task.given → length task.given ≡ k → ⊥
     apart t few same = omega (arith, few, same)
-given_step all task old new k c (Some due) (log, at) few is kept made =
+given_step all task old new k c (Some due) (log, at) few is kept listed made =
     due_step all task old new log (record { key = key 0 0 k; clause = c }) due at (inl (record { number = k; no_goal = few; at = refl; clause = is })) (made log at.tell)
 
 -- the goal is passed by, where it was due before or the entries don't end
@@ -144,6 +148,7 @@ goal_step_past all task walk turn (log, at) why = (
     is_task = at.is_task;
     budget = at.budget;
     tell = at.tell;
+    listed = at.listed;
     up_to = goal_passed task.given at.is_task.some log turn (not_first why) at.up_to;
     within = at.within;
     reached = at.reached;
@@ -214,13 +219,13 @@ goal_due all task walk turn goal (log, at) unasked few is_goal =
         ∙ (ap length (below_push (goal_key task.given turn) log (record { key = goal_key task.given turn; clause = goal }) (self_not_before (goal_key task.given turn))) ∙ (ap length whole ∙ size))
 
 pub goal_step : (all : List Term) (task : Task) (old new : Walk) (turn : ℕ) (goal : Clause Term) (due : Option Entry) → IsWalked all task old (goal_key task.given turn) → old.asked ≡ false → length old.items.items ≤ turn → numbered task.given (length task.given) ≡ Some goal → new.budget ≡ old.budget → new.asked ≡ true
-    → ((log : List offered.Entry) → TellLog all old.items.items log → IsOfferMade all log old.items.items new.items.items old.budget (record { key = goal_key task.given turn; clause = goal }) due) → HasOffered all task new (behind_goal task.given turn) due
-goal_step all task old new turn goal None w unasked few is_goal budget asked made =
+    → AreListed all new.items.items new.live → ((log : List offered.Entry) → TellLog all old.items.items log → IsOfferMade all log old.items.items new.items.items old.budget (record { key = goal_key task.given turn; clause = goal }) due) → HasOffered all task new (behind_goal task.given turn) due
+goal_step all task old new turn goal None w unasked few is_goal budget asked listed made =
     let g = goal_due all task old turn goal w unasked few is_goal in
     let e : offered.Entry = record { key = goal_key task.given turn; clause = goal } in
-    let went = offer_step all task old new g.log e g.at g.offered_there budget (λ after n. subst (IsAsked task.given (behind_goal task.given turn) after) (sym asked) (turn, before_next (goal_key task.given turn), g.ends after n)) (made g.log g.at.tell) in
+    let went = offer_step all task old new g.log e g.at g.offered_there budget listed (λ after n. subst (IsAsked task.given (behind_goal task.given turn) after) (sym asked) (turn, before_next (goal_key task.given turn), g.ends after n)) (made g.log g.at.tell) in
     (went.0, went.2)
-goal_step all task old new turn goal (Some due) w unasked few is_goal budget asked made =
+goal_step all task old new turn goal (Some due) w unasked few is_goal budget asked listed made =
     let g = goal_due all task old turn goal w unasked few is_goal in
     due_step all task old new g.log (record { key = goal_key task.given turn; clause = goal }) due g.at g.offered_there (made g.log g.at.tell)
 
@@ -235,6 +240,7 @@ turn_ends_step all task walk turn earlier some last w = go (subst (λ i. IsWalke
         is_task = at.is_task;
         budget = at.budget;
         tell = at.tell;
+        listed = at.listed;
         up_to = turn_ends task.given at.is_task.some log turn some at.up_to;
         within = at.within;
         reached = at.reached;
@@ -258,6 +264,7 @@ turn_begins_step all task walk turn more (log, at) =
         is_task = at.is_task;
         budget = at.budget;
         tell = at.tell;
+        listed = at.listed;
         up_to = turn_begins task.given at.is_task.some log turn at.up_to;
         within = at.within;
         reached = (let count = log_length all walk.items.items log at.tell in omega (arith, count, more));

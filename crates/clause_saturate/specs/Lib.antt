@@ -2,6 +2,7 @@ pub mod Codes
 pub mod Fit
 pub mod Logs
 pub mod Beating
+pub mod Live
 pub mod Walked
 pub mod Pairs
 pub mod Plain

@@ -1,5 +1,5 @@
 -- Pairs of entries, and what they give.
-use Rattle.std.specs.Prelude.{◌≡◌, ◌⊎◌, ℕ, ◌<◌, min, max, true, false, Option, Some, None, List, length}
+use Rattle.std.specs.Prelude.{◌≡◌, ◌⊎◌, ℕ, ◌<◌, ◌≤◌, min, max, true, false, Option, Some, None, List, length}
 use Rattle.terms.specs.Term.{Term}
 use Rattle.calculus.specs.Points.{numbered}
 use Rattle.clauses.specs.Fact as horn
@@ -40,9 +40,19 @@ abbrev pub NoDuePair : List Term → List Entry → ℕ → ℕ → Type 0
 NoDuePair all entries later earlier = (last first : Entry) → numbered entries later ≡ Some last → numbered entries earlier ≡ Some first → last.by ≡ None → first.by ≡ None
     → is_solved (clause_at all last.clause).hypotheses ≡ is_solved (clause_at all first.clause).hypotheses
 
-abbrev pub IsPairFound : List Term → List Entry → ℕ → ℕ → Option Pair → Type 0
-IsPairFound all entries later earlier None = NoDuePair all entries later earlier
-IsPairFound all entries later earlier (Some pair) = IsDuePair all entries later earlier pair
+-- none of the entries from one number on and before another is in a due pair with the later one
+abbrev pub NoDuePairs : List Term → List Entry → ℕ → ℕ → ℕ → Type 0
+NoDuePairs all entries later from to = (earlier : ℕ) → from ≤ earlier → earlier < to → NoDuePair all entries later earlier
+
+-- the first due pair of the later entry with one from a number on, if there is one
+pub record IsFirstPair (all : List Term) (entries : List Entry) (later from : ℕ) (pair : Pair) : Type 0 where
+  pub due : IsDuePair all entries later (minor pair) pair
+  pub from_there : from ≤ minor pair
+  pub none : NoDuePairs all entries later from (minor pair)
+
+abbrev pub IsNextPair : List Term → List Entry → ℕ → ℕ → Option Pair → Type 0
+IsNextPair all entries later from None = NoDuePairs all entries later from later
+IsNextPair all entries later from (Some pair) = IsFirstPair all entries later from pair
 
 -- the due pair gives the answer on the selected hypothesis
 pub record GivesAnswer (all : List Term) (entries : List Entry) (pair : Pair) (answer : Answer) : Type 0 where

@@ -14,6 +14,7 @@ use Rattle.clause_saturate.specs.declared.walk.Walk.{Walk}
 use Rattle.clause_saturate.specs.declared.walk.Stop.{Stop}
 use Rattle.clause_saturate.specs.declared.walk.Stop.TheVariants.{Spent, Large}
 use Rattle.clause_saturate.specs.Logs.{TellLog, IsClosedLog, IsSpentLog, IsLargeLog}
+use Rattle.clause_saturate.specs.Live.{AreListed}
 
 -- what is saturated: the given clauses, and how many entries there may be
 pub record Task : Type 0 where
@@ -31,11 +32,12 @@ abbrev pub IsAsked : List (Clause Term) → Key → List offered.Entry → Bool 
 IsAsked given at log true = (turn : ℕ) × (is_before (goal_key given turn) at ≡ true) × EndsAt given log turn
 IsAsked given at log false = (turn : ℕ) → is_before (goal_key given turn) at ≡ true → EndsAt given log turn → ⊥
 
--- the walk has come to the key, and this is the log up to there
+-- the walk has come to the key, this is the log up to there, and its live entries are listed
 pub record IsAt (all : List Term) (task : Task) (walk : Walk) (at : Key) (log : List offered.Entry) : Type 0 where
   pub is_task : IsTask task
   pub budget : walk.budget ≡ task.budget
   pub tell : TellLog all walk.items.items log
+  pub listed : AreListed all walk.items.items walk.live
   pub up_to : IsLogUpTo task.given (Some at) log
   pub within : length log ≤ task.budget
   pub reached : at.major ≤ length log

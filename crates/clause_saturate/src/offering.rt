@@ -1,16 +1,19 @@
 //! Clauses that are offered to a log.
 
-ghost use Rattle.std.specs.Prelude.{◌≡◌, ◌+◌, ◌<◌, ◌≤◌, Some, None, List, length, IfOk, OnOk, MatchBool};
+ghost use Rattle.std.specs.Prelude.{◌≡◌, ◌+◌, ◌<◌, ◌≤◌, ℕ, Some, None, List, length, filter, IfOk, OnOk, MatchBool};
+ghost use Rattle.clauses.specs.Selection.{is_solved as is_solved_list};
 ghost use Rattle.clauses.specs.Subsumption.{Subsumes};
 ghost use Rattle.saturation.specs.Key.{Key, Entry as EntryOf};
-ghost use Rattle.clause_form.specs.Seen.{clause_at};
+ghost use Rattle.clause_form.specs.Seen.{clause_at, IsClauseIn};
 ghost use Rattle.clause_saturate.specs.Fit.{IsFit, AreFit};
 ghost use Rattle.clause_saturate.specs.Logs.{TellLog, IsOrigin};
 ghost use Rattle.clause_saturate.specs.Beating.{clauses_of, LiveCovers, SomeLiveCovers, BeatsLive, IsMarked, AreMarked, IsPushed, IsOfferMade};
+ghost use Rattle.clause_saturate.specs.Live.{IsAmong, AreListed, is_live_at, IsNumberListed, CoversAmong};
 
 use crate::log::{Entry, Origin};
-use crate::walk::Walk;
+use crate::walk::{Live, Walk};
 use clause_form::Clause;
+use literal_selection::is_solved;
 use multiset_subsume::cover_row;
 use std::alloc::{AllocError, Global};
 use term_tree::Bank;
@@ -53,26 +56,48 @@ fn covers<B: Bank>(
     }
 }
 
-/// Whether a live entry subsumes the clause.
-fn is_covered<B: Bank>(
+/// Whether a live entry of these numbers subsumes the clause.
+fn covers_among<B: Bank>(
     alloc: Global,
     bank: &B,
     entries: &[Entry],
+    numbers: &[usize],
     clause: &Clause,
 ) -> Result<bool, AllocError>
     requires entries { AreFit (B.trees bank.now) (clauses_of entries.now) }
+    requires numbers { (number : ℕ) → IsAmong numbers.now number →
+        (0 < number) × (number ≤ length entries.now) }
     requires clause { IsFit (B.trees bank.now) clause.now }
     ensures { IfOk result (λ yes. MatchBool yes
-        (SomeLiveCovers (B.trees bank.now) entries.now (clause_at (B.trees bank.now) clause.now))
-        (SomeLiveCovers (B.trees bank.now) entries.now (clause_at (B.trees bank.now) clause.now) →
-        ⊥)) }
+        (CoversAmong (B.trees bank.now) entries.now numbers.now
+        (clause_at (B.trees bank.now) clause.now))
+        (CoversAmong (B.trees bank.now) entries.now numbers.now
+        (clause_at (B.trees bank.now) clause.now) → ⊥)) }
 {
-    'each: for entry in entries {
-        if covers(alloc, bank, entry, clause)? {
+    'each: for number in numbers {
+        if covers(alloc, bank, &entries[*number - 1], clause)? {
             return Ok(true);
         }
     }
     Ok(false)
+}
+
+/// Whether a live entry subsumes the clause.
+fn is_covered<B: Bank>(walk: &Walk, bank: &B, clause: &Clause) -> Result<bool, AllocError>
+    requires entries { AreFit (B.trees bank.now) (clauses_of walk.now.items.items) }
+    requires listed { AreListed (B.trees bank.now) walk.now.items.items walk.now.live }
+    requires clause { IsFit (B.trees bank.now) clause.now }
+    ensures { IfOk result (λ yes. MatchBool yes
+        (SomeLiveCovers (B.trees bank.now) walk.now.items.items
+        (clause_at (B.trees bank.now) clause.now))
+        (SomeLiveCovers (B.trees bank.now) walk.now.items.items
+        (clause_at (B.trees bank.now) clause.now) → ⊥)) }
+{
+    if covers_among(walk.alloc, bank, &walk.items, &walk.live.solved, clause)? {
+        return Ok(true);
+    }
+    let found = covers_among(walk.alloc, bank, &walk.items, &walk.live.unsolved, clause)?;
+    Ok(found)
 }
 
 /// Whether the entry is live and the clause subsumes it.
@@ -134,16 +159,90 @@ fn mark_all<B: Bank>(
     Ok(())
 }
 
-/// Adds an entry, and marks those that its clause subsumes.
+/// Marks each live one of the entries that the clause subsumes as subsumed by the entry of that number.
+fn mark_items<B: Bank>(
+    alloc: Global,
+    bank: &B,
+    clause: &Clause,
+    number: usize,
+    items: &mut Vec<Entry>,
+) -> Result<(), AllocError>
+    requires clause { IsFit (B.trees bank.now) clause.now }
+    requires entries { AreFit (B.trees bank.now) (clauses_of items.old.items) }
+    ensures { OnOk result (AreMarked (B.trees bank.now) (clause_at (B.trees bank.now) clause.now)
+        number items.old.items items.new.items) }
+{
+    mark_all(alloc, bank, clause, number, items)?;
+    Ok(())
+}
+
+/// Whether there is an entry of that number, and it is live.
+fn is_live(entries: &[Entry], number: usize) -> bool
+    ensures { result ≡ is_live_at entries.now number }
+{
+    if number == 0 {
+        return false;
+    }
+    if entries.len() < number {
+        return false;
+    }
+    entries[number - 1].by.is_none()
+}
+
+/// Takes the numbers of entries that are live no more off a list.
+fn drop_dead(entries: &[Entry], numbers: &mut Vec<usize>)
+    ensures { numbers.new.items ≡ filter (is_live_at entries.now) numbers.old.items }
+{
+    numbers.retain(|number| is_live(entries, *number));
+}
+
+/// Takes the numbers of entries that are live no more off both lists.
+fn drop_all(entries: &[Entry], live: &mut Live)
+    ensures solved { live.new.solved.items ≡
+        filter (is_live_at entries.now) live.old.solved.items }
+    ensures unsolved { live.new.unsolved.items ≡
+        filter (is_live_at entries.now) live.old.unsolved.items }
+{
+    drop_dead(entries, &mut live.solved);
+    drop_dead(entries, &mut live.unsolved);
+}
+
+/// Puts the number of a new entry at the end of the list of its kind.
+fn list<B: Bank>(
+    live: &mut Live,
+    bank: &B,
+    clause: &Clause,
+    number: usize,
+) -> Result<(), AllocError>
+    requires { IsClauseIn (B.trees bank.now) clause.now }
+    ensures { OnOk result (IsNumberListed
+        (is_solved_list (clause_at (B.trees bank.now) clause.now).hypotheses) number
+        live.old live.new) }
+{
+    if is_solved(bank, clause) {
+        live.solved.push(number)?;
+        return Ok(());
+    }
+    live.unsolved.push(number)?;
+    Ok(())
+}
+
+/// Adds an entry to the log and to the list of its kind, and marks those that its clause subsumes.
 fn add<B: Bank>(walk: &mut Walk, bank: &B, entry: Entry) -> Result<(), AllocError>
     requires entries { AreFit (B.trees bank.now) (clauses_of walk.old.items.items) }
+    requires listed { AreListed (B.trees bank.now) walk.old.items.items walk.old.live }
     requires entry { IsFit (B.trees bank.now) entry.clause }
+    requires live { entry.by ≡ None }
     ensures kept { (walk.new.budget ≡ walk.old.budget) × (walk.new.asked ≡ walk.old.asked) }
     ensures pushed { OnOk result (IsPushed (B.trees bank.now) walk.old.items.items entry
         walk.new.items.items) }
+    ensures listed { OnOk result (AreListed (B.trees bank.now) walk.new.items.items
+        walk.new.live) }
 {
     let number = walk.items.len() + 1;
-    mark_all(walk.alloc, bank, &entry.clause, number, &mut walk.items)?;
+    mark_items(walk.alloc, bank, &entry.clause, number, &mut walk.items)?;
+    drop_all(&walk.items, &mut walk.live);
+    list(&mut walk.live, bank, &entry.clause, number)?;
     walk.items.push(entry)?;
     Ok(())
 }
@@ -157,6 +256,7 @@ pub(crate) fn offer<B: Bank>(
     origin: Origin,
 ) -> Result<Option<Entry>, AllocError>
     requires entries { AreFit (B.trees bank.now) (clauses_of walk.old.items.items) }
+    requires listed { AreListed (B.trees bank.now) walk.old.items.items walk.old.live }
     requires clause { IsFit (B.trees bank.now) clause.now }
     requires within { length walk.old.items.items ≤ walk.old.budget }
     ensures kept { (walk.new.budget ≡ walk.old.budget) × (walk.new.asked ≡ walk.old.asked) }
@@ -165,8 +265,10 @@ pub(crate) fn offer<B: Bank>(
         IfOk result (λ due. IsOfferMade (B.trees bank.now) log walk.old.items.items
         walk.new.items.items walk.old.budget record
         { key = at; clause = clause_at (B.trees bank.now) clause.now } due) }
+    ensures listed { OnOk result (AreListed (B.trees bank.now) walk.new.items.items
+        walk.new.live) }
 {
-    if is_covered(walk.alloc, bank, &walk.items, clause)? {
+    if is_covered(walk, bank, clause)? {
         return Ok(None);
     }
     let clause = clause.copy(walk.alloc)?;

@@ -6,7 +6,8 @@ ghost use Rattle.term_tree.specs.Bank.{Grows};
 ghost use Rattle.clause_resolve.specs.Answers.{LeavesBank};
 ghost use Rattle.clause_saturate.specs.Fit.{AreFit};
 ghost use Rattle.clause_saturate.specs.Beating.{clauses_of};
-ghost use Rattle.clause_saturate.specs.Pairs.{major, minor, IsPairFound, IsDuePair, IsMadeBy, IsFoundFor, AreSameOrMore, IsTidy};
+ghost use Rattle.clause_saturate.specs.Live.{IsAscending, AreListed, IsPartner};
+ghost use Rattle.clause_saturate.specs.Pairs.{major, minor, IsNextPair, IsDuePair, IsMadeBy, IsFoundFor, AreSameOrMore, IsTidy};
 ghost use Rattle.clause_saturate.specs.Walked.{Task, IsWalked, HasOffered, HasPassed};
 
 use crate::log::{Entry, Origin};
@@ -18,38 +19,46 @@ use literal_selection::{is_solved, selected};
 use std::alloc::{AllocError, Global};
 use term_tree::{Bank, Mark};
 
-/// The solved and the unsolved one of two live entries, if one is and the other isn't.
-fn due_pair<B: Bank>(bank: &B, entries: &[Entry], later: usize, earlier: usize) -> Option<Pair>
-    requires entries { AreFit (B.trees bank.now) (clauses_of entries.now) }
-    requires some { 0 < earlier }
-    requires order { earlier < later }
-    requires within { later ≤ length entries.now }
-    ensures { IsPairFound (B.trees bank.now) entries.now later earlier result }
+/// The first of the numbers from one on and before the later one, if there is one.
+fn partner(numbers: &[usize], later: usize, from: usize) -> Option<usize>
+    requires { IsAscending 1 numbers.now }
+    ensures { IsPartner numbers.now later from result }
 {
-    let last = &entries[later - 1];
-    let first = &entries[earlier - 1];
+    let place = numbers.partition_point(|number| *number < from);
+    if place == numbers.len() {
+        return None;
+    }
+    let first = numbers[place];
+    if first < later {
+        return Some(first);
+    }
+    None
+}
+
+/// The next due pair of an entry with an earlier one from a number on, if there is one.
+pub(crate) fn next_pair<B: Bank>(walk: &Walk, bank: &B, later: usize, from: usize) -> Option<Pair>
+    requires entries { AreFit (B.trees bank.now) (clauses_of walk.now.items.items) }
+    requires listed { AreListed (B.trees bank.now) walk.now.items.items walk.now.live }
+    requires some { 0 < later }
+    requires within { later ≤ length walk.now.items.items }
+    ensures { IsNextPair (B.trees bank.now) walk.now.items.items later from result }
+{
+    let last = &walk.items[later - 1];
     if last.by.is_some() {
         return None;
     }
-    if first.by.is_some() {
-        return None;
-    }
     if is_solved(bank, &last.clause) {
-        if is_solved(bank, &first.clause) {
-            return None;
-        }
+        let earlier = partner(&walk.live.unsolved, later, from)?;
         return Some(Pair {
             solved: later,
             unsolved: earlier,
         });
     }
-    if is_solved(bank, &first.clause) {
-        return Some(Pair {
-            solved: earlier,
-            unsolved: later,
-        });
-    }
-    None
+    let earlier = partner(&walk.live.solved, later, from)?;
+    Some(Pair {
+        solved: earlier,
+        unsolved: later,
+    })
 }
 
 /// Offers the resolvents of a due pair in order. The entries are the same then, or there are more.
@@ -142,7 +151,11 @@ fn pair_resolvents<B: Bank>(
 }
 
 /// Resolves a due pair, and offers the resolvents; where none of them is kept, the bank is as before. On `Err` it may have grown.
-fn resolve<B: Bank>(walk: &mut Walk, bank: &mut B, pair: Pair) -> Result<Option<Stop>, AllocError>
+pub(crate) fn resolve<B: Bank>(
+    walk: &mut Walk,
+    bank: &mut B,
+    pair: Pair,
+) -> Result<Option<Stop>, AllocError>
     ghost task: { Task }
     requires walked { IsWalked (B.trees bank.old) task walk.old (key (major pair) (minor pair) 1) }
     requires due { IsDuePair (B.trees bank.old) walk.old.items.items (major pair) (minor pair)
@@ -161,32 +174,5 @@ fn resolve<B: Bank>(walk: &mut Walk, bank: &mut B, pair: Pair) -> Result<Option<
             let stop = keep(walk, bank, mark, pair, &clauses.items)?;
             Ok(stop)
         }
-    }
-}
-
-/// Goes on from a pair of entries to the next: where it is due, its resolvents are offered, and where none of them is
-/// kept, the bank is as before. On `Err` it may have grown.
-pub(crate) fn try_pair<B: Bank>(
-    walk: &mut Walk,
-    bank: &mut B,
-    later: usize,
-    earlier: usize,
-) -> Result<Option<Stop>, AllocError>
-    ghost task: { Task }
-    requires walked { IsWalked (B.trees bank.old) task walk.old (key later earlier 1) }
-    requires some { 0 < earlier }
-    requires order { earlier < later }
-    ensures grows { Grows (B.trees bank.old) (B.trees bank.new) }
-    ensures passed { IfOk result (λ stop. HasPassed (B.trees bank.new) task walk.new
-        (key later (earlier + 1) 1) stop) }
-    ensures tidy { IfOk result (λ stop. IsTidy (B.trees bank.old) (B.trees bank.new)
-        walk.old.items.items walk.new.items.items stop) }
-{
-    match due_pair(bank, &walk.items, later, earlier) {
-        Some(pair) => {
-            let stop = resolve(walk, bank, pair)?;
-            Ok(stop)
-        }
-        None => Ok(None),
     }
 }

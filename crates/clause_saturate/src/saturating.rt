@@ -13,8 +13,8 @@ ghost use Rattle.clause_saturate.specs.Walked.{Task, IsWalked, HasOffered, HasPa
 
 use crate::log::{Entry, Log, Origin, Saturated};
 use crate::offering::offer;
-use crate::pairs::try_pair;
-use crate::walk::{Stop, Walk};
+use crate::pairs::{next_pair, resolve};
+use crate::walk::{Live, Stop, Walk};
 use clause_form::Clause;
 use std::alloc::{AllocError, Global};
 use term_tree::Bank;
@@ -81,12 +81,12 @@ fn pass<B: Bank>(walk: &mut Walk, bank: &mut B, turn: usize) -> Result<Option<St
         (goal_key task.given turn) stop) }
 {
     let mut earlier = 1;
-    'each: while earlier < turn {
-        match try_pair(walk, bank, turn, earlier)? {
+    'each: while let Some(pair) = next_pair(walk, bank, turn, earlier) {
+        match resolve(walk, bank, pair)? {
             Some(stop) => return Ok(Some(stop)),
             None => {}
         }
-        earlier += 1;
+        earlier = pair.solved.min(pair.unsolved) + 1;
     }
     Ok(None)
 }
@@ -173,6 +173,10 @@ pub fn saturate<B: Bank>(
     let mut walk = Walk {
         alloc,
         items: Vec::new(alloc),
+        live: Live {
+            solved: Vec::new(alloc),
+            unsolved: Vec::new(alloc),
+        },
         budget,
         asked: false,
     };

@@ -3,11 +3,19 @@
 use crate::log::Entry;
 use std::alloc::Global;
 
-/// The log so far, how many entries it may have, and whether the goal was due.
+/// The numbers of the live entries, ascending: of those that are solved, and of the others.
+#[derive(Drop)]
+pub(crate) struct Live {
+    pub solved: Vec<usize>,
+    pub unsolved: Vec<usize>,
+}
+
+/// The log so far, its live entries, how many entries it may have, and whether the goal was due.
 #[derive(Drop)]
 pub(crate) struct Walk {
     pub alloc: Global,
     pub items: Vec<Entry>,
+    pub live: Live,
     pub budget: u64,
     pub asked: bool,
 }

@@ -1,5 +1,5 @@
 use Rattle.std.proofs.Common.{refl, inl, arith}
-use Rattle.clause_saturate.proofs.Fitting.{resolvents_fit, clause_fit_at, walked_fit, walked_within}
+use Rattle.clause_saturate.proofs.Fitting.{resolvents_fit, clause_fit_at, walked_fit, walked_listed, walked_within}
 use Rattle.clause_saturate.proofs.Pairing.{offering_begins, offering_walked, offering_step, offering_due, offering_ends, step_made, offer_kept, more_on}
 use Rattle.clause_saturate.proofs.pairs.offer_resolvents.Goals as goal
 
@@ -18,6 +18,11 @@ pub offer-requires-clause-entries : goal.offer-requires-clause-entries
 offer-requires-clause-entries g c =
     let all = g.B.Bank.trees c.args.bank.now in
     walked_fit all g.task c.each.walk _ (offering_walked all g.task c.each.walk c.args.pair c.args.clauses.now c.each.k c.each.invariant.offering)
+
+pub offer-requires-clause-listed : goal.offer-requires-clause-listed
+offer-requires-clause-listed g c =
+    let all = g.B.Bank.trees c.args.bank.now in
+    walked_listed all g.task c.each.walk _ (offering_walked all g.task c.each.walk c.args.pair c.args.clauses.now c.each.k c.each.invariant.offering)
 
 pub offer-requires-clause-clause : goal.offer-requires-clause-clause
 offer-requires-clause-clause g c = clause_fit_at (g.B.Bank.trees c.args.bank.now) c.args.clauses.now c.each.k c.index-clauses-k.result c.index-clauses-k.is c.each.invariant.fit c.each-test.true
@@ -45,7 +50,7 @@ each-preserved g c =
     record {
       within = omega arith;
       fit = c.each.invariant.fit;
-      offering = offering_step all g.task c.each.walk c.offer.new.walk c.args.pair c.args.clauses.now c.each.k c.index-clauses-k.result c.each.invariant.offering c.index-clauses-k.is c.each-test.true c.in_ok-due.ensures.kept
+      offering = offering_step all g.task c.each.walk c.offer.new.walk c.args.pair c.args.clauses.now c.each.k c.index-clauses-k.result c.each.invariant.offering c.index-clauses-k.is c.each-test.true c.in_ok-due.ensures.kept c.in_ok-due.ensures.listed
           (step_made all c.each.walk c.offer.new.walk c.args.pair c.each.k c.index-clauses-k.result c.in_ok-due.field-0 _ c.in-None.is c.in_ok-due.ensures.made);
       kept = more_on c.args.walk.now.items.items c.each.walk.items.items c.offer.new.walk.items.items c.each.invariant.kept
           (offer_kept all g.task c.each.walk c.offer.new.walk c.args.pair c.args.clauses.now c.each.k c.index-clauses-k.result c.in_ok-due.field-0 c.each.invariant.offering c.in_ok-due.ensures.made);

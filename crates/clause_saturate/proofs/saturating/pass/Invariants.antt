@@ -1,15 +1,14 @@
-use Rattle.std.proofs.Common.{◌-◌, ◌<◌, ◌≤◌}
+use Rattle.std.proofs.Common.{◌-◌, ◌≤◌}
 use Rattle.saturation.specs.Key.{key}
 use Rattle.term_tree.specs.Bank.{Grows}
 use Rattle.clause_saturate.specs.Walked.{IsWalked}
 use Rattle.clause_saturate.proofs.saturating.pass.Given as goal
 
-abbrev pub ghost-try_pair : goal.ghost-try_pair
-ghost-try_pair g a = g.task
+abbrev pub ghost-resolve : goal.ghost-resolve
+ghost-resolve g a = g.task
 
 abbrev pub invariant-each : goal.invariant-each
 invariant-each g l = record {
-  some : 0 < l.earlier;
   within : l.earlier ≤ l.turn;
   grows : Grows (g.B.Bank.trees l.fn.bank) (g.B.Bank.trees l.bank);
   walked : IsWalked (g.B.Bank.trees l.bank) g.task l.walk (key l.turn l.earlier 1);

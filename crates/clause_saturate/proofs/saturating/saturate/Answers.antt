@@ -2,6 +2,7 @@ use Rattle.std.proofs.Common.{◌≡◌, [], false, map, refl, rules}
 use Rattle.clause_form.specs.Seen.{clause_at}
 use Rattle.clause_saturate.specs.Walked.{Task}
 use Rattle.clause_saturate.proofs.Fitting.{fit_task}
+use Rattle.clause_saturate.proofs.Listing.{none_listed}
 use Rattle.clause_saturate.proofs.Stepping.{walk_begins}
 use Rattle.clause_saturate.proofs.saturating.saturate.Goals as goal
 
@@ -10,7 +11,9 @@ run-requires g c = λ κs h. (
     let all = g.B.Bank.trees c.args.bank.now in
     let task : Task = record { given = map (clause_at all) c.args.given.now; budget = c.args.budget } in
     let none : c.new.result.items ≡ [] = search rules in
-    (h, (refl, (c.requires.fit, walk_begins all task (record { alloc = c.args.alloc; items = c.new.result; budget = c.args.budget; asked = false }) (fit_task all c.args.given.now c.args.budget c.requires.some c.requires.fit) none refl refl))))
+    let first : c.new-2.result.items ≡ [] = search rules in
+    let second : c.new-3.result.items ≡ [] = search rules in
+    (h, (refl, (c.requires.fit, walk_begins all task (record { alloc = c.args.alloc; items = c.new.result; live = record { solved = c.new-2.result; unsolved = c.new-3.result }; budget = c.args.budget; asked = false }) (fit_task all c.args.given.now c.args.budget c.requires.some c.requires.fit) none refl refl (none_listed all c.new.result.items (record { solved = c.new-2.result; unsolved = c.new-3.result }) none first second)))))
 
 pub returns-in-Ok-clause-log : goal.returns-in-Ok-clause-log
 returns-in-Ok-clause-log g c =

@@ -1,0 +1,301 @@
+-- The lists of live entries: as the bank grows, as entries are marked, and with an entry more.
+use Rattle.std.proofs.Common.{◌≡◌, ◌⊎◌, ◌∙◌, ℕ, zero, suc, ◌+◌, ◌<◌, ◌≤◌, Bool, true, false, Option, Some, None, List, [], ◌∷◌, ◌++◌, length, filter, refl, ap, sym, subst, inl, inr, arith}
+use Rattle.std.specs.Prelude.{slice_get}
+use Rattle.terms.specs.Term.{Term}
+use Rattle.calculus.specs.Points.{numbered}
+use Rattle.clauses.specs.Fact.{Clause}
+use Rattle.clauses.specs.Selection.{is_solved}
+use Rattle.saturation.proofs.Places.{numbered_within}
+use Rattle.term_tree.specs.Bank.{Grows}
+use Rattle.clause_form.specs.Seen.{clause_at}
+use Rattle.clause_form.proofs.Copying.{NamesClause-grows}
+use Rattle.clause_saturate.specs.declared.log.Entry.{Entry}
+use Rattle.clause_saturate.specs.declared.walk.Live.{Live}
+use Rattle.clause_saturate.specs.Fit.{AreFit}
+use Rattle.clause_saturate.specs.Logs.{is_unbeaten}
+use Rattle.clause_saturate.specs.Beating.{clauses_of, IsMarked, AreMarked}
+use Rattle.clause_saturate.specs.Live.{IsAmong, IsAscending, IsLiveAt, AreNumbersOf, AreListed, is_live_entry, is_live_at, IsNumberListed}
+
+-- numbers that ascend from a number ascend from a lesser one
+from_less : (less least : ℕ) (ns : List ℕ) → less ≤ least → IsAscending least ns → IsAscending less ns
+from_less less least [] order up = tt
+from_less less least (m ∷ ns) order up = (let first = up.0 in omega (arith, first, order), up.1)
+
+-- those that pass a test ascend too
+filter_ascends : (p : ℕ → Bool) (least : ℕ) (ns : List ℕ) → IsAscending least ns → IsAscending least (filter p ns)
+filter_ascends p least [] up = tt
+filter_ascends p least (m ∷ ns) up = go (p m) refl (filter_ascends p (suc m) ns up.1)
+  where
+    go : (b : Bool) → p m ≡ b → IsAscending (suc m) (filter p ns) → IsAscending least (filter p (m ∷ ns))
+    go true e h = rw e (up.0, h)
+    go false e h = rw e (from_less least (suc m) (filter p ns) (let first = up.0 in omega (arith, first)) h)
+
+among_filter : (p : ℕ → Bool) (ns : List ℕ) (n : ℕ) → IsAmong ns n → p n ≡ true → IsAmong (filter p ns) n
+among_filter p [] n among told = absurd among
+among_filter p (m ∷ ns) n (inl same) told = (let first : p m ≡ true = ap p same ∙ told in rw first (inl same))
+among_filter p (m ∷ ns) n (inr rest) told = go (p m) refl (among_filter p ns n rest told)
+  where
+    go : (b : Bool) → p m ≡ b → IsAmong (filter p ns) n → IsAmong (filter p (m ∷ ns)) n
+    go true e h = rw e (inr h)
+    go false e h = rw e h
+
+filter_among : (p : ℕ → Bool) (ns : List ℕ) (n : ℕ) → IsAmong (filter p ns) n → IsAmong ns n × (p n ≡ true)
+filter_among p [] n among = absurd among
+filter_among p (m ∷ ns) n among = go (p m) refl among (filter_among p ns n)
+  where
+    go : (b : Bool) → p m ≡ b → IsAmong (filter p (m ∷ ns)) n → (IsAmong (filter p ns) n → IsAmong ns n × (p n ≡ true)) → IsAmong (m ∷ ns) n × (p n ≡ true)
+    go true e h later =
+        let kept : (m ≡ n) ⊎ IsAmong (filter p ns) n = rw e at h in
+        elim kept as (λ _. IsAmong (m ∷ ns) n × (p n ≡ true)) [
+          | inl same ↦ (inl same, ap p (sym same) ∙ e)
+          | inr rest ↦ (inr (later rest).0, (later rest).1)
+        ]
+    go false e h later =
+        let kept : IsAmong (filter p ns) n = rw e at h in
+        (inr (later kept).0, (later kept).1)
+
+-- a number that is greater than all, at the end
+push_ascends : (least : ℕ) (ns : List ℕ) (n : ℕ) → IsAscending least ns → least ≤ n → ((m : ℕ) → IsAmong ns m → m < n) → IsAscending least (ns ++ n ∷ [])
+push_ascends least [] n up order all = (order, tt)
+push_ascends least (m ∷ ns) n up order all = (up.0, push_ascends (suc m) ns n up.1 (all m (inl refl)) (λ k among. all k (inr among)))
+
+among_push : (ns : List ℕ) (m n : ℕ) → IsAmong ns n → IsAmong (ns ++ m ∷ []) n
+among_push [] m n among = absurd among
+among_push (k ∷ ns) m n (inl same) = inl same
+among_push (k ∷ ns) m n (inr rest) = inr (among_push ns m n rest)
+
+among_last : (ns : List ℕ) (n : ℕ) → IsAmong (ns ++ n ∷ []) n
+among_last [] n = inl refl
+among_last (k ∷ ns) n = inr (among_last ns n)
+
+push_among : (ns : List ℕ) (m n : ℕ) → IsAmong (ns ++ m ∷ []) n → IsAmong ns n ⊎ (m ≡ n)
+push_among [] m n (inl same) = inr same
+push_among [] m n (inr rest) = absurd rest
+push_among (k ∷ ns) m n (inl same) = inl (inl same)
+push_among (k ∷ ns) m n (inr rest) = elim (push_among ns m n rest) [
+  | inl among ↦ inl (inr among)
+  | inr last ↦ inr last
+]
+
+-- what has a number has it with an entry more, which gets the next number
+there_push : (es : List Entry) (e : Entry) (n : ℕ) (x : Entry) → numbered es n ≡ Some x → numbered (es ++ e ∷ []) n ≡ Some x
+there_push es e zero x at = cc
+there_push es e (suc k) x at = go es k at
+  where
+    go : (xs : List Entry) (k : ℕ) → slice_get xs k ≡ Some x → slice_get (xs ++ e ∷ []) k ≡ Some x
+    go [] k at = cc
+    go (y ∷ xs) zero at = at
+    go (y ∷ xs) (suc k) at = go xs k at
+
+last_there : (es : List Entry) (e : Entry) (n : ℕ) → n ≡ length es + 1 → numbered (es ++ e ∷ []) n ≡ Some e
+last_there es e zero is = absurd (omega (arith, is))
+last_there es e (suc k) is = go es k (omega (arith, is))
+  where
+    go : (xs : List Entry) (k : ℕ) → k ≡ length xs → slice_get (xs ++ e ∷ []) k ≡ Some e
+    go [] zero is = refl
+    go [] (suc k) is = absurd (omega (arith, is))
+    go (y ∷ xs) zero is = absurd (omega (arith, is))
+    go (y ∷ xs) (suc k) is = go xs k (omega (arith, is))
+
+push_there : (es : List Entry) (e : Entry) (n : ℕ) (x : Entry) → numbered (es ++ e ∷ []) n ≡ Some x → (numbered es n ≡ Some x) ⊎ ((n ≡ length es + 1) × (e ≡ x))
+push_there es e zero x at = cc
+push_there es e (suc k) x at = elim (go es k at) [
+  | inl before ↦ inl before
+  | inr last ↦ inr (let place = last.0 in (omega (arith, place), last.1))
+]
+  where
+    go : (xs : List Entry) (k : ℕ) → slice_get (xs ++ e ∷ []) k ≡ Some x → (slice_get xs k ≡ Some x) ⊎ ((k ≡ length xs) × (e ≡ x))
+    go [] zero at = inr (refl, cc)
+    go [] (suc k) at = cc
+    go (y ∷ xs) zero at = inl at
+    go (y ∷ xs) (suc k) at = elim (go xs k at) [
+      | inl before ↦ inl before
+      | inr last ↦ inr (let place = last.0 in (omega (arith, place), last.1))
+    ]
+
+-- as the bank grows, an entry names what it did
+pub same_clause : (a b : List Term) (entries : List Entry) (n : ℕ) (x : Entry) → Grows a b → AreFit a (clauses_of entries) → numbered entries n ≡ Some x → clause_at b x.clause ≡ clause_at a x.clause
+same_clause a b entries zero x grows fit at = cc
+same_clause a b entries (suc k) x grows fit at = go entries k fit at
+  where
+    go : (es : List Entry) (k : ℕ) → AreFit a (clauses_of es) → slice_get es k ≡ Some x → clause_at b x.clause ≡ clause_at a x.clause
+    go [] k fit at = cc
+    go (e ∷ es) zero fit at =
+        let same : e ≡ x = cc in
+        subst (λ (z : Entry). clause_at b z.clause ≡ clause_at a z.clause) same (NamesClause-grows a b e.clause (clause_at a e.clause) grows (record { known = fit.0.known; is = refl })).is
+    go (e ∷ es) (suc k) fit at = go es k fit.1 at
+
+-- lists are of the entries in every bank in which they name the same
+abbrev AreSame : List Term → List Term → List Entry → Type 0
+AreSame a b es = (n : ℕ) (x : Entry) → numbered es n ≡ Some x → clause_at b x.clause ≡ clause_at a x.clause
+
+live_same : (a b : List Term) (es : List Entry) (solved : Bool) (n : ℕ) → AreSame a b es → IsLiveAt a es solved n → IsLiveAt b es solved n
+live_same a b es solved n same h = record { entry = h.entry; at = h.at; live = h.live; kind = ap (λ c. is_solved c.hypotheses) (same n h.entry h.at) ∙ h.kind }
+
+numbers_same : (a b : List Term) (es : List Entry) (solved : Bool) (ns : List ℕ) → AreSame a b es → AreNumbersOf a es solved ns → AreNumbersOf b es solved ns
+numbers_same a b es solved ns same h = record {
+  ascend = h.ascend;
+  live = λ n among. live_same a b es solved n same (h.live n among);
+  every = λ n live. h.every n (live_same b a es solved n (λ m x at. sym (same m x at)) live);
+}
+
+pub listed_grows : (a b : List Term) (es : List Entry) (live : Live) → Grows a b → AreFit a (clauses_of es) → AreListed a es live → AreListed b es live
+listed_grows a b es live grows fit h =
+    let same : AreSame a b es = λ n x at. same_clause a b es n x grows fit at in
+    record { solved = numbers_same a b es true live.solved.items same h.solved; unsolved = numbers_same a b es false live.unsolved.items same h.unsolved }
+
+pub listed_back : (a b : List Term) (es : List Entry) (live : Live) → Grows a b → AreFit a (clauses_of es) → AreListed b es live → AreListed a es live
+listed_back a b es live grows fit h =
+    let same : AreSame b a es = λ n x at. sym (same_clause a b es n x grows fit at) in
+    record { solved = numbers_same b a es true live.solved.items same h.solved; unsolved = numbers_same b a es false live.unsolved.items same h.unsolved }
+
+-- no entries have no numbers
+pub none_listed : (all : List Term) (es : List Entry) (live : Live) → es ≡ [] → live.solved.items ≡ [] → live.unsolved.items ≡ [] → AreListed all es live
+none_listed all es live none solved unsolved = record { solved = go true live.solved.items solved; unsolved = go false live.unsolved.items unsolved }
+  where
+    nowhere : (kind : Bool) (n : ℕ) → IsLiveAt all [] kind n → ⊥
+    nowhere kind zero h = let at = h.at in cc
+    nowhere kind (suc k) h = let at = h.at in cc
+
+    go : (kind : Bool) (ns : List ℕ) → ns ≡ [] → AreNumbersOf all es kind ns
+    go kind ns is = subst (λ (l : List ℕ). AreNumbersOf all es kind l) (sym is) (subst (λ (l : List Entry). AreNumbersOf all l kind []) (sym none) (record { ascend = tt; live = λ n among. absurd among; every = λ n h. nowhere kind n h }))
+
+-- the entry before its mark
+record IsMarkedAt (all : List Term) (c : Clause Term) (number : ℕ) (from : Option Entry) (to : Entry) : Type 0 where
+  before : Entry
+  at : from ≡ Some before
+  mark : IsMarked all c number before to
+
+marked_from : (all : List Term) (c : Clause Term) (number : ℕ) (olds news : List Entry) (n : ℕ) (x : Entry) → AreMarked all c number olds news → numbered news n ≡ Some x → IsMarkedAt all c number (numbered olds n) x
+marked_from all c number olds news zero x marked at = cc
+marked_from all c number olds news (suc k) x marked at = go olds news k marked at
+  where
+    go : (olds news : List Entry) (k : ℕ) → AreMarked all c number olds news → slice_get news k ≡ Some x → IsMarkedAt all c number (slice_get olds k) x
+    go olds [] k marked at = cc
+    go [] (e ∷ es) k marked at = absurd marked
+    go (d ∷ ds) (e ∷ es) zero marked at = let same : e ≡ x = cc in record { before = d; at = refl; mark = subst (λ (y : Entry). IsMarked all c number d y) same marked.0 }
+    go (d ∷ ds) (e ∷ es) (suc k) marked at = go ds es k marked.1 at
+
+record IsMarkedTo (all : List Term) (c : Clause Term) (number : ℕ) (from : Entry) (to : Option Entry) : Type 0 where
+  after : Entry
+  at : to ≡ Some after
+  mark : IsMarked all c number from after
+
+marked_to : (all : List Term) (c : Clause Term) (number : ℕ) (olds news : List Entry) (n : ℕ) (x : Entry) → AreMarked all c number olds news → numbered olds n ≡ Some x → IsMarkedTo all c number x (numbered news n)
+marked_to all c number olds news zero x marked at = cc
+marked_to all c number olds news (suc k) x marked at = go olds news k marked at
+  where
+    go : (olds news : List Entry) (k : ℕ) → AreMarked all c number olds news → slice_get olds k ≡ Some x → IsMarkedTo all c number x (slice_get news k)
+    go [] news k marked at = cc
+    go (d ∷ ds) [] k marked at = absurd marked
+    go (d ∷ ds) (e ∷ es) zero marked at = let same : d ≡ x = cc in record { after = e; at = refl; mark = subst (λ (y : Entry). IsMarked all c number y e) same marked.0 }
+    go (d ∷ ds) (e ∷ es) (suc k) marked at = go ds es k marked.1 at
+
+-- what is live after the marks was live before
+was_live : (all : List Term) (c : Clause Term) (number : ℕ) (d e : Entry) → IsMarked all c number d e → e.by ≡ None → d.by ≡ None
+was_live all c number d e mark live = elim mark.by as (λ _. d.by ≡ None) [
+  | inl h ↦ h.0.0
+  | inr h ↦ sym h.1 ∙ live
+]
+
+unbeaten_live : (by : Option ℕ) → is_unbeaten by ≡ true → by ≡ None
+unbeaten_live None e = refl
+unbeaten_live (Some number) e = cc
+
+live_there : (es : List Entry) (n : ℕ) (x : Entry) → numbered es n ≡ Some x → is_live_at es n ≡ true → x.by ≡ None
+live_there es n x at told = unbeaten_live x.by (sym (ap is_live_entry at) ∙ told)
+
+there_live : (es : List Entry) (n : ℕ) (x : Entry) → numbered es n ≡ Some x → x.by ≡ None → is_live_at es n ≡ true
+there_live es n x at live = ap is_live_entry at ∙ ap is_unbeaten live
+
+-- the numbers without those of entries that are live no more
+marked_numbers : (all : List Term) (c : Clause Term) (number : ℕ) (olds news : List Entry) (solved : Bool) (ns : List ℕ) → AreMarked all c number olds news → AreNumbersOf all olds solved ns → AreNumbersOf all news solved (filter (is_live_at news) ns)
+marked_numbers all c number olds news solved ns marked h = record {
+  ascend = filter_ascends (is_live_at news) 1 ns h.ascend;
+  live = λ n among. live n among;
+  every = λ n live. every n live;
+}
+  where
+    live : (n : ℕ) → IsAmong (filter (is_live_at news) ns) n → IsLiveAt all news solved n
+    live n among =
+        let there = filter_among (is_live_at news) ns n among in
+        let was = h.live n there.0 in
+        let to = marked_to all c number olds news n was.entry marked was.at in
+        record {
+          entry = to.after;
+          at = to.at;
+          live = live_there news n to.after to.at there.1;
+          kind = ap (λ d. is_solved (clause_at all d).hypotheses) to.mark.clause ∙ was.kind;
+        }
+
+    every : (n : ℕ) → IsLiveAt all news solved n → IsAmong (filter (is_live_at news) ns) n
+    every n now =
+        let from = marked_from all c number olds news n now.entry marked now.at in
+        among_filter (is_live_at news) ns n
+        (h.every n (record {
+          entry = from.before;
+          at = from.at;
+          live = was_live all c number from.before now.entry from.mark now.live;
+          kind = sym (ap (λ d. is_solved (clause_at all d).hypotheses) from.mark.clause) ∙ now.kind;
+        }))
+        (there_live news n now.entry now.at now.live)
+
+-- the numbers with an entry more, of their kind or of the other
+pushed_numbers : (all : List Term) (es : List Entry) (e : Entry) (n : ℕ) (solved : Bool) (ns : List ℕ) → n ≡ length es + 1 → e.by ≡ None → is_solved (clause_at all e.clause).hypotheses ≡ solved → AreNumbersOf all es solved ns → AreNumbersOf all (es ++ e ∷ []) solved (ns ++ n ∷ [])
+pushed_numbers all es e n solved ns is live kind h = record {
+  ascend = push_ascends 1 ns n h.ascend (omega (arith, is)) (λ m among. below m (h.live m among));
+  live = λ m among. now m (push_among ns n m among);
+  every = λ m there. every m there (push_there es e m there.entry there.at);
+}
+  where
+    below : (m : ℕ) → IsLiveAt all es solved m → m < n
+    below m there = let within = (numbered_within es m there.entry there.at).1 in omega (arith, is, within)
+
+    now : (m : ℕ) → IsAmong ns m ⊎ (n ≡ m) → IsLiveAt all (es ++ e ∷ []) solved m
+    now m (inl among) = (let was = h.live m among in record { entry = was.entry; at = there_push es e m was.entry was.at; live = was.live; kind = was.kind })
+    now m (inr last) = record { entry = e; at = last_there es e m (sym last ∙ is); live = live; kind = kind }
+
+    every : (m : ℕ) (there : IsLiveAt all (es ++ e ∷ []) solved m) → (numbered es m ≡ Some there.entry) ⊎ ((m ≡ length es + 1) × (e ≡ there.entry)) → IsAmong (ns ++ n ∷ []) m
+    every m there (inl before) = among_push ns n m (h.every m (record { entry = there.entry; at = before; live = there.live; kind = there.kind }))
+    every m there (inr last) = (let same : n ≡ m = is ∙ sym last.0 in subst (λ k. IsAmong (ns ++ n ∷ []) k) same (among_last ns n))
+
+other_numbers : (all : List Term) (es : List Entry) (e : Entry) (solved : Bool) (ns : List ℕ) → (is_solved (clause_at all e.clause).hypotheses ≡ solved → ⊥) → AreNumbersOf all es solved ns → AreNumbersOf all (es ++ e ∷ []) solved ns
+other_numbers all es e solved ns other h = record {
+  ascend = h.ascend;
+  live = λ m among. (let was = h.live m among in record { entry = was.entry; at = there_push es e m was.entry was.at; live = was.live; kind = was.kind });
+  every = λ m there. every m there (push_there es e m there.entry there.at);
+}
+  where
+    every : (m : ℕ) (there : IsLiveAt all (es ++ e ∷ []) solved m) → (numbered es m ≡ Some there.entry) ⊎ ((m ≡ length es + 1) × (e ≡ there.entry)) → IsAmong ns m
+    every m there (inl before) = h.every m (record { entry = there.entry; at = before; live = there.live; kind = there.kind })
+    every m there (inr last) = absurd (other (ap (λ (x : Entry). is_solved (clause_at all x.clause).hypotheses) last.1 ∙ there.kind))
+
+marked_count : (all : List Term) (c : Clause Term) (number : ℕ) (olds news : List Entry) → AreMarked all c number olds news → length news ≡ length olds
+marked_count all c number [] [] m = refl
+marked_count all c number [] (e ∷ es) m = absurd m
+marked_count all c number (d ∷ ds) [] m = absurd m
+marked_count all c number (d ∷ ds) (e ∷ es) m = ap suc (marked_count all c number ds es m.1)
+
+-- the lists with a new entry
+pub added_listed : (all : List Term) (c : Clause Term) (number : ℕ) (olds marked news : List Entry) (entry : Entry) (was between now : Live) → AreListed all olds was → AreMarked all c number olds marked → number ≡ length olds + 1 → entry.by ≡ None → news ≡ marked ++ entry ∷ []
+    → between.solved.items ≡ filter (is_live_at marked) was.solved.items → between.unsolved.items ≡ filter (is_live_at marked) was.unsolved.items → IsNumberListed (is_solved (clause_at all entry.clause).hypotheses) number between now → AreListed all news now
+added_listed all c number olds marked news entry was between now h m count live is solved unsolved listed = subst (λ (es : List Entry). AreListed all es now) (sym is) (go (is_solved (clause_at all entry.clause).hypotheses) refl listed)
+  where
+    next_number : number ≡ length marked + 1
+    next_number = let same = marked_count all c number olds marked m in omega (arith, same, count)
+
+    left : AreNumbersOf all marked true between.solved.items
+    left = subst (λ (ns : List ℕ). AreNumbersOf all marked true ns) (sym solved) (marked_numbers all c number olds marked true was.solved.items m h.solved)
+
+    right : AreNumbersOf all marked false between.unsolved.items
+    right = subst (λ (ns : List ℕ). AreNumbersOf all marked false ns) (sym unsolved) (marked_numbers all c number olds marked false was.unsolved.items m h.unsolved)
+
+    go : (b : Bool) → is_solved (clause_at all entry.clause).hypotheses ≡ b → IsNumberListed b number between now → AreListed all (marked ++ entry ∷ []) now
+    go true kind l = record {
+      solved = subst (λ (ns : List ℕ). AreNumbersOf all (marked ++ entry ∷ []) true ns) (sym l.0) (pushed_numbers all marked entry number true between.solved.items next_number live kind left);
+      unsolved = subst (λ (ns : List ℕ). AreNumbersOf all (marked ++ entry ∷ []) false ns) (sym l.1) (other_numbers all marked entry false between.unsolved.items (λ other. let wrong : true ≡ false = sym kind ∙ other in cc) right);
+    }
+    go false kind l = record {
+      solved = subst (λ (ns : List ℕ). AreNumbersOf all (marked ++ entry ∷ []) true ns) (sym l.0) (other_numbers all marked entry true between.solved.items (λ other. let wrong : true ≡ false = sym other ∙ kind in cc) left);
+      unsolved = subst (λ (ns : List ℕ). AreNumbersOf all (marked ++ entry ∷ []) false ns) (sym l.1) (pushed_numbers all marked entry number false between.unsolved.items next_number live kind right);
+    }

@@ -1,0 +1,66 @@
+-- The lists of live entries: their numbers, and what covers a clause among them.
+use Rattle.std.specs.Prelude.{◌≡◌, ◌⊎◌, ℕ, suc, ◌<◌, ◌≤◌, Bool, true, false, Option, Some, None, List, [], ◌∷◌, ◌++◌}
+use Rattle.terms.specs.Term.{Term}
+use Rattle.calculus.specs.Points.{numbered}
+use Rattle.clauses.specs.Fact.{Clause}
+use Rattle.clauses.specs.Selection.{is_solved}
+use Rattle.clause_form.specs.Seen.{clause_at}
+use Rattle.clause_saturate.specs.declared.log.Entry.{Entry}
+use Rattle.clause_saturate.specs.declared.walk.Live.{Live}
+use Rattle.clause_saturate.specs.Logs.{is_unbeaten}
+use Rattle.clause_saturate.specs.Beating.{LiveCovers}
+
+-- the number stands in the list
+abbrev pub IsAmong : List ℕ → ℕ → Type 0
+IsAmong [] number = ⊥
+IsAmong (n ∷ ns) number = (n ≡ number) ⊎ IsAmong ns number
+
+-- each number is greater than the one before it, and the first no less than `least`
+abbrev pub IsAscending : ℕ → List ℕ → Type 0
+IsAscending least [] = Unit {0}
+IsAscending least (n ∷ ns) = (least ≤ n) × IsAscending (suc n) ns
+
+-- the entry of that number is live, and solved or not as told
+pub record IsLiveAt (all : List Term) (entries : List Entry) (solved : Bool) (number : ℕ) : Type 0 where
+  pub entry : Entry
+  pub at : numbered entries number ≡ Some entry
+  pub live : entry.by ≡ None
+  pub kind : is_solved (clause_at all entry.clause).hypotheses ≡ solved
+
+-- the numbers are those of the live entries that are solved, or of those that aren't, and ascend
+pub record AreNumbersOf (all : List Term) (entries : List Entry) (solved : Bool) (numbers : List ℕ) : Type 0 where
+  pub ascend : IsAscending 1 numbers
+  pub live : (number : ℕ) → IsAmong numbers number → IsLiveAt all entries solved number
+  pub every : (number : ℕ) → IsLiveAt all entries solved number → IsAmong numbers number
+
+-- both lists are those of these entries
+pub record AreListed (all : List Term) (entries : List Entry) (live : Live) : Type 0 where
+  pub solved : AreNumbersOf all entries true live.solved.items
+  pub unsolved : AreNumbersOf all entries false live.unsolved.items
+
+-- whether there is an entry, and it is live
+abbrev pub is_live_entry : Option Entry → Bool
+is_live_entry None = false
+is_live_entry (Some entry) = is_unbeaten entry.by
+
+abbrev pub is_live_at : List Entry → ℕ → Bool
+is_live_at entries number = is_live_entry (numbered entries number)
+
+-- the number stands at the end of the list of its kind, and the other list is the same
+abbrev pub IsNumberListed : Bool → ℕ → Live → Live → Type 0
+IsNumberListed true number old new = (new.solved.items ≡ old.solved.items ++ number ∷ []) × (new.unsolved.items ≡ old.unsolved.items)
+IsNumberListed false number old new = (new.solved.items ≡ old.solved.items) × (new.unsolved.items ≡ old.unsolved.items ++ number ∷ [])
+
+-- a live entry of these numbers subsumes the clause
+pub record CoversAmong (all : List Term) (entries : List Entry) (numbers : List ℕ) (c : Clause Term) : Type 0 where
+  pub number : ℕ
+  pub entry : Entry
+  pub among : IsAmong numbers number
+  pub at : numbered entries number ≡ Some entry
+  pub covers : LiveCovers all entry c
+
+-- the first of the numbers from one on and before the later one, if there is one
+abbrev pub IsPartner : List ℕ → ℕ → ℕ → Option ℕ → Type 0
+IsPartner numbers later from None = (number : ℕ) → IsAmong numbers number → from ≤ number → number < later → ⊥
+IsPartner numbers later from (Some first) = IsAmong numbers first × (from ≤ first) × (first < later)
+    × ((number : ℕ) → IsAmong numbers number → from ≤ number → number < first → ⊥)
