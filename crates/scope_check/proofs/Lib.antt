@@ -1,5 +1,8 @@
 pub mod Spans
 pub mod Lists
+pub mod Texts
+pub mod Tables
+pub mod Meanings
 pub mod Steps
 pub mod Macros
 pub mod Stopping

@@ -1,12 +1,15 @@
 -- What is bound, as contracts see it.
-use Rattle.std.specs.Prelude.{List, [], ◌++◌, map}
+use Rattle.std.specs.Prelude.{◌≡◌, ℕ, List, [], ◌∷◌, ◌++◌, map, option_map}
+use Rattle.std.specs.HashMap.{get_by}
+use Rattle.std.specs.Str.{bytes_eq}
 use Rattle.calculus.specs.Syntax as calculus
 use Rattle.protocol_scope.specs.Names as own
 use Rattle.scope_check.specs.declared.bound.BoundName.{BoundName}
 use Rattle.scope_check.specs.declared.bound.BoundName.TheVariants.{Variable, Made}
 use Rattle.scope_check.specs.declared.bound.Binding.{Binding}
+use Rattle.scope_check.specs.declared.bound.Bindings.{Bindings}
 use Rattle.scope_check.specs.declared.bound.Bound.{Bound}
-use Rattle.scope_check.specs.declared.bound.Bound.TheVariants.{Nothing, Inside'}
+use Rattle.scope_check.specs.declared.bound.Bound.TheVariants.{Nothing, One', Inside'}
 
 -- what an identifier is bound to
 abbrev pub name_of : BoundName → calculus.Name
@@ -19,4 +22,16 @@ binding_of b = record { token = b.token; name = name_of b.name }
 -- all that is bound, the innermost first
 abbrev pub bound_of : Bound → List own.Bound
 bound_of Nothing = []
-bound_of (Inside' bindings p outer) = map binding_of bindings.now ++ bound_of outer
+bound_of (One' binding p outer) = binding_of binding ∷ bound_of outer
+bound_of (Inside' bindings p outer) = map binding_of bindings.now.items.items ++ bound_of outer
+
+-- the table tells what each identifier is bound to
+abbrev pub FindsBindings : own.Texts → Bindings → Type 0
+FindsBindings text b =
+    (n : ℕ) → option_map name_of (get_by (λ k. bytes_eq (text n) k.items) b.names) ≡ own.bound_as text (map binding_of b.items.items) n
+
+-- so do the tables of all that is bound
+abbrev pub FindsBound : own.Texts → Bound → Type 0
+FindsBound text Nothing = Unit {0}
+FindsBound text (One' binding p outer) = FindsBound text outer
+FindsBound text (Inside' bindings p outer) = FindsBindings text bindings.now × FindsBound text outer

@@ -1,9 +1,14 @@
 -- Names as contracts see them.
-use Rattle.std.specs.Prelude.{◌≤◌, map}
+use Rattle.std.specs.Prelude.{◌≡◌, ℕ, ◌+◌, ◌≤◌, List, map, None, option_map}
+use Rattle.std.specs.HashMap.{get_by}
+use Rattle.std.specs.Str.{bytes_eq}
+use Rattle.calculus.specs.Bounds.{most_names}
 use Rattle.protocol_tokens.specs.Lexed.{Lexed}
 use Rattle.protocol_scope.specs.Names as own
 use Rattle.protocol_scope.specs.Spells.{texts}
 use Rattle.pi_parser.specs.Processes.{process_of}
+use Rattle.scope_check.specs.Bound.{FindsBound}
+use Rattle.scope_check.specs.declared.bound.Bound.{Bound}
 use Rattle.scope_check.specs.declared.names.Macro.{Macro}
 use Rattle.scope_check.specs.declared.names.Names.{Names}
 use Rattle.scope_check.specs.declared.names.Scope.{Scope}
@@ -28,11 +33,6 @@ names_of n = record {
 abbrev pub scope_of : Scope → own.Scope
 scope_of s = record { text = texts s.source.now s.tokens.now; names = names_of s.names.now }
 
--- the tokens are those of the bytes, and the names are within their limit
-pub record IsReady (s : Scope) : Type 0 where
-  pub lexed : Lexed s.source.now s.tokens.now
-  pub few : own.count_of (names_of s.names.now) ≤ 1024
-
 -- what a declared name is
 abbrev pub meaning_of : Meaning → own.Meaning
 meaning_of (m.Free number) = own.MeansFree number
@@ -40,3 +40,33 @@ meaning_of (m.Constructor number arity is_data) = own.MeansConstructor number ar
 meaning_of (m.Destructor number arity) = own.MeansDestructor number arity
 meaning_of (m.Event number arity) = own.MeansEvent number arity
 meaning_of m.Macro = own.MeansMacro
+
+-- the table tells what each word is declared as
+abbrev pub FindsMeanings : own.Texts → Names → Type 0
+FindsMeanings text n =
+    (word : List ℕ) → option_map meaning_of (get_by (λ k. bytes_eq word k.items) n.meanings) ≡ own.meaning_of text (names_of n) word
+
+-- the names are within their limit, and the table finds them
+pub record IsKept (text : own.Texts) (n : Names) : Type 0 where
+  pub few : own.count_of (names_of n) ≤ most_names
+  pub finds : FindsMeanings text n
+
+-- where they were kept and this word was not declared, they are kept with one name more
+abbrev pub StaysKept : Names → List ℕ → Names → Type 0
+StaysKept old word new = (text : own.Texts) → IsKept text old → own.meaning_of text (names_of old) word ≡ None → IsKept text new
+
+-- the tokens are those of the bytes, and the names are within their limit and found
+pub record IsReady (s : Scope) : Type 0 where
+  pub lexed : Lexed s.source.now s.tokens.now
+  pub kept : IsKept (texts s.source.now s.tokens.now) s.names.now
+
+-- and what is bound is found too
+pub record IsReadyAt (s : Scope) (b : Bound) : Type 0 where
+  pub ready : IsReady s
+  pub bound : FindsBound (texts s.source.now s.tokens.now) b
+
+-- nothing else is declared as the token's identifier, which is this word, and there is room for one name more
+pub record IsNew (s : own.Scope) (n : ℕ) (word : List ℕ) : Type 0 where
+  pub fresh : own.look s n ≡ None
+  pub few : own.count_of s.names + 1 ≤ most_names
+  pub spelled : word ≡ s.text n

@@ -1,9 +1,13 @@
 -- What contracts of terms speak of.
-use Rattle.std.specs.Prelude.{ℕ, min}
+use Rattle.std.specs.Prelude.{ℕ, ◌+◌, min}
+use Rattle.calculus.specs.Bounds.{most_written_symbols}
+use Rattle.protocol_scope.specs.Names.{Texts}
 use Rattle.protocol_scope.specs.Terms as own
 use Rattle.scope_check.specs.declared.leaves.Setting.{Setting}
 use Rattle.scope_check.specs.declared.leaves.Setting.TheVariants.{Process, Left, Right, Event}
-use Rattle.scope_check.specs.Bound.{bound_of}
+use Rattle.scope_check.specs.declared.names.Scope.{Scope}
+use Rattle.scope_check.specs.Bound.{bound_of, FindsBound}
+use Rattle.scope_check.specs.Names.{scope_of, IsReady}
 
 -- where a term stands
 abbrev pub setting_of : Setting → own.Setting
@@ -12,6 +16,18 @@ setting_of Left = own.OnLeft
 setting_of Right = own.OnRight
 setting_of Event = own.InEvent
 
--- a number of symbols, as far as it matters: 2,001 stands for all that are too many
+-- a number of symbols, as far as it matters: one more than a term may have stands for all that are too many
 abbrev pub capped : ℕ → ℕ
-capped symbols = min symbols 2001
+capped symbols = min symbols (most_written_symbols + 1)
+
+-- the tables find what is bound where a term stands
+abbrev pub FindsSetting : Texts → Setting → Type 0
+FindsSetting text (Process bound) = FindsBound text bound.now
+FindsSetting text Left = Unit {0}
+FindsSetting text Right = Unit {0}
+FindsSetting text Event = Unit {0}
+
+-- what names are read by, and what is bound where a term stands
+pub record IsReadyIn (s : Scope) (setting : Setting) : Type 0 where
+  pub ready : IsReady s
+  pub bound : FindsSetting (scope_of s).text setting

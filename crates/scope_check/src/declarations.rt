@@ -1,6 +1,7 @@
 //! Declarations other than queries, in order; of a macro only its name is looked at.
 
-ghost use Rattle.std.specs.Prelude.{◌≡◌, ◌+◌, ◌-◌, ◌≤◌, List, length, map, min, IfOk, OnOk};
+ghost use Rattle.std.specs.Prelude.{◌≡◌, ◌+◌, map, min, IfOk, OnOk};
+ghost use Rattle.calculus.specs.Bounds.{most_arguments};
 ghost use Rattle.protocol_tokens.specs.Lexed.{Lexed};
 ghost use Rattle.protocol_scope.specs.Names as naming;
 ghost use Rattle.protocol_scope.specs.Declarations as rules;
@@ -10,17 +11,18 @@ ghost use Rattle.pi_parser.specs.Processes.{process_of};
 ghost use Rattle.pi_tree.specs.Names.{declared_of};
 ghost use Rattle.pi_tree.specs.Rules.{rule_of, destructor_of};
 ghost use Rattle.scope_check.specs.Answer.{Gives, Turns};
-ghost use Rattle.scope_check.specs.Names.{names_of, scope_of, IsReady};
+ghost use Rattle.scope_check.specs.Names.{names_of, scope_of, IsKept, IsReady, IsNew};
 
 use crate::leaves::Setting;
-use crate::limits::{MOST_PARTS, MOST_SYMBOLS};
-use crate::names::{Macro, Names, Scope, count_of, is_variable, look, same_text};
+use crate::names::{Macro, Meaning, Names, Scope, count_of, is_variable, look, same_text};
 use crate::stop::{Code, Stop};
 use crate::terms::{count_of as count_of_terms, plus, term, terms};
 use crate::text::text;
 use pi_lexer::Tokens;
 use pi_parser::{DeclarationSketch, ProcessSketch, RuleSketch};
-use pi_tree::{Declared, Dtor, MOST_NAMES, Rule, Rules, Word};
+use pi_tree::{
+    Declared, Dtor, MOST_ARGUMENTS, MOST_NAMES, MOST_RULES, MOST_WRITTEN_SYMBOLS, Rule, Rules, Word,
+};
 use std::alloc::{AllocError, Global};
 
 /// The word of a token.
@@ -36,7 +38,7 @@ fn word(alloc: Global, scope: &Scope, token: usize) -> Result<Word, AllocError>
 fn new_name(alloc: Global, scope: &Scope, token: usize) -> Result<Word, Stop>
     requires { IsReady scope.now }
     ensures read { Gives (λ word. word) result (rules.new_name (scope_of scope.now) token) }
-    ensures room { OnOk result (naming.count_of (names_of scope.now.names.now) + 1 ≤ 1024) }
+    ensures new { IfOk result (λ word. IsNew (scope_of scope.now) token word) }
 {
     if look(scope, token).is_some() {
         return Err(Stop::Fault(Code::Twice, token));
@@ -51,7 +53,7 @@ fn new_name(alloc: Global, scope: &Scope, token: usize) -> Result<Word, Stop>
 fn new_symbol(alloc: Global, scope: &Scope, token: usize) -> Result<Word, Stop>
     requires { IsReady scope.now }
     ensures read { Gives (λ word. word) result (rules.new_symbol (scope_of scope.now) token) }
-    ensures room { OnOk result (naming.count_of (names_of scope.now.names.now) + 1 ≤ 1024) }
+    ensures new { IfOk result (λ word. IsNew (scope_of scope.now) token word) }
 {
     if look(scope, token).is_none() {
         if is_variable(text(scope.source, scope.tokens, token)) {
@@ -61,14 +63,16 @@ fn new_symbol(alloc: Global, scope: &Scope, token: usize) -> Result<Word, Stop>
     new_name(alloc, scope, token)
 }
 
-/// The number that the digits spell, or 17 where it is more.
+/// The number that the digits spell, or one more than an arity may be, where it is more.
 #[tactic(auto, using(crate::proofs::Steps::decimal_snoc))]
 fn capped_number(digits: &[u8]) -> u32
-    ensures { result ≡ min (naming.decimal digits.now) 17 }
+    ensures { result ≡ min (naming.decimal digits.now) (most_arguments + 1) }
 {
     let mut number = 0u32;
     for digit in digits {
-        number = (10 * number + u32::from(digit.saturating_sub(b'0'))).min(17);
+        number = (10 * number + u32::from(digit.saturating_sub(b'0'))).min(
+            MOST_ARGUMENTS as u32 + 1,
+        );
     }
     number
 }
@@ -79,7 +83,7 @@ fn arity(source: &[u8], tokens: &Tokens, token: usize) -> Result<u32, Stop>
     ensures { Gives (λ arity. arity) result (rules.arity (texts source.now tokens.now) token) }
 {
     let number = capped_number(text(source, tokens, token));
-    if number > 16 {
+    if number as usize > MOST_ARGUMENTS {
         return Err(Stop::Fault(Code::TooMany, token));
     }
     Ok(number)
@@ -89,7 +93,7 @@ fn arity(source: &[u8], tokens: &Tokens, token: usize) -> Result<u32, Stop>
 fn free_name(alloc: Global, scope: &Scope, public: bool, name: usize) -> Result<Declared, Stop>
     requires { IsReady scope.now }
     ensures read { Gives declared_of result (rules.free_name (scope_of scope.now) public name) }
-    ensures room { OnOk result (naming.count_of (names_of scope.now.names.now) + 1 ≤ 1024) }
+    ensures new { IfOk result (λ found. IsNew (scope_of scope.now) name (declared_of found).word) }
 {
     let word = new_symbol(alloc, scope, name)?;
     Ok(Declared {
@@ -112,7 +116,7 @@ fn constructor(
     requires { IsReady scope.now }
     ensures read { Gives declared_of result (rules.constructor (scope_of scope.now) public is_data
         name size) }
-    ensures room { OnOk result (naming.count_of (names_of scope.now.names.now) + 1 ≤ 1024) }
+    ensures new { IfOk result (λ found. IsNew (scope_of scope.now) name (declared_of found).word) }
 {
     let word = new_symbol(alloc, scope, name)?;
     let arity = arity(scope.source, scope.tokens, size)?;
@@ -128,7 +132,7 @@ fn constructor(
 fn event(alloc: Global, scope: &Scope, name: usize, size: usize) -> Result<Declared, Stop>
     requires { IsReady scope.now }
     ensures read { Gives declared_of result (rules.event (scope_of scope.now) name size) }
-    ensures room { OnOk result (naming.count_of (names_of scope.now.names.now) + 1 ≤ 1024) }
+    ensures new { IfOk result (λ found. IsNew (scope_of scope.now) name (declared_of found).word) }
 {
     let word = new_name(alloc, scope, name)?;
     let arity = arity(scope.source, scope.tokens, size)?;
@@ -161,7 +165,7 @@ fn rule(alloc: Global, scope: &Scope, sketch: &RuleSketch) -> Result<Rule, Stop>
         &mut variables,
     )?;
     let symbols = plus(plus(1, of_left), of_right);
-    if count_of_terms(&sketch.arguments) > MOST_PARTS || symbols > MOST_SYMBOLS {
+    if count_of_terms(&sketch.arguments) > MOST_ARGUMENTS || symbols > MOST_WRITTEN_SYMBOLS {
         return Err(Stop::Fault(Code::TooMany, sketch.first));
     }
     Ok(Rule { left, right })
@@ -199,7 +203,8 @@ fn destructor(
     ensures read { Gives destructor_of result
         (rules.destructor (scope_of scope.now) token (sketched.rule_of first.now)
         (map sketched.rule_of others.now)) }
-    ensures room { OnOk result (naming.count_of (names_of scope.now.names.now) + 1 ≤ 1024) }
+    ensures new { IfOk result (λ found. IsNew (scope_of scope.now) (sketched.rule_of first.now).first
+        (destructor_of found).word) }
 {
     let word = new_name(alloc, scope, first.first)?;
     let mut items = Vec::new(alloc);
@@ -207,7 +212,7 @@ fn destructor(
     for other in others {
         items.push(further_rule(alloc, scope, first, other)?)?;
     }
-    if others.len() >= MOST_PARTS {
+    if others.len() >= MOST_RULES {
         return Err(Stop::Fault(Code::TooMany, token));
     }
     Ok(Dtor {
@@ -226,10 +231,10 @@ fn declare_free(
     name: usize,
 ) -> Result<(), Stop>
     requires lexed { Lexed source.now tokens.now }
-    requires few { naming.count_of (names_of names.old) ≤ 1024 }
+    requires kept { IsKept (texts source.now tokens.now) names.old }
     ensures read { Turns (names_of names.new) result
         (rules.declare_free (texts source.now tokens.now) (names_of names.old) public name) }
-    ensures few { OnOk result (naming.count_of (names_of names.new) ≤ 1024) }
+    ensures kept { OnOk result (IsKept (texts source.now tokens.now) names.new) }
 {
     let scope = Scope {
         source,
@@ -237,7 +242,7 @@ fn declare_free(
         names: &*names,
     };
     let free = free_name(alloc, &scope, public, name)?;
-    names.frees.items.push(free)?;
+    names.add_free(alloc, free)?;
     Ok(())
 }
 
@@ -251,10 +256,10 @@ fn declare_frees(
     items: &[usize],
 ) -> Result<(), Stop>
     requires lexed { Lexed source.now tokens.now }
-    requires few { naming.count_of (names_of names.old) ≤ 1024 }
+    requires kept { IsKept (texts source.now tokens.now) names.old }
     ensures read { Turns (names_of names.new) result
         (rules.declare_frees (texts source.now tokens.now) (names_of names.old) public items.now) }
-    ensures few { OnOk result (naming.count_of (names_of names.new) ≤ 1024) }
+    ensures kept { OnOk result (IsKept (texts source.now tokens.now) names.new) }
 {
     for name in items {
         declare_free(names, alloc, source, tokens, public, *name)?;
@@ -274,11 +279,11 @@ fn declare_constructor(
     size: usize,
 ) -> Result<(), Stop>
     requires lexed { Lexed source.now tokens.now }
-    requires few { naming.count_of (names_of names.old) ≤ 1024 }
+    requires kept { IsKept (texts source.now tokens.now) names.old }
     ensures read { Turns (names_of names.new) result
         (rules.declare_constructor (texts source.now tokens.now) (names_of names.old) public is_data
         name size) }
-    ensures few { OnOk result (naming.count_of (names_of names.new) ≤ 1024) }
+    ensures kept { OnOk result (IsKept (texts source.now tokens.now) names.new) }
 {
     let scope = Scope {
         source,
@@ -286,7 +291,7 @@ fn declare_constructor(
         names: &*names,
     };
     let found = constructor(alloc, &scope, public, is_data, name, size)?;
-    names.ctors.items.push(found)?;
+    names.add_constructor(alloc, found)?;
     Ok(())
 }
 
@@ -301,11 +306,11 @@ fn declare_destructor(
     others: &[RuleSketch],
 ) -> Result<(), Stop>
     requires lexed { Lexed source.now tokens.now }
-    requires few { naming.count_of (names_of names.old) ≤ 1024 }
+    requires kept { IsKept (texts source.now tokens.now) names.old }
     ensures read { Turns (names_of names.new) result
         (rules.declare_destructor (texts source.now tokens.now) (names_of names.old) token
         (sketched.rule_of first.now) (map sketched.rule_of others.now)) }
-    ensures few { OnOk result (naming.count_of (names_of names.new) ≤ 1024) }
+    ensures kept { OnOk result (IsKept (texts source.now tokens.now) names.new) }
 {
     let scope = Scope {
         source,
@@ -313,7 +318,7 @@ fn declare_destructor(
         names: &*names,
     };
     let found = destructor(alloc, &scope, token, first, others)?;
-    names.dtors.items.push(found)?;
+    names.add_destructor(alloc, found)?;
     Ok(())
 }
 
@@ -327,10 +332,10 @@ fn declare_event(
     size: usize,
 ) -> Result<(), Stop>
     requires lexed { Lexed source.now tokens.now }
-    requires few { naming.count_of (names_of names.old) ≤ 1024 }
+    requires kept { IsKept (texts source.now tokens.now) names.old }
     ensures read { Turns (names_of names.new) result
         (rules.declare_event (texts source.now tokens.now) (names_of names.old) name size) }
-    ensures few { OnOk result (naming.count_of (names_of names.new) ≤ 1024) }
+    ensures kept { OnOk result (IsKept (texts source.now tokens.now) names.new) }
 {
     let scope = Scope {
         source,
@@ -338,7 +343,7 @@ fn declare_event(
         names: &*names,
     };
     let found = event(alloc, &scope, name, size)?;
-    names.events.items.push(found)?;
+    names.add_event(alloc, found)?;
     Ok(())
 }
 
@@ -352,18 +357,20 @@ fn declare_macro<'a>(
     body: &'a ProcessSketch,
 ) -> Result<(), Stop>
     requires lexed { Lexed source.now tokens.now }
-    requires few { naming.count_of (names_of names.old) ≤ 1024 }
+    requires kept { IsKept (texts source.now tokens.now) names.old }
     ensures read { Turns (names_of names.new) result
         (rules.declare_macro (texts source.now tokens.now) (names_of names.old) name
         (process_of body.now)) }
-    ensures few { OnOk result (naming.count_of (names_of names.new) ≤ 1024) }
+    ensures kept { OnOk result (IsKept (texts source.now tokens.now) names.new) }
 {
     let scope = Scope {
         source,
         tokens,
         names: &*names,
     };
-    let _word = new_name(alloc, &scope, name)?;
+    new_name(alloc, &scope, name)?;
+    let spelled = Vec::from_slice(alloc, text(source, tokens, name))?;
+    names.meanings.insert(spelled, Meaning::Macro)?;
     names.macros.push(Macro { name, body })?;
     Ok(())
 }
@@ -377,11 +384,11 @@ fn declare<'a>(
     declaration: &'a DeclarationSketch,
 ) -> Result<(), Stop>
     requires lexed { Lexed source.now tokens.now }
-    requires few { naming.count_of (names_of names.old) ≤ 1024 }
+    requires kept { IsKept (texts source.now tokens.now) names.old }
     ensures read { Turns (names_of names.new) result
         (rules.declare (texts source.now tokens.now) (names_of names.old)
         (sketched.declaration_of declaration.now)) }
-    ensures few { OnOk result (naming.count_of (names_of names.new) ≤ 1024) }
+    ensures kept { OnOk result (IsKept (texts source.now tokens.now) names.new) }
 {
     match declaration {
         DeclarationSketch::Free {
@@ -427,7 +434,7 @@ pub fn declare_all<'a>(
     requires { Lexed source.now tokens.now }
     ensures read { Gives names_of result (rules.declare_all (texts source.now tokens.now)
         naming.no_names (map sketched.declaration_of declarations.now)) }
-    ensures few { IfOk result (λ found. naming.count_of (names_of found) ≤ 1024) }
+    ensures kept { IfOk result (λ found. IsKept (texts source.now tokens.now) found) }
 {
     let mut names = Names::new(alloc);
     for declaration in declarations {

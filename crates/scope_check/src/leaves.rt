@@ -8,8 +8,8 @@ ghost use Rattle.protocol_scope.specs.Spells.{texts};
 ghost use Rattle.pi_tree.specs.Terms.{term_of};
 ghost use Rattle.scope_check.specs.Answer.{Gives, GivesWith};
 ghost use Rattle.scope_check.specs.Bound.{bound_of};
-ghost use Rattle.scope_check.specs.Names.{scope_of, IsReady, meaning_of};
-ghost use Rattle.scope_check.specs.Terms.{setting_of};
+ghost use Rattle.scope_check.specs.Names.{scope_of, IsReady, IsReadyAt, meaning_of};
+ghost use Rattle.scope_check.specs.Terms.{setting_of, IsReadyIn};
 
 use crate::bound::{Bound, BoundName, bound_as};
 use crate::names::{Meaning, Scope, look, same_text};
@@ -116,7 +116,7 @@ fn known_variable(scope: &Scope, variables: &[usize], token: usize) -> Result<Te
 
 /// A bare identifier in a process: what is bound, or else a declared name.
 fn process_leaf(scope: &Scope, alloc: Global, bound: &Bound, token: usize) -> Result<Term, Stop>
-    requires { IsReady scope.now }
+    requires { IsReadyAt scope.now bound.now }
     ensures { Gives term_of result (rules.process_leaf
         (naming.bound_as (texts scope.now.source.now scope.now.tokens.now) (bound_of bound.now)
         token) (naming.look (scope_of scope.now) token) token) }
@@ -151,7 +151,7 @@ pub fn leaf(
     variables: &mut Vec<usize>,
     token: usize,
 ) -> Result<Term, Stop>
-    requires { IsReady scope.now }
+    requires { IsReadyIn scope.now setting.now }
     ensures { GivesWith term_of result variables.new.items
         (rules.leaf (scope_of scope.now) (setting_of setting.now) variables.old.items token) }
 {

@@ -16,7 +16,7 @@ ghost use Rattle.pi_tree.specs.Processes.{process_of};
 ghost use Rattle.pi_tree.specs.Protocols.{protocol_of};
 ghost use Rattle.scope_check.specs.Answer.{Gives};
 ghost use Rattle.scope_check.specs.Error.{AnswersScope, main_then_queries, IsRefusalOf, GivesProtocol, GivesFault};
-ghost use Rattle.scope_check.specs.Names.{names_of};
+ghost use Rattle.scope_check.specs.Names.{names_of, IsKept};
 
 use pi_lexer::{LexError, Tokens, lex};
 use pi_parser::Sketch;
@@ -28,7 +28,6 @@ mod bound;
 mod declarations;
 mod error;
 mod leaves;
-mod limits;
 mod names;
 mod patterns;
 mod processes;
@@ -55,7 +54,7 @@ fn main_and_queries(
     sketch: &Sketch,
 ) -> Result<(Process, Queries), Stop>
     requires lexed { Lexed source.now tokens.now }
-    requires few { naming.count_of (names_of names.now) ≤ 1024 }
+    requires kept { IsKept (texts source.now tokens.now) names.now }
     ensures { Gives (λ x. (process_of x.0, x.1)) result
         (main_then_queries (texts source.now tokens.now) (names_of names.now)
         (file_of sketch.now)) }

@@ -1,20 +1,23 @@
 //! The names that a file declares.
 
-ghost use Rattle.std.specs.Prelude.{◌≡◌, ◌+◌, ◌^◌, ◌<◌, ◌≤◌, length, map, option_map, is_some};
+ghost use Rattle.std.specs.Prelude.{◌≡◌, ◌+◌, ◌<◌, ◌≤◌, [], ◌∷◌, ◌++◌, length, option_map, OnOk};
 ghost use Rattle.std.specs.List.{list_all};
 ghost use Rattle.std.specs.Char.{is_ascii_digit};
+ghost use Rattle.calculus.specs.Bounds.{most_names};
 ghost use Rattle.protocol_tokens.specs.Lexed.{Lexed};
 ghost use Rattle.protocol_scope.specs.Names as rules;
+ghost use Rattle.protocol_scope.specs.Declarations.{with_free, with_constructor, with_destructor, with_event};
 ghost use Rattle.protocol_scope.specs.Spells.{texts};
 ghost use Rattle.pi_tree.specs.Names.{declared_of};
 ghost use Rattle.pi_tree.specs.Rules.{destructor_of};
-ghost use Rattle.scope_check.specs.Names.{macro_of, names_of, scope_of, IsReady, meaning_of};
+ghost use Rattle.scope_check.specs.Names.{names_of, scope_of, IsKept, StaysKept, IsReady, meaning_of};
 
 use crate::text::text;
 use pi_lexer::Tokens;
 use pi_parser::ProcessSketch;
 use pi_tree::{Declarations, Declared, Dtor, Dtors};
-use std::alloc::Global;
+use std::alloc::{AllocError, Global};
+use std::collections::HashMap;
 
 /// A macro: the token that names it, and its body.
 #[derive(Clone, Copy)]
@@ -31,12 +34,16 @@ pub struct Names<'a> {
     pub dtors: Dtors,
     pub events: Declarations,
     pub macros: Vec<Macro<'a>>,
+
+    /// What each of them is, found by the hash of its word.
+    pub meanings: HashMap<Vec<u8>, Meaning>,
 }
 
 impl<'a> Names<'a> {
     /// No names.
     pub fn new(alloc: Global) -> Self
-        ensures { names_of result ≡ rules.no_names }
+        ensures none { names_of result ≡ rules.no_names }
+        ensures kept { (text : rules.Texts) → IsKept text result }
     {
         Names {
             frees: Declarations {
@@ -52,8 +59,107 @@ impl<'a> Names<'a> {
                 items: Vec::new(alloc),
             },
             macros: Vec::new(alloc),
+            meanings: HashMap::new(alloc),
         }
     }
+
+    /// Adds a free name.
+    pub fn add_free(&mut self, alloc: Global, free: Declared) -> Result<(), AllocError>
+        requires { rules.count_of (names_of self.old) < most_names }
+        ensures names { OnOk result
+            (names_of self.new ≡ with_free (names_of self.old) (declared_of free)) }
+        ensures kept { OnOk result (StaysKept self.old (declared_of free).word self.new) }
+    {
+        let word = Vec::from_slice(alloc, &free.word.items)?;
+        let meaning = Meaning::Free(number_behind(&self.frees));
+        self.meanings.insert(word, meaning)?;
+        append(&mut self.frees, free)?;
+        Ok(())
+    }
+
+    /// Adds a constructor.
+    pub fn add_constructor(&mut self, alloc: Global, found: Declared) -> Result<(), AllocError>
+        requires { rules.count_of (names_of self.old) < most_names }
+        ensures names { OnOk result
+            (names_of self.new ≡ with_constructor (names_of self.old) (declared_of found)) }
+        ensures kept { OnOk result (StaysKept self.old (declared_of found).word self.new) }
+    {
+        let word = Vec::from_slice(alloc, &found.word.items)?;
+        let meaning = Meaning::Constructor {
+            number: number_behind(&self.ctors),
+            arity: found.arity,
+            is_data: found.is_data,
+        };
+        self.meanings.insert(word, meaning)?;
+        append(&mut self.ctors, found)?;
+        Ok(())
+    }
+
+    /// Adds a destructor.
+    pub fn add_destructor(&mut self, alloc: Global, found: Dtor) -> Result<(), AllocError>
+        requires { rules.count_of (names_of self.old) < most_names }
+        ensures names { OnOk result
+            (names_of self.new ≡ with_destructor (names_of self.old) (destructor_of found)) }
+        ensures kept { OnOk result (StaysKept self.old (destructor_of found).word self.new) }
+    {
+        let word = Vec::from_slice(alloc, &found.word.items)?;
+        let meaning = Meaning::Destructor {
+            number: destructor_behind(&self.dtors),
+            arity: arity_of(&found),
+        };
+        self.meanings.insert(word, meaning)?;
+        append_destructor(&mut self.dtors, found)?;
+        Ok(())
+    }
+
+    /// Adds an event.
+    pub fn add_event(&mut self, alloc: Global, found: Declared) -> Result<(), AllocError>
+        requires { rules.count_of (names_of self.old) < most_names }
+        ensures names { OnOk result
+            (names_of self.new ≡ with_event (names_of self.old) (declared_of found)) }
+        ensures kept { OnOk result (StaysKept self.old (declared_of found).word self.new) }
+    {
+        let word = Vec::from_slice(alloc, &found.word.items)?;
+        let meaning = Meaning::Event {
+            number: number_behind(&self.events),
+            arity: found.arity,
+        };
+        self.meanings.insert(word, meaning)?;
+        append(&mut self.events, found)?;
+        Ok(())
+    }
+}
+
+/// The number of the name behind these.
+fn number_behind(list: &Declarations) -> u32
+    requires { length list.now < most_names }
+    ensures { result ≡ length list.now + 1 }
+{
+    list.items.len() as u32 + 1
+}
+
+/// The number of the destructor behind these.
+fn destructor_behind(list: &Dtors) -> u32
+    requires { length list.now < most_names }
+    ensures { result ≡ length list.now + 1 }
+{
+    list.items.len() as u32 + 1
+}
+
+/// Appends a declared name to its list.
+fn append(list: &mut Declarations, item: Declared) -> Result<(), AllocError>
+    ensures { OnOk result (list.new ≡ list.old ++ declared_of item ∷ []) }
+{
+    list.items.push(item)?;
+    Ok(())
+}
+
+/// Appends a destructor to the list.
+fn append_destructor(list: &mut Dtors, item: Dtor) -> Result<(), AllocError>
+    ensures { OnOk result (list.new ≡ list.old ++ destructor_of item ∷ []) }
+{
+    list.items.push(item)?;
+    Ok(())
 }
 
 /// What names are read by: the bytes, their tokens, and the names that are declared.
@@ -84,54 +190,8 @@ pub enum Meaning {
     Macro,
 }
 
-/// The declared name that is spelled so, with its number from 1.
-fn find_declared<'a>(items: &'a [Declared], word: &[u8]) -> Option<(u32, &'a Declared)>
-    requires { length items.now ≤ 1024 }
-    ensures { rules.find_declared (map declared_of items.now) word.now ≡
-        option_map (λ found. (found.0, declared_of found.1.now)) result }
-{
-    let mut number = 1;
-    for declared in items {
-        if declared.word.items.as_slice() == word {
-            return Some((number, declared));
-        }
-        number += 1;
-    }
-    None
-}
-
-/// The destructor that is spelled so, with its number from 1.
-fn find_destructor<'a>(items: &'a [Dtor], word: &[u8]) -> Option<(u32, &'a Dtor)>
-    requires { length items.now ≤ 1024 }
-    ensures { rules.find_from (λ d. d.word) 1 (map destructor_of items.now) word.now ≡
-        option_map (λ found. (found.0, destructor_of found.1.now)) result }
-{
-    let mut number = 1;
-    for destructor in items {
-        if destructor.word.items.as_slice() == word {
-            return Some((number, destructor));
-        }
-        number += 1;
-    }
-    None
-}
-
-/// Whether a macro is spelled so.
-fn is_macro(source: &[u8], tokens: &Tokens, items: &[Macro], word: &[u8]) -> bool
-    requires { Lexed source.now tokens.now }
-    ensures { result ≡ is_some (rules.find_from (λ m. texts source.now tokens.now m.name) 1
-        (map macro_of items.now) word.now) }
-{
-    for item in items {
-        if text(source, tokens, item.name) == word {
-            return true;
-        }
-    }
-    false
-}
-
 /// How many arguments the rules of a destructor take.
-fn arity_of(destructor: &Dtor) -> usize
+pub fn arity_of(destructor: &Dtor) -> usize
     ensures { result ≡ rules.arity_of (destructor_of destructor.now).rules }
 {
     match destructor.rules.items.first() {
@@ -140,54 +200,18 @@ fn arity_of(destructor: &Dtor) -> usize
     }
 }
 
-/// What a free name, a constructor or an event is, if one of them is spelled so.
-fn look_declared(names: &Names, word: &[u8]) -> Option<Meaning>
-    requires { rules.count_of (names_of names.now) ≤ 1024 }
-    ensures { option_map meaning_of result ≡ rules.declared_meaning (names_of names.now) word.now }
-{
-    if let Some((number, _)) = find_declared(&names.frees.items, word) {
-        return Some(Meaning::Free(number));
-    }
-    if let Some((number, found)) = find_declared(&names.ctors.items, word) {
-        return Some(Meaning::Constructor {
-            number,
-            arity: found.arity,
-            is_data: found.is_data,
-        });
-    }
-    if let Some((number, found)) = find_destructor(&names.dtors.items, word) {
-        return Some(Meaning::Destructor {
-            number,
-            arity: arity_of(found),
-        });
-    }
-    if let Some((number, found)) = find_declared(&names.events.items, word) {
-        return Some(Meaning::Event {
-            number,
-            arity: found.arity,
-        });
-    }
-    None
-}
-
 /// What the token's identifier is declared as.
 pub fn look(scope: &Scope, token: usize) -> Option<Meaning>
     requires { IsReady scope.now }
     ensures { option_map meaning_of result ≡ rules.look (scope_of scope.now) token }
 {
     let word = text(scope.source, scope.tokens, token);
-    if let Some(meaning) = look_declared(scope.names, word) {
-        return Some(meaning);
-    }
-    if is_macro(scope.source, scope.tokens, &scope.names.macros, word) {
-        return Some(Meaning::Macro);
-    }
-    None
+    scope.names.meanings.get(word).copied()
 }
 
 /// How many names are declared.
 pub fn count_of(names: &Names) -> usize
-    requires { rules.count_of (names_of names.now) ≤ 1024 }
+    requires { rules.count_of (names_of names.now) ≤ most_names }
     ensures { result ≡ rules.count_of (names_of names.now) }
 {
     names.frees.items.len()

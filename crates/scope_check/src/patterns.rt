@@ -1,23 +1,22 @@
 //! Patterns, and what they bind.
 
-ghost use Rattle.std.specs.Prelude.{◌≡◌, ◌+◌, length, map, IfOk};
+ghost use Rattle.std.specs.Prelude.{◌≡◌, ◌+◌, length, map, IfOk, OnOk};
 ghost use Rattle.protocol_grammar.specs.Sketch.{patterns_sketch};
 ghost use Rattle.protocol_scope.specs.Names as naming;
 ghost use Rattle.protocol_scope.specs.Patterns as rules;
 ghost use Rattle.pi_parser.specs.Patterns as sketched;
 ghost use Rattle.pi_tree.specs.Patterns.{pattern_of};
 ghost use Rattle.scope_check.specs.Answer.{Gives, GivesWith};
-ghost use Rattle.scope_check.specs.Bound.{binding_of, bound_of};
-ghost use Rattle.scope_check.specs.Names.{scope_of, IsReady};
+ghost use Rattle.scope_check.specs.Bound.{binding_of, bound_of, FindsBindings};
+ghost use Rattle.scope_check.specs.Names.{scope_of, IsReady, IsReadyAt};
 
-use crate::bound::{Binding, Bound, BoundName, bound_by};
+use crate::bound::{Binding, Bindings, Bound, BoundName, bind, bound_by};
 use crate::leaves::{narrow, taking};
-use crate::limits::MOST_PARTS;
 use crate::names::{Meaning, Scope, look};
 use crate::stop::{Code, Stop};
 use crate::terms::process_term;
 use pi_parser::{PatternSketch, PatternsSketch};
-use pi_tree::{Pat, Pats};
+use pi_tree::{MOST_ARGUMENTS, Pat, Pats};
 use std::alloc::{AllocError, Global};
 
 /// The data constructor of so many arguments that the token names.
@@ -46,16 +45,30 @@ fn data_constructor(scope: &Scope, token: usize, given: usize) -> Result<u32, St
 }
 
 /// An identifier, which binds the variable of that number and stands once in a pattern.
-fn binder(scope: &Scope, number: u32, found: &mut Vec<Binding>, token: usize) -> Result<Pat, Stop>
-    requires { IsReady scope.now }
-    ensures { GivesWith pattern_of result (map binding_of found.new.items)
-        (rules.binder (scope_of scope.now) number (map binding_of found.old.items) token) }
+fn binder(
+    alloc: Global,
+    scope: &Scope,
+    number: u32,
+    found: &mut Bindings,
+    token: usize,
+) -> Result<Pat, Stop>
+    requires ready { IsReady scope.now }
+    requires finds { FindsBindings (scope_of scope.now).text found.old }
+    ensures read { GivesWith pattern_of result (map binding_of found.new.items.items)
+        (rules.binder (scope_of scope.now) number (map binding_of found.old.items.items) token) }
+    ensures finds { OnOk result (FindsBindings (scope_of scope.now).text found.new) }
 {
     if bound_by(scope.source, scope.tokens, found, token).is_some() {
         return Err(Stop::Fault(Code::Twice, token));
     }
     let name = BoundName::Variable(number);
-    found.push(Binding { token, name })?;
+    bind(
+        found,
+        alloc,
+        scope.source,
+        scope.tokens,
+        Binding { token, name },
+    )?;
     Ok(Pat::Bind(number))
 }
 
@@ -68,7 +81,7 @@ fn grouped(token: usize, mut parts: Pats) -> Result<Pat, Stop>
             return Ok(only);
         }
     }
-    if parts.items.len() > MOST_PARTS {
+    if parts.items.len() > MOST_ARGUMENTS {
         return Err(Stop::Fault(Code::TooMany, token));
     }
     Ok(Pat::Tuple(parts))
@@ -102,19 +115,21 @@ pub fn pattern(
     scope: &Scope,
     outer: &Bound,
     first: u32,
-    found: &mut Vec<Binding>,
+    found: &mut Bindings,
 ) -> Result<Pat, Stop>
-    requires { IsReady scope.now }
-    ensures { GivesWith pattern_of result (map binding_of found.new.items)
+    requires ready { IsReadyAt scope.now outer.now }
+    requires finds { FindsBindings (scope_of scope.now).text found.old }
+    ensures read { GivesWith pattern_of result (map binding_of found.new.items.items)
         (rules.pattern (scope_of scope.now) (bound_of outer.now) first
-        (map binding_of found.old.items) (sketched.pattern_of sketch.now)) }
+        (map binding_of found.old.items.items) (sketched.pattern_of sketch.now)) }
+    ensures finds { OnOk result (FindsBindings (scope_of scope.now).text found.new) }
 {
     match sketch {
         PatternSketch::Named(token, arguments) => {
             let given = count_of(arguments);
             if given == 0 {
-                let number = next_variable(first, found)?;
-                return binder(scope, number, found, *token);
+                let number = next_variable(first, &found.items)?;
+                return binder(alloc, scope, number, found, *token);
             }
             let number = data_constructor(scope, *token, given)?;
             let arguments = patterns(arguments, alloc, scope, outer, first, found)?;
@@ -135,12 +150,14 @@ fn patterns(
     scope: &Scope,
     outer: &Bound,
     first: u32,
-    found: &mut Vec<Binding>,
+    found: &mut Bindings,
 ) -> Result<Pats, Stop>
-    requires { IsReady scope.now }
-    ensures { GivesWith (λ ps. ps) result (map binding_of found.new.items)
+    requires ready { IsReadyAt scope.now outer.now }
+    requires finds { FindsBindings (scope_of scope.now).text found.old }
+    ensures read { GivesWith (λ ps. ps) result (map binding_of found.new.items.items)
         (rules.patterns (scope_of scope.now) (bound_of outer.now) first
-        (map binding_of found.old.items) (patterns_sketch sketches.now)) }
+        (map binding_of found.old.items.items) (patterns_sketch sketches.now)) }
+    ensures finds { OnOk result (FindsBindings (scope_of scope.now).text found.new) }
 {
     let mut items = Vec::new(alloc);
     for sketch in &sketches.items {

@@ -1,6 +1,7 @@
 //! Processes: macros are expanded where they are used, and points and variables are numbered in pre-order, from 1.
 
 ghost use Rattle.std.specs.Prelude.{◌≡◌, ◌+◌, ◌≤◌, length, map, IfOk, IsTrue};
+ghost use Rattle.calculus.specs.Bounds.{most_points_above};
 ghost use Rattle.protocol_scope.specs.Processes as rules;
 ghost use Rattle.protocol_grammar.specs.Sketch as own;
 ghost use Rattle.pi_parser.specs.Terms as terms_seen;
@@ -9,11 +10,11 @@ ghost use Rattle.pi_parser.specs.Processes as sketched;
 ghost use Rattle.pi_tree.specs.Processes.{process_of};
 ghost use Rattle.scope_check.specs.Answer.{Gives};
 ghost use Rattle.scope_check.specs.Bound.{binding_of, bound_of};
-ghost use Rattle.scope_check.specs.Names.{scope_of, IsReady};
+ghost use Rattle.scope_check.specs.Names.{scope_of, IsReady, IsReadyAt};
 ghost use Rattle.scope_check.specs.Numbers.{numbers_of, site_of, numbered_of};
 ghost use Rattle.scope_check.specs.Forms.{form_of, reading_of, macros_of, is_point};
 
-use crate::bound::{Binding, Bound, BoundName};
+use crate::bound::{Binding, Bindings, Bound, BoundName};
 use crate::leaves::{Setting, narrow};
 use crate::names::{Macro, Scope};
 use crate::patterns::pattern;
@@ -41,8 +42,9 @@ fn with_variables(numbers: Numbers, found: &[Binding]) -> Result<Numbers, AllocE
 
 /// One point further down.
 fn below<'a>(site: &Site<'a>) -> Site<'a>
-    requires { site.now.above ≤ 511 }
-    ensures { site_of result ≡ rules.below (site_of site.now) }
+    requires { site.now.above ≤ most_points_above }
+    ensures placed { site_of result ≡ rules.below (site_of site.now) }
+    ensures bound { result.bound.now ≡ site.now.bound.now }
 {
     Site {
         bound: site.bound,
@@ -53,8 +55,9 @@ fn below<'a>(site: &Site<'a>) -> Site<'a>
 
 /// One point further down, where this is bound.
 fn binding<'a>(site: &Site, bound: &'a Bound<'a>) -> Site<'a>
-    requires { site.now.above ≤ 511 }
-    ensures { site_of result ≡ rules.binding_all (bound_of bound.now) (site_of site.now) }
+    requires { site.now.above ≤ most_points_above }
+    ensures placed { site_of result ≡ rules.binding_all (bound_of bound.now) (site_of site.now) }
+    ensures bound { result.bound.now ≡ bound.now }
 {
     Site {
         bound,
@@ -73,7 +76,7 @@ pub fn process(
     site: &Site,
     numbers: Numbers,
 ) -> Result<(Process, Numbers), Stop>
-    requires { IsReady scope.now }
+    requires { IsReadyAt scope.now site.now.bound.now }
     ensures { Gives numbered_of result (reading_of (scope_of scope.now) macros.now
         (site_of site.now) (numbers_of numbers) (form_of start.entry)) }
 {
@@ -96,7 +99,7 @@ fn at_point(
     site: &Site,
     numbers: Numbers,
 ) -> Result<(Process, Numbers), Stop>
-    requires ready { IsReady scope.now }
+    requires ready { IsReadyAt scope.now site.now.bound.now }
     requires point { IsTrue (is_point (form_of form)) }
     ensures { Gives numbered_of result (reading_of (scope_of scope.now) macros.now
         (site_of site.now) (numbers_of numbers) (form_of form.entry)) }
@@ -150,7 +153,7 @@ fn both(
     site: &Site,
     numbers: Numbers,
 ) -> Result<(Process, Numbers), Stop>
-    requires { IsReady scope.now }
+    requires { IsReadyAt scope.now site.now.bound.now }
     ensures { Gives numbered_of result (reading_of (scope_of scope.now) macros.now
         (site_of site.now) (numbers_of numbers)
         (own.Process (sketched.unit_of unit.now) (own.beside (sketched.process_of others.now)))) }
@@ -176,7 +179,7 @@ fn replication(
     site: &Site,
     numbers: Numbers,
 ) -> Result<(Process, Numbers), Stop>
-    requires { IsReady scope.now }
+    requires { IsReadyAt scope.now site.now.bound.now }
     ensures { Gives numbered_of result (rules.unit (scope_of scope.now)
         (macros_of (scope_of scope.now) macros.now) (site_of site.now) (numbers_of numbers)
         (own.Replicated first (sketched.unit_of copied.now))) }
@@ -199,17 +202,17 @@ fn restriction(
     site: &Site,
     numbers: Numbers,
 ) -> Result<(Process, Numbers), Stop>
-    requires { IsReady scope.now }
+    requires { IsReadyAt scope.now site.now.bound.now }
     ensures { Gives numbered_of result (rules.unit (scope_of scope.now)
         (macros_of (scope_of scope.now) macros.now) (site_of site.now) (numbers_of numbers)
         (own.New first name (sketched.next_of next.now))) }
 {
     let after = reached(site, numbers, first)?;
-    let made = [Binding {
+    let made = Binding {
         token: name,
         name: BoundName::Made(numbers.point),
-    }];
-    let bound = Bound::Inside(&made, site.bound);
+    };
+    let bound = Bound::One(made, site.bound);
     let inside = binding(site, &bound);
     let (rest, after) = continuation(next, first, alloc, scope, macros, &inside, after)?;
     let items = Vec::from_slice(alloc, text(scope.source, scope.tokens, name))?;
@@ -229,7 +232,7 @@ fn output(
     site: &Site,
     numbers: Numbers,
 ) -> Result<(Process, Numbers), Stop>
-    requires { IsReady scope.now }
+    requires { IsReadyAt scope.now site.now.bound.now }
     ensures { Gives numbered_of result (rules.unit (scope_of scope.now)
         (macros_of (scope_of scope.now) macros.now) (site_of site.now) (numbers_of numbers)
         (own.Output first (terms_seen.term_of channel.now) (terms_seen.term_of message.now)
@@ -259,7 +262,7 @@ fn input(
     site: &Site,
     numbers: Numbers,
 ) -> Result<(Process, Numbers), Stop>
-    requires { IsReady scope.now }
+    requires { IsReadyAt scope.now site.now.bound.now }
     ensures { Gives numbered_of result (rules.unit (scope_of scope.now)
         (macros_of (scope_of scope.now) macros.now) (site_of site.now) (numbers_of numbers)
         (own.Input first (terms_seen.term_of channel.now) (patterns_seen.pattern_of received.now)
@@ -267,7 +270,7 @@ fn input(
 {
     let after = reached(site, numbers, first)?;
     let channel = process_term(channel, alloc, scope, site.bound)?;
-    let mut found = Vec::new(alloc);
+    let mut found = Bindings::new(alloc);
     let received = pattern(
         received,
         alloc,
@@ -276,7 +279,7 @@ fn input(
         after.variable,
         &mut found,
     )?;
-    let after = with_variables(after, &found)?;
+    let after = with_variables(after, &found.items)?;
     let bound = Bound::Inside(&found, site.bound);
     let inside = binding(site, &bound);
     let (rest, after) = continuation(next, first, alloc, scope, macros, &inside, after)?;
@@ -298,7 +301,7 @@ fn happening(
     site: &Site,
     numbers: Numbers,
 ) -> Result<(Process, Numbers), Stop>
-    requires { IsReady scope.now }
+    requires { IsReadyAt scope.now site.now.bound.now }
     ensures { Gives numbered_of result (rules.unit (scope_of scope.now)
         (macros_of (scope_of scope.now) macros.now) (site_of site.now) (numbers_of numbers)
         (own.Happens first (terms_seen.atom_of atom.now) (sketched.next_of next.now))) }
@@ -326,14 +329,14 @@ fn choice(
     site: &Site,
     numbers: Numbers,
 ) -> Result<(Process, Numbers), Stop>
-    requires { IsReady scope.now }
+    requires { IsReadyAt scope.now site.now.bound.now }
     ensures { Gives numbered_of result (rules.unit (scope_of scope.now)
         (macros_of (scope_of scope.now) macros.now) (site_of site.now) (numbers_of numbers)
         (own.Let first (patterns_seen.pattern_of matched.now) (terms_seen.term_of term.now)
         (sketched.unit_of unit.now) (sketched.next_of otherwise.now))) }
 {
     let after = reached(site, numbers, first)?;
-    let mut found = Vec::new(alloc);
+    let mut found = Bindings::new(alloc);
     let matched = pattern(
         matched,
         alloc,
@@ -343,7 +346,7 @@ fn choice(
         &mut found,
     )?;
     let evaluated = expression(term, alloc, scope, site.bound)?;
-    let after = with_variables(after, &found)?;
+    let after = with_variables(after, &found.items)?;
     let bound = Bound::Inside(&found, site.bound);
     let inside = binding(site, &bound);
     let (done, after) = process(Form::Unit(unit), alloc, scope, macros, &inside, after)?;
@@ -374,7 +377,7 @@ fn comparison(
     site: &Site,
     numbers: Numbers,
 ) -> Result<(Process, Numbers), Stop>
-    requires { IsReady scope.now }
+    requires { IsReadyAt scope.now site.now.bound.now }
     ensures { Gives numbered_of result (rules.unit (scope_of scope.now)
         (macros_of (scope_of scope.now) macros.now) (site_of site.now) (numbers_of numbers)
         (own.If first (terms_seen.term_of left.now) (terms_seen.term_of right.now)
@@ -408,7 +411,7 @@ fn continuation(
     site: &Site,
     numbers: Numbers,
 ) -> Result<(Process, Numbers), Stop>
-    requires { IsReady scope.now }
+    requires { IsReadyAt scope.now site.now.bound.now }
     ensures { Gives numbered_of result (rules.after (scope_of scope.now)
         (macros_of (scope_of scope.now) macros.now) (site_of site.now) (numbers_of numbers) first
         (sketched.next_of next.now)) }

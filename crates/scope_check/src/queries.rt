@@ -1,6 +1,7 @@
 //! Queries, in order.
 
 ghost use Rattle.std.specs.Prelude.{◌≡◌, ℕ, ◌+◌, ◌≤◌, ◌++◌, [], ◌∷◌, List, length, map};
+ghost use Rattle.calculus.specs.Bounds.{most_points};
 ghost use Rattle.calculus.specs.Points.{nodes};
 ghost use Rattle.protocol_scope.specs.Queries as rules;
 ghost use Rattle.pi_parser.specs.Terms as sketched;
@@ -14,13 +15,15 @@ ghost use Rattle.scope_check.specs.Restrictions.{summary};
 
 use crate::bound::Bound;
 use crate::leaves::Setting;
-use crate::limits::{MOST_PARTS, MOST_SYMBOLS};
 use crate::names::Scope;
 use crate::stop::{Code, Stop};
 use crate::terms::{event, process_term};
 use crate::text::text;
 use pi_parser::{AlternativeSketch, AtomSketch, DeclarationSketch, QuerySketch};
-use pi_tree::{Alternatives, Atom, Atoms, MOST_QUERIES, Process, Queries, Query};
+use pi_tree::{
+    Alternatives, Atom, Atoms, MOST_ALTERNATIVES, MOST_EVENTS, MOST_QUERIES, MOST_WRITTEN_SYMBOLS,
+    Process, Queries, Query,
+};
 use std::alloc::Global;
 
 /// The restrictions of one name that were seen.
@@ -48,7 +51,7 @@ fn seen_at(seen: Seen, point: u32) -> Seen
 /// Looks for restrictions of the name in a process that begins at this point, behind those that were seen. Answers
 /// those that are seen by then, and the point behind the process.
 fn look_for(process: &Process, word: &[u8], point: u32, seen: Seen) -> (Seen, u32)
-    requires { point + length (nodes (process_of process.now)) ≤ 4097 }
+    requires { point + length (nodes (process_of process.now)) ≤ most_points + 1 }
     ensures seen { (before : List ℕ) → seen ≡ summary before →
         result.0 ≡ summary (before ++ rules.points_of word.now point
         (nodes (process_of process.now))) }
@@ -77,7 +80,7 @@ fn look_for(process: &Process, word: &[u8], point: u32, seen: Seen) -> (Seen, u3
 /// A query for the name of the one restriction of this identifier.
 fn attacker_new(scope: &Scope, main: &Process, token: usize) -> Result<Query, Stop>
     requires ready { IsReady scope.now }
-    requires few { length (nodes (process_of main.now)) ≤ 4096 }
+    requires few { length (nodes (process_of main.now)) ≤ most_points }
     ensures { Gives query_of result (rules.only_point token
         (rules.points_of ((scope_of scope.now).text token) 1 (nodes (process_of main.now)))) }
 {
@@ -101,7 +104,7 @@ fn asked_event(
         (rules.asked_event (scope_of scope.now) variables.old.items (sketched.atom_of sketch.now)) }
 {
     let (read, symbols) = event(sketch, alloc, scope, &Setting::Event, variables)?;
-    if symbols > MOST_SYMBOLS {
+    if symbols > MOST_WRITTEN_SYMBOLS {
         return Err(Stop::Fault(Code::TooMany, sketch.first));
     }
     Ok(read)
@@ -124,7 +127,7 @@ fn alternative(
     for atom in &sketch.others {
         items.push(asked_event(atom, alloc, scope, variables)?)?;
     }
-    if sketch.others.len() >= MOST_PARTS {
+    if sketch.others.len() >= MOST_EVENTS {
         return Err(Stop::Fault(Code::TooMany, sketch.atom.first.saturating_sub(1)));
     }
     Ok(Atoms { items })
@@ -158,7 +161,7 @@ fn question(
     token: usize,
 ) -> Result<Query, Stop>
     requires ready { IsReady scope.now }
-    requires few { length (nodes (process_of main.now)) ≤ 4096 }
+    requires few { length (nodes (process_of main.now)) ≤ most_points }
     ensures { Gives query_of result (rules.question (scope_of scope.now) (process_of main.now) token
         (files.question_of sketch.now)) }
 {
@@ -172,7 +175,7 @@ fn question(
             let mut variables = Vec::new(alloc);
             let left = asked_event(atom, alloc, scope, &mut variables)?;
             let alternatives = alternatives(others, alloc, scope, &mut variables)?;
-            if others.len() > MOST_PARTS {
+            if others.len() > MOST_ALTERNATIVES {
                 return Err(Stop::Fault(Code::TooMany, token));
             }
             Ok(Query::Corr { left, alternatives })
@@ -188,7 +191,7 @@ pub fn queries(
     main: &Process,
 ) -> Result<Queries, Stop>
     requires ready { IsReady scope.now }
-    requires few { length (nodes (process_of main.now)) ≤ 4096 }
+    requires few { length (nodes (process_of main.now)) ≤ most_points }
     ensures { Gives (λ found. found) result (rules.queries (scope_of scope.now)
         (process_of main.now) 0 (map files.declaration_of declarations.now)) }
 {

@@ -1,6 +1,7 @@
 //! Where a process stands, the numbers that come next, and what macros stand for.
 
 ghost use Rattle.std.specs.Prelude.{◌≡◌, ℕ, ◌+◌, ◌<◌, ◌≤◌, List, length, map, take, get_or, IfOk, OnOk, IfErr, IsTrue, option_map};
+ghost use Rattle.calculus.specs.Bounds.{most_points, most_points_above};
 ghost use Rattle.protocol_scope.specs.Names as naming;
 ghost use Rattle.protocol_scope.specs.Processes as rules;
 ghost use Rattle.protocol_grammar.specs.Sketch as own;
@@ -74,7 +75,7 @@ fn is_room(site: &Site, numbers: Numbers) -> bool
 
 /// The numbers behind the next point.
 fn counted(numbers: Numbers) -> Numbers
-    requires { numbers.point ≤ 4096 }
+    requires { numbers.point ≤ most_points }
     ensures { numbers_of result ≡ rules.counted (numbers_of numbers) }
 {
     Numbers {
@@ -87,7 +88,7 @@ fn counted(numbers: Numbers) -> Numbers
 pub fn reached(site: &Site, numbers: Numbers, token: usize) -> Result<Numbers, Stop>
     ensures read { Gives numbers_of result (rules.reached (site_of site.now) (numbers_of numbers)
         token) }
-    ensures room { OnOk result (site.now.above ≤ 511) }
+    ensures room { OnOk result (site.now.above ≤ most_points_above) }
 {
     if is_room(site, numbers) {
         Ok(counted(numbers))
@@ -164,7 +165,7 @@ pub fn both_reached(
     ensures read { Gives numbers_of result (rules.both_reached (scope_of scope.now)
         (macros_of (scope_of scope.now) macros.now) (site_of site.now) (numbers_of numbers)
         (unit_of unit.now)) }
-    ensures room { OnOk result (site.now.above ≤ 511) }
+    ensures room { OnOk result (site.now.above ≤ most_points_above) }
 {
     if is_room(site, numbers) {
         return Ok(counted(numbers));

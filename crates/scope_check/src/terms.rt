@@ -1,6 +1,7 @@
 //! Terms, expressions and events, within their limits.
 
 ghost use Rattle.std.specs.Prelude.{◌≡◌, ◌+◌, ◌≤◌, length, map, IfOk};
+ghost use Rattle.calculus.specs.Bounds.{most_written_symbols};
 ghost use Rattle.trees.specs.Tree.{size, sizes, trees, node};
 ghost use Rattle.calculus.specs.Syntax as calculus;
 ghost use Rattle.protocol_grammar.specs.Sketch.{terms_sketch};
@@ -12,25 +13,24 @@ ghost use Rattle.pi_tree.specs.Patterns.{expression_of};
 ghost use Rattle.pi_tree.specs.Events.{event_of};
 ghost use Rattle.scope_check.specs.Answer.{Gives, GivesWith};
 ghost use Rattle.scope_check.specs.Bound.{bound_of};
-ghost use Rattle.scope_check.specs.Names.{scope_of, IsReady, meaning_of};
-ghost use Rattle.scope_check.specs.Terms.{setting_of, capped};
+ghost use Rattle.scope_check.specs.Names.{scope_of, IsReadyAt, meaning_of};
+ghost use Rattle.scope_check.specs.Terms.{setting_of, IsReadyIn, capped};
 
 use crate::bound::Bound;
 use crate::leaves::{Setting, constructor, event_named, leaf, taking};
-use crate::limits::{MOST_PARTS, MOST_SYMBOLS};
 use crate::names::{Meaning, Scope, look};
 use crate::stop::{Code, Stop};
 use pi_parser::{AtomSketch, TermSketch, TermsSketch};
-use pi_tree::{Atom, Expr, Term, Terms};
+use pi_tree::{Atom, Expr, MOST_ARGUMENTS, MOST_WRITTEN_SYMBOLS, Term, Terms};
 use std::alloc::Global;
 
 /// The sum of two numbers of symbols, as far as it matters.
 pub fn plus(one: u32, other: u32) -> u32
-    requires one { one ≤ 2001 }
-    requires other { other ≤ 2001 }
+    requires one { one ≤ most_written_symbols + 1 }
+    requires other { other ≤ most_written_symbols + 1 }
     ensures { result ≡ capped (one + other) }
 {
-    (one + other).min(MOST_SYMBOLS + 1)
+    (one + other).min(MOST_WRITTEN_SYMBOLS + 1)
 }
 
 /// How many terms stand in a row.
@@ -54,7 +54,7 @@ fn applied(
     ensures counted { IfOk result (λ x. x.1 ≡ capped (size (term_of x.0))) }
 {
     let whole = plus(1, symbols);
-    if whole > MOST_SYMBOLS {
+    if whole > MOST_WRITTEN_SYMBOLS {
         return Err(Stop::Fault(Code::TooMany, token));
     }
     Ok((Term::App(constructor, arguments), whole))
@@ -67,7 +67,7 @@ fn tuple(token: usize, parts: Terms, symbols: u32) -> Result<(Term, u32), Stop>
     ensures counted { IfOk result (λ x. x.1 ≡ capped (size (term_of x.0))) }
 {
     let whole = plus(1, symbols);
-    if parts.items.len() > MOST_PARTS || whole > MOST_SYMBOLS {
+    if parts.items.len() > MOST_ARGUMENTS || whole > MOST_WRITTEN_SYMBOLS {
         return Err(Stop::Fault(Code::TooMany, token));
     }
     Ok((Term::Tuple(parts), whole))
@@ -96,7 +96,7 @@ pub fn term(
     setting: &Setting,
     variables: &mut Vec<usize>,
 ) -> Result<(Term, u32), Stop>
-    requires { IsReady scope.now }
+    requires { IsReadyIn scope.now setting.now }
     ensures read { GivesWith (λ x. term_of x.0) result variables.new.items
         (rules.term (scope_of scope.now) (setting_of setting.now) variables.old.items
         (sketched.term_of sketch.now)) }
@@ -129,7 +129,7 @@ pub fn terms(
     setting: &Setting,
     variables: &mut Vec<usize>,
 ) -> Result<(Terms, u32), Stop>
-    requires { IsReady scope.now }
+    requires { IsReadyIn scope.now setting.now }
     ensures read { GivesWith (λ x. x.0) result variables.new.items
         (rules.terms (scope_of scope.now) (setting_of setting.now) variables.old.items
         (terms_sketch sketches.now)) }
@@ -152,7 +152,7 @@ pub fn process_term(
     scope: &Scope,
     bound: &Bound,
 ) -> Result<Term, Stop>
-    requires { IsReady scope.now }
+    requires { IsReadyAt scope.now bound.now }
     ensures { Gives term_of result (rules.process_term (scope_of scope.now) (bound_of bound.now)
         (sketched.term_of sketch.now)) }
 {
@@ -189,14 +189,14 @@ fn call(
     token: usize,
     destructor: u32,
 ) -> Result<Expr, Stop>
-    requires { IsReady scope.now }
+    requires { IsReadyAt scope.now bound.now }
     ensures { Gives expression_of result (rules.call (scope_of scope.now) (bound_of bound.now) token
         destructor (terms_sketch sketches.now)) }
 {
     let mut variables = Vec::new(alloc);
     let setting = Setting::Process(bound);
     let (arguments, symbols) = terms(sketches, alloc, scope, &setting, &mut variables)?;
-    if plus(1, symbols) > MOST_SYMBOLS {
+    if plus(1, symbols) > MOST_WRITTEN_SYMBOLS {
         return Err(Stop::Fault(Code::TooMany, token));
     }
     Ok(Expr::Call(destructor, arguments))
@@ -204,7 +204,7 @@ fn call(
 
 /// A term as an expression.
 fn plain(sketch: &TermSketch, alloc: Global, scope: &Scope, bound: &Bound) -> Result<Expr, Stop>
-    requires { IsReady scope.now }
+    requires { IsReadyAt scope.now bound.now }
     ensures { Gives expression_of result (rules.plain (scope_of scope.now) (bound_of bound.now)
         (sketched.term_of sketch.now)) }
 {
@@ -218,7 +218,7 @@ fn expression_of(
     scope: &Scope,
     bound: &Bound,
 ) -> Result<Expr, Stop>
-    requires { IsReady scope.now }
+    requires { IsReadyAt scope.now bound.now }
     ensures { Gives expression_of result (rules.expression_of (scope_of scope.now)
         (bound_of bound.now) (sketched.term_of sketch.now)) }
 {
@@ -241,7 +241,7 @@ pub fn expression(
     scope: &Scope,
     bound: &Bound,
 ) -> Result<Expr, Stop>
-    requires { IsReady scope.now }
+    requires { IsReadyAt scope.now bound.now }
     ensures { Gives expression_of result (rules.expression (scope_of scope.now) (bound_of bound.now)
         (sketched.term_of sketch.now)) }
 {
@@ -256,7 +256,7 @@ pub fn event(
     setting: &Setting,
     variables: &mut Vec<usize>,
 ) -> Result<(Atom, u32), Stop>
-    requires { IsReady scope.now }
+    requires { IsReadyIn scope.now setting.now }
     ensures read { GivesWith (λ x. event_of x.0) result variables.new.items
         (rules.event (scope_of scope.now) (setting_of setting.now) variables.old.items
         (sketched.atom_of sketch.now)) }

@@ -1,7 +1,8 @@
 -- what the digits so far spell
-use Rattle.std.proofs.Common.{◌≡◌, min, take}
+use Rattle.std.proofs.Common.{◌≡◌, ◌+◌, min, take}
+use Rattle.calculus.specs.Bounds.{most_arguments}
 use Rattle.protocol_scope.specs.Names.{decimal}
 use Rattle.scope_check.proofs.declarations.capped_number.Given as goal
 
 abbrev pub invariant-loop-digit : goal.invariant-loop-digit
-invariant-loop-digit l = l.number ≡ min (decimal (take l.digit-index l.digits)) 17
+invariant-loop-digit l = l.number ≡ min (decimal (take l.digit-index l.digits)) (most_arguments + 1)

@@ -1,14 +1,14 @@
 -- the names so far and those of the declarations from here on are all of them
-use Rattle.std.proofs.Common.{◌≡◌, ◌≤◌, map, drop}
-use Rattle.protocol_scope.specs.Names.{no_names, count_of}
+use Rattle.std.proofs.Common.{◌≡◌, map, drop}
+use Rattle.protocol_scope.specs.Names.{no_names}
 use Rattle.protocol_scope.specs.Declarations.{declare_all}
 use Rattle.protocol_scope.specs.Spells.{texts}
 use Rattle.pi_parser.specs.Files.{declaration_of}
-use Rattle.scope_check.specs.Names.{names_of}
+use Rattle.scope_check.specs.Names.{names_of, IsKept}
 use Rattle.scope_check.proofs.declarations.declare_all.Given as goal
 
 abbrev pub invariant-loop-declaration : goal.invariant-loop-declaration
 invariant-loop-declaration l = record {
   rest : declare_all (texts l.source l.tokens) (names_of l.names) (map declaration_of (drop l.declaration-index l.declarations)) ≡ declare_all (texts l.source l.tokens) no_names (map declaration_of l.declarations);
-  few : count_of (names_of l.names) ≤ 1024;
+  kept : IsKept (texts l.source l.tokens) l.names;
 }

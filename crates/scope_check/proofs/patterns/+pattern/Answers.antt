@@ -6,6 +6,8 @@ use Rattle.scope_check.proofs.Rows.{one_pattern_more}
 use Rattle.scope_check.proofs.patterns.+pattern.Goals as goal
 
 pub patterns-loop-sketch-preserved : goal.patterns-loop-sketch-preserved
-patterns-loop-sketch-preserved t c =
-    one_pattern_more (scope_of c.args.scope.now) (bound_of c.args.outer.now) c.args.first (map binding_of c.loop-sketch.found.items) (map binding_of c.pattern.new.found.items) c.deref-sketch-items.result.now c.loop-sketch.sketch-index
-    c.sketch-item.result c.loop-sketch.items.items c.push.new.self.items c.in_ok-item.item _ c.loop-sketch-test.true c.sketch-item.is c.in_ok-push.ensures.items c.in_ok-item.ensures c.loop-sketch.invariant
+patterns-loop-sketch-preserved t c = record {
+  finds = c.in_ok-item.ensures.finds;
+  rest = one_pattern_more (scope_of c.args.scope.now) (bound_of c.args.outer.now) c.args.first (map binding_of c.loop-sketch.found.items.items) (map binding_of c.pattern.new.found.items.items) c.deref-sketch-items.result.now c.loop-sketch.sketch-index
+      c.sketch-item.result c.loop-sketch.items.items c.push.new.self.items c.in_ok-item.item _ c.loop-sketch-test.true c.sketch-item.is c.in_ok-push.ensures.items c.in_ok-item.ensures.read c.loop-sketch.invariant.rest;
+}
