@@ -6,11 +6,12 @@ ghost use Rattle.clause_form.specs.Seen.{IsClauseIn};
 use crate::made_clauses::{chain_of, known_of};
 use clause_form::{Clause, Normal, PlainClause, flatten, is_normal, norm, size_of};
 use literal_selection::selected;
+use row_tables::named;
 use std::alloc::{AllocError, Global};
 use term_tree::{Bank, SIZE_LIMIT, TreeBank};
 
 /// What is measured.
-#[derive(Clone, Copy, PartialEq, Eq, Debug)]
+#[derive(Clone, Copy)]
 pub enum Operation {
     Copy,
     Norm,
@@ -20,7 +21,7 @@ pub enum Operation {
 }
 
 /// An operation on a clause of a size, so many times.
-#[derive(Clone, Copy, Debug)]
+#[derive(Clone, Copy)]
 pub struct Job {
     pub operation: Operation,
     pub size: u32,
@@ -51,17 +52,19 @@ impl Job {
     }
 }
 
+/// What is measured, by its names.
+const OPERATIONS: [(&str, Operation); 5] = [
+    ("copy", Operation::Copy),
+    ("norm", Operation::Norm),
+    ("flatten", Operation::Flatten),
+    ("select", Operation::Selection),
+    ("normal", Operation::IsNormal),
+];
+
 impl Operation {
     /// The operation with this name.
     pub fn from_name(name: &str) -> Option<Operation> {
-        match name.as_bytes() {
-            b"copy" => Some(Operation::Copy),
-            b"norm" => Some(Operation::Norm),
-            b"flatten" => Some(Operation::Flatten),
-            b"select" => Some(Operation::Selection),
-            b"normal" => Some(Operation::IsNormal),
-            _ => None,
-        }
+        named(&OPERATIONS, name)
     }
 
     /// Does the operation so many times, and counts how often it gave something.
@@ -88,19 +91,27 @@ impl Operation {
         ensures { bank.new ≡ bank.old }
     {
         match self {
-            Operation::Copy => {
-                let copied = clause.copy(alloc)?;
-                Ok(!copied.hyps.items.is_empty())
-            }
+            Operation::Copy => copy_once(alloc, clause),
             Operation::Norm => norm_once(alloc, bank, clause),
-            Operation::Flatten => {
-                let parts = flatten(alloc, bank, clause)?;
-                Ok(!parts.items.is_empty())
-            }
+            Operation::Flatten => flatten_once(alloc, bank, clause),
             Operation::Selection => Ok(select_once(bank, clause)),
             Operation::IsNormal => Ok(is_normal(bank, clause)),
         }
     }
+}
+
+/// Copies once.
+fn copy_once(alloc: Global, clause: &Clause) -> Result<bool, AllocError> {
+    let copied = clause.copy(alloc)?;
+    Ok(!copied.hyps.items.is_empty())
+}
+
+/// Makes the flat parts once.
+fn flatten_once(alloc: Global, bank: &TreeBank, clause: &Clause) -> Result<bool, AllocError>
+    requires { IsClauseIn bank.now clause.now }
+{
+    let parts = flatten(alloc, bank, clause)?;
+    Ok(!parts.items.is_empty())
 }
 
 /// Makes the norm once, and cuts the bank back.

@@ -5,8 +5,9 @@
 mod job;
 mod made_clauses;
 
-use clause_form::copy_into;
+use clause_form::{PlainClause, copy_into};
 use job::Job;
+use std::alloc::{AllocError, Global};
 use std::env::Env;
 use std::process::ExitCode;
 use std::{env, io};
@@ -30,15 +31,40 @@ fn main(rt: HostRuntime) -> ExitCode {
 /// name none.
 fn run(rt: &(impl Env + Print + AllocGlobal)) -> io::Result<bool> {
     let words: Vec<String> = env::args(rt)?.collect(rt.alloc())?;
-    let Some(job) = Job::from_words(&words) else {
-        return Ok(false);
-    };
-    let mut bank = TreeBank::new(rt.alloc())?;
-    let plain = job.clause(rt.alloc())?;
-    let clause = copy_into(rt.alloc(), &mut bank, &plain)?;
-    let given = job
-        .operation
-        .repeat(rt.alloc(), &mut bank, &clause, job.repetitions)?;
-    println!(rt; "{} of {}", given, job.repetitions)?;
-    Ok(true)
+    match Job::from_words(&words) {
+        Some(job) => {
+            finish(rt, job)?;
+            Ok(true)
+        }
+        None => Ok(false),
+    }
+}
+
+/// Does the job, and writes how many of its calls gave something.
+fn finish(rt: &(impl Print + AllocGlobal), job: Job) -> io::Result<()> {
+    let given = given_by(rt.alloc(), job)?;
+    println!(rt; "{} of {}", given, job.repetitions)
+}
+
+/// How many calls of the job gave something.
+fn given_by(alloc: Global, job: Job) -> Result<u32, AllocError> {
+    let plain = job.clause(alloc)?;
+    given_of(alloc, job, &plain)
+}
+
+/// The same of this clause.
+fn given_of(alloc: Global, job: Job, plain: &PlainClause) -> Result<u32, AllocError> {
+    let mut bank = TreeBank::new(alloc)?;
+    given_within(alloc, &mut bank, job, plain)
+}
+
+/// The same of the clause, which is copied into a bank.
+fn given_within(
+    alloc: Global,
+    bank: &mut TreeBank,
+    job: Job,
+    plain: &PlainClause,
+) -> Result<u32, AllocError> {
+    let clause = copy_into(alloc, bank, plain)?;
+    job.operation.repeat(alloc, bank, &clause, job.repetitions)
 }

@@ -16,7 +16,7 @@ use std::alloc::{AllocError, Global};
 use term_tree::TreeBank;
 
 /// A call for the clause of a family and a size, so many times.
-#[derive(Clone, Copy, Debug)]
+#[derive(Clone, Copy)]
 pub struct GoalJob {
     pub family: GoalFamily,
     pub size: u32,
@@ -39,29 +39,62 @@ impl GoalJob {
     /// Calls so many times, and counts how often that gave a row; `None` where there is no protocol, or the clause is
     /// too large.
     pub fn run(self, alloc: Global) -> Result<Option<u32>, AllocError> {
-        let plain = clause_of(alloc, self.family, self.size)?;
         match protocol_for(alloc, self.family) {
-            Some(protocol) => self.run_for(alloc, &plain, &protocol),
+            Some(protocol) => self.run_for(alloc, &protocol),
             None => Ok(None),
         }
     }
 
     /// The same with the protocol.
-    fn run_for(
+    fn run_for(self, alloc: Global, protocol: &Protocol) -> Result<Option<u32>, AllocError>
+        requires { IsAsked (protocol_of protocol.now) }
+    {
+        let plain = clause_of(alloc, self.family, self.size)?;
+        self.run_of(alloc, protocol, &plain)
+    }
+
+    /// The same with the clause.
+    fn run_of(
         self,
         alloc: Global,
-        plain: &PlainClause,
         protocol: &Protocol,
+        plain: &PlainClause,
     ) -> Result<Option<u32>, AllocError>
         requires { IsAsked (protocol_of protocol.now) }
     {
         let mut bank = TreeBank::new(alloc)?;
-        let clause = copy_into(alloc, &mut bank, plain)?;
-        if !is_small(&bank, &clause) {
+        self.run_within(alloc, &mut bank, protocol, plain)
+    }
+
+    /// The same with a bank that the clause is copied into.
+    fn run_within(
+        self,
+        alloc: Global,
+        bank: &mut TreeBank,
+        protocol: &Protocol,
+        plain: &PlainClause,
+    ) -> Result<Option<u32>, AllocError>
+        requires { IsAsked (protocol_of protocol.now) }
+    {
+        let clause = copy_into(alloc, bank, plain)?;
+        self.run_in(alloc, bank, protocol, &clause)
+    }
+
+    /// The same with the clause over ids of a bank.
+    fn run_in(
+        self,
+        alloc: Global,
+        bank: &TreeBank,
+        protocol: &Protocol,
+        clause: &Clause,
+    ) -> Result<Option<u32>, AllocError>
+        requires known { IsClauseIn bank.now clause.now }
+        requires asked { IsAsked (protocol_of protocol.now) }
+    {
+        if !is_small(bank, clause) {
             return Ok(None);
         }
-        let given = self.repeat(alloc, &bank, &clause, protocol)?;
-        Ok(Some(given))
+        Ok(Some(self.repeat(alloc, bank, clause, protocol)?))
     }
 
     /// The same with the clause over ids.

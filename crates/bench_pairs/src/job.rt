@@ -6,7 +6,7 @@ ghost use Rattle.clause_resolve.specs.Apart.{IsSelectedAt};
 ghost use Rattle.bench_pairs.specs.Fit.{ArePair};
 
 use crate::made_pairs::Family;
-use crate::pair::Pair;
+use crate::pair::{Pair, pair_of};
 use clause_resolve::{Resolved, normal_clauses_have_low_variables, resolvents};
 use literal_selection::selected;
 use multiset_subsume::cover_row;
@@ -14,7 +14,7 @@ use std::alloc::{AllocError, Global};
 use term_tree::{Bank, TreeBank};
 
 /// A call for a pair of a family and a size, so many times.
-#[derive(Clone, Copy, Debug)]
+#[derive(Clone, Copy)]
 pub struct Job {
     pub family: Family,
     pub size: u32,
@@ -34,8 +34,22 @@ impl Job {
         })
     }
 
+    /// Calls so many times, and counts how often that gave something; `None` where the clauses have no norms.
+    pub fn run(self, alloc: Global) -> Result<Option<u32>, AllocError> {
+        let mut bank = TreeBank::new(alloc)?;
+        self.run_in(alloc, &mut bank)
+    }
+
+    /// The same with a bank for the clauses.
+    fn run_in(self, alloc: Global, bank: &mut TreeBank) -> Result<Option<u32>, AllocError> {
+        match pair_of(alloc, bank, self.family, self.size)? {
+            Some(pair) => Ok(Some(self.repeat(alloc, bank, &pair)?)),
+            None => Ok(None),
+        }
+    }
+
     /// Calls for the pair so many times, and counts how often that gave something.
-    pub fn repeat(self, alloc: Global, bank: &mut TreeBank, pair: &Pair) -> Result<u32, AllocError>
+    fn repeat(self, alloc: Global, bank: &mut TreeBank, pair: &Pair) -> Result<u32, AllocError>
         requires { ArePair bank.old pair.now }
     {
         if self.family.is_resolved() {

@@ -1,7 +1,8 @@
 //! Clauses that conclude `bad`, and protocols whose one query they are to satisfy.
 
 ghost use Rattle.std.specs.Prelude.{◌≡◌, true, IfSome};
-ghost use Rattle.protocol_scope.specs.Spells.{Spells};
+ghost use Rattle.protocol_scope.specs.Spells.{IsProtocolOf, IsSketchOf, Spells};
+ghost use Rattle.pi_parser.specs.Files.{file_of};
 ghost use Rattle.pi_tree.specs.Protocols.{protocol_of};
 ghost use Rattle.pi_tree.specs.Accessors.{IsThere};
 ghost use Rattle.pi_tree.specs.declared.accessors.Kind.TheVariants.{Query};
@@ -9,9 +10,10 @@ ghost use Rattle.bench_pairs.specs.Asked.{IsAsked};
 
 use clause_form::{PlainClause, PlainFact, PlainFacts, Tree, Trees};
 use pi_lexer::lex;
-use pi_parser::parse;
+use pi_parser::{Sketch, parse};
 use pi_tree::Protocol;
 use protocol_scope::within_limits;
+use row_tables::named;
 use scope_check::check_scope;
 use std::alloc::{AllocError, Global};
 
@@ -30,7 +32,7 @@ const FOUR_EVENTS: &str = "event end/1. event begin/1. event other/1. query even
     event begin(y) && event begin(z) && event begin(w) && event other(x). process 0";
 
 /// A family of clauses, one for each size, and a query.
-#[derive(Clone, Copy, PartialEq, Eq, Debug)]
+#[derive(Clone, Copy)]
 pub enum GoalFamily {
     /// So many events that must have run, the last of which is asked for.
     Begun,
@@ -40,15 +42,17 @@ pub enum GoalFamily {
     Choices,
 }
 
+/// The families by their names.
+const GOAL_FAMILIES: [(&str, GoalFamily); 3] = [
+    ("begun", GoalFamily::Begun),
+    ("missing", GoalFamily::Missing),
+    ("choices", GoalFamily::Choices),
+];
+
 impl GoalFamily {
     /// The family with this name.
     pub fn from_name(name: &str) -> Option<GoalFamily> {
-        match name.as_bytes() {
-            b"begun" => Some(GoalFamily::Begun),
-            b"missing" => Some(GoalFamily::Missing),
-            b"choices" => Some(GoalFamily::Choices),
-            _ => None,
-        }
+        named(&GOAL_FAMILIES, name)
     }
 
     /// The text of the protocol.
@@ -80,13 +84,32 @@ fn begun(alloc: Global, count: u32) -> Result<Vec<PlainFact>, AllocError> {
 /// The clause of a family and a size: it concludes `bad(v0)`.
 pub fn clause_of(alloc: Global, family: GoalFamily, size: u32) -> Result<PlainClause, AllocError> {
     let mut items = begun(alloc, size)?;
-    if family == GoalFamily::Begun {
+    if matches!(family, GoalFamily::Begun) {
         items.push(PlainFact::Mev(BEGIN, variable(alloc, 0)?))?;
     }
     Ok(PlainClause {
         hyps: PlainFacts { items },
         concl: PlainFact::Bad(variable(alloc, 0)?),
     })
+}
+
+/// What the grammar makes of the bytes, if they have a sketch.
+fn sketch_of(alloc: Global, bytes: &[u8]) -> Option<Sketch>
+    ensures { IfSome result (λ sketch. IsSketchOf bytes.now (file_of sketch)) }
+{
+    let tokens = lex(alloc, bytes).ok()?;
+    parse(alloc, bytes, &tokens).ok()
+}
+
+/// The protocol that the sketch of the bytes stands for, if it stands for one.
+fn scoped(alloc: Global, bytes: &[u8], sketch: &Sketch) -> Option<Protocol>
+    requires { IsSketchOf bytes.now (file_of sketch.now) }
+    ensures { IfSome result (λ protocol. IsProtocolOf bytes.now (protocol_of protocol)) }
+{
+    match check_scope(alloc, bytes, sketch) {
+        Ok(protocol) => Some(protocol),
+        Err(_) => None,
+    }
 }
 
 /// The protocol that the bytes spell, if they are not too many and spell one.
@@ -96,12 +119,8 @@ fn read_protocol(alloc: Global, bytes: &[u8]) -> Option<Protocol>
     if bytes.len() > MOST_BYTES {
         return None;
     }
-    let tokens = lex(alloc, bytes).ok()?;
-    let sketch = parse(alloc, bytes, &tokens).ok()?;
-    match check_scope(alloc, bytes, &sketch) {
-        Ok(protocol) => Some(protocol),
-        Err(_) => None,
-    }
+    let sketch = sketch_of(alloc, bytes)?;
+    scoped(alloc, bytes, &sketch)
 }
 
 /// Whether the protocol has a query.

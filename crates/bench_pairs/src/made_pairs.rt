@@ -1,11 +1,12 @@
 //! Pairs of clauses to measure on.
 
 use clause_form::{PlainClause, PlainFact, PlainFacts, Tree, Trees};
+use row_tables::named;
 use std::alloc::{AllocError, Global};
 use term_tree::Sym;
 
 /// A family of pairs, one for each size.
-#[derive(Clone, Copy, PartialEq, Eq, Debug)]
+#[derive(Clone, Copy)]
 pub enum Family {
     /// A rule that encrypts, and one that decrypts with so many events beside.
     Resolve,
@@ -40,52 +41,44 @@ pub enum Family {
     Copies,
 }
 
+/// The families by their names.
+const FAMILIES: [(&str, Family); 15] = [
+    ("resolve", Family::Resolve),
+    ("clash", Family::Clash),
+    ("chain", Family::Chain),
+    ("reversed", Family::Reversed),
+    ("differ", Family::Differ),
+    ("fewer", Family::Fewer),
+    ("alike", Family::Alike),
+    ("crowd", Family::Crowd),
+    ("cycle", Family::Cycle),
+    ("halves", Family::Halves),
+    ("colours", Family::Colours),
+    ("short", Family::Short),
+    ("apart", Family::Apart),
+    ("joined", Family::Joined),
+    ("copies", Family::Copies),
+];
+
 impl Family {
     /// The family with this name.
     pub fn from_name(name: &str) -> Option<Family> {
-        match name.as_bytes() {
-            b"resolve" => Some(Family::Resolve),
-            b"clash" => Some(Family::Clash),
-            b"chain" => Some(Family::Chain),
-            b"reversed" => Some(Family::Reversed),
-            b"differ" => Some(Family::Differ),
-            b"fewer" => Some(Family::Fewer),
-            b"alike" => Some(Family::Alike),
-            b"crowd" => Some(Family::Crowd),
-            b"cycle" => Some(Family::Cycle),
-            b"halves" => Some(Family::Halves),
-            b"colours" => Some(Family::Colours),
-            b"short" => Some(Family::Short),
-            b"apart" => Some(Family::Apart),
-            b"joined" => Some(Family::Joined),
-            b"copies" => Some(Family::Copies),
-            _ => None,
-        }
+        named(&FAMILIES, name)
     }
 
     /// Whether its pairs are resolved; those of the others are compared.
     pub fn is_resolved(self) -> bool {
-        match self {
-            Family::Resolve => true,
-            Family::Clash => true,
-            _ => false,
-        }
+        matches!(self, Family::Resolve | Family::Clash)
     }
 }
 
-/// A symbol over two terms.
-fn over_two(alloc: Global, symbol: Sym, left: Tree, right: Tree) -> Result<Tree, AllocError> {
-    let mut items = Vec::with_capacity(alloc, 2)?;
-    items.push(left)?;
-    items.push(right)?;
-    Ok(Tree::App(symbol, Trees { items }))
-}
-
-/// A symbol over a variable.
-fn over_one(alloc: Global, symbol: Sym, number: u32) -> Result<Tree, AllocError> {
-    let mut items = Vec::with_capacity(alloc, 1)?;
-    items.push(Tree::Var(number))?;
-    Ok(Tree::App(symbol, Trees { items }))
+/// So many variables, from this number on.
+fn variables(alloc: Global, first: u32, count: u32) -> Result<Trees, AllocError> {
+    let mut items = Vec::new(alloc);
+    for i in 0..count {
+        items.push(Tree::Var(first.wrapping_add(i)))?;
+    }
+    Ok(Trees { items })
 }
 
 /// A free name.
@@ -110,12 +103,23 @@ fn bad(alloc: Global) -> PlainFact {
     })
 }
 
-/// The clause of these facts.
-fn clause(items: Vec<PlainFact>, concl: PlainFact) -> PlainClause {
-    PlainClause {
-        hyps: PlainFacts { items },
-        concl,
-    }
+/// Adds `att` of a variable.
+fn add_att(facts: &mut Vec<PlainFact>, number: u32) -> Result<(), AllocError> {
+    facts.push(PlainFact::Att(Tree::Var(number)))?;
+    Ok(())
+}
+
+/// Adds `att` of a symbol over so many variables, from this number on.
+fn add_att_over(
+    alloc: Global,
+    facts: &mut Vec<PlainFact>,
+    symbol: Sym,
+    first: u32,
+    count: u32,
+) -> Result<(), AllocError> {
+    let arguments = variables(alloc, first, count)?;
+    facts.push(PlainFact::Att(Tree::App(symbol, arguments)))?;
+    Ok(())
 }
 
 /// Adds the messages of a cycle of so many, over variables from this number on.
@@ -150,17 +154,32 @@ fn add_reversed(facts: &mut Vec<PlainFact>, count: u32) -> Result<(), AllocError
 /// Adds `att` of a constructor over each of so many variables.
 fn add_alike(alloc: Global, facts: &mut Vec<PlainFact>, count: u32) -> Result<(), AllocError> {
     for i in 0..count {
-        facts.push(PlainFact::Att(over_one(alloc, Sym::Ctor(1), i)?))?;
+        add_att_over(alloc, facts, Sym::Ctor(1), i, 1)?;
     }
+    Ok(())
+}
+
+/// Adds so many alike hypotheses, and one of another root.
+fn add_alike_and_one(
+    alloc: Global,
+    facts: &mut Vec<PlainFact>,
+    count: u32,
+) -> Result<(), AllocError> {
+    add_alike(alloc, facts, count)?;
+    add_att_over(alloc, facts, Sym::Ctor(2), count, 1)
+}
+
+/// Adds an event of a variable.
+fn add_event(alloc: Global, facts: &mut Vec<PlainFact>, number: u32) -> Result<(), AllocError> {
+    let arguments = variables(alloc, number, 1)?;
+    facts.push(PlainFact::Ev(1, arguments))?;
     Ok(())
 }
 
 /// Adds so many events, of variables from 2 on.
 fn add_events(alloc: Global, facts: &mut Vec<PlainFact>, count: u32) -> Result<(), AllocError> {
     for i in 0..count {
-        let mut items = Vec::with_capacity(alloc, 1)?;
-        items.push(Tree::Var(i.wrapping_add(2)))?;
-        facts.push(PlainFact::Ev(1, Trees { items }))?;
+        add_event(alloc, facts, i.wrapping_add(2))?;
     }
     Ok(())
 }
@@ -181,6 +200,17 @@ fn add_points(facts: &mut Vec<PlainFact>, count: u32) -> Result<(), AllocError> 
     Ok(())
 }
 
+/// Adds a message from a name to another.
+fn add_sent(
+    alloc: Global,
+    facts: &mut Vec<PlainFact>,
+    from: u32,
+    to: u32,
+) -> Result<(), AllocError> {
+    facts.push(PlainFact::Mess(name(alloc, from), name(alloc, to)))?;
+    Ok(())
+}
+
 /// Adds the messages from a name to all other names.
 fn add_pairs(
     alloc: Global,
@@ -190,7 +220,7 @@ fn add_pairs(
 ) -> Result<(), AllocError> {
     for to in 0..count {
         if to != from {
-            facts.push(PlainFact::Mess(name(alloc, from), name(alloc, to)))?;
+            add_sent(alloc, facts, from, to)?;
         }
     }
     Ok(())
@@ -211,9 +241,8 @@ fn add_both(
     first: u32,
     second: u32,
 ) -> Result<(), AllocError> {
-    facts.push(PlainFact::Mess(name(alloc, first), name(alloc, second)))?;
-    facts.push(PlainFact::Mess(name(alloc, second), name(alloc, first)))?;
-    Ok(())
+    add_sent(alloc, facts, first, second)?;
+    add_sent(alloc, facts, second, first)
 }
 
 /// Adds the messages between a name and so many from that number on, in both directions.
@@ -237,67 +266,29 @@ fn add_sides(alloc: Global, facts: &mut Vec<PlainFact>, count: u32) -> Result<()
     Ok(())
 }
 
-/// The clause that encrypts.
-fn encrypts(alloc: Global) -> Result<PlainClause, AllocError> {
-    let mut facts = Vec::new(alloc);
-    facts.push(PlainFact::Att(Tree::Var(0)))?;
-    facts.push(PlainFact::Att(Tree::Var(1)))?;
-    let made = over_two(alloc, Sym::Ctor(4), Tree::Var(0), Tree::Var(1))?;
-    Ok(clause(facts, PlainFact::Att(made)))
+/// Adds the hypotheses of the clause that encrypts.
+fn add_encrypting(facts: &mut Vec<PlainFact>) -> Result<(), AllocError> {
+    add_att(facts, 0)?;
+    add_att(facts, 1)
 }
 
-/// The clause that decrypts what has this root, with so many events beside.
-fn decrypts(alloc: Global, root: Sym, count: u32) -> Result<PlainClause, AllocError> {
-    let mut facts = Vec::new(alloc);
-    let wanted = over_two(alloc, root, Tree::Var(0), Tree::Var(1))?;
-    facts.push(PlainFact::Att(wanted))?;
-    facts.push(PlainFact::Att(Tree::Var(1)))?;
-    add_events(alloc, &mut facts, count)?;
-    Ok(clause(facts, PlainFact::Att(Tree::Var(0))))
+/// Adds the hypotheses of the clause that decrypts what has this root, with so many events beside.
+fn add_decrypting(
+    alloc: Global,
+    facts: &mut Vec<PlainFact>,
+    root: Sym,
+    count: u32,
+) -> Result<(), AllocError> {
+    add_att_over(alloc, facts, root, 0, 2)?;
+    add_att(facts, 1)?;
+    add_events(alloc, facts, count)
 }
 
-/// So many alike hypotheses, and one of another root.
-fn alike_and_one(alloc: Global, count: u32) -> Result<PlainClause, AllocError> {
-    let mut facts = Vec::new(alloc);
-    add_alike(alloc, &mut facts, count)?;
-    facts.push(PlainFact::Att(over_one(alloc, Sym::Ctor(2), count)?))?;
-    Ok(clause(facts, bad(alloc)))
-}
-
-/// Two cycles of half the length.
-fn halves(alloc: Global, count: u32) -> Result<PlainClause, AllocError> {
-    let mut facts = Vec::new(alloc);
-    add_cycle(&mut facts, 0, count / 2)?;
-    add_cycle(&mut facts, count / 2, count - count / 2)?;
-    Ok(clause(facts, bad(alloc)))
-}
-
-/// Alike hypotheses.
-fn alike(alloc: Global, count: u32) -> Result<PlainClause, AllocError> {
-    let mut facts = Vec::new(alloc);
-    add_alike(alloc, &mut facts, count)?;
-    Ok(clause(facts, bad(alloc)))
-}
-
-/// A cycle.
-fn cycle(alloc: Global, count: u32) -> Result<PlainClause, AllocError> {
-    let mut facts = Vec::new(alloc);
-    add_cycle(&mut facts, 0, count)?;
-    Ok(clause(facts, bad(alloc)))
-}
-
-/// A chain with this conclusion.
-fn chain(alloc: Global, count: u32, concl: PlainFact) -> Result<PlainClause, AllocError> {
-    let mut facts = Vec::new(alloc);
-    add_chain(&mut facts, count)?;
-    Ok(clause(facts, concl))
-}
-
-/// A chain from its end on.
-fn reversed(alloc: Global, count: u32) -> Result<PlainClause, AllocError> {
-    let mut facts = Vec::new(alloc);
-    add_reversed(&mut facts, count)?;
-    Ok(clause(facts, bad(alloc)))
+/// Adds two cycles of half the length.
+fn add_halves(facts: &mut Vec<PlainFact>, count: u32) -> Result<(), AllocError> {
+    let half = count / 2;
+    add_cycle(facts, 0, half)?;
+    add_cycle(facts, half, count.saturating_sub(half))
 }
 
 /// Adds so many messages, each of two variables of its own.
@@ -309,115 +300,120 @@ fn add_messages(facts: &mut Vec<PlainFact>, count: u32) -> Result<(), AllocError
     Ok(())
 }
 
-/// Adds a message from a name to another.
-fn add_sent(
-    alloc: Global,
-    facts: &mut Vec<PlainFact>,
-    from: u32,
-    to: u32,
-) -> Result<(), AllocError> {
-    facts.push(PlainFact::Mess(name(alloc, from), name(alloc, to)))?;
-    Ok(())
+/// Adds so many messages of variables of their own and a cycle of three.
+fn add_parts(facts: &mut Vec<PlainFact>, count: u32) -> Result<(), AllocError> {
+    add_messages(facts, count)?;
+    add_cycle(facts, count.wrapping_mul(2), 3)
 }
 
 /// Adds a cycle of three messages between names from this number on.
 fn add_ring(alloc: Global, facts: &mut Vec<PlainFact>, begin: u32) -> Result<(), AllocError> {
     add_sent(alloc, facts, begin, begin.wrapping_add(1))?;
     add_sent(alloc, facts, begin.wrapping_add(1), begin.wrapping_add(2))?;
-    add_sent(alloc, facts, begin.wrapping_add(2), begin)?;
+    add_sent(alloc, facts, begin.wrapping_add(2), begin)
+}
+
+/// Adds messages between two sides, and a cycle of three.
+fn add_sides_and_ring(alloc: Global, facts: &mut Vec<PlainFact>) -> Result<(), AllocError> {
+    add_sides(alloc, facts, 10)?;
+    add_ring(alloc, facts, 20)
+}
+
+/// Adds so many cycles of three, over variables.
+fn add_cycles(facts: &mut Vec<PlainFact>, count: u32) -> Result<(), AllocError> {
+    for i in 0..count {
+        add_cycle(facts, i.wrapping_mul(3), 3)?;
+    }
     Ok(())
 }
 
-/// So many messages of variables of their own and a cycle of three.
-fn parts(alloc: Global, count: u32) -> Result<PlainClause, AllocError> {
-    let mut facts = Vec::new(alloc);
-    add_messages(&mut facts, count)?;
-    add_cycle(&mut facts, count.wrapping_mul(2), 3)?;
-    Ok(clause(facts, bad(alloc)))
-}
-
-/// Messages between two sides.
-fn sides(alloc: Global) -> Result<PlainClause, AllocError> {
-    let mut facts = Vec::new(alloc);
-    add_sides(alloc, &mut facts, 10)?;
-    Ok(clause(facts, bad(alloc)))
-}
-
-/// Messages between two sides, and a cycle of three.
-fn sides_and_ring(alloc: Global) -> Result<PlainClause, AllocError> {
-    let mut facts = Vec::new(alloc);
-    add_sides(alloc, &mut facts, 10)?;
-    add_ring(alloc, &mut facts, 20)?;
-    Ok(clause(facts, bad(alloc)))
-}
-
-/// So many cycles of three, over variables.
-fn cycles(alloc: Global, count: u32) -> Result<PlainClause, AllocError> {
-    let mut facts = Vec::new(alloc);
+/// Adds eight messages between two sides, and so many cycles of three, over names.
+fn add_rings(alloc: Global, facts: &mut Vec<PlainFact>, count: u32) -> Result<(), AllocError> {
+    add_sides(alloc, facts, 2)?;
     for i in 0..count {
-        add_cycle(&mut facts, i.wrapping_mul(3), 3)?;
+        add_ring(alloc, facts, i.wrapping_mul(3).wrapping_add(4))?;
     }
-    Ok(clause(facts, bad(alloc)))
+    Ok(())
 }
 
-/// Eight messages between two sides, and so many cycles of three, over names.
-fn rings(alloc: Global, count: u32) -> Result<PlainClause, AllocError> {
-    let mut facts = Vec::new(alloc);
-    add_sides(alloc, &mut facts, 2)?;
-    for i in 0..count {
-        add_ring(alloc, &mut facts, i.wrapping_mul(3).wrapping_add(4))?;
+/// Adds the hypotheses of the solved or general clause of a family and a size.
+fn add_first(
+    alloc: Global,
+    facts: &mut Vec<PlainFact>,
+    family: Family,
+    size: u32,
+) -> Result<(), AllocError> {
+    match family {
+        Family::Resolve | Family::Clash => add_encrypting(facts),
+        Family::Chain | Family::Reversed | Family::Differ | Family::Fewer => add_chain(facts, size),
+        Family::Alike => add_alike(alloc, facts, size),
+        Family::Crowd => add_alike(alloc, facts, size.wrapping_add(1)),
+        Family::Cycle | Family::Halves => add_cycle(facts, 0, size),
+        Family::Colours => add_points(facts, size),
+        Family::Short => add_cycle(facts, 0, size.saturating_sub(1)),
+        Family::Apart | Family::Joined => add_parts(facts, size),
+        Family::Copies => add_cycles(facts, size),
     }
-    Ok(clause(facts, bad(alloc)))
 }
 
-/// A complete graph of variables.
-fn points(alloc: Global, count: u32) -> Result<PlainClause, AllocError> {
-    let mut facts = Vec::new(alloc);
-    add_points(&mut facts, count)?;
-    Ok(clause(facts, bad(alloc)))
-}
-
-/// A complete graph of names.
-fn names(alloc: Global, count: u32) -> Result<PlainClause, AllocError> {
-    let mut facts = Vec::new(alloc);
-    add_names(alloc, &mut facts, count)?;
-    Ok(clause(facts, bad(alloc)))
+/// The conclusion of the solved or general clause of a family.
+fn first_conclusion(alloc: Global, family: Family) -> Result<PlainFact, AllocError> {
+    if family.is_resolved() {
+        let arguments = variables(alloc, 0, 2)?;
+        return Ok(PlainFact::Att(Tree::App(Sym::Ctor(4), arguments)));
+    }
+    Ok(bad(alloc))
 }
 
 /// The solved or general clause of a family and a size.
 pub fn first_of(alloc: Global, family: Family, size: u32) -> Result<PlainClause, AllocError> {
+    let mut items = Vec::new(alloc);
+    add_first(alloc, &mut items, family, size)?;
+    Ok(PlainClause {
+        hyps: PlainFacts { items },
+        concl: first_conclusion(alloc, family)?,
+    })
+}
+
+/// Adds the hypotheses of the unsolved or special clause of a family and a size.
+fn add_second(
+    alloc: Global,
+    facts: &mut Vec<PlainFact>,
+    family: Family,
+    size: u32,
+) -> Result<(), AllocError> {
     match family {
-        Family::Resolve | Family::Clash => encrypts(alloc),
-        Family::Chain | Family::Reversed | Family::Differ | Family::Fewer => {
-            chain(alloc, size, bad(alloc))
-        }
-        Family::Alike => alike(alloc, size),
-        Family::Crowd => alike(alloc, size.wrapping_add(1)),
-        Family::Cycle | Family::Halves => cycle(alloc, size),
-        Family::Colours => points(alloc, size),
-        Family::Short => cycle(alloc, size.saturating_sub(1)),
-        Family::Apart | Family::Joined => parts(alloc, size),
-        Family::Copies => cycles(alloc, size),
+        Family::Resolve => add_decrypting(alloc, facts, Sym::Ctor(4), size),
+        Family::Clash => add_decrypting(alloc, facts, Sym::Ctor(3), size),
+        Family::Chain | Family::Differ => add_chain(facts, size),
+        Family::Reversed => add_reversed(facts, size),
+        Family::Fewer => add_chain(facts, size.saturating_sub(1)),
+        Family::Alike => add_alike(alloc, facts, size),
+        Family::Crowd => add_alike_and_one(alloc, facts, size),
+        Family::Cycle | Family::Short => add_cycle(facts, 0, size),
+        Family::Halves => add_halves(facts, size),
+        Family::Colours => add_names(alloc, facts, size.saturating_sub(1)),
+        Family::Apart => add_sides(alloc, facts, 10),
+        Family::Joined => add_sides_and_ring(alloc, facts),
+        Family::Copies => add_rings(alloc, facts, size.saturating_sub(1)),
+    }
+}
+
+/// The conclusion of the unsolved or special clause of a family.
+fn second_conclusion(alloc: Global, family: Family) -> PlainFact {
+    match family {
+        Family::Resolve | Family::Clash => PlainFact::Att(Tree::Var(0)),
+        Family::Differ => PlainFact::Att(name(alloc, 1)),
+        _ => bad(alloc),
     }
 }
 
 /// The unsolved or special clause of a family and a size.
 pub fn second_of(alloc: Global, family: Family, size: u32) -> Result<PlainClause, AllocError> {
-    match family {
-        Family::Resolve => decrypts(alloc, Sym::Ctor(4), size),
-        Family::Clash => decrypts(alloc, Sym::Ctor(3), size),
-        Family::Chain => chain(alloc, size, bad(alloc)),
-        Family::Reversed => reversed(alloc, size),
-        Family::Differ => chain(alloc, size, PlainFact::Att(name(alloc, 1))),
-        Family::Fewer => chain(alloc, size.saturating_sub(1), bad(alloc)),
-        Family::Alike => alike(alloc, size),
-        Family::Crowd => alike_and_one(alloc, size),
-        Family::Cycle => cycle(alloc, size),
-        Family::Halves => halves(alloc, size),
-        Family::Colours => names(alloc, size.saturating_sub(1)),
-        Family::Short => cycle(alloc, size),
-        Family::Apart => sides(alloc),
-        Family::Joined => sides_and_ring(alloc),
-        Family::Copies => rings(alloc, size.saturating_sub(1)),
-    }
+    let mut items = Vec::new(alloc);
+    add_second(alloc, &mut items, family, size)?;
+    Ok(PlainClause {
+        hyps: PlainFacts { items },
+        concl: second_conclusion(alloc, family),
+    })
 }

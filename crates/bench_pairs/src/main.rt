@@ -10,11 +10,9 @@ mod pair;
 
 use goal_job::GoalJob;
 use job::Job;
-use pair::{Pair, pair_of};
 use std::env::Env;
 use std::process::ExitCode;
 use std::{env, io};
-use term_tree::TreeBank;
 
 /// The status that a call ends with whose words are no job.
 const USAGE: u8 = 2;
@@ -56,10 +54,8 @@ fn do_goal_job(rt: &(impl Print + AllocGlobal), job: GoalJob) -> io::Result<bool
 
 /// Does the job, and writes how many of its calls gave something. `Ok(false)` where the clauses have no norms.
 fn do_job(rt: &(impl Print + AllocGlobal), job: Job) -> io::Result<bool> {
-    let mut bank = TreeBank::new(rt.alloc())?;
-    match pair_of(rt.alloc(), &mut bank, job.family, job.size)? {
-        Some(pair) => {
-            let given = job.repeat(rt.alloc(), &mut bank, &pair)?;
+    match job.run(rt.alloc())? {
+        Some(given) => {
             println!(rt; "{} of {}", given, job.repetitions)?;
             Ok(true)
         }

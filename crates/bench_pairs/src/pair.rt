@@ -14,7 +14,7 @@ use term_tree::TreeBank;
 const MOST_SYMBOLS: u64 = 4096;
 
 /// Two clauses: a solved and an unsolved one, or a general and a special one.
-#[derive(Debug, Drop)]
+#[derive(Drop)]
 pub struct Pair {
     pub first: Clause,
     pub second: Clause,
@@ -75,6 +75,19 @@ pub fn pair_of(
     ensures { IfOk result (λ found. IfSome found (λ pair. ArePair bank.new pair)) }
 {
     let first = first_of(alloc, family, size)?;
+    pair_with(alloc, bank, &first, family, size)
+}
+
+/// The same of the first clause.
+fn pair_with(
+    alloc: Global,
+    bank: &mut TreeBank,
+    first: &PlainClause,
+    family: Family,
+    size: u32,
+) -> Result<Option<Pair>, AllocError>
+    ensures { IfOk result (λ found. IfSome found (λ pair. ArePair bank.new pair)) }
+{
     let second = second_of(alloc, family, size)?;
-    copied_pair(alloc, bank, &first, &second)
+    copied_pair(alloc, bank, first, &second)
 }

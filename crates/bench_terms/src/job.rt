@@ -6,6 +6,7 @@ ghost use Rattle.bench_terms.specs.Terms.{AreInBank};
 
 use crate::made_terms::Terms;
 use crate::shape::Shape;
+use row_tables::named;
 use std::alloc::{AllocError, Global};
 use term_tree::{Bank, Id, TreeBank};
 use unify_match::{Binds, apply_bound, match_onto, unify};
@@ -14,7 +15,7 @@ use unify_match::{Binds, apply_bound, match_onto, unify};
 const MOST_SYMBOLS: u64 = 100_000;
 
 /// What is measured.
-#[derive(Clone, Copy, PartialEq, Eq, Debug)]
+#[derive(Clone, Copy)]
 pub enum Operation {
     Unification,
     Matching,
@@ -22,7 +23,7 @@ pub enum Operation {
 }
 
 /// An operation on terms of a shape and a size, so many times.
-#[derive(Clone, Copy, Debug)]
+#[derive(Clone, Copy)]
 pub struct Job {
     pub operation: Operation,
     pub shape: Shape,
@@ -45,15 +46,17 @@ impl Job {
     }
 }
 
+/// What is measured, by its names.
+const OPERATIONS: [(&str, Operation); 3] = [
+    ("unify", Operation::Unification),
+    ("match", Operation::Matching),
+    ("apply", Operation::Application),
+];
+
 impl Operation {
     /// The operation with this name.
     pub fn from_name(name: &str) -> Option<Operation> {
-        match name.as_bytes() {
-            b"unify" => Some(Operation::Unification),
-            b"match" => Some(Operation::Matching),
-            b"apply" => Some(Operation::Application),
-            _ => None,
-        }
+        named(&OPERATIONS, name)
     }
 
     /// Does the operation so many times, each of them from no bindings, and counts how often it said yes.

@@ -9,7 +9,7 @@ use std::alloc::AllocError;
 use term_tree::{Bank, Id, Sym, TreeBank};
 
 /// Two terms, which have a unifier but for those of a clash, and a term that the left one matches onto.
-#[derive(Clone, Copy, Debug)]
+#[derive(Clone, Copy)]
 pub struct Terms {
     pub left: Id,
     pub right: Id,
@@ -154,7 +154,7 @@ fn comb(bank: &mut TreeBank, first: u32, step: u32, variables: u32) -> Result<Id
 }
 
 /// Lists of variables and of what they are to be: each the pair of the one before it, twice.
-#[derive(Clone, Copy, Debug)]
+#[derive(Clone, Copy)]
 pub struct Tower {
     pub variables: Id,
     pub pairs: Id,

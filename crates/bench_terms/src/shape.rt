@@ -1,7 +1,9 @@
 //! The shapes of terms.
 
+use row_tables::named;
+
 /// A shape of two terms. Each has a size, from 1 on.
-#[derive(Clone, Copy, PartialEq, Eq, Debug)]
+#[derive(Clone, Copy)]
 pub enum Shape {
     /// One variable under as many symbols, against a name under as many.
     Chain,
@@ -18,17 +20,19 @@ pub enum Shape {
     Clash,
 }
 
+/// The shapes by their names.
+const SHAPES: [(&str, Shape); 6] = [
+    ("chain", Shape::Chain),
+    ("balanced", Shape::Balanced),
+    ("variables", Shape::Variables),
+    ("repeated", Shape::Repeated),
+    ("pairs", Shape::Pairs),
+    ("clash", Shape::Clash),
+];
+
 impl Shape {
     /// The shape with this name.
     pub fn from_name(name: &str) -> Option<Shape> {
-        match name.as_bytes() {
-            b"chain" => Some(Shape::Chain),
-            b"balanced" => Some(Shape::Balanced),
-            b"variables" => Some(Shape::Variables),
-            b"repeated" => Some(Shape::Repeated),
-            b"pairs" => Some(Shape::Pairs),
-            b"clash" => Some(Shape::Clash),
-            _ => None,
-        }
+        named(&SHAPES, name)
     }
 }
