@@ -1,14 +1,15 @@
 //! Protocols with one query, which rows of goals spell.
 
 ghost use Rattle.std.specs.Prelude.{◌≡◌, true, IfOk, IfSome};
-ghost use Rattle.protocol_scope.specs.Spells.{Spells};
+ghost use Rattle.protocol_scope.specs.Spells.{IsProtocolOf, IsSketchOf, Spells};
+ghost use Rattle.pi_parser.specs.Files.{file_of};
 ghost use Rattle.pi_tree.specs.Protocols.{protocol_of};
 ghost use Rattle.pi_tree.specs.Accessors.{IsThere};
 ghost use Rattle.pi_tree.specs.declared.accessors.Kind.TheVariants.{Query};
 ghost use Rattle.clause_rows.specs.Asked.{IsAsked};
 
 use pi_lexer::lex;
-use pi_parser::parse;
+use pi_parser::{Sketch, parse};
 use pi_tree::Protocol;
 use protocol_scope::{query_leaves, within_limits};
 use scope_check::check_scope;
@@ -24,6 +25,25 @@ const BEFORE: &str = "free c, d, k. fun f/1. fun g/1. fun h/2. fun enc/2. data b
 /// What stands behind it: a process with restrictions at the points 1, of no argument, and 4, of a copy and a message.
 const BEHIND: &str = ". process new a; !in(c,x); new b";
 
+/// What the grammar makes of the bytes, if they have a sketch.
+fn sketch_of(alloc: Global, bytes: &[u8]) -> Option<Sketch>
+    ensures { IfSome result (λ sketch. IsSketchOf bytes.now (file_of sketch)) }
+{
+    let tokens = lex(alloc, bytes).ok()?;
+    parse(alloc, bytes, &tokens).ok()
+}
+
+/// The protocol that the sketch of the bytes stands for, if it stands for one.
+fn scoped(alloc: Global, bytes: &[u8], sketch: &Sketch) -> Option<Protocol>
+    requires { IsSketchOf bytes.now (file_of sketch.now) }
+    ensures { IfSome result (λ protocol. IsProtocolOf bytes.now (protocol_of protocol)) }
+{
+    match check_scope(alloc, bytes, sketch) {
+        Ok(protocol) => Some(protocol),
+        Err(_) => None,
+    }
+}
+
 /// The protocol that the bytes spell, if they are not too many and spell one.
 pub fn read_protocol(alloc: Global, bytes: &[u8]) -> Option<Protocol>
     ensures { IfSome result (λ protocol. Spells bytes.now (protocol_of protocol)) }
@@ -31,12 +51,8 @@ pub fn read_protocol(alloc: Global, bytes: &[u8]) -> Option<Protocol>
     if bytes.len() > MOST_BYTES {
         return None;
     }
-    let tokens = lex(alloc, bytes).ok()?;
-    let sketch = parse(alloc, bytes, &tokens).ok()?;
-    match check_scope(alloc, bytes, &sketch) {
-        Ok(protocol) => Some(protocol),
-        Err(_) => None,
-    }
+    let sketch = sketch_of(alloc, bytes)?;
+    scoped(alloc, bytes, &sketch)
 }
 
 /// Whether the protocol has a query.

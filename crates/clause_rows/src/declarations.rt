@@ -24,7 +24,7 @@ use term_tree::{Id, TreeBank};
 const FIRST_VARIABLE: u32 = 5;
 
 /// A table whose rows are declarations.
-#[derive(Clone, Copy, Debug, PartialEq, Eq)]
+#[derive(Clone, Copy)]
 pub enum DeclarationTable {
     /// The attacker's clauses.
     Attacker,
@@ -33,15 +33,6 @@ pub enum DeclarationTable {
 }
 
 impl DeclarationTable {
-    /// The table in the file with this name.
-    pub fn named(file: &str) -> Option<DeclarationTable> {
-        match file.as_bytes() {
-            b"attacker.txt" => Some(DeclarationTable::Attacker),
-            b"rules.txt" => Some(DeclarationTable::Rules),
-            _ => None,
-        }
-    }
-
     /// What a row with these declarations shows.
     pub fn shown(self, alloc: Global, declarations: &str) -> Result<String, AllocError> {
         match declared_by(alloc, declarations)? {
@@ -85,8 +76,19 @@ fn attacker_text(alloc: Global, protocol: &Protocol) -> Result<String, AllocErro
     requires { IsDeclared (protocol_of protocol.now) }
 {
     let mut bank = TreeBank::new(alloc)?;
-    let list = attacker_list(alloc, &mut bank, protocol)?;
-    texts_of(alloc, &bank, &list.items)
+    attacker_within(alloc, &mut bank, protocol)
+}
+
+/// The attacker's clauses, made in a bank.
+fn attacker_within(
+    alloc: Global,
+    bank: &mut TreeBank,
+    protocol: &Protocol,
+) -> Result<String, AllocError>
+    requires { IsDeclared (protocol_of protocol.now) }
+{
+    let list = attacker_list(alloc, bank, protocol)?;
+    texts_of(alloc, bank, &list.items)
 }
 
 /// The rules of all destructors.
@@ -132,11 +134,31 @@ fn add_rule(
 ) -> Result<(), AllocError>
     requires { CanBeShown (rule_of rule.now) }
 {
-    let mut bank = TreeBank::new(alloc)?;
-    let (left, right) = rename_rule(alloc, &mut bank, protocol, rule, FIRST_VARIABLE)?;
+    let shown = rule_text(alloc, protocol, rule)?;
     write_behind(" | ", text)?;
-    text.push_str(sides_text(alloc, &bank, &left.items, right)?.as_str())?;
+    text.push_str(shown.as_str())?;
     Ok(())
+}
+
+/// A rule.
+fn rule_text(alloc: Global, protocol: &Protocol, rule: &Rule) -> Result<String, AllocError>
+    requires { CanBeShown (rule_of rule.now) }
+{
+    let mut bank = TreeBank::new(alloc)?;
+    rule_within(alloc, &mut bank, protocol, rule)
+}
+
+/// A rule, made in a bank.
+fn rule_within(
+    alloc: Global,
+    bank: &mut TreeBank,
+    protocol: &Protocol,
+    rule: &Rule,
+) -> Result<String, AllocError>
+    requires { CanBeShown (rule_of rule.now) }
+{
+    let (left, right) = rename_rule(alloc, bank, protocol, rule, FIRST_VARIABLE)?;
+    sides_text(alloc, bank, &left.items, right)
 }
 
 /// The sides of a rule.

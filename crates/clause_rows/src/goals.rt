@@ -3,14 +3,13 @@
 //! A query stands as in the file of a protocol: `event end(x) ==> event begin(x)`, of the names of `signature`.
 
 ghost use Rattle.std.specs.Prelude.{◌≡◌, true};
-ghost use Rattle.clauses.specs.Limits.{IsWithinLimit};
 ghost use Rattle.pi_tree.specs.Protocols.{protocol_of};
-ghost use Rattle.clause_form.specs.Seen.{clause_at, IsClauseIn};
+ghost use Rattle.clause_form.specs.Seen.{IsClauseIn};
 ghost use Rattle.clause_rows.specs.Asked.{IsAsked};
 
 use crate::asking::asked_by;
 use crate::pairs::{add_position, is_small};
-use crate::tables::texts_of;
+use crate::tables::{texts_of, yes_or_no};
 use clause_form::{Clause, PlainClause, copy_into};
 use pi_tree::Protocol;
 use query_derive::{Positions, QueryRow, goal_clause, query_row_holds, satisfies};
@@ -20,7 +19,7 @@ use table_texts::signature::number_in;
 use term_tree::TreeBank;
 
 /// A table whose rows begin with a query.
-#[derive(Clone, Copy, Debug, PartialEq, Eq)]
+#[derive(Clone, Copy)]
 pub enum GoalTable {
     /// The goal clause of a query.
     Goals,
@@ -31,16 +30,6 @@ pub enum GoalTable {
 }
 
 impl GoalTable {
-    /// The table in the file with this name.
-    pub fn named(file: &str) -> Option<GoalTable> {
-        match file.as_bytes() {
-            b"goals.txt" => Some(GoalTable::Goals),
-            b"goal_rows.txt" => Some(GoalTable::FirstRows),
-            b"held_rows.txt" => Some(GoalTable::HeldRows),
-            _ => None,
-        }
-    }
-
     /// What a row with these texts shows: a query, and what stands behind it.
     pub fn shown(self, alloc: Global, texts: &str) -> Result<String, AllocError> {
         let (query, others) = texts.split_once(';').unwrap_or((texts, ""));
@@ -72,8 +61,19 @@ fn goal_text(alloc: Global, protocol: &Protocol) -> Result<String, AllocError>
     requires { IsAsked (protocol_of protocol.now) }
 {
     let mut bank = TreeBank::new(alloc)?;
-    let goals = goal_clause(alloc, &mut bank, protocol, 1)?;
-    texts_of(alloc, &bank, &goals.items)
+    goal_within(alloc, &mut bank, protocol)
+}
+
+/// The goal clause, made in a bank.
+fn goal_within(
+    alloc: Global,
+    bank: &mut TreeBank,
+    protocol: &Protocol,
+) -> Result<String, AllocError>
+    requires { IsAsked (protocol_of protocol.now) }
+{
+    let goals = goal_clause(alloc, bank, protocol, 1)?;
+    texts_of(alloc, bank, &goals.items)
 }
 
 /// The first goal row of the clause that a text spells.
@@ -91,11 +91,20 @@ fn first_of(alloc: Global, protocol: &Protocol, plain: &PlainClause) -> Result<S
     requires { IsAsked (protocol_of protocol.now) }
 {
     let mut bank = TreeBank::new(alloc)?;
-    let clause = copy_into(alloc, &mut bank, plain)?;
-    if !is_small(&bank, &clause) {
-        return String::from_str(alloc, "too large");
-    }
-    first_in(alloc, &bank, &clause, protocol)
+    first_within(alloc, &mut bank, protocol, plain)
+}
+
+/// The first goal row of a clause that is copied into a bank.
+fn first_within(
+    alloc: Global,
+    bank: &mut TreeBank,
+    protocol: &Protocol,
+    plain: &PlainClause,
+) -> Result<String, AllocError>
+    requires { IsAsked (protocol_of protocol.now) }
+{
+    let clause = copy_into(alloc, bank, plain)?;
+    first_in(alloc, bank, &clause, protocol)
 }
 
 /// The first goal row of a clause over ids, or `none`.
@@ -106,9 +115,11 @@ fn first_in(
     protocol: &Protocol,
 ) -> Result<String, AllocError>
     requires known { IsClauseIn bank.now clause.now }
-    requires small { IsWithinLimit (clause_at bank.now clause.now) }
     requires asked { IsAsked (protocol_of protocol.now) }
 {
+    if !is_small(bank, clause) {
+        return String::from_str(alloc, "too large");
+    }
     match satisfies(alloc, bank, clause, protocol, 1)? {
         None => String::from_str(alloc, "none"),
         Some(row) => found_text(alloc, bank, clause, protocol, &row),
@@ -164,11 +175,22 @@ fn held_of(
     requires { IsAsked (protocol_of protocol.now) }
 {
     let mut bank = TreeBank::new(alloc)?;
-    let clause = copy_into(alloc, &mut bank, plain)?;
-    if query_row_holds(alloc, &bank, &clause, protocol, 1, row)? {
-        return String::from_str(alloc, "yes");
-    }
-    String::from_str(alloc, "no")
+    held_within(alloc, &mut bank, protocol, plain, row)
+}
+
+/// Whether a row holds of a clause that is copied into a bank.
+fn held_within(
+    alloc: Global,
+    bank: &mut TreeBank,
+    protocol: &Protocol,
+    plain: &PlainClause,
+    row: &QueryRow,
+) -> Result<String, AllocError>
+    requires { IsAsked (protocol_of protocol.now) }
+{
+    let clause = copy_into(alloc, bank, plain)?;
+    let is_held = query_row_holds(alloc, bank, &clause, protocol, 1, row)?;
+    String::from_str(alloc, yes_or_no(is_held))
 }
 
 /// The row that numbers spell: that of an alternative, and positions.

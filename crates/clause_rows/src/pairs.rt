@@ -6,7 +6,7 @@ ghost use Rattle.clause_form.specs.Seen.{clause_at, IsClauseIn, AreClausesIn};
 ghost use Rattle.clause_rows.specs.Fit.{IsFit};
 
 use crate::tables::texts_of;
-use clause_form::{Clause, PlainClause, copy_into, is_normal, size_of};
+use clause_form::{Clause, is_normal, size_of};
 use clause_resolve::{Resolved, normal_clauses_have_low_variables, resolvents};
 use literal_selection::{is_solved, selected};
 use multiset_subsume::{Row, cover_row, row_holds};
@@ -17,7 +17,7 @@ use term_tree::TreeBank;
 const MOST_SYMBOLS: u64 = 4096;
 
 /// A table of pairs of clauses.
-#[derive(Clone, Copy, Debug, PartialEq, Eq)]
+#[derive(Clone, Copy)]
 pub enum PairTable {
     /// The resolvents of a solved and an unsolved clause.
     Resolvents,
@@ -26,43 +26,8 @@ pub enum PairTable {
 }
 
 impl PairTable {
-    /// The table in the file with this name.
-    pub fn named(file: &str) -> Option<PairTable> {
-        match file.as_bytes() {
-            b"resolvents.txt" => Some(PairTable::Resolvents),
-            b"subsumed.txt" => Some(PairTable::Subsumed),
-            _ => None,
-        }
-    }
-
-    /// What a row with these two clauses shows.
-    pub fn shown(
-        self,
-        alloc: Global,
-        first: &PlainClause,
-        second: &PlainClause,
-    ) -> Result<String, AllocError> {
-        let mut bank = TreeBank::new(alloc)?;
-        let first = copy_into(alloc, &mut bank, first)?;
-        self.shown_before(alloc, &mut bank, &first, second)
-    }
-
-    /// The same with the first clause over ids of a bank.
-    fn shown_before(
-        self,
-        alloc: Global,
-        bank: &mut TreeBank,
-        first: &Clause,
-        second: &PlainClause,
-    ) -> Result<String, AllocError>
-        requires { IsClauseIn bank.old first.now }
-    {
-        let second = copy_into(alloc, bank, second)?;
-        self.shown_in(alloc, bank, first, &second)
-    }
-
-    /// The same with both clauses over ids of a bank.
-    fn shown_in(
+    /// What a row with these two clauses, over ids of a bank, shows.
+    pub fn shown_in(
         self,
         alloc: Global,
         bank: &mut TreeBank,

@@ -5,7 +5,7 @@ use row_tables::{Line, Rows, compared};
 use std::alloc::{AllocError, Global};
 
 /// The rows of a table, if there is one with that name.
-#[derive(Debug, Drop)]
+#[derive(Drop)]
 pub struct TableRows {
     table: Option<Table>,
 }

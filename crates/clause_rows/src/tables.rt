@@ -11,7 +11,7 @@ use table_texts::writing::clause_text;
 use term_tree::{Bank, SIZE_LIMIT, TreeBank};
 
 /// A table of single clauses.
-#[derive(Clone, Copy, Debug, PartialEq, Eq)]
+#[derive(Clone, Copy)]
 pub enum ClauseTable {
     /// The norms of clauses.
     Norms,
@@ -28,25 +28,22 @@ pub enum ClauseTable {
 }
 
 impl ClauseTable {
-    /// The table in the file with this name.
-    pub fn named(file: &str) -> Option<ClauseTable> {
-        match file.as_bytes() {
-            b"norms.txt" => Some(ClauseTable::Norms),
-            b"parts.txt" => Some(ClauseTable::Parts),
-            b"sizes.txt" => Some(ClauseTable::Sizes),
-            b"selected.txt" => Some(ClauseTable::Selected),
-            b"normal.txt" => Some(ClauseTable::Normal),
-            b"copies.txt" => Some(ClauseTable::Copies),
-            _ => None,
-        }
-    }
-
     /// What a row with this clause shows.
     pub fn shown(self, alloc: Global, plain: &PlainClause) -> Result<String, AllocError> {
         let mut bank = TreeBank::new(alloc)?;
+        self.shown_within(alloc, &mut bank, plain)
+    }
+
+    /// The same with a bank that hasn't the clause.
+    fn shown_within(
+        self,
+        alloc: Global,
+        bank: &mut TreeBank,
+        plain: &PlainClause,
+    ) -> Result<String, AllocError> {
         let mark = bank.mark();
-        match copy_into(alloc, &mut bank, plain) {
-            Ok(clause) => self.shown_in(alloc, &mut bank, clause),
+        match copy_into(alloc, bank, plain) {
+            Ok(clause) => self.shown_in(alloc, bank, &clause),
             Err(error) => refused_text(alloc, bank.mark() == mark, error),
         }
     }
@@ -56,17 +53,17 @@ impl ClauseTable {
         self,
         alloc: Global,
         bank: &mut TreeBank,
-        clause: Clause,
+        clause: &Clause,
     ) -> Result<String, AllocError>
-        requires { IsClauseIn bank.old clause }
+        requires { IsClauseIn bank.old clause.now }
     {
         match self {
             ClauseTable::Norms => norm_text(alloc, bank, clause),
-            ClauseTable::Parts => parts_text(alloc, bank, &clause),
-            ClauseTable::Sizes => size_text(alloc, bank, &clause),
-            ClauseTable::Selected => selected_text(alloc, bank, &clause),
-            ClauseTable::Normal => normal_text(alloc, bank, &clause),
-            ClauseTable::Copies => copied_text(alloc, bank, &clause),
+            ClauseTable::Parts => parts_text(alloc, bank, clause),
+            ClauseTable::Sizes => size_text(alloc, bank, clause),
+            ClauseTable::Selected => selected_text(alloc, bank, clause),
+            ClauseTable::Normal => normal_text(alloc, bank, clause),
+            ClauseTable::Copies => copied_text(alloc, bank, clause),
         }
     }
 }
@@ -117,8 +114,16 @@ pub fn texts_of<B: Bank>(alloc: Global, bank: &B, clauses: &[Clause]) -> Result<
     Ok(texts)
 }
 
+/// The norm of a clause.
+fn norm_text(alloc: Global, bank: &mut TreeBank, clause: &Clause) -> Result<String, AllocError>
+    requires { IsClauseIn bank.old clause.now }
+{
+    let copied = clause.copy(alloc)?;
+    normed_text(alloc, bank, copied)
+}
+
 /// The norm of a clause; `grown` where memory was refused, and the bank isn't as it was.
-fn norm_text(alloc: Global, bank: &mut TreeBank, clause: Clause) -> Result<String, AllocError>
+fn normed_text(alloc: Global, bank: &mut TreeBank, clause: Clause) -> Result<String, AllocError>
     requires { IsClauseIn bank.old clause }
 {
     let mark = bank.mark();
@@ -177,10 +182,12 @@ fn solved_name(solved: bool) -> &'static str {
 fn normal_text(alloc: Global, bank: &TreeBank, clause: &Clause) -> Result<String, AllocError>
     requires { IsClauseIn bank.now clause.now }
 {
-    if is_normal(bank, clause) {
-        return String::from_str(alloc, "yes");
-    }
-    String::from_str(alloc, "no")
+    String::from_str(alloc, yes_or_no(is_normal(bank, clause)))
+}
+
+/// `yes`, or `no`.
+pub fn yes_or_no(is_so: bool) -> &'static str {
+    if is_so { "yes" } else { "no" }
 }
 
 /// The clause that is read out of the bank, copied into another one and read out of that.
@@ -188,7 +195,21 @@ fn copied_text(alloc: Global, bank: &TreeBank, clause: &Clause) -> Result<String
     requires { IsClauseIn bank.now clause.now }
 {
     let plain = read_out(alloc, bank, clause)?;
-    let mut other = TreeBank::new(alloc)?;
-    let copied = copy_into(alloc, &mut other, &plain)?;
-    text_of(alloc, &other, &copied)
+    text_of_plain(alloc, &plain)
+}
+
+/// The clause that is copied into a bank and read out of it.
+fn text_of_plain(alloc: Global, plain: &PlainClause) -> Result<String, AllocError> {
+    let mut bank = TreeBank::new(alloc)?;
+    text_within(alloc, &mut bank, plain)
+}
+
+/// The clause that is copied into this bank and read out of it.
+fn text_within(
+    alloc: Global,
+    bank: &mut TreeBank,
+    plain: &PlainClause,
+) -> Result<String, AllocError> {
+    let copied = copy_into(alloc, bank, plain)?;
+    text_of(alloc, bank, &copied)
 }

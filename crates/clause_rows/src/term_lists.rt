@@ -6,7 +6,7 @@ ghost use Rattle.term_tree.specs.Bank.{AreKnown};
 ghost use Rattle.clause_form.specs.Seen.{IsClauseIn};
 ghost use Rattle.unify_match.specs.Seen.{IsReady, AreBindings};
 
-use clause_form::{Clause, Fact, PlainClause, copy_into, read_term};
+use clause_form::{Clause, Fact, read_term};
 use std::alloc::{AllocError, Global};
 use table_texts::writing::term_text;
 use term_tree::{Bank, Id, Node, TreeBank};
@@ -25,7 +25,7 @@ const SHOWN_VARIABLES: u32 = 10;
 const FAR: u32 = 1000;
 
 /// A table of pairs of lists of terms.
-#[derive(Clone, Copy, Debug, PartialEq, Eq)]
+#[derive(Clone, Copy)]
 pub enum TermTable {
     /// The terms of the first list under their most general unifier with those of the second one.
     Unifiers,
@@ -40,46 +40,8 @@ pub enum TermTable {
 }
 
 impl TermTable {
-    /// The table in the file with this name.
-    pub fn named(file: &str) -> Option<TermTable> {
-        match file.as_bytes() {
-            b"unifiers.txt" => Some(TermTable::Unifiers),
-            b"matches.txt" => Some(TermTable::Matches),
-            b"taken_back.txt" => Some(TermTable::TakenBack),
-            b"renamed.txt" => Some(TermTable::Renamed),
-            b"moved.txt" => Some(TermTable::Moved),
-            _ => None,
-        }
-    }
-
-    /// What a row with these two clauses shows.
-    pub fn shown(
-        self,
-        alloc: Global,
-        first: &PlainClause,
-        second: &PlainClause,
-    ) -> Result<String, AllocError> {
-        let mut bank = TreeBank::new(alloc)?;
-        let first = copy_into(alloc, &mut bank, first)?;
-        self.shown_before(alloc, &mut bank, &first, second)
-    }
-
-    /// The same with the first clause over ids of a bank.
-    fn shown_before(
-        self,
-        alloc: Global,
-        bank: &mut TreeBank,
-        first: &Clause,
-        second: &PlainClause,
-    ) -> Result<String, AllocError>
-        requires { IsClauseIn bank.old first.now }
-    {
-        let second = copy_into(alloc, bank, second)?;
-        self.shown_in(alloc, bank, first, &second)
-    }
-
-    /// The same with both clauses over ids of a bank.
-    fn shown_in(
+    /// What a row with these two clauses, over ids of a bank, shows.
+    pub fn shown_in(
         self,
         alloc: Global,
         bank: &mut TreeBank,

@@ -31,25 +31,42 @@ fn clause_of(
     }
 }
 
-/// The clauses that the text spells, if it spells clauses.
-fn clauses_of(
+/// Adds the clause that the text spells; false where it spells none.
+fn add_clause(
     alloc: Global,
     protocol: &Protocol,
     text: &str,
-) -> Result<Option<PlainClauses>, AllocError>
+    clauses: &mut Vec<PlainClause>,
+) -> Result<bool, AllocError>
     requires { IsRead (protocol_of protocol.now) }
 {
-    let mut items = Vec::new(alloc);
+    match clause_of(alloc, protocol, text)? {
+        Some(clause) => {
+            clauses.push(clause)?;
+            Ok(true)
+        }
+        None => Ok(false),
+    }
+}
+
+/// Adds the clauses that the text spells; false where a part of it spells none.
+fn add_clauses(
+    alloc: Global,
+    protocol: &Protocol,
+    text: &str,
+    clauses: &mut Vec<PlainClause>,
+) -> Result<bool, AllocError>
+    requires { IsRead (protocol_of protocol.now) }
+{
     if text.is_empty() {
-        return Ok(Some(PlainClauses { items }));
+        return Ok(true);
     }
     for piece in text.split(';') {
-        match clause_of(alloc, protocol, piece.trim())? {
-            Some(clause) => items.push(clause)?,
-            None => return Ok(None),
+        if !add_clause(alloc, protocol, piece.trim(), clauses)? {
+            return Ok(false);
         }
     }
-    Ok(Some(PlainClauses { items }))
+    Ok(true)
 }
 
 /// The row that the text spells, if it spells one.
@@ -64,19 +81,64 @@ fn row_of(alloc: Global, text: &str) -> Result<Option<Vec<u32>>, AllocError> {
     Ok(Some(row))
 }
 
-/// The rows that the text spells, if it spells rows.
-fn rows_of(alloc: Global, text: &str) -> Result<Option<Rows>, AllocError> {
-    let mut items = Vec::new(alloc);
+/// Adds the row that the text spells; false where it spells none.
+fn add_row(alloc: Global, text: &str, rows: &mut Vec<Vec<u32>>) -> Result<bool, AllocError> {
+    match row_of(alloc, text)? {
+        Some(row) => {
+            rows.push(row)?;
+            Ok(true)
+        }
+        None => Ok(false),
+    }
+}
+
+/// Adds the rows that the text spells; false where a part of it spells none.
+fn add_rows(alloc: Global, text: &str, rows: &mut Vec<Vec<u32>>) -> Result<bool, AllocError> {
     if text.is_empty() {
-        return Ok(Some(Rows { items }));
+        return Ok(true);
     }
     for piece in text.split(',') {
-        match row_of(alloc, piece)? {
-            Some(row) => items.push(row)?,
-            None => return Ok(None),
+        if !add_row(alloc, piece, rows)? {
+            return Ok(false);
         }
     }
-    Ok(Some(Rows { items }))
+    Ok(true)
+}
+
+/// Adds the parts of the certificate that is set; false where one can't be read.
+fn add_parts(
+    alloc: Global,
+    protocol: &Protocol,
+    setting: &Setting,
+    cert: &mut Cert,
+) -> Result<bool, AllocError>
+    requires { IsRead (protocol_of protocol.now) }
+{
+    let is_read = add_clauses(
+        alloc,
+        protocol,
+        setting.clauses.as_str(),
+        &mut cert.clauses.items,
+    )?;
+    if !is_read || !add_rows(alloc, setting.rows.as_str(), &mut cert.rows.items)? {
+        return Ok(false);
+    }
+    add_rows(alloc, setting.goals.as_str(), &mut cert.goals.items)
+}
+
+/// A certificate without clauses and rows.
+fn empty(alloc: Global) -> Cert {
+    Cert {
+        clauses: PlainClauses {
+            items: Vec::new(alloc),
+        },
+        rows: Rows {
+            items: Vec::new(alloc),
+        },
+        goals: Rows {
+            items: Vec::new(alloc),
+        },
+    }
 }
 
 /// The certificate that is set, if its parts can be read.
@@ -87,18 +149,10 @@ pub fn certificate_of(
 ) -> Result<Option<Cert>, AllocError>
     requires { IsRead (protocol_of protocol.now) }
 {
-    let Some(clauses) = clauses_of(alloc, protocol, setting.clauses.as_str())? else {
-        return Ok(None);
-    };
-    let Some(rows) = rows_of(alloc, setting.rows.as_str())? else {
-        return Ok(None);
-    };
-    let Some(goals) = rows_of(alloc, setting.goals.as_str())? else {
-        return Ok(None);
-    };
-    Ok(Some(Cert {
-        clauses,
-        rows,
-        goals,
-    }))
+    let mut cert = empty(alloc);
+    if add_parts(alloc, protocol, setting, &mut cert)? {
+        Ok(Some(cert))
+    } else {
+        Ok(None)
+    }
 }

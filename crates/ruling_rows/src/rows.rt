@@ -15,10 +15,10 @@ impl Rows for Setting {
         if self.set(alloc, word, text)? {
             return Ok(Line::Setting);
         }
-        match word.as_bytes() {
-            b"ruled" => compare(alloc, self, text),
-            _ => unknown(alloc),
+        if word == "ruled" {
+            return compare(alloc, self, text);
         }
+        unknown(alloc)
     }
 }
 

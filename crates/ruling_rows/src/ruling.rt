@@ -1,12 +1,15 @@
 //! What is ruled of the certificates that are set.
 
 ghost use Rattle.pi_tree.specs.Protocols.{protocol_of};
+ghost use Rattle.pi_tree.specs.Accessors.{IsThere};
+ghost use Rattle.pi_tree.specs.declared.accessors.Kind.TheVariants.{Query};
 ghost use Rattle.ruling_rows.specs.Read.{IsRead};
 
 use crate::certificate::certificate_of;
 use crate::protocol::{asks, read_protocol};
 use crate::setting::Setting;
 use cert_checker::{Ruling, check_cert};
+use cert_text::Cert;
 use pi_tree::Protocol;
 use std::alloc::{AllocError, Global};
 
@@ -31,9 +34,22 @@ fn ruled_of(
         return String::from_str(alloc, "no query");
     }
     match certificate_of(alloc, protocol, setting)? {
-        Some(cert) => ruling_text(alloc, check_cert(alloc, protocol, query, &cert)?),
+        Some(cert) => ruling_text(alloc, ruling_of(alloc, protocol, query, &cert)?),
         None => String::from_str(alloc, "no certificate"),
     }
+}
+
+/// What is ruled of a certificate.
+fn ruling_of(
+    alloc: Global,
+    protocol: &Protocol,
+    query: u32,
+    cert: &Cert,
+) -> Result<Ruling, AllocError>
+    requires read { IsRead (protocol_of protocol.now) }
+    requires there { IsThere (protocol_of protocol.now) Query query }
+{
+    check_cert(alloc, protocol, query, cert)
 }
 
 /// A ruling, as the tables spell it.

@@ -1,5 +1,6 @@
 //! What the rows of a table are about.
 
+use row_tables::named;
 use std::alloc::{AllocError, Global};
 
 /// The texts of a protocol and of the parts of a certificate. Whatever is set stays so in the rows below.
@@ -16,6 +17,23 @@ pub struct Setting {
     pub goals: String,
 }
 
+/// What a line sets.
+#[derive(Clone, Copy)]
+enum Part {
+    File,
+    Clauses,
+    Rows,
+    Goals,
+}
+
+/// The first words of the lines that set something.
+const PARTS: [(&str, Part); 4] = [
+    ("file", Part::File),
+    ("clauses", Part::Clauses),
+    ("rows", Part::Rows),
+    ("goals", Part::Goals),
+];
+
 impl Setting {
     /// No bytes, and a certificate without clauses and rows.
     pub fn new(alloc: Global) -> Setting {
@@ -29,13 +47,22 @@ impl Setting {
 
     /// Sets what a line says; false where it sets nothing.
     pub fn set(&mut self, alloc: Global, word: &str, text: &str) -> Result<bool, AllocError> {
-        match word.as_bytes() {
-            b"file" => self.file = String::from_str(alloc, text)?,
-            b"clauses" => self.clauses = String::from_str(alloc, text)?,
-            b"rows" => self.rows = String::from_str(alloc, text)?,
-            b"goals" => self.goals = String::from_str(alloc, text)?,
-            _ => return Ok(false),
+        match named(&PARTS, word) {
+            Some(part) => {
+                self.set_part(part, String::from_str(alloc, text)?);
+                Ok(true)
+            }
+            None => Ok(false),
         }
-        Ok(true)
+    }
+
+    /// Sets a part to the text.
+    fn set_part(&mut self, part: Part, text: String) {
+        match part {
+            Part::File => self.file = text,
+            Part::Clauses => self.clauses = text,
+            Part::Rows => self.rows = text,
+            Part::Goals => self.goals = text,
+        }
     }
 }

@@ -12,13 +12,30 @@
 
 use crate::logs::log_text;
 use clause_form::PlainClause;
-use row_tables::{Line, Rows, compared};
+use row_tables::{Line, Rows, compared, named};
 use std::alloc::{AllocError, Global};
 use table_texts::reading::clause_of;
 use table_texts::signature::number_in;
 
+/// What a line of a row is that is no entry.
+#[derive(Clone, Copy)]
+enum Part {
+    Clause,
+    Budget,
+    End,
+}
+
+/// The first words of these lines.
+const PARTS: [(&str, Part); 5] = [
+    ("clause", Part::Clause),
+    ("budget", Part::Budget),
+    ("closed", Part::End),
+    ("due", Part::End),
+    ("large", Part::End),
+];
+
 /// A row as far as it is read.
-#[derive(Debug, Drop)]
+#[derive(Drop)]
 pub struct Row {
     given: Vec<PlainClause>,
     budget: u64,
@@ -39,17 +56,11 @@ impl Rows for Row {
 
     fn follow(&mut self, alloc: Global, line: &str) -> Result<Line, AllocError> {
         let (word, text) = line.split_once(' ').unwrap_or((line, ""));
-        match word.as_bytes() {
-            b"clause" => self.add_given(alloc, text),
-            b"budget" => {
-                self.budget = u64::from(number_in(text.as_bytes()));
-                Ok(Line::Setting)
-            }
-            b"closed" | b"due" | b"large" => self.end(alloc, line),
-            _ => {
-                self.expect(line)?;
-                Ok(Line::Setting)
-            }
+        match named(&PARTS, word) {
+            Some(Part::Clause) => self.add_given(alloc, text),
+            Some(Part::Budget) => Ok(self.set_budget(text)),
+            Some(Part::End) => self.end(alloc, line),
+            None => self.add_entry(line),
         }
     }
 }
@@ -68,6 +79,18 @@ impl Row {
             }
             None => Ok(Line::Wrong(String::from_str(alloc, "no clause")?)),
         }
+    }
+
+    /// Sets the budget.
+    fn set_budget(&mut self, text: &str) -> Line {
+        self.budget = u64::from(number_in(text.as_bytes()));
+        Line::Setting
+    }
+
+    /// Adds an entry to what is expected.
+    fn add_entry(&mut self, line: &str) -> Result<Line, AllocError> {
+        self.expect(line)?;
+        Ok(Line::Setting)
     }
 
     /// Adds a line to what is expected.

@@ -4,7 +4,7 @@ use Rattle.pi_tree.specs.Protocols.{protocol_of}
 use Rattle.term_tree.specs.declared.bank.Id.{Id}
 use Rattle.clause_form.specs.Seen.{AreClausesIn}
 use Rattle.clause_rows.proofs.First.{first_there}
-use Rattle.clause_rows.proofs.goals.goal_text.Goals as goal
+use Rattle.clause_rows.proofs.goals.goal_within.Goals as goal
 
 pub texts_of-requires : goal.texts_of-requires
 texts_of-requires c =
