@@ -1,5 +1,5 @@
 -- Clauses that are added, unless they are too large.
-use Rattle.std.proofs.Common.{◌≡◌, Bool, true, false, ◌||◌, Ok, Err, Result, List, ◌++◌, map, refl, ap, sym, subst, ◌∙◌}
+use Rattle.std.proofs.Common.{◌≡◌, Bool, true, false, ◌||◌, Ok, Err, Result, List, map, refl, ap, sym, subst, ◌∙◌}
 use Rattle.std.specs.Prelude.{IfOk, MatchBool}
 use Rattle.terms.specs.Term.{Term}
 use Rattle.clauses.specs.Fact.{Fact, Clause}
@@ -17,12 +17,6 @@ use Rattle.clause_translate.specs.Forms.{Adds}
 pub clauses_later : (old now : List Term) (cs : List (Clause Id)) → Grows old now → AreClausesIn old cs → NameClauses now cs (map (clause_at old) cs)
 clauses_later old now cs grows known = NameClauses-grow old now cs (map (clause_at old) cs) grows record { known = known; are = refl }
 
-pub adds_before : (old mid new : List Term) (before after : Listing) (more : List (Clause Term)) → Grows old mid → AreClausesIn old before.clauses → Adds mid new before after more → Adds old new before after more
-adds_before old mid new before after more grows known adds = record {
-  clauses = subst (λ l. NameClauses new after.clauses (l ++ more)) (clauses_later old mid before.clauses grows known).are adds.clauses;
-  left = adds.left;
-}
-
 -- a raw clause whose parts are named is
 pub raw_named : (all : List Term) (hyps : List (Fact Id)) (concl : Fact Id) (v : Visit) (f : Fact Term) → NameFacts all hyps v.hypotheses → NamesFact all concl f → NamesClause all (record { hypotheses = hyps; conclusion = concl }) (raw_clause v f)
 raw_named all hyps concl v f first last = record {
@@ -31,20 +25,20 @@ raw_named all hyps concl v f first last = record {
 }
 
 -- what `add` tells of a clause, of the raw clause that it names
-module _ {E : Type 0} (r : Result Bool E) (old mid new : List Term) (before after : Listing) (raw : Clause Id) (c : Clause Term) (names : NamesClause mid raw c)
-    (adds : IfOk r (λ added. MatchBool added (Adds mid new before after (norms (clause_at mid raw))) (is_large_raw (clause_at mid raw) ≡ true)))
+module _ {E : Type 0} (r : Result Bool E) (mid new : List Term) (before after : Listing) (raw : Clause Id) (c : Clause Term) (names : NamesClause mid raw c)
+    (adds : IfOk r (λ added. MatchBool added (Adds new before after (norms (clause_at mid raw))) (is_large_raw (clause_at mid raw) ≡ true)))
     (small : IfOk r (λ added. added ≡ true → is_large_raw (clause_at mid raw) ≡ false)) where
-  pub is_added : Grows old mid → AreClausesIn old before.clauses → IfOk r (λ added. added ≡ true → Adds old new before after (norms c))
-  is_added grows known = go r adds where
-    go : (s : Result Bool E) → IfOk s (λ added. MatchBool added (Adds mid new before after (norms (clause_at mid raw))) (is_large_raw (clause_at mid raw) ≡ true)) → IfOk s (λ added. added ≡ true → Adds old new before after (norms c))
-    go (Ok true) h = λ e. adds_before old mid new before after (norms c) grows known (subst (λ d. Adds mid new before after (norms d)) names.is h)
+  pub is_added : IfOk r (λ added. added ≡ true → Adds new before after (norms c))
+  is_added = go r adds where
+    go : (s : Result Bool E) → IfOk s (λ added. MatchBool added (Adds new before after (norms (clause_at mid raw))) (is_large_raw (clause_at mid raw) ≡ true)) → IfOk s (λ added. added ≡ true → Adds new before after (norms c))
+    go (Ok true) h = λ e. subst (λ d. Adds new before after (norms d)) names.is h
     go (Ok false) h = λ e. absurd (let same = e in cc)
     go (Err x) h = h
 
   -- whether it is large, beside another test that it passes
   pub is_told : (other : Bool) → other ≡ false → IfOk r (λ added. MatchBool added ((other || is_large_raw c) ≡ false) ((other || is_large_raw c) ≡ true))
   is_told other e = go r adds small where
-    go : (s : Result Bool E) → IfOk s (λ added. MatchBool added (Adds mid new before after (norms (clause_at mid raw))) (is_large_raw (clause_at mid raw) ≡ true)) → IfOk s (λ added. added ≡ true → is_large_raw (clause_at mid raw) ≡ false)
+    go : (s : Result Bool E) → IfOk s (λ added. MatchBool added (Adds new before after (norms (clause_at mid raw))) (is_large_raw (clause_at mid raw) ≡ true)) → IfOk s (λ added. added ≡ true → is_large_raw (clause_at mid raw) ≡ false)
         → IfOk s (λ added. MatchBool added ((other || is_large_raw c) ≡ false) ((other || is_large_raw c) ≡ true))
     go (Ok true) h k = ap (λ b. b || is_large_raw c) e ∙ (sym (ap is_large_raw names.is) ∙ k refl)
     go (Ok false) h k = ap (λ b. b || is_large_raw c) e ∙ (sym (ap is_large_raw names.is) ∙ h)

@@ -75,10 +75,10 @@ module _ (P : Protocol) (v : Visit) (e : EventTerm) where
   pub event_second : is_large_raw (event_raw P v e) ≡ true → is_large_event P v e ≡ true
   event_second large = second_large (are_large_in P v.scope e.arguments) (is_large_raw (event_raw P v e)) (is_large_visit (after_event P v e)) large
 
-  pub event_last : (old new : List Term) (before after : Listing) (found : Option source.Visit) → are_large_in P v.scope e.arguments ≡ false → is_large_raw (event_raw P v e) ≡ false → Adds old new before after (norms (event_raw P v e))
-      → IsSmallVisit new (after_event P v e) found → EventAdds P v e old new before after found
-  event_last old new before after None small raw adds visit = third_large (are_large_in P v.scope e.arguments) (is_large_raw (event_raw P v e)) (is_large_visit (after_event P v e)) visit
-  event_last old new before after (Some made) small raw adds visit = record {
+  pub event_last : (new : List Term) (before after : Listing) (found : Option source.Visit) → are_large_in P v.scope e.arguments ≡ false → is_large_raw (event_raw P v e) ≡ false → Adds new before after (norms (event_raw P v e))
+      → IsSmallVisit new (after_event P v e) found → EventAdds P v e new before after found
+  event_last new before after None small raw adds visit = third_large (are_large_in P v.scope e.arguments) (is_large_raw (event_raw P v e)) (is_large_visit (after_event P v e)) visit
+  event_last new before after (Some made) small raw adds visit = record {
     small = none_large (are_large_in P v.scope e.arguments) (is_large_raw (event_raw P v e)) (is_large_visit (after_event P v e)) small raw visit.0;
     adds = adds;
     names = visit.1;

@@ -1,23 +1,24 @@
 -- The translation, by the attacker's clauses, those of the visits, and the goal.
-use Rattle.std.proofs.Common.{◌≡◌, ℕ, zero, suc, ◌<◌, ◌≤◌, Some, None, List, [], ◌∷◌, ◌++◌, length, get_or, map, refl, ap, sym, subst, ◌∙◌, arith}
+use Rattle.std.proofs.Common.{◌≡◌, ℕ, zero, suc, ◌<◌, ◌≤◌, Some, None, true, List, [], ◌∷◌, ◌++◌, length, get_or, map, refl, ap, sym, subst, ◌∙◌, arith}
 use Rattle.std.proofs.lemmas.Option.{slice_get-get_or}
 use Rattle.calculus.specs.Syntax.{Query, Protocol}
 use Rattle.calculus.specs.Points.{numbered}
 use Rattle.terms.specs.Term.{Term}
 use Rattle.clauses.specs.Fact.{Clause}
+use Rattle.term_tree.specs.Bank.{Grows}
 use Rattle.term_tree.specs.declared.bank.Id.{Id}
-use Rattle.translation.specs.Visit.{Visit, first_visit}
+use Rattle.translation.specs.Visit.{first_visit}
 use Rattle.translation.specs.Course.{Done, TooLarge}
 use Rattle.translation.specs.Visited.{Visited}
 use Rattle.translation.specs.Translation.{attacker_clauses, goal_clauses, most_visits}
-use Rattle.clause_form.specs.Seen.{clause_at, NameClauses}
+use Rattle.clause_form.specs.Seen.{clause_at, AreClausesIn, NameClauses}
 use Rattle.query_derive.specs.GoalRows.{OfQuery}
 use Rattle.clause_translate.specs.declared.listing.Listing.{Listing}
-use Rattle.clause_translate.specs.declared.visit.Visit as source
-use Rattle.clause_translate.specs.Visits.{visit_at, IsVisitIn}
 use Rattle.clause_translate.specs.Jobs.{Once, Ends}
 use Rattle.clause_translate.specs.Whole.{TranslatesTo, EndsAt, AddsVisits}
+use Rattle.clause_translate.proofs.Adding.{clauses_later}
 use Rattle.clause_translate.proofs.Courses.{appended_twice}
+use Rattle.clause_translate.proofs.Listings.{NameClauses-append}
 
 there : (items : List Query) (number : ℕ) → 0 < number → number ≤ length items → (q : Query) × (numbered items number ≡ Some q)
 there items zero up within = absurd (omega (arith, up))
@@ -28,24 +29,16 @@ there (x ∷ xs) (suc index) up within = (get_or (x ∷ xs) index x, slice_get-g
 pub query_there : (P : Protocol) (number : ℕ) → (0 < number) × (number ≤ length P.queries) → (q : Query) × (numbered P.queries number ≡ Some q)
 query_there P number is = there P.queries number is.0 is.1
 
--- nothing is known at first
-pub first_known : (all : List Term) (v : source.Visit) → v ≡ record { scope = []; hypotheses = []; messages = []; sessions = []; next = 0 } → IsVisitIn all v
-first_known all v e = subst (λ (w : source.Visit). IsVisitIn all w) (sym e) record { scope = tt; hypotheses = tt; messages = tt; sessions = tt; below = tt }
-
-pub first_is : (all : List Term) (v : source.Visit) → v ≡ record { scope = []; hypotheses = []; messages = []; sessions = []; next = 0 } → visit_at all v ≡ first_visit
-first_is all v e = ap (visit_at all) e
-
-module _ (P : Protocol) (old new : List Term) (v : source.Visit) (before after : Listing) (left : before.left ≡ most_visits) (e : visit_at old v ≡ first_visit) where
-  pub visits_added : Ends P (Once P.main 1 (visit_at old v)) old new before after None → AddsVisits P old new before.clauses after.clauses
-  visits_added h = record {
-    more = h.more;
-    left = after.left;
-    runs = subst (λ n. Visited P P.main 1 first_visit n (Done h.more after.left)) left (subst (λ (w : Visit). Visited P P.main 1 w before.left (Done h.more after.left)) e h.runs);
-    names = h.clauses;
-  }
-
-  pub visit_large : (point : ℕ) → Ends P (Once P.main 1 (visit_at old v)) old new before after (Some point) → Visited P P.main 1 first_visit most_visits (TooLarge point)
-  visit_large point h = subst (λ n. Visited P P.main 1 first_visit n (TooLarge point)) left (subst (λ (w : Visit). Visited P P.main 1 w before.left (TooLarge point)) e h)
+-- the clauses that visits of the main process added behind those that were kept
+pub visits_added : (P : Protocol) (old new : List Term) (before after : Listing) → before.left ≡ most_visits → before.keeps ≡ true → Grows old new → AreClausesIn old before.clauses → Ends P (Once P.main 1 first_visit) new before after None
+    → AddsVisits P old new before.clauses after.clauses
+visits_added P old new before after left keeps grows known h = record {
+  more = h.more;
+  left = after.left;
+  runs = subst (λ n. Visited P P.main 1 first_visit n (Done h.more after.left)) left h.runs;
+  names = subst (λ (cs : List (Clause Id)). NameClauses new cs (map (clause_at old) before.clauses ++ h.more)) (sym h.lists.clauses)
+      (NameClauses-append new before.clauses h.lists.made (map (clause_at old) before.clauses) h.more (clauses_later old new before.clauses grows known) (h.lists.names keeps));
+}
 
 pub ends_at : (P : Protocol) (number point : ℕ) → (0 < number) × (number ≤ length P.queries) → Visited P P.main 1 first_visit most_visits (TooLarge point) → EndsAt P number point
 ends_at P number point is h = let q = query_there P number is in record { query = q.0; is = q.1; translates = (TooLarge point, h, refl) }

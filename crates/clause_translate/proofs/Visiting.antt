@@ -1,5 +1,5 @@
 -- How the visits of each form of process end, by how those below it do.
-use Rattle.std.proofs.Common.{◌≡◌, ℕ, suc, ◌+◌, Bool, true, false, Result, Option, Some, None, List, [], ◌∷◌, ◌++◌, map, refl, ap, sym, subst, ◌∙◌}
+use Rattle.std.proofs.Common.{◌≡◌, ◌≤◌, ℕ, suc, ◌+◌, Bool, true, false, Result, Option, Some, None, List, [], ◌∷◌, ◌++◌, length, map, refl, ap, sym, subst, ◌∙◌}
 use Rattle.std.specs.Prelude.{IfOk}
 use Rattle.calculus.specs.Syntax.{Process, Nil, Output, Input, Parallel, Replication, New, Let, Event, EventTerm, Pattern, Expression, Protocol}
 use Rattle.calculus.specs.Syntax as calculus
@@ -10,54 +10,54 @@ use Rattle.clauses.specs.Fact.{Clause}
 use Rattle.clauses.specs.Norm.{norms}
 use Rattle.clauses.specs.Variables.{AreBelow}
 use Rattle.term_tree.specs.Bank.{Grows}
+use Rattle.term_tree.specs.declared.bank.Id.{Id}
 use Rattle.translation.specs.Visit.{Visit, visit_terms, is_large_visit, after_input, after_copy, after_new, after_event}
 use Rattle.translation.specs.Course as course
 use Rattle.translation.specs.Course.{Outcome, Done, TooLarge, Course, Finished, Unless, preceded}
 use Rattle.translation.specs.Choice.{AllGoOn}
 use Rattle.translation.specs.Visited.{some_large, EachThen, Received, Chosen, Visited}
-use Rattle.clause_form.specs.Seen.{clause_at, AreClausesIn, NameClauses}
 use Rattle.clause_translate.specs.declared.listing.Listing.{Listing}
 use Rattle.clause_translate.specs.declared.place.Place.{Place}
 use Rattle.clause_translate.specs.declared.visit.Visit as source
 use Rattle.clause_translate.specs.Places.{protocol_at, IsAt}
 use Rattle.clause_translate.specs.Visits.{visit_at, NamesVisit, NameVisits}
-use Rattle.clause_translate.specs.Forms.{Adds, are_large_in, output_raw, is_large_output, event_raw, is_large_event, AddsEvent, IsLargeInput, evaluated, received, Receives, present, GoOn, IsLargeChoice}
+use Rattle.clause_translate.specs.Forms.{Lists, Adds, are_large_in, output_raw, is_large_output, event_raw, is_large_event, AddsEvent, IsLargeInput, evaluated, received, Receives, present, GoOn, IsLargeChoice}
 use Rattle.clause_translate.specs.Jobs.{Job, Once, Uncounted, Each, Runs, IsDone, Ends, visits_at, AreVisitsIn}
 use Rattle.clause_translate.proofs.Named.{if_ok}
-use Rattle.clause_translate.proofs.Adding.{clauses_later}
-use Rattle.clause_translate.proofs.Courses.{append_none, appended_twice, unless_large, unless_small, each_join, each_large, each_present}
+use Rattle.clause_translate.proofs.Listings.{lists_none, lists_behind, lists_no_more}
+use Rattle.clause_translate.proofs.Courses.{unless_large, unless_small, each_join, each_large, each_present}
 
--- the same job of a bank that grew, where it runs so
-pub ends_on : (P : Protocol) (below job : Job) (old mid new : List Term) (before after : Listing) (large : Option ℕ) → Grows old mid → AreClausesIn old before.clauses
-    → ((out : Outcome) → Runs P below before.left out → Runs P job before.left out) → Ends P below mid new before after large → Ends P job old new before after large
-ends_on P below job old mid new before after None grows known step h = record {
-  more = h.more;
-  runs = step (Done h.more after.left) h.runs;
-  clauses = subst (λ l. NameClauses new after.clauses (l ++ h.more)) (clauses_later old mid before.clauses grows known).are h.clauses;
-}
-ends_on P below job old mid new before after (Some point) grows known step h = step (TooLarge point) h
+-- the same job, where it runs so
+pub ends_as : (P : Protocol) (below job : Job) (new : List Term) (before after : Listing) (large : Option ℕ) → ((out : Outcome) → Runs P below before.left out → Runs P job before.left out) → Ends P below new before after large → Ends P job new before after large
+ends_as P below job new before after None step h = record { more = h.more; runs = step (Done h.more after.left) h.runs; lists = h.lists }
+ends_as P below job new before after (Some point) step h = step (TooLarge point) h
 
 -- a job behind clauses that are added
-pub ends_behind : (P : Protocol) (below job : Job) (old mid new : List Term) (before midway after : Listing) (more : List (Clause Term)) (large : Option ℕ) → NameClauses mid midway.clauses (map (clause_at old) before.clauses ++ more)
-    → ((out : Outcome) → Runs P below midway.left out → Runs P job before.left (preceded more out)) → Ends P below mid new midway after large → Ends P job old new before after large
-ends_behind P below job old mid new before midway after more None adds step h = record {
+pub ends_behind : (P : Protocol) (below job : Job) (mid new : List Term) (before midway after : Listing) (more : List (Clause Term)) (large : Option ℕ) → Grows mid new → Lists mid before midway more
+    → ((out : Outcome) → Runs P below midway.left out → Runs P job before.left (preceded more out)) → Ends P below new midway after large → Ends P job new before after large
+ends_behind P below job mid new before midway after more None grows lists step h = record {
   more = more ++ h.more;
   runs = step (Done h.more after.left) h.runs;
-  clauses = subst (λ l. NameClauses new after.clauses l) (ap (λ l. l ++ h.more) adds.are ∙ appended_twice (map (clause_at old) before.clauses) more h.more) h.clauses;
+  lists = lists_behind mid new before midway after more h.more grows lists h.lists;
 }
-ends_behind P below job old mid new before midway after more (Some point) adds step h = step (TooLarge point) h
+ends_behind P below job mid new before midway after more (Some point) grows lists step h = step (TooLarge point) h
+
+-- where there are no more clauses than before, the bank may go back
+pub ends_back : (P : Protocol) (job : Job) (old now : List Term) (before after : Listing) (large : Option ℕ) → length after.clauses ≤ length before.clauses → Ends P job now before after large → Ends P job old before after large
+ends_back P job old now before after None few h = record { more = h.more; runs = h.runs; lists = lists_no_more old now before after h.more few h.lists }
+ends_back P job old now before after (Some point) few h = h
 
 -- what the visit below tells, of the point and the visit as they are named here
-pub moved : (P : Protocol) (point : ℕ) (v : Visit) (to : Place) (w : Visit) (process : Process) (mid new : List Term) (before after : Listing) (large : Option ℕ) → IsAt P point to → w ≡ v
-    → Ends (protocol_at to) (Once process to.point w) mid new before after large → Ends P (Once process point v) mid new before after large
-moved P point v to w process mid new before after large at e h =
-    subst (λ (q : Protocol). Ends q (Once process point v) mid new before after large) at.protocol
-    (subst (λ n. Ends (protocol_at to) (Once process n v) mid new before after large) at.point (subst (λ (x : Visit). Ends (protocol_at to) (Once process to.point x) mid new before after large) e h))
+pub moved : (P : Protocol) (point : ℕ) (v : Visit) (to : Place) (w : Visit) (process : Process) (new : List Term) (before after : Listing) (large : Option ℕ) → IsAt P point to → w ≡ v
+    → Ends (protocol_at to) (Once process to.point w) new before after large → Ends P (Once process point v) new before after large
+moved P point v to w process new before after large at e h =
+    subst (λ (q : Protocol). Ends q (Once process point v) new before after large) at.protocol
+    (subst (λ n. Ends (protocol_at to) (Once process n v) new before after large) at.point (subst (λ (x : Visit). Ends (protocol_at to) (Once process to.point x) new before after large) e h))
 
-pub moved_each : (P : Protocol) (point : ℕ) (to : Place) (vs : List Visit) (process : Process) (mid new : List Term) (before after : Listing) (large : Option ℕ) → IsAt P point to
-    → Ends (protocol_at to) (Each process to.point vs) mid new before after large → Ends P (Each process point vs) mid new before after large
-moved_each P point to vs process mid new before after large at h =
-    subst (λ (q : Protocol). Ends q (Each process point vs) mid new before after large) at.protocol (subst (λ n. Ends (protocol_at to) (Each process n vs) mid new before after large) at.point h)
+pub moved_each : (P : Protocol) (point : ℕ) (to : Place) (vs : List Visit) (process : Process) (new : List Term) (before after : Listing) (large : Option ℕ) → IsAt P point to
+    → Ends (protocol_at to) (Each process to.point vs) new before after large → Ends P (Each process point vs) new before after large
+moved_each P point to vs process new before after large at h =
+    subst (λ (q : Protocol). Ends q (Each process point vs) new before after large) at.protocol (subst (λ n. Ends (protocol_at to) (Each process n vs) new before after large) at.point h)
 
 -- none is left
 pub none_left : (P : Protocol) (process : Process) (point : ℕ) (v : Visit) (left : ℕ) → left ≡ 0 → Visited P process point v left (TooLarge point)
@@ -73,49 +73,55 @@ none_left P process point v left e = subst (λ n. Visited P process point v n (T
   go (Event performed next) = refl
 
 -- one is counted
-pub counted : (P : Protocol) (process : Process) (point : ℕ) (v : Visit) (old new : List Term) (before low after : Listing) (large : Option ℕ) → low.clauses ≡ before.clauses → before.left ≡ suc low.left
-    → Ends P (Uncounted process point v) old new low after large → Ends P (Once process point v) old new before after large
-counted P process point v old new before low after None e f h = record {
+counted : (P : Protocol) (process : Process) (point : ℕ) (v : Visit) (new : List Term) (before low after : Listing) (large : Option ℕ) → low.clauses ≡ before.clauses → low.keeps ≡ before.keeps → before.left ≡ suc low.left
+    → Ends P (Uncounted process point v) new low after large → Ends P (Once process point v) new before after large
+counted P process point v new before low after None same kept less h = record {
   more = h.more;
-  runs = subst (λ n. Visited P process point v n (Done h.more after.left)) (sym f) h.runs;
-  clauses = subst (λ cs. NameClauses new after.clauses (map (clause_at old) cs ++ h.more)) e h.clauses;
+  runs = subst (λ n. Visited P process point v n (Done h.more after.left)) (sym less) h.runs;
+  lists = record {
+    made = h.lists.made;
+    clauses = h.lists.clauses ∙ ap (λ (cs : List (Clause Id)). cs ++ h.lists.made) same;
+    names = λ keeps. h.lists.names (kept ∙ keeps);
+    none = λ gone. h.lists.none (kept ∙ gone);
+    keeps = h.lists.keeps ∙ kept;
+  };
 }
-counted P process point v old new before low after (Some q) e f h = subst (λ n. Visited P process point v n (TooLarge q)) (sym f) h
+counted P process point v new before low after (Some q) same kept less h = subst (λ n. Visited P process point v n (TooLarge q)) (sym less) h
 
-pub counted_ok : {E : Type 0} (r : Result (Option ℕ) E) (P : Protocol) (process : Process) (point : ℕ) (v : Visit) (old new : List Term) (before low after : Listing) → low.clauses ≡ before.clauses → before.left ≡ suc low.left
-    → IfOk r (λ large. Ends P (Uncounted process point v) old new low after large) → IfOk r (λ large. Ends P (Once process point v) old new before after large)
-counted_ok r P process point v old new before low after e f h =
-    if_ok r (λ large. Ends P (Uncounted process point v) old new low after large) (λ large. Ends P (Once process point v) old new before after large) (λ large k. counted P process point v old new before low after large e f k) h
+pub counted_ok : {E : Type 0} (r : Result (Option ℕ) E) (P : Protocol) (process : Process) (point : ℕ) (v : Visit) (new : List Term) (before low after : Listing) → low.clauses ≡ before.clauses → low.keeps ≡ before.keeps → before.left ≡ suc low.left
+    → IfOk r (λ large. Ends P (Uncounted process point v) new low after large) → IfOk r (λ large. Ends P (Once process point v) new before after large)
+counted_ok r P process point v new before low after same kept less h =
+    if_ok r (λ large. Ends P (Uncounted process point v) new low after large) (λ large. Ends P (Once process point v) new before after large) (λ large k. counted P process point v new before low after large same kept less k) h
 
 -- an output
 pub output_large : (P : Protocol) (v : Visit) (channel message : calculus.Term) (next : Process) (point left : ℕ) → is_large_output P v channel message ≡ true → Visited P (Output channel message next) point v (suc left) (TooLarge point)
 output_large P v channel message next point left e =
     unless_large (is_large_output P v channel message) point (course.Adds (norms (output_raw P v channel message)) (Visited P next (point + 1) v)) left e
 
-pub output_ends : {E : Type 0} (r : Result (Option ℕ) E) (P : Protocol) (v : Visit) (channel message : calculus.Term) (next : Process) (point : ℕ) (to : Place) (w : Visit) (old mid new : List Term) (before midway after : Listing)
-    → IsAt P (point + 1) to → w ≡ v → is_large_output P v channel message ≡ false → Adds old mid before midway (norms (output_raw P v channel message))
-    → IfOk r (λ large. Ends (protocol_at to) (Once next to.point w) mid new midway after large) → IfOk r (λ large. Ends P (Uncounted (Output channel message next) point v) old new before after large)
-output_ends r P v channel message next point to w old mid new before midway after at e small adds h =
-    if_ok r (λ large. Ends (protocol_at to) (Once next to.point w) mid new midway after large) (λ large. Ends P (Uncounted (Output channel message next) point v) old new before after large)
-    (λ large k. ends_behind P (Once next (point + 1) v) (Uncounted (Output channel message next) point v) old mid new before midway after (norms (output_raw P v channel message)) large adds.clauses
+pub output_ends : {E : Type 0} (r : Result (Option ℕ) E) (P : Protocol) (v : Visit) (channel message : calculus.Term) (next : Process) (point : ℕ) (to : Place) (w : Visit) (mid new : List Term) (before midway after : Listing)
+    → IsAt P (point + 1) to → w ≡ v → is_large_output P v channel message ≡ false → Grows mid new → Adds mid before midway (norms (output_raw P v channel message))
+    → IfOk r (λ large. Ends (protocol_at to) (Once next to.point w) new midway after large) → IfOk r (λ large. Ends P (Uncounted (Output channel message next) point v) new before after large)
+output_ends r P v channel message next point to w mid new before midway after at e small grows adds h =
+    if_ok r (λ large. Ends (protocol_at to) (Once next to.point w) new midway after large) (λ large. Ends P (Uncounted (Output channel message next) point v) new before after large)
+    (λ large k. ends_behind P (Once next (point + 1) v) (Uncounted (Output channel message next) point v) mid new before midway after (norms (output_raw P v channel message)) large grows adds.lists
     (λ out run. unless_small (is_large_output P v channel message) point (course.Adds (norms (output_raw P v channel message)) (Visited P next (point + 1) v)) before.left (preceded (norms (output_raw P v channel message)) out) small
     (out, subst (λ n. Visited P next (point + 1) v n out) adds.left run, refl))
-    (moved P (point + 1) v to w next mid new midway after large at e k)) h
+    (moved P (point + 1) v to w next new midway after large at e k)) h
 
 -- an event
 pub event_large : (P : Protocol) (v : Visit) (performed : EventTerm) (next : Process) (point left : ℕ) → is_large_event P v performed ≡ true → Visited P (Event performed next) point v (suc left) (TooLarge point)
 event_large P v performed next point left e =
     unless_large (is_large_event P v performed) point (course.Adds (norms (event_raw P v performed)) (Visited P next (point + 1) (after_event P v performed))) left e
 
-pub event_ends : {E : Type 0} (r : Result (Option ℕ) E) (P : Protocol) (v : Visit) (performed : EventTerm) (next : Process) (point : ℕ) (to : Place) (made : source.Visit) (old mid new : List Term) (before midway after : Listing)
-    → IsAt P (point + 1) to → AddsEvent P v performed old mid before midway made
-    → IfOk r (λ large. Ends (protocol_at to) (Once next to.point (visit_at mid made)) mid new midway after large) → IfOk r (λ large. Ends P (Uncounted (Event performed next) point v) old new before after large)
-event_ends r P v performed next point to made old mid new before midway after at adds h =
-    if_ok r (λ large. Ends (protocol_at to) (Once next to.point (visit_at mid made)) mid new midway after large) (λ large. Ends P (Uncounted (Event performed next) point v) old new before after large)
-    (λ large k. ends_behind P (Once next (point + 1) (after_event P v performed)) (Uncounted (Event performed next) point v) old mid new before midway after (norms (event_raw P v performed)) large adds.adds.clauses
+pub event_ends : {E : Type 0} (r : Result (Option ℕ) E) (P : Protocol) (v : Visit) (performed : EventTerm) (next : Process) (point : ℕ) (to : Place) (made : source.Visit) (mid new : List Term) (before midway after : Listing)
+    → IsAt P (point + 1) to → Grows mid new → AddsEvent P v performed mid before midway made
+    → IfOk r (λ large. Ends (protocol_at to) (Once next to.point (visit_at mid made)) new midway after large) → IfOk r (λ large. Ends P (Uncounted (Event performed next) point v) new before after large)
+event_ends r P v performed next point to made mid new before midway after at grows adds h =
+    if_ok r (λ large. Ends (protocol_at to) (Once next to.point (visit_at mid made)) new midway after large) (λ large. Ends P (Uncounted (Event performed next) point v) new before after large)
+    (λ large k. ends_behind P (Once next (point + 1) (after_event P v performed)) (Uncounted (Event performed next) point v) mid new before midway after (norms (event_raw P v performed)) large grows adds.adds.lists
     (λ out run. unless_small (is_large_event P v performed) point (course.Adds (norms (event_raw P v performed)) (Visited P next (point + 1) (after_event P v performed))) before.left (preceded (norms (event_raw P v performed)) out) adds.small
     (out, subst (λ n. Visited P next (point + 1) (after_event P v performed) n out) adds.adds.left run, refl))
-    (moved P (point + 1) (after_event P v performed) to (visit_at mid made) next mid new midway after large at adds.names.is k)) h
+    (moved P (point + 1) (after_event P v performed) to (visit_at mid made) next new midway after large at adds.names.is k)) h
 
 -- an input
 pub input_large : (P : Protocol) (v : Visit) (channel : calculus.Term) (pattern : Pattern) (next : Process) (point left : ℕ) → IsLargeInput P v channel pattern → Visited P (Input channel pattern next) point v (suc left) (TooLarge point)
@@ -125,51 +131,51 @@ input_large P v channel pattern next point left (received e at fresh l) =
     unless_small (are_large_in P v.scope (channel ∷ compared pattern)) point (Received P v channel pattern (λ w. Unless (is_large_visit w) point (Visited P next (point + 1) w))) left (TooLarge point) e
     (at, fresh, unless_large (is_large_visit (after_input P v channel pattern at)) point (Visited P next (point + 1) (after_input P v channel pattern at)) left l)
 
-pub input_ends : {E : Type 0} (r : Result (Option ℕ) E) (P : Protocol) (v : Visit) (channel : calculus.Term) (pattern : Pattern) (next : Process) (point : ℕ) (to : Place) (made : source.Visit) (old mid new : List Term) (before after : Listing)
-    → IsAt P (point + 1) to → Grows old mid → AreClausesIn old before.clauses → Receives P v channel pattern mid made
-    → IfOk r (λ large. Ends (protocol_at to) (Once next to.point (visit_at mid made)) mid new before after large) → IfOk r (λ large. Ends P (Uncounted (Input channel pattern next) point v) old new before after large)
-input_ends r P v channel pattern next point to made old mid new before after at grows known got h =
+pub input_ends : {E : Type 0} (r : Result (Option ℕ) E) (P : Protocol) (v : Visit) (channel : calculus.Term) (pattern : Pattern) (next : Process) (point : ℕ) (to : Place) (made : source.Visit) (mid new : List Term) (before after : Listing)
+    → IsAt P (point + 1) to → Receives P v channel pattern mid made
+    → IfOk r (λ large. Ends (protocol_at to) (Once next to.point (visit_at mid made)) new before after large) → IfOk r (λ large. Ends P (Uncounted (Input channel pattern next) point v) new before after large)
+input_ends r P v channel pattern next point to made mid new before after at got h =
     let w = after_input P v channel pattern got.at in
-    if_ok r (λ large. Ends (protocol_at to) (Once next to.point (visit_at mid made)) mid new before after large) (λ large. Ends P (Uncounted (Input channel pattern next) point v) old new before after large)
-    (λ large k. ends_on P (Once next (point + 1) w) (Uncounted (Input channel pattern next) point v) old mid new before after large grows known
+    if_ok r (λ large. Ends (protocol_at to) (Once next to.point (visit_at mid made)) new before after large) (λ large. Ends P (Uncounted (Input channel pattern next) point v) new before after large)
+    (λ large k. ends_as P (Once next (point + 1) w) (Uncounted (Input channel pattern next) point v) new before after large
     (λ out run. unless_small (are_large_in P v.scope (channel ∷ compared pattern)) point (Received P v channel pattern (λ x. Unless (is_large_visit x) point (Visited P next (point + 1) x))) before.left out got.small
     (got.at, got.is_fresh, unless_small (is_large_visit w) point (Visited P next (point + 1) w) before.left out got.is_small run))
-    (moved P (point + 1) w to (visit_at mid made) next mid new before after large at got.names.is k)) h
+    (moved P (point + 1) w to (visit_at mid made) next new before after large at got.names.is k)) h
 
 -- a replication
-pub copies_ends : {E : Type 0} (r : Result (Option ℕ) E) (P : Protocol) (v : Visit) (n : ℕ) (copied : Process) (point : ℕ) (to : Place) (made : source.Visit) (old mid new : List Term) (before after : Listing)
-    → IsAt P (point + 1) to → Grows old mid → AreClausesIn old before.clauses → AreBelow n (visit_terms v) → NamesVisit mid made (after_copy v n)
-    → IfOk r (λ large. Ends (protocol_at to) (Once copied to.point (visit_at mid made)) mid new before after large) → IfOk r (λ large. Ends P (Uncounted (Replication copied) point v) old new before after large)
-copies_ends r P v n copied point to made old mid new before after at grows known below names h =
-    if_ok r (λ large. Ends (protocol_at to) (Once copied to.point (visit_at mid made)) mid new before after large) (λ large. Ends P (Uncounted (Replication copied) point v) old new before after large)
-    (λ large k. ends_on P (Once copied (point + 1) (after_copy v n)) (Uncounted (Replication copied) point v) old mid new before after large grows known (λ out run. (n, below, run))
-    (moved P (point + 1) (after_copy v n) to (visit_at mid made) copied mid new before after large at names.is k)) h
+pub copies_ends : {E : Type 0} (r : Result (Option ℕ) E) (P : Protocol) (v : Visit) (n : ℕ) (copied : Process) (point : ℕ) (to : Place) (made : source.Visit) (mid new : List Term) (before after : Listing)
+    → IsAt P (point + 1) to → AreBelow n (visit_terms v) → NamesVisit mid made (after_copy v n)
+    → IfOk r (λ large. Ends (protocol_at to) (Once copied to.point (visit_at mid made)) new before after large) → IfOk r (λ large. Ends P (Uncounted (Replication copied) point v) new before after large)
+copies_ends r P v n copied point to made mid new before after at below names h =
+    if_ok r (λ large. Ends (protocol_at to) (Once copied to.point (visit_at mid made)) new before after large) (λ large. Ends P (Uncounted (Replication copied) point v) new before after large)
+    (λ large k. ends_as P (Once copied (point + 1) (after_copy v n)) (Uncounted (Replication copied) point v) new before after large (λ out run. (n, below, run))
+    (moved P (point + 1) (after_copy v n) to (visit_at mid made) copied new before after large at names.is k)) h
 
 -- a restriction
 pub new_large : (P : Protocol) (v : Visit) (next : Process) (point left : ℕ) → is_large_visit (after_new v point) ≡ true → Visited P (New [] next) point v (suc left) (TooLarge point)
 new_large P v next point left e = unless_large (is_large_visit (after_new v point)) point (Visited P next (point + 1) (after_new v point)) left e
 
-pub new_ends : {E : Type 0} (r : Result (Option ℕ) E) (P : Protocol) (v : Visit) (next : Process) (point : ℕ) (to : Place) (made : source.Visit) (old mid new : List Term) (before after : Listing)
-    → IsAt P (point + 1) to → Grows old mid → AreClausesIn old before.clauses → is_large_visit (after_new v point) ≡ false → NamesVisit mid made (after_new v point)
-    → IfOk r (λ large. Ends (protocol_at to) (Once next to.point (visit_at mid made)) mid new before after large) → IfOk r (λ large. Ends P (Uncounted (New [] next) point v) old new before after large)
-new_ends r P v next point to made old mid new before after at grows known small names h =
-    if_ok r (λ large. Ends (protocol_at to) (Once next to.point (visit_at mid made)) mid new before after large) (λ large. Ends P (Uncounted (New [] next) point v) old new before after large)
-    (λ large k. ends_on P (Once next (point + 1) (after_new v point)) (Uncounted (New [] next) point v) old mid new before after large grows known
+pub new_ends : {E : Type 0} (r : Result (Option ℕ) E) (P : Protocol) (v : Visit) (next : Process) (point : ℕ) (to : Place) (made : source.Visit) (mid new : List Term) (before after : Listing)
+    → IsAt P (point + 1) to → is_large_visit (after_new v point) ≡ false → NamesVisit mid made (after_new v point)
+    → IfOk r (λ large. Ends (protocol_at to) (Once next to.point (visit_at mid made)) new before after large) → IfOk r (λ large. Ends P (Uncounted (New [] next) point v) new before after large)
+new_ends r P v next point to made mid new before after at small names h =
+    if_ok r (λ large. Ends (protocol_at to) (Once next to.point (visit_at mid made)) new before after large) (λ large. Ends P (Uncounted (New [] next) point v) new before after large)
+    (λ large k. ends_as P (Once next (point + 1) (after_new v point)) (Uncounted (New [] next) point v) new before after large
     (λ out run. unless_small (is_large_visit (after_new v point)) point (Visited P next (point + 1) (after_new v point)) before.left out small run)
-    (moved P (point + 1) (after_new v point) to (visit_at mid made) next mid new before after large at names.is k)) h
+    (moved P (point + 1) (after_new v point) to (visit_at mid made) next new before after large at names.is k)) h
 
 -- two processes in parallel
 pub left_large : (P : Protocol) (v : Visit) (left right : Process) (point count q : ℕ) → Visited P left (point + 1) v count (TooLarge q) → Visited P (Parallel left right) point v (suc count) (TooLarge q)
 left_large P v left right point count q h = (TooLarge q, h, refl)
 
-pub parallel_ends : {E : Type 0} (r : Result (Option ℕ) E) (P : Protocol) (v : Visit) (left right : Process) (point : ℕ) (to : Place) (w : Visit) (old mid new : List Term) (before midway after : Listing)
-    → IsAt P (point_after (point + 1) left) to → w ≡ v → IsDone P (Once left (point + 1) v) old mid before midway
-    → IfOk r (λ large. Ends (protocol_at to) (Once right to.point w) mid new midway after large) → IfOk r (λ large. Ends P (Uncounted (Parallel left right) point v) old new before after large)
-parallel_ends r P v left right point to w old mid new before midway after at e done h =
-    if_ok r (λ large. Ends (protocol_at to) (Once right to.point w) mid new midway after large) (λ large. Ends P (Uncounted (Parallel left right) point v) old new before after large)
-    (λ large k. ends_behind P (Once right (point_after (point + 1) left) v) (Uncounted (Parallel left right) point v) old mid new before midway after done.more large done.clauses
+pub parallel_ends : {E : Type 0} (r : Result (Option ℕ) E) (P : Protocol) (v : Visit) (left right : Process) (point : ℕ) (to : Place) (w : Visit) (mid new : List Term) (before midway after : Listing)
+    → IsAt P (point_after (point + 1) left) to → w ≡ v → Grows mid new → IsDone P (Once left (point + 1) v) mid before midway
+    → IfOk r (λ large. Ends (protocol_at to) (Once right to.point w) new midway after large) → IfOk r (λ large. Ends P (Uncounted (Parallel left right) point v) new before after large)
+parallel_ends r P v left right point to w mid new before midway after at e grows done h =
+    if_ok r (λ large. Ends (protocol_at to) (Once right to.point w) new midway after large) (λ large. Ends P (Uncounted (Parallel left right) point v) new before after large)
+    (λ large k. ends_behind P (Once right (point_after (point + 1) left) v) (Uncounted (Parallel left right) point v) mid new before midway after done.more large grows done.lists
     (λ out run. (Done done.more midway.left, done.runs, (out, run, refl)))
-    (moved P (point_after (point + 1) left) v to w right mid new midway after large at e k)) h
+    (moved P (point_after (point + 1) left) v to w right new midway after large at e k)) h
 
 -- a `let`
 module _ (P : Protocol) (v : Visit) (pattern : Pattern) (expression : Expression) (next otherwise : Process) (point : ℕ) where
@@ -207,25 +213,20 @@ module _ (P : Protocol) (v : Visit) (pattern : Pattern) (expression : Expression
       chosen left (TooLarge q) go.outs e go.go (unless_small (some_large go.outs) point (each go.outs) left (TooLarge q) go.small
       (each_large (λ w. Visited P next (point + 1) w) go.outs last left q (present_run all vs go left (TooLarge q) Finished h)))
 
-  pub let_ends : {E : Type 0} (r : Result (Option ℕ) E) (to : Place) (w : Visit) (all old mid new : List Term) (vs : List source.Visit) (before midway after : Listing)
-      → IsAt P (point_after (point + 1) next) to → w ≡ v → are_large_in P v.scope (compared pattern ++ terms_in expression) ≡ false → GoOn P v pattern expression all vs → Grows old all → AreClausesIn old before.clauses
-      → IsDone P (Each next (point + 1) (visits_at all vs)) all mid before midway
-      → IfOk r (λ large. Ends (protocol_at to) (Once otherwise to.point w) mid new midway after large) → IfOk r (λ large. Ends P (Uncounted (Let pattern expression next otherwise) point v) old new before after large)
-  let_ends r to w all old mid new vs before midway after at same e go grows known done h =
-      if_ok r (λ large. Ends (protocol_at to) (Once otherwise to.point w) mid new midway after large) (λ large. Ends P (Uncounted (Let pattern expression next otherwise) point v) old new before after large)
-      (λ large k. ends_behind P (Once otherwise (point_after (point + 1) next) v) (Uncounted (Let pattern expression next otherwise) point v) old mid new before midway after done.more large
-      (subst (λ l. NameClauses mid midway.clauses (l ++ done.more)) (clauses_later old all before.clauses grows known).are done.clauses)
+  pub let_ends : {E : Type 0} (r : Result (Option ℕ) E) (to : Place) (w : Visit) (all mid new : List Term) (vs : List source.Visit) (before midway after : Listing)
+      → IsAt P (point_after (point + 1) next) to → w ≡ v → are_large_in P v.scope (compared pattern ++ terms_in expression) ≡ false → GoOn P v pattern expression all vs → Grows mid new
+      → IsDone P (Each next (point + 1) (visits_at all vs)) mid before midway
+      → IfOk r (λ large. Ends (protocol_at to) (Once otherwise to.point w) new midway after large) → IfOk r (λ large. Ends P (Uncounted (Let pattern expression next otherwise) point v) new before after large)
+  let_ends r to w all mid new vs before midway after at same e go grows done h =
+      if_ok r (λ large. Ends (protocol_at to) (Once otherwise to.point w) new midway after large) (λ large. Ends P (Uncounted (Let pattern expression next otherwise) point v) new before after large)
+      (λ large k. ends_behind P (Once otherwise (point_after (point + 1) next) v) (Uncounted (Let pattern expression next otherwise) point v) mid new before midway after done.more large grows done.lists
       (λ out run. chosen before.left (preceded done.more out) go.outs e go.go (unless_small (some_large go.outs) point (each go.outs) before.left (preceded done.more out) go.small
       (each_join (λ x. Visited P next (point + 1) x) go.outs last before.left midway.left done.more out (present_run all vs go before.left (Done done.more midway.left) Finished done.runs) run)))
-      (moved P (point_after (point + 1) next) v to w otherwise mid new midway after large at same k)) h
+      (moved P (point_after (point + 1) next) v to w otherwise new midway after large at same k)) h
 
 -- nothing
-pub nil_ends : (P : Protocol) (point : ℕ) (v : Visit) (old : List Term) (before low : Listing) → low.clauses ≡ before.clauses → before.left ≡ suc low.left → AreClausesIn old before.clauses → Ends P (Once Nil point v) old old before low None
-nil_ends P point v old before low e f known = record {
-  more = [];
-  runs = subst (λ n. Visited P Nil point v n (Done [] low.left)) (sym f) refl;
-  clauses = record { known = subst (λ cs. AreClausesIn old cs) (sym e) known; are = ap (map (clause_at old)) e ∙ sym (append_none (map (clause_at old) before.clauses)) };
-}
+pub nil_ends : (P : Protocol) (point : ℕ) (v : Visit) (all : List Term) (listing : Listing) → Ends P (Uncounted Nil point v) all listing listing None
+nil_ends P point v all listing = record { more = []; runs = refl; lists = lists_none all listing }
 
 -- visits that name visits are known
 pub known_visits : (all : List Term) (vs : List source.Visit) (ts : List Visit) → NameVisits all vs ts → AreVisitsIn all vs
@@ -234,10 +235,10 @@ known_visits all (w ∷ vs) [] names = absurd names
 known_visits all (w ∷ vs) (t ∷ ts) names = (names.0.known, known_visits all vs ts names.1)
 
 -- a restriction, however its name is spelled
-pub spelled : {E : Type 0} (r : Result (Option ℕ) E) (P : Protocol) (word : List ℕ) (next : Process) (point : ℕ) (v : Visit) (old new : List Term) (before after : Listing)
-    → IfOk r (λ large. Ends P (Uncounted (New [] next) point v) old new before after large) → IfOk r (λ large. Ends P (Uncounted (New word next) point v) old new before after large)
-spelled r P word next point v old new before after h =
-    if_ok r (λ large. Ends P (Uncounted (New [] next) point v) old new before after large) (λ large. Ends P (Uncounted (New word next) point v) old new before after large) (λ large k. go large k) h where
-      go : (large : Option ℕ) → Ends P (Uncounted (New [] next) point v) old new before after large → Ends P (Uncounted (New word next) point v) old new before after large
-      go None k = record { more = k.more; runs = k.runs; clauses = k.clauses }
+pub spelled : {E : Type 0} (r : Result (Option ℕ) E) (P : Protocol) (word : List ℕ) (next : Process) (point : ℕ) (v : Visit) (new : List Term) (before after : Listing)
+    → IfOk r (λ large. Ends P (Uncounted (New [] next) point v) new before after large) → IfOk r (λ large. Ends P (Uncounted (New word next) point v) new before after large)
+spelled r P word next point v new before after h =
+    if_ok r (λ large. Ends P (Uncounted (New [] next) point v) new before after large) (λ large. Ends P (Uncounted (New word next) point v) new before after large) (λ large k. go large k) h where
+      go : (large : Option ℕ) → Ends P (Uncounted (New [] next) point v) new before after large → Ends P (Uncounted (New word next) point v) new before after large
+      go None k = record { more = k.more; runs = k.runs; lists = k.lists }
       go (Some q) k = k

@@ -1,5 +1,5 @@
 -- What each form of process adds, and where it is too large.
-use Rattle.std.specs.Prelude.{◌≡◌, ℕ, Bool, true, false, ◌||◌, Option, Some, None, List, [], ◌∷◌, ◌++◌, map, filter_map}
+use Rattle.std.specs.Prelude.{◌≡◌, ℕ, Bool, true, false, ◌||◌, Option, Some, None, List, [], ◌∷◌, ◌++◌, filter_map}
 use Rattle.std.specs.List.{list_any}
 use Rattle.calculus.specs.Syntax.{EventTerm, Pattern, Expression, Protocol}
 use Rattle.calculus.specs.Syntax as calculus
@@ -8,11 +8,12 @@ use Rattle.terms.specs.Term.{Term}
 use Rattle.clauses.specs.Fact.{Ev, Mev, Clause}
 use Rattle.clauses.specs.Limits.{is_large_raw}
 use Rattle.clauses.specs.Norm.{norms}
+use Rattle.term_tree.specs.declared.bank.Id.{Id}
 use Rattle.translation.specs.Conversion.{Scope, term_in, Fresh}
 use Rattle.translation.specs.Visit.{Visit, is_large_term, is_large_visit, sent, raw_clause, IsFresh, after_input, event_terms, after_event}
 use Rattle.translation.specs.Choice.{AllGoOn}
 use Rattle.translation.specs.Visited.{some_large}
-use Rattle.clause_form.specs.Seen.{clause_at, NameClauses}
+use Rattle.clause_form.specs.Seen.{NameClauses}
 use Rattle.clause_translate.specs.declared.listing.Listing.{Listing}
 use Rattle.clause_translate.specs.declared.visit.Visit as source
 use Rattle.clause_translate.specs.Visits.{NamesVisit, NameVisits}
@@ -21,9 +22,17 @@ use Rattle.clause_translate.specs.Visits.{NamesVisit, NameVisits}
 abbrev pub are_large_in : Protocol → Scope → List calculus.Term → Bool
 are_large_in P scope terms = list_any (λ t. is_large_term (term_in P scope t)) terms
 
+-- clauses stand behind those that were there, or none does where they aren't kept
+pub record Lists (all : List Term) (before after : Listing) (more : List (Clause Term)) : Type 0 where
+  pub made : List (Clause Id)
+  pub clauses : after.clauses ≡ before.clauses ++ made
+  pub names : before.keeps ≡ true → NameClauses all made more
+  pub none : before.keeps ≡ false → made ≡ []
+  pub keeps : after.keeps ≡ before.keeps
+
 -- clauses were added, and no visit was counted
-pub record Adds (old new : List Term) (before after : Listing) (more : List (Clause Term)) : Type 0 where
-  pub clauses : NameClauses new after.clauses (map (clause_at old) before.clauses ++ more)
+pub record Adds (all : List Term) (before after : Listing) (more : List (Clause Term)) : Type 0 where
+  pub lists : Lists all before after more
   pub left : after.left ≡ before.left
 
 -- the raw clause of an output, and whether its visit is too large
@@ -56,14 +65,14 @@ IsSmallVisit all v None = is_large_visit v ≡ true
 IsSmallVisit all v (Some made) = (is_large_visit v ≡ false) × NamesVisit all made v
 
 -- what an event adds, and the visit below it, or none where one of the two is too large
-pub record AddsEvent (P : Protocol) (v : Visit) (e : EventTerm) (old new : List Term) (before after : Listing) (made : source.Visit) : Type 0 where
+pub record AddsEvent (P : Protocol) (v : Visit) (e : EventTerm) (all : List Term) (before after : Listing) (made : source.Visit) : Type 0 where
   pub small : is_large_event P v e ≡ false
-  pub adds : Adds old new before after (norms (event_raw P v e))
-  pub names : NamesVisit new made (after_event P v e)
+  pub adds : Adds all before after (norms (event_raw P v e))
+  pub names : NamesVisit all made (after_event P v e)
 
-abbrev pub EventAdds : Protocol → Visit → EventTerm → List Term → List Term → Listing → Listing → Option source.Visit → Type 0
-EventAdds P v e old new before after None = is_large_event P v e ≡ true
-EventAdds P v e old new before after (Some made) = AddsEvent P v e old new before after made
+abbrev pub EventAdds : Protocol → Visit → EventTerm → List Term → Listing → Listing → Option source.Visit → Type 0
+EventAdds P v e all before after None = is_large_event P v e ≡ true
+EventAdds P v e all before after (Some made) = AddsEvent P v e all before after made
 
 -- a visit of an input is too large
 pub data IsLargeInput (P : Protocol) (v : Visit) (channel : calculus.Term) (pattern : Pattern) : Type 0 where

@@ -1,14 +1,14 @@
 -- What is visited, and how it ends.
-use Rattle.std.specs.Prelude.{ℕ, suc, Option, Some, None, List, [], ◌∷◌, ◌++◌, map}
+use Rattle.std.specs.Prelude.{ℕ, suc, Option, Some, None, List, [], ◌∷◌, map}
 use Rattle.calculus.specs.Syntax.{Process, Protocol}
 use Rattle.terms.specs.Term.{Term}
 use Rattle.clauses.specs.Fact.{Clause}
 use Rattle.translation.specs.Visit.{Visit}
 use Rattle.translation.specs.Course.{Outcome, Done, TooLarge, Finished}
 use Rattle.translation.specs.Visited.{EachThen, Visited}
-use Rattle.clause_form.specs.Seen.{clause_at, NameClauses}
 use Rattle.clause_translate.specs.declared.listing.Listing.{Listing}
 use Rattle.clause_translate.specs.declared.visit.Visit as source
+use Rattle.clause_translate.specs.Forms.{Lists}
 use Rattle.clause_translate.specs.Visits.{visit_at, IsVisitIn}
 
 -- a process at a point, the same whose visit is counted already, or a process once for each of some visits
@@ -24,15 +24,15 @@ Runs P (Uncounted process point v) left out = Visited P process point v (suc lef
 Runs P (Each process point vs) left out = EachThen (λ w. Visited P process point w) (map Some vs) Finished left out
 
 -- it is done, with what it adds behind what was there
-pub record IsDone (P : Protocol) (job : Job) (old new : List Term) (before after : Listing) : Type 0 where
+pub record IsDone (P : Protocol) (job : Job) (all : List Term) (before after : Listing) : Type 0 where
   pub more : List (Clause Term)
   pub runs : Runs P job before.left (Done more after.left)
-  pub clauses : NameClauses new after.clauses (map (clause_at old) before.clauses ++ more)
+  pub lists : Lists all before after more
 
 -- it is done, or a visit at the point is too large
-abbrev pub Ends : Protocol → Job → List Term → List Term → Listing → Listing → Option ℕ → Type 0
-Ends P job old new before after None = IsDone P job old new before after
-Ends P job old new before after (Some point) = Runs P job before.left (TooLarge point)
+abbrev pub Ends : Protocol → Job → List Term → Listing → Listing → Option ℕ → Type 0
+Ends P job all before after None = IsDone P job all before after
+Ends P job all before after (Some point) = Runs P job before.left (TooLarge point)
 
 -- visits over a bank
 abbrev pub visits_at : List Term → List source.Visit → List Visit

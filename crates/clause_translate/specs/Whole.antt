@@ -43,6 +43,10 @@ pub record AddsVisits (P : Protocol) (old new : List Term) (before after : List 
   pub runs : Visited P P.main 1 first_visit most_visits (Done more left)
   pub names : NameClauses new after (map (clause_at old) before ++ more)
 
+-- a visit of the main process at the point is too large
+abbrev pub IsLargeAt : Protocol → ℕ → Type 0
+IsLargeAt P point = Visited P P.main 1 first_visit most_visits (TooLarge point)
+
 abbrev pub IsVisited : Protocol → List Term → List Term → List (Clause Id) → Translated → Type 0
 IsVisited P old new before (made.Clauses after) = AddsVisits P old new before after
-IsVisited P old new before (made.Large point) = Visited P P.main 1 first_visit most_visits (TooLarge point)
+IsVisited P old new before (made.Large point) = IsLargeAt P point

@@ -8,7 +8,6 @@ ghost use Rattle.clauses.specs.Limits.{is_large_raw};
 ghost use Rattle.clauses.specs.Norm.{norms};
 ghost use Rattle.clauses.specs.Variables.{AreBelow};
 ghost use Rattle.term_tree.specs.Bank.{tree_at, AreKnown, Grows};
-ghost use Rattle.clause_form.specs.Seen.{AreClausesIn};
 ghost use Rattle.clause_terms.specs.Conditions.{HasShortTuples};
 ghost use Rattle.clause_translate.specs.Places.{protocol_at};
 ghost use Rattle.clause_translate.specs.Forms.{Adds, raw_event, below_event, IsSmallVisit, EventAdds};
@@ -53,7 +52,6 @@ fn add_event_clause<B: Bank>(
     arguments: &Ids,
 ) -> Result<bool, AllocError>
     requires visit { IsVisitIn (B.trees bank.old) visit.now }
-    requires clauses { AreClausesIn (B.trees bank.old) listing.old.clauses }
     requires arguments { AreKnown (B.trees bank.old) arguments.now }
     ensures grows { Grows (B.trees bank.old) (B.trees bank.new) }
     ensures large { IfOk result (λ added. MatchBool added
@@ -62,7 +60,7 @@ fn add_event_clause<B: Bank>(
         (is_large_raw (raw_event (visit_at (B.trees bank.old) visit.now) event
         (map (tree_at (B.trees bank.old)) arguments.now)) ≡ true)) }
     ensures adds { IfOk result (λ added. added ≡ true
-        → Adds (B.trees bank.old) (B.trees bank.new) listing.old listing.new
+        → Adds (B.trees bank.new) listing.old listing.new
         (norms (raw_event (visit_at (B.trees bank.old) visit.now) event
         (map (tree_at (B.trees bank.old)) arguments.now)))) }
 {
@@ -101,12 +99,11 @@ pub fn add_event<B: Bank>(
     atom: &Atom,
 ) -> Result<Option<Visit>, AllocError>
     requires visit { IsVisitIn (B.trees bank.old) visit.now }
-    requires clauses { AreClausesIn (B.trees bank.old) listing.old.clauses }
     requires short { AllByRecursion HasShortTuples (event_of atom.now).arguments }
     ensures grows { Grows (B.trees bank.old) (B.trees bank.new) }
     ensures adds { IfOk result (λ found. EventAdds (protocol_at place.now)
-        (visit_at (B.trees bank.old) visit.now) (event_of atom.now) (B.trees bank.old)
-        (B.trees bank.new) listing.old listing.new found) }
+        (visit_at (B.trees bank.old) visit.now) (event_of atom.now) (B.trees bank.new) listing.old
+        listing.new found) }
 {
     if some_large_term(place, bank, &visit.scope, &atom.args) {
         return Ok(None);

@@ -1,10 +1,10 @@
 //! The clauses that visits have added, and how many visits are left.
 
-ghost use Rattle.std.specs.Prelude.{◌≡◌, ◌++◌, false, true, IfOk, OnOk, MatchBool};
+ghost use Rattle.std.specs.Prelude.{◌≡◌, ◌++◌, false, true, length, IfOk, OnOk, MatchBool};
 ghost use Rattle.clauses.specs.Limits.{is_large_raw};
 ghost use Rattle.clauses.specs.Norm.{norms};
 ghost use Rattle.term_tree.specs.Bank.{Grows};
-ghost use Rattle.clause_form.specs.Seen.{clause_at, IsClauseIn, AreClausesIn};
+ghost use Rattle.clause_form.specs.Seen.{clause_at, IsClauseIn};
 ghost use Rattle.clause_translate.specs.Forms.{Adds};
 
 use crate::raw::is_large_raw;
@@ -18,38 +18,49 @@ use term_tree::Bank;
 pub struct Listing {
     pub clauses: Clauses,
     pub left: u32,
+    /// Whether what visits add is kept, or the visits are counted alone.
+    pub keeps: bool,
 }
 
 impl Listing {
+    /// How many clauses there are.
+    pub fn count(&self) -> usize
+        ensures { result ≡ length self.now.clauses }
+    {
+        self.clauses.items.len()
+    }
+
     /// Adds clauses at the end.
     fn append(&mut self, mut clauses: Clauses) -> Result<(), AllocError>
         ensures clauses { OnOk result (self.new.clauses ≡ self.old.clauses ++ clauses) }
         ensures left { self.new.left ≡ self.old.left }
+        ensures keeps { self.new.keeps ≡ self.old.keeps }
     {
         self.clauses.items.append(&mut clauses.items)?;
         Ok(())
     }
 
-    /// Adds the norms of the flat parts of a raw clause, unless it is too large, and tells whether it did. On `Err` the
-    /// bank may have grown.
+    /// Adds the norms of the flat parts of a raw clause, if they are kept, unless it is too large, and tells whether it is
+    /// not. On `Err` the bank may have grown.
     pub fn add<B: Bank>(
         &mut self,
         alloc: Global,
         bank: &mut B,
         raw: &Clause,
     ) -> Result<bool, AllocError>
-        requires clauses { AreClausesIn (B.trees bank.old) self.old.clauses }
-        requires raw { IsClauseIn (B.trees bank.old) raw.now }
+        requires { IsClauseIn (B.trees bank.old) raw.now }
         ensures grows { Grows (B.trees bank.old) (B.trees bank.new) }
         ensures adds { IfOk result (λ added. MatchBool added
-            (Adds (B.trees bank.old) (B.trees bank.new) self.old self.new
-            (norms (clause_at (B.trees bank.old) raw.now)))
+            (Adds (B.trees bank.new) self.old self.new (norms (clause_at (B.trees bank.old) raw.now)))
             (is_large_raw (clause_at (B.trees bank.old) raw.now) ≡ true)) }
         ensures small { IfOk result (λ added. added ≡ true
             → is_large_raw (clause_at (B.trees bank.old) raw.now) ≡ false) }
     {
         if is_large_raw(alloc, bank, raw)? {
             return Ok(false);
+        }
+        if !self.keeps {
+            return Ok(true);
         }
         let norms = norms_of(alloc, bank, raw)?;
         self.append(norms)?;

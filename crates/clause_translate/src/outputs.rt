@@ -7,7 +7,7 @@ ghost use Rattle.translation.specs.Visit.{sent};
 ghost use Rattle.pi_tree.specs.Terms.{term_of};
 ghost use Rattle.term_tree.specs.Bank.{Grows};
 ghost use Rattle.clause_form.specs.Facts.{fact_of};
-ghost use Rattle.clause_form.specs.Seen.{AreClausesIn, NamesFact, NamesClause};
+ghost use Rattle.clause_form.specs.Seen.{NamesFact, NamesClause};
 ghost use Rattle.clause_terms.specs.Conditions.{HasShortTuples};
 ghost use Rattle.clause_terms.specs.Scopes.{scope_at, IsScopeIn};
 ghost use Rattle.clause_translate.specs.Places.{protocol_at};
@@ -79,7 +79,6 @@ pub fn add_output<B: Bank>(
     message: &Term,
 ) -> Result<bool, AllocError>
     requires visit { IsVisitIn (B.trees bank.old) visit.now }
-    requires clauses { AreClausesIn (B.trees bank.old) listing.old.clauses }
     requires channel { HasShortTuples (term_of channel.now) }
     requires message { HasShortTuples (term_of message.now) }
     ensures grows { Grows (B.trees bank.old) (B.trees bank.new) }
@@ -89,7 +88,7 @@ pub fn add_output<B: Bank>(
         (is_large_output (protocol_at place.now) (visit_at (B.trees bank.old) visit.now)
         (term_of channel.now) (term_of message.now) ≡ true)) }
     ensures adds { IfOk result (λ added. added ≡ true
-        → Adds (B.trees bank.old) (B.trees bank.new) listing.old listing.new
+        → Adds (B.trees bank.new) listing.old listing.new
         (norms (output_raw (protocol_at place.now) (visit_at (B.trees bank.old) visit.now)
         (term_of channel.now) (term_of message.now)))) }
 {

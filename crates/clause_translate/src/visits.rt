@@ -10,7 +10,6 @@ ghost use Rattle.pi_tree.specs.Patterns.{pattern_of, expression_of};
 ghost use Rattle.pi_tree.specs.Events.{event_of};
 ghost use Rattle.pi_tree.specs.Processes.{process_of};
 ghost use Rattle.term_tree.specs.Bank.{Grows};
-ghost use Rattle.clause_form.specs.Seen.{AreClausesIn};
 ghost use Rattle.clause_translate.specs.Places.{protocol_at};
 ghost use Rattle.clause_translate.specs.Short.{IsShortProcess, HasShortRules};
 ghost use Rattle.clause_translate.specs.Visits.{visit_at, IsVisitIn};
@@ -48,8 +47,8 @@ fn is_large_let<B: Bank>(
         || some_large_in(place, bank, scope, expression)
 }
 
-/// Visits a process that begins at the place, and tells the point of the first visit that is too large, if one is. On
-/// `Err` the bank may have grown.
+/// Visits a process that begins at the place, and tells the point of the first visit that is too large, if one is. Where
+/// no clause was added the bank is as before; on `Err` it may have grown.
 #[cycle(visits)]
 pub fn visit_process<B: Bank>(
     process: &Process,
@@ -59,18 +58,70 @@ pub fn visit_process<B: Bank>(
     visit: &Visit,
 ) -> Result<Option<u32>, AllocError>
     requires visit { IsVisitIn (B.trees bank.old) visit.now }
-    requires clauses { AreClausesIn (B.trees bank.old) listing.old.clauses }
     requires short { IsShortProcess (process_of process.now) }
     requires rules { HasShortRules (protocol_at place.now) }
     ensures grows { Grows (B.trees bank.old) (B.trees bank.new) }
     ensures ends { IfOk result (λ large. Ends (protocol_at place.now)
         (Once (process_of process.now) place.now.point (visit_at (B.trees bank.old) visit.now))
-        (B.trees bank.old) (B.trees bank.new) listing.old listing.new large) }
+        (B.trees bank.new) listing.old listing.new large) }
+    ensures back { IfOk result (λ large. listing.new.clauses ≡ listing.old.clauses
+        → B.trees bank.new ≡ B.trees bank.old) }
 {
     if listing.left == 0 {
         return Ok(Some(place.point));
     }
     listing.left -= 1;
+    visit_counted(process, place, bank, listing, visit)
+}
+
+/// Visits a process whose visit is counted already. Where no clause was added the bank is as before; on `Err` it may
+/// have grown.
+#[cycle(visits)]
+fn visit_counted<B: Bank>(
+    process: &Process,
+    place: &Place<'_>,
+    bank: &mut B,
+    listing: &mut Listing,
+    visit: &Visit,
+) -> Result<Option<u32>, AllocError>
+    requires visit { IsVisitIn (B.trees bank.old) visit.now }
+    requires short { IsShortProcess (process_of process.now) }
+    requires rules { HasShortRules (protocol_at place.now) }
+    ensures grows { Grows (B.trees bank.old) (B.trees bank.new) }
+    ensures ends { IfOk result (λ large. Ends (protocol_at place.now)
+        (Uncounted (process_of process.now) place.now.point
+        (visit_at (B.trees bank.old) visit.now)) (B.trees bank.new) listing.old listing.new large) }
+    ensures back { IfOk result (λ large. listing.new.clauses ≡ listing.old.clauses
+        → B.trees bank.new ≡ B.trees bank.old) }
+{
+    let count = listing.count();
+    let mark = bank.mark();
+    let large = visit_form(process, place, bank, listing, visit)?;
+    if count < listing.count() {
+        return Ok(large);
+    }
+    bank.back(mark);
+    Ok(large)
+}
+
+/// Visits a process of any form, whose visit is counted already. On `Err` the bank may have grown.
+#[cycle(visits)]
+fn visit_form<B: Bank>(
+    process: &Process,
+    place: &Place<'_>,
+    bank: &mut B,
+    listing: &mut Listing,
+    visit: &Visit,
+) -> Result<Option<u32>, AllocError>
+    requires visit { IsVisitIn (B.trees bank.old) visit.now }
+    requires short { IsShortProcess (process_of process.now) }
+    requires rules { HasShortRules (protocol_at place.now) }
+    ensures grows { Grows (B.trees bank.old) (B.trees bank.new) }
+    ensures ends { IfOk result (λ large. Ends (protocol_at place.now)
+        (Uncounted (process_of process.now) place.now.point
+        (visit_at (B.trees bank.old) visit.now))
+        (B.trees bank.new) listing.old listing.new large) }
+{
     match process {
         Process::Nil => Ok(None),
         Process::Output(channel, message, next) => {
@@ -101,7 +152,6 @@ fn visit_output<B: Bank>(
     message: &Term,
 ) -> Result<Option<u32>, AllocError>
     requires visit { IsVisitIn (B.trees bank.old) visit.now }
-    requires clauses { AreClausesIn (B.trees bank.old) listing.old.clauses }
     requires short { IsShortProcess (calculus.Output (term_of channel.now) (term_of message.now)
         (process_of next.now)) }
     requires rules { HasShortRules (protocol_at place.now) }
@@ -109,7 +159,7 @@ fn visit_output<B: Bank>(
     ensures ends { IfOk result (λ large. Ends (protocol_at place.now)
         (Uncounted (calculus.Output (term_of channel.now) (term_of message.now)
         (process_of next.now)) place.now.point (visit_at (B.trees bank.old) visit.now))
-        (B.trees bank.old) (B.trees bank.new) listing.old listing.new large) }
+        (B.trees bank.new) listing.old listing.new large) }
 {
     if !add_output(place, bank, listing, visit, channel, message)? {
         return Ok(Some(place.point));
@@ -130,7 +180,6 @@ fn visit_input<B: Bank>(
     pattern: &Pat,
 ) -> Result<Option<u32>, AllocError>
     requires visit { IsVisitIn (B.trees bank.old) visit.now }
-    requires clauses { AreClausesIn (B.trees bank.old) listing.old.clauses }
     requires short { IsShortProcess (calculus.Input (term_of channel.now) (pattern_of pattern.now)
         (process_of next.now)) }
     requires rules { HasShortRules (protocol_at place.now) }
@@ -138,7 +187,7 @@ fn visit_input<B: Bank>(
     ensures ends { IfOk result (λ large. Ends (protocol_at place.now)
         (Uncounted (calculus.Input (term_of channel.now) (pattern_of pattern.now)
         (process_of next.now)) place.now.point (visit_at (B.trees bank.old) visit.now))
-        (B.trees bank.old) (B.trees bank.new) listing.old listing.new large) }
+        (B.trees bank.new) listing.old listing.new large) }
 {
     let below = place.below()?;
     match after_input(place, bank, visit, channel, pattern)? {
@@ -158,15 +207,13 @@ fn visit_parallel<B: Bank>(
     visit: &Visit,
 ) -> Result<Option<u32>, AllocError>
     requires visit { IsVisitIn (B.trees bank.old) visit.now }
-    requires clauses { AreClausesIn (B.trees bank.old) listing.old.clauses }
     requires short { IsShortProcess (calculus.Parallel (process_of left.now)
         (process_of right.now)) }
     requires rules { HasShortRules (protocol_at place.now) }
     ensures grows { Grows (B.trees bank.old) (B.trees bank.new) }
     ensures ends { IfOk result (λ large. Ends (protocol_at place.now)
         (Uncounted (calculus.Parallel (process_of left.now) (process_of right.now)) place.now.point
-        (visit_at (B.trees bank.old) visit.now)) (B.trees bank.old) (B.trees bank.new) listing.old
-        listing.new large) }
+        (visit_at (B.trees bank.old) visit.now)) (B.trees bank.new) listing.old listing.new large) }
 {
     let below = place.below()?;
     let after = place.after(left)?;
@@ -186,14 +233,12 @@ fn visit_copies<B: Bank>(
     visit: &Visit,
 ) -> Result<Option<u32>, AllocError>
     requires visit { IsVisitIn (B.trees bank.old) visit.now }
-    requires clauses { AreClausesIn (B.trees bank.old) listing.old.clauses }
     requires short { IsShortProcess (calculus.Replication (process_of copied.now)) }
     requires rules { HasShortRules (protocol_at place.now) }
     ensures grows { Grows (B.trees bank.old) (B.trees bank.new) }
     ensures ends { IfOk result (λ large. Ends (protocol_at place.now)
         (Uncounted (calculus.Replication (process_of copied.now)) place.now.point
-        (visit_at (B.trees bank.old) visit.now)) (B.trees bank.old) (B.trees bank.new) listing.old
-        listing.new large) }
+        (visit_at (B.trees bank.old) visit.now)) (B.trees bank.new) listing.old listing.new large) }
 {
     let below = place.below()?;
     let made = after_copy(place.alloc, bank, visit)?;
@@ -210,14 +255,12 @@ fn visit_new<B: Bank>(
     visit: &Visit,
 ) -> Result<Option<u32>, AllocError>
     requires visit { IsVisitIn (B.trees bank.old) visit.now }
-    requires clauses { AreClausesIn (B.trees bank.old) listing.old.clauses }
     requires short { IsShortProcess (calculus.New [] (process_of next.now)) }
     requires rules { HasShortRules (protocol_at place.now) }
     ensures grows { Grows (B.trees bank.old) (B.trees bank.new) }
     ensures ends { IfOk result (λ large. Ends (protocol_at place.now)
         (Uncounted (calculus.New [] (process_of next.now)) place.now.point
-        (visit_at (B.trees bank.old) visit.now)) (B.trees bank.old) (B.trees bank.new) listing.old
-        listing.new large) }
+        (visit_at (B.trees bank.old) visit.now)) (B.trees bank.new) listing.old listing.new large) }
 {
     let below = place.below()?;
     match after_new(place, bank, visit)? {
@@ -239,7 +282,6 @@ fn visit_let<B: Bank>(
     expression: &Expr,
 ) -> Result<Option<u32>, AllocError>
     requires visit { IsVisitIn (B.trees bank.old) visit.now }
-    requires clauses { AreClausesIn (B.trees bank.old) listing.old.clauses }
     requires short { IsShortProcess (calculus.Let (pattern_of pattern.now)
         (expression_of expression.now) (process_of next.now) (process_of otherwise.now)) }
     requires rules { HasShortRules (protocol_at place.now) }
@@ -247,8 +289,7 @@ fn visit_let<B: Bank>(
     ensures ends { IfOk result (λ large. Ends (protocol_at place.now)
         (Uncounted (calculus.Let (pattern_of pattern.now) (expression_of expression.now)
         (process_of next.now) (process_of otherwise.now)) place.now.point
-        (visit_at (B.trees bank.old) visit.now)) (B.trees bank.old) (B.trees bank.new) listing.old
-        listing.new large) }
+        (visit_at (B.trees bank.old) visit.now)) (B.trees bank.new) listing.old listing.new large) }
 {
     if is_large_let(place, bank, &visit.scope, pattern, expression) {
         return Ok(Some(place.point));
@@ -275,14 +316,12 @@ fn visit_event<B: Bank>(
     atom: &Atom,
 ) -> Result<Option<u32>, AllocError>
     requires visit { IsVisitIn (B.trees bank.old) visit.now }
-    requires clauses { AreClausesIn (B.trees bank.old) listing.old.clauses }
     requires short { IsShortProcess (calculus.Event (event_of atom.now) (process_of next.now)) }
     requires rules { HasShortRules (protocol_at place.now) }
     ensures grows { Grows (B.trees bank.old) (B.trees bank.new) }
     ensures ends { IfOk result (λ large. Ends (protocol_at place.now)
         (Uncounted (calculus.Event (event_of atom.now) (process_of next.now)) place.now.point
-        (visit_at (B.trees bank.old) visit.now)) (B.trees bank.old) (B.trees bank.new) listing.old
-        listing.new large) }
+        (visit_at (B.trees bank.old) visit.now)) (B.trees bank.new) listing.old listing.new large) }
 {
     let below = place.below()?;
     match add_event(place, bank, listing, visit, atom)? {
@@ -301,13 +340,12 @@ fn visit_each<B: Bank>(
     visits: &[Visit],
 ) -> Result<Option<u32>, AllocError>
     requires visits { AreVisitsIn (B.trees bank.old) visits.now }
-    requires clauses { AreClausesIn (B.trees bank.old) listing.old.clauses }
     requires short { IsShortProcess (process_of process.now) }
     requires rules { HasShortRules (protocol_at place.now) }
     ensures grows { Grows (B.trees bank.old) (B.trees bank.new) }
     ensures ends { IfOk result (λ large. Ends (protocol_at place.now)
         (Each (process_of process.now) place.now.point (visits_at (B.trees bank.old) visits.now))
-        (B.trees bank.old) (B.trees bank.new) listing.old listing.new large) }
+        (B.trees bank.new) listing.old listing.new large) }
 {
     'each: for visit in visits {
         match visit_process(process, place, bank, listing, visit)? {

@@ -1,6 +1,6 @@
 //! The whole translation: the attacker's clauses, those of the visits, and the goal (Blanchet 2016, section 3.3).
 
-ghost use Rattle.std.specs.Prelude.{◌≡◌, ◌++◌, map, IfOk, OnErr};
+ghost use Rattle.std.specs.Prelude.{◌≡◌, ◌++◌, map, IfOk, MatchOption, OnErr};
 ghost use Rattle.well_formed.specs.Limits.{IsWithinLimits};
 ghost use Rattle.well_formed.specs.Rules.{HasProperRules};
 ghost use Rattle.well_formed.specs.Queries.{HasProperQueries};
@@ -9,11 +9,13 @@ ghost use Rattle.pi_tree.specs.Protocols.{protocol_of};
 ghost use Rattle.pi_tree.specs.Accessors.{IsThere};
 ghost use Rattle.pi_tree.specs.declared.accessors.Kind.TheVariants.{Query as OfQueries};
 ghost use Rattle.term_tree.specs.Bank.{Grows};
+ghost use Rattle.translation.specs.Visit.{first_visit};
 ghost use Rattle.translation.specs.Translation.{goal_clauses};
 ghost use Rattle.clause_form.specs.Seen.{clause_at, AreClausesIn, NameClauses};
 ghost use Rattle.query_derive.specs.GoalRows.{OfQuery};
 ghost use Rattle.clause_translate.specs.Short.{IsShortProcess, HasShortRules};
-ghost use Rattle.clause_translate.specs.Whole.{IsVisited, Translates, IsKept};
+ghost use Rattle.clause_translate.specs.Jobs.{Once, Ends};
+ghost use Rattle.clause_translate.specs.Whole.{IsLargeAt, IsVisited, Translates, IsKept};
 ghost use Rattle.clause_translate.specs.Soundness.{IsSound};
 
 use crate::listing::Listing;
@@ -36,8 +38,57 @@ pub enum Translated {
     Large(u32),
 }
 
-/// The clauses with those that visits of the main process add. On `Err`, and where one is too large, the bank may have
-/// grown.
+/// Visits the main process, and tells the point of the first visit that is too large, if one is. Where no clause was
+/// added the bank is as before; on `Err` it may have grown.
+fn visit_main<B: Bank>(
+    alloc: Global,
+    bank: &mut B,
+    protocol: &Protocol,
+    listing: &mut Listing,
+) -> Result<Option<u32>, AllocError>
+    requires short { IsShortProcess (protocol_of protocol.now).main }
+    requires rules { HasShortRules (protocol_of protocol.now) }
+    ensures grows { Grows (B.trees bank.old) (B.trees bank.new) }
+    ensures ends { IfOk result (λ large. Ends (protocol_of protocol.now)
+        (Once (protocol_of protocol.now).main 1 first_visit) (B.trees bank.new) listing.old
+        listing.new large) }
+    ensures back { IfOk result (λ large. listing.new.clauses ≡ listing.old.clauses
+        → B.trees bank.new ≡ B.trees bank.old) }
+{
+    let place = Place {
+        alloc,
+        protocol,
+        point: 1,
+    };
+    let first = Visit::first(alloc);
+    visit_process(&protocol.main, &place, bank, listing, &first)
+}
+
+/// The point of the first visit that is too large, if one is, by visits that keep nothing. On `Err`, and where one is too
+/// large, the bank may have grown.
+fn first_large<B: Bank>(
+    alloc: Global,
+    bank: &mut B,
+    protocol: &Protocol,
+) -> Result<Option<u32>, AllocError>
+    requires short { IsShortProcess (protocol_of protocol.now).main }
+    requires rules { HasShortRules (protocol_of protocol.now) }
+    ensures grows { Grows (B.trees bank.old) (B.trees bank.new) }
+    ensures large { IfOk result (λ large. MatchOption large (B.trees bank.new ≡ B.trees bank.old)
+        (λ point. IsLargeAt (protocol_of protocol.now) point)) }
+{
+    let mut counted = Listing {
+        clauses: Clauses {
+            items: Vec::new(alloc),
+        },
+        left: MOST_VISITS,
+        keeps: false,
+    };
+    visit_main(alloc, bank, protocol, &mut counted)
+}
+
+/// The clauses with those that visits of the main process add, which are counted before one is kept. On `Err`, and where
+/// one is too large, the bank may have grown.
 fn visited<B: Bank>(
     alloc: Global,
     bank: &mut B,
@@ -51,17 +102,16 @@ fn visited<B: Bank>(
     ensures visits { IfOk result (λ found. IsVisited (protocol_of protocol.now) (B.trees bank.old)
         (B.trees bank.new) clauses found) }
 {
-    let place = Place {
-        alloc,
-        protocol,
-        point: 1,
-    };
+    match first_large(alloc, bank, protocol)? {
+        Some(point) => return Ok(Translated::Large(point)),
+        None => {}
+    }
     let mut listing = Listing {
         clauses,
         left: MOST_VISITS,
+        keeps: true,
     };
-    let first = Visit::first(alloc);
-    match visit_process(&protocol.main, &place, bank, &mut listing, &first)? {
+    match visit_main(alloc, bank, protocol, &mut listing)? {
         Some(point) => Ok(Translated::Large(point)),
         None => Ok(Translated::Clauses(listing.clauses)),
     }

@@ -13,7 +13,6 @@ use Rattle.clause_translate.specs.Places.{protocol_at}
 use Rattle.clause_translate.specs.Visits.{visit_at}
 use Rattle.clause_translate.proofs.Named.{if_ok, visit_later, below_parts}
 use Rattle.clause_translate.proofs.Below.{terms_in_below}
-use Rattle.clause_translate.proofs.Adding.{clauses_later, adds_before}
 use Rattle.clause_translate.proofs.Happening.{event_first, event_second, event_last, if_true, if_false}
 use Rattle.clause_translate.proofs.events.add_event.Goals as goal
 
@@ -24,9 +23,6 @@ returns-then-some_large_term-clause-adds g c =
 
 pub add_event_clause-requires-clause-visit : goal.add_event_clause-requires-clause-visit
 add_event_clause-requires-clause-visit g c = (visit_later (g.B.Bank.trees c.args.bank.now) (g.B.Bank.trees c.terms_in.new.bank) c.args.visit.now c.terms_in.ensures.grows c.requires.visit).known
-
-pub add_event_clause-requires-clause-clauses : goal.add_event_clause-requires-clause-clauses
-add_event_clause-requires-clause-clauses g c = (clauses_later (g.B.Bank.trees c.args.bank.now) (g.B.Bank.trees c.terms_in.new.bank) c.args.listing.now.clauses c.terms_in.ensures.grows c.requires.clauses).known
 
 pub add_event_clause-requires-clause-arguments : goal.add_event_clause-requires-clause-arguments
 add_event_clause-requires-clause-arguments g c = c.in_ok-arguments.ensures.names.known
@@ -65,12 +61,12 @@ returns-then-added-clause-adds g c =
     let raw_mid = raw_event (visit_at mid w) e.event (map (tree_at mid) c.in_ok-arguments.arguments) in
     let raw_is : raw_mid ≡ event_raw P v e = λ i. raw_event (at_mid i) e.event (names.are i) in
     let raw : is_large_raw (event_raw P v e) ≡ false = sym (ap is_large_raw raw_is) ∙ if_true c.in_ok-added.added (is_large_raw raw_mid ≡ false) (is_large_raw raw_mid ≡ true) c.if-added.true c.in_ok-added.ensures.large in
-    let adds : Adds old new c.args.listing.now c.add_event_clause.new.listing (norms (event_raw P v e)) = adds_before old mid new c.args.listing.now c.add_event_clause.new.listing (norms (event_raw P v e)) c.terms_in.ensures.grows c.requires.clauses
-    (subst (λ x. Adds mid new c.args.listing.now c.add_event_clause.new.listing (norms x)) raw_is (c.in_ok-added.ensures.adds c.if-added.true)) in
+    let adds : Adds new c.args.listing.now c.add_event_clause.new.listing (norms (event_raw P v e)) =
+    subst (λ x. Adds new c.args.listing.now c.add_event_clause.new.listing (norms x)) raw_is (c.in_ok-added.ensures.adds c.if-added.true) in
     let below_is : below_event (visit_at new w) e.event (map (tree_at new) c.in_ok-arguments.arguments) ≡ after_event P v e = λ i. below_event (at_new i) e.event (later.are i) in
     if_ok c.event_below.result (λ (found : Option Visit). IsSmallVisit new (below_event (visit_at new w) e.event (map (tree_at new) c.in_ok-arguments.arguments)) found)
-    (λ (found : Option Visit). EventAdds P v e old new c.args.listing.now c.add_event_clause.new.listing found)
-    (λ found h. event_last P v e old new c.args.listing.now c.add_event_clause.new.listing found small raw adds (subst (λ x. IsSmallVisit new x found) below_is h)) c.event_below.ensures
+    (λ (found : Option Visit). EventAdds P v e new c.args.listing.now c.add_event_clause.new.listing found)
+    (λ found h. event_last P v e new c.args.listing.now c.add_event_clause.new.listing found small raw adds (subst (λ x. IsSmallVisit new x found) below_is h)) c.event_below.ensures
 
 pub returns-clause-adds : goal.returns-clause-adds
 returns-clause-adds g c =

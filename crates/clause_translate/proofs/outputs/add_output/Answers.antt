@@ -5,11 +5,8 @@ use Rattle.translation.specs.Visit.{is_large_term}
 use Rattle.clause_translate.specs.Places.{protocol_at}
 use Rattle.clause_translate.specs.Forms.{output_raw, are_large_in}
 use Rattle.clause_translate.specs.Visits.{visit_at}
-use Rattle.clause_translate.proofs.Adding.{clauses_later, is_added, is_told, both_small}
+use Rattle.clause_translate.proofs.Adding.{is_added, is_told, both_small}
 use Rattle.clause_translate.proofs.outputs.add_output.Goals as goal
-
-pub add-requires-clause-clauses : goal.add-requires-clause-clauses
-add-requires-clause-clauses g c = (clauses_later (g.B.Bank.trees c.args.bank.now) (g.B.Bank.trees c.output_clause.new.bank) c.args.listing.now.clauses c.output_clause.ensures.grows c.requires.clauses).known
 
 pub returns-clause-large : goal.returns-clause-large
 returns-clause-large g c =
@@ -17,7 +14,7 @@ returns-clause-large g c =
     let mid = g.B.Bank.trees c.output_clause.new.bank in
     let P = protocol_at c.args.place.now in
     let v = visit_at old c.args.visit.now in
-    is_told c.add.result old mid (g.B.Bank.trees c.add.new.bank) c.args.listing.now c.add.new.self c.in_ok-raw.raw (output_raw P v (term_of c.args.channel.now) (term_of c.args.message.now)) c.in_ok-raw.ensures.names c.add.ensures.adds c.add.ensures.small
+    is_told c.add.result mid (g.B.Bank.trees c.add.new.bank) c.args.listing.now c.add.new.self c.in_ok-raw.raw (output_raw P v (term_of c.args.channel.now) (term_of c.args.message.now)) c.in_ok-raw.ensures.names c.add.ensures.adds c.add.ensures.small
     (are_large_in P v.scope (term_of c.args.channel.now ∷ term_of c.args.message.now ∷ []))
     (both_small (is_large_term (term_in P v.scope (term_of c.args.channel.now))) (is_large_term (term_in P v.scope (term_of c.args.message.now))) (sym c.is_large_term.ensures ∙ c.if-is_large_term.false) (sym c.is_large_term-2.ensures ∙ c.if-is_large_term-2.false))
 
@@ -27,5 +24,4 @@ returns-clause-adds g c =
     let mid = g.B.Bank.trees c.output_clause.new.bank in
     let P = protocol_at c.args.place.now in
     let v = visit_at old c.args.visit.now in
-    is_added c.add.result old mid (g.B.Bank.trees c.add.new.bank) c.args.listing.now c.add.new.self c.in_ok-raw.raw (output_raw P v (term_of c.args.channel.now) (term_of c.args.message.now)) c.in_ok-raw.ensures.names c.add.ensures.adds c.add.ensures.small
-    c.output_clause.ensures.grows c.requires.clauses
+    is_added c.add.result mid (g.B.Bank.trees c.add.new.bank) c.args.listing.now c.add.new.self c.in_ok-raw.raw (output_raw P v (term_of c.args.channel.now) (term_of c.args.message.now)) c.in_ok-raw.ensures.names c.add.ensures.adds c.add.ensures.small

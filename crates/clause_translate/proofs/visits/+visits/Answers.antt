@@ -1,4 +1,4 @@
-use Rattle.std.proofs.Common.{◌≡◌, ℕ, suc, ◌+◌, ◌-◌, true, false, Option, Some, None, List, refl, ap, sym, subst, ◌∙◌, arith}
+use Rattle.std.proofs.Common.{◌≡◌, ℕ, suc, ◌+◌, ◌-◌, ◌≤◌, true, false, Option, Some, None, List, length, take, refl, ap, sym, subst, ◌∙◌, arith}
 use Rattle.std.specs.Prelude.{IfOk, IfSome, MatchOption, MatchBool}
 use Rattle.calculus.specs.Syntax as calculus
 use Rattle.pi_tree.specs.declared.syntax.Process.{Process}
@@ -6,7 +6,11 @@ use Rattle.pi_tree.specs.Terms.{term_of}
 use Rattle.pi_tree.specs.Patterns.{pattern_of, expression_of}
 use Rattle.pi_tree.specs.Events.{event_of}
 use Rattle.pi_tree.specs.Processes.{process_of}
-use Rattle.term_tree.proofs.BankLaws.{Grows_trans}
+use Rattle.terms.specs.Term.{Term}
+use Rattle.clauses.specs.Fact.{Clause}
+use Rattle.term_tree.specs.Bank.{Grows}
+use Rattle.term_tree.specs.declared.bank.Id.{Id}
+use Rattle.term_tree.proofs.BankLaws.{Grows_refl, Grows_trans, take-grows}
 use Rattle.translation.specs.Visit.{is_large_visit, after_new}
 use Rattle.clause_translate.specs.declared.listing.Listing.{Listing}
 use Rattle.clause_translate.specs.declared.visit.Visit as source
@@ -15,11 +19,10 @@ use Rattle.clause_translate.specs.Places.{protocol_at}
 use Rattle.clause_translate.specs.Short.{IsShortProcess, HasShortRules}
 use Rattle.clause_translate.specs.Visits.{visit_at, NamesVisit}
 use Rattle.clause_translate.specs.Forms.{is_large_output, present, Receives, IsLargeInput, EventAdds, GoOn, IsLargeChoice}
-use Rattle.clause_translate.specs.Jobs.{Once, Each, Ends, visits_at}
+use Rattle.clause_translate.specs.Jobs.{Once, Uncounted, Each, Ends, visits_at}
 use Rattle.clause_translate.proofs.Named.{visit_later}
-use Rattle.clause_translate.proofs.Adding.{clauses_later}
 use Rattle.clause_translate.proofs.Weights.{weight}
-use Rattle.clause_translate.proofs.Visiting.{none_left, nil_ends, spelled, counted_ok, moved, moved_each, output_ends, event_ends, input_ends, copies_ends, new_ends, parallel_ends, let_ends, next_large, known_visits}
+use Rattle.clause_translate.proofs.Visiting.{none_left, nil_ends, spelled, counted_ok, ends_back, moved, moved_each, output_ends, event_ends, input_ends, copies_ends, new_ends, parallel_ends, let_ends, next_large, known_visits}
 use Rattle.clause_translate.proofs.Repeating.{visit_of, none_visited, one_visited, one_large, all_visited}
 use Rattle.clause_translate.proofs.visits.+visits.Goals as goal
 
@@ -27,7 +30,7 @@ pub visit_copies-visit_process-requires : goal.visit_copies-visit_process-requir
 visit_copies-visit_process-requires g t c κs within =
     let old = g.B.Bank.trees c.args.bank.now in
     let mid = g.B.Bank.trees c.after_copy.new.bank in
-    (omega (arith, c.decreases), (within, (c.in_ok-made.ensures.names.known, ((clauses_later old mid c.args.listing.now.clauses c.after_copy.ensures.grows c.requires.clauses).known, (c.requires.short, (subst (λ (P : calculus.Protocol). HasShortRules P) (sym c.in_ok-below.ensures.protocol) c.requires.rules))))))
+    (omega (arith, c.decreases), (within, (c.in_ok-made.ensures.names.known, (c.requires.short, (subst (λ (P : calculus.Protocol). HasShortRules P) (sym c.in_ok-below.ensures.protocol) c.requires.rules)))))
 
 pub visit_copies-returns-clause-ends : goal.visit_copies-returns-clause-ends
 visit_copies-returns-clause-ends g t c =
@@ -36,19 +39,19 @@ visit_copies-returns-clause-ends g t c =
     let w = c.args.visit.now in
     let v = visit_at old w in
     let mid = g.B.Bank.trees c.after_copy.new.bank in
-    copies_ends c.visit_process.result P v w.next (process_of c.args.copied.now) c.args.place.now.point c.in_ok-below.below c.in_ok-made.made old mid (g.B.Bank.trees c.visit_process.new.bank) c.args.listing.now c.visit_process.new.listing
-    c.in_ok-below.ensures c.after_copy.ensures.grows c.requires.clauses c.requires.visit.below c.in_ok-made.ensures.names c.visit_process.ensures.ends
+    copies_ends c.visit_process.result P v w.next (process_of c.args.copied.now) c.args.place.now.point c.in_ok-below.below c.in_ok-made.made mid (g.B.Bank.trees c.visit_process.new.bank) c.args.listing.now c.visit_process.new.listing
+    c.in_ok-below.ensures c.requires.visit.below c.in_ok-made.ensures.names c.visit_process.ensures.ends
 
 pub visit_each-each-init : goal.visit_each-each-init
 visit_each-each-init g t c =
-    none_visited (protocol_at c.args.place.now) (process_of c.args.process.now) c.args.place.now.point (g.B.Bank.trees c.args.bank.now) c.args.visits.now c.args.listing.now c.requires.clauses
+    none_visited (protocol_at c.args.place.now) (process_of c.args.process.now) c.args.place.now.point (g.B.Bank.trees c.args.bank.now) c.args.visits.now c.args.listing.now
 
 pub visit_each-visit_process-requires : goal.visit_each-visit_process-requires
 visit_each-visit_process-requires g t c κs within =
     let old = g.B.Bank.trees c.args.bank.now in
     let now = g.B.Bank.trees c.each.bank in
     let known = visit_of old c.args.visits.now c.each.visit-index c.visit-item.result c.visit-item.is c.requires.visits c.each-test.true in
-    (omega (arith, c.decreases), (within, ((visit_later old now c.visit-item.result c.each.invariant.grows known).known, (c.each.invariant.done.clauses.known, (c.requires.short, c.requires.rules)))))
+    (omega (arith, c.decreases), (within, ((visit_later old now c.visit-item.result c.each.invariant.grows known).known, (c.requires.short, c.requires.rules))))
 
 pub visit_each-returns-in_err-point-clause-grows : goal.visit_each-returns-in_err-point-clause-grows
 visit_each-returns-in_err-point-clause-grows g t c =
@@ -62,7 +65,7 @@ pub visit_each-returns-in-Some-clause-ends : goal.visit_each-returns-in-Some-cla
 visit_each-returns-in-Some-clause-ends g t c =
     let old = g.B.Bank.trees c.args.bank.now in
     one_large (protocol_at c.args.place.now) (process_of c.args.process.now) c.args.place.now.point old c.args.visits.now c.args.listing.now (g.B.Bank.trees c.each.bank) (g.B.Bank.trees c.visit_process.new.bank) c.each.listing c.visit_process.new.listing c.each.visit-index c.visit-item.result c.in_ok-point.field-0 c.in-Some.point
-    c.each.invariant c.requires.visits c.each-test.true c.visit-item.is c.in-Some.is c.in_ok-point.ensures.ends
+    c.each.invariant c.requires.visits c.each-test.true c.visit-item.is c.visit_process.ensures.grows c.in-Some.is c.in_ok-point.ensures.ends
 
 pub visit_each-returns-clause-grows : goal.visit_each-returns-clause-grows
 visit_each-returns-clause-grows g t c =
@@ -86,8 +89,8 @@ visit_event-visit_process-requires g t c κs within =
     let w = c.args.visit.now in
     let v = visit_at old w in
     let mid = g.B.Bank.trees c.add_event.new.bank in
-    let adds = subst (λ (o : Option source.Visit). EventAdds P v (event_of c.args.atom.now) old mid c.args.listing.now c.add_event.new.listing o) c.in-Some.is c.in_ok-add_event.ensures.adds in
-    (omega (arith, c.decreases), (within, (adds.names.known, (adds.adds.clauses.known, (c.requires.short.1, (subst (λ (P : calculus.Protocol). HasShortRules P) (sym c.in_ok-below.ensures.protocol) c.requires.rules))))))
+    let adds = subst (λ (o : Option source.Visit). EventAdds P v (event_of c.args.atom.now) mid c.args.listing.now c.add_event.new.listing o) c.in-Some.is c.in_ok-add_event.ensures.adds in
+    (omega (arith, c.decreases), (within, (adds.names.known, (c.requires.short.1, (subst (λ (P : calculus.Protocol). HasShortRules P) (sym c.in_ok-below.ensures.protocol) c.requires.rules)))))
 
 pub visit_event-returns-in-Some-clause-ends : goal.visit_event-returns-in-Some-clause-ends
 visit_event-returns-in-Some-clause-ends g t c =
@@ -96,9 +99,9 @@ visit_event-returns-in-Some-clause-ends g t c =
     let w = c.args.visit.now in
     let v = visit_at old w in
     let mid = g.B.Bank.trees c.add_event.new.bank in
-    let adds = subst (λ (o : Option source.Visit). EventAdds P v (event_of c.args.atom.now) old mid c.args.listing.now c.add_event.new.listing o) c.in-Some.is c.in_ok-add_event.ensures.adds in
-    event_ends c.visit_process.result P v (event_of c.args.atom.now) (process_of c.args.next.now) c.args.place.now.point c.in_ok-below.below c.in-Some.made old mid (g.B.Bank.trees c.visit_process.new.bank) c.args.listing.now c.add_event.new.listing c.visit_process.new.listing
-    c.in_ok-below.ensures adds c.visit_process.ensures.ends
+    let adds = subst (λ (o : Option source.Visit). EventAdds P v (event_of c.args.atom.now) mid c.args.listing.now c.add_event.new.listing o) c.in-Some.is c.in_ok-add_event.ensures.adds in
+    event_ends c.visit_process.result P v (event_of c.args.atom.now) (process_of c.args.next.now) c.args.place.now.point c.in_ok-below.below c.in-Some.made mid (g.B.Bank.trees c.visit_process.new.bank) c.args.listing.now c.add_event.new.listing c.visit_process.new.listing
+    c.in_ok-below.ensures c.visit_process.ensures.grows adds c.visit_process.ensures.ends
 
 pub visit_input-visit_process-requires : goal.visit_input-visit_process-requires
 visit_input-visit_process-requires g t c κs within =
@@ -108,7 +111,7 @@ visit_input-visit_process-requires g t c κs within =
     let v = visit_at old w in
     let mid = g.B.Bank.trees c.after_input.new.bank in
     let got = subst (λ (o : Option source.Visit). MatchOption o (IsLargeInput P v (term_of c.args.channel.now) (pattern_of c.args.pattern.now)) (λ made. Receives P v (term_of c.args.channel.now) (pattern_of c.args.pattern.now) mid made)) c.in-Some.is c.in_ok-after_input.ensures.receives in
-    (omega (arith, c.decreases), (within, (got.names.known, ((clauses_later old mid c.args.listing.now.clauses c.after_input.ensures.grows c.requires.clauses).known, (c.requires.short.2, (subst (λ (P : calculus.Protocol). HasShortRules P) (sym c.in_ok-below.ensures.protocol) c.requires.rules))))))
+    (omega (arith, c.decreases), (within, (got.names.known, (c.requires.short.2, (subst (λ (P : calculus.Protocol). HasShortRules P) (sym c.in_ok-below.ensures.protocol) c.requires.rules)))))
 
 pub visit_input-returns-in-Some-clause-ends : goal.visit_input-returns-in-Some-clause-ends
 visit_input-returns-in-Some-clause-ends g t c =
@@ -118,8 +121,8 @@ visit_input-returns-in-Some-clause-ends g t c =
     let v = visit_at old w in
     let mid = g.B.Bank.trees c.after_input.new.bank in
     let got = subst (λ (o : Option source.Visit). MatchOption o (IsLargeInput P v (term_of c.args.channel.now) (pattern_of c.args.pattern.now)) (λ made. Receives P v (term_of c.args.channel.now) (pattern_of c.args.pattern.now) mid made)) c.in-Some.is c.in_ok-after_input.ensures.receives in
-    input_ends c.visit_process.result P v (term_of c.args.channel.now) (pattern_of c.args.pattern.now) (process_of c.args.next.now) c.args.place.now.point c.in_ok-below.below c.in-Some.made old mid (g.B.Bank.trees c.visit_process.new.bank) c.args.listing.now c.visit_process.new.listing
-    c.in_ok-below.ensures c.after_input.ensures.grows c.requires.clauses got c.visit_process.ensures.ends
+    input_ends c.visit_process.result P v (term_of c.args.channel.now) (pattern_of c.args.pattern.now) (process_of c.args.next.now) c.args.place.now.point c.in_ok-below.below c.in-Some.made mid (g.B.Bank.trees c.visit_process.new.bank) c.args.listing.now c.visit_process.new.listing
+    c.in_ok-below.ensures got c.visit_process.ensures.ends
 
 pub visit_new-visit_process-requires : goal.visit_new-visit_process-requires
 visit_new-visit_process-requires g t c κs within =
@@ -130,7 +133,7 @@ visit_new-visit_process-requires g t c κs within =
     let mid = g.B.Bank.trees c.after_new.new.bank in
     let names : NamesVisit mid c.in-Some.made (after_new v c.args.place.now.point) = subst (λ (o : Option source.Visit). IfSome o (λ made. NamesVisit mid made (after_new v c.args.place.now.point))) c.in-Some.is c.in_ok-after_new.ensures.names in
     let small : is_large_visit (after_new v c.args.place.now.point) ≡ false = subst (λ (o : Option source.Visit). MatchOption o (is_large_visit (after_new v c.args.place.now.point) ≡ true) (λ made. is_large_visit (after_new v c.args.place.now.point) ≡ false)) c.in-Some.is c.in_ok-after_new.ensures.large in
-    (omega (arith, c.decreases), (within, (names.known, ((clauses_later old mid c.args.listing.now.clauses c.after_new.ensures.grows c.requires.clauses).known, (c.requires.short, (subst (λ (P : calculus.Protocol). HasShortRules P) (sym c.in_ok-below.ensures.protocol) c.requires.rules))))))
+    (omega (arith, c.decreases), (within, (names.known, (c.requires.short, (subst (λ (P : calculus.Protocol). HasShortRules P) (sym c.in_ok-below.ensures.protocol) c.requires.rules)))))
 
 pub visit_new-returns-in-Some-clause-ends : goal.visit_new-returns-in-Some-clause-ends
 visit_new-returns-in-Some-clause-ends g t c =
@@ -141,8 +144,8 @@ visit_new-returns-in-Some-clause-ends g t c =
     let mid = g.B.Bank.trees c.after_new.new.bank in
     let names : NamesVisit mid c.in-Some.made (after_new v c.args.place.now.point) = subst (λ (o : Option source.Visit). IfSome o (λ made. NamesVisit mid made (after_new v c.args.place.now.point))) c.in-Some.is c.in_ok-after_new.ensures.names in
     let small : is_large_visit (after_new v c.args.place.now.point) ≡ false = subst (λ (o : Option source.Visit). MatchOption o (is_large_visit (after_new v c.args.place.now.point) ≡ true) (λ made. is_large_visit (after_new v c.args.place.now.point) ≡ false)) c.in-Some.is c.in_ok-after_new.ensures.large in
-    new_ends c.visit_process.result P v (process_of c.args.next.now) c.args.place.now.point c.in_ok-below.below c.in-Some.made old mid (g.B.Bank.trees c.visit_process.new.bank) c.args.listing.now c.visit_process.new.listing
-    c.in_ok-below.ensures c.after_new.ensures.grows c.requires.clauses small names c.visit_process.ensures.ends
+    new_ends c.visit_process.result P v (process_of c.args.next.now) c.args.place.now.point c.in_ok-below.below c.in-Some.made mid (g.B.Bank.trees c.visit_process.new.bank) c.args.listing.now c.visit_process.new.listing
+    c.in_ok-below.ensures small names c.visit_process.ensures.ends
 
 pub visit_output-visit_process-requires : goal.visit_output-visit_process-requires
 visit_output-visit_process-requires g t c κs within =
@@ -153,7 +156,7 @@ visit_output-visit_process-requires g t c κs within =
     let mid = g.B.Bank.trees c.add_output.new.bank in
     let adds = c.in_ok-add_output.ensures.adds c.if-not-branch.false in
     let later = visit_later old mid w c.add_output.ensures.grows c.requires.visit in
-    (omega (arith, c.decreases), (within, (later.known, (adds.clauses.known, (c.requires.short.2, (subst (λ (P : calculus.Protocol). HasShortRules P) (sym c.in_ok-below.ensures.protocol) c.requires.rules))))))
+    (omega (arith, c.decreases), (within, (later.known, (c.requires.short.2, (subst (λ (P : calculus.Protocol). HasShortRules P) (sym c.in_ok-below.ensures.protocol) c.requires.rules)))))
 
 pub visit_output-returns-clause-ends : goal.visit_output-returns-clause-ends
 visit_output-returns-clause-ends g t c =
@@ -165,13 +168,13 @@ visit_output-returns-clause-ends g t c =
     let adds = c.in_ok-add_output.ensures.adds c.if-not-branch.false in
     let later = visit_later old mid w c.add_output.ensures.grows c.requires.visit in
     let small = subst (λ b. MatchBool b (is_large_output P v (term_of c.args.channel.now) (term_of c.args.message.now) ≡ false) (is_large_output P v (term_of c.args.channel.now) (term_of c.args.message.now) ≡ true)) c.if-not-branch.false c.in_ok-add_output.ensures.large in
-    output_ends c.visit_process.result P v (term_of c.args.channel.now) (term_of c.args.message.now) (process_of c.args.next.now) c.args.place.now.point c.in_ok-below.below (visit_at mid w) old mid (g.B.Bank.trees c.visit_process.new.bank) c.args.listing.now c.add_output.new.listing c.visit_process.new.listing
-    c.in_ok-below.ensures later.is small adds c.visit_process.ensures.ends
+    output_ends c.visit_process.result P v (term_of c.args.channel.now) (term_of c.args.message.now) (process_of c.args.next.now) c.args.place.now.point c.in_ok-below.below (visit_at mid w) mid (g.B.Bank.trees c.visit_process.new.bank) c.args.listing.now c.add_output.new.listing c.visit_process.new.listing
+    c.in_ok-below.ensures later.is small c.visit_process.ensures.grows adds c.visit_process.ensures.ends
 
 pub visit_parallel-visit_process-requires : goal.visit_parallel-visit_process-requires
 visit_parallel-visit_process-requires g t c κs within =
     let old = g.B.Bank.trees c.args.bank.now in
-    (omega (arith, c.decreases), (within, (c.requires.visit, (c.requires.clauses, (c.requires.short.0, (subst (λ (P : calculus.Protocol). HasShortRules P) (sym c.in_ok-below.ensures.protocol) c.requires.rules))))))
+    (omega (arith, c.decreases), (within, (c.requires.visit, (c.requires.short.0, (subst (λ (P : calculus.Protocol). HasShortRules P) (sym c.in_ok-below.ensures.protocol) c.requires.rules)))))
 
 pub visit_parallel-visit_process-requires-in-None : goal.visit_parallel-visit_process-requires-in-None
 visit_parallel-visit_process-requires-in-None g t c κs within =
@@ -181,9 +184,9 @@ visit_parallel-visit_process-requires-in-None g t c κs within =
     let v = visit_at old w in
     let mid = g.B.Bank.trees c.visit_process.new.bank in
     let later = visit_later old mid w c.visit_process.ensures.grows c.requires.visit in
-    let done = moved P (c.args.place.now.point + 1) v c.in_ok-below.below v (process_of c.args.left.now) old mid c.args.listing.now c.visit_process.new.listing None c.in_ok-below.ensures refl
-    (subst (λ (o : Option ℕ). Ends (protocol_at c.in_ok-below.below) (Once (process_of c.args.left.now) c.in_ok-below.below.point v) old mid c.args.listing.now c.visit_process.new.listing o) c.in-None.is c.in_ok-point.ensures.ends) in
-    (omega (arith, c.decreases), (within, (later.known, (done.clauses.known, (c.requires.short.1, (subst (λ (P : calculus.Protocol). HasShortRules P) (sym c.in_ok-after.ensures.protocol) c.requires.rules))))))
+    let done = moved P (c.args.place.now.point + 1) v c.in_ok-below.below v (process_of c.args.left.now) mid c.args.listing.now c.visit_process.new.listing None c.in_ok-below.ensures refl
+    (subst (λ (o : Option ℕ). Ends (protocol_at c.in_ok-below.below) (Once (process_of c.args.left.now) c.in_ok-below.below.point v) mid c.args.listing.now c.visit_process.new.listing o) c.in-None.is c.in_ok-point.ensures.ends) in
+    (omega (arith, c.decreases), (within, (later.known, (c.requires.short.1, (subst (λ (P : calculus.Protocol). HasShortRules P) (sym c.in_ok-after.ensures.protocol) c.requires.rules)))))
 
 pub visit_parallel-returns-in-None-clause-ends : goal.visit_parallel-returns-in-None-clause-ends
 visit_parallel-returns-in-None-clause-ends g t c =
@@ -193,10 +196,10 @@ visit_parallel-returns-in-None-clause-ends g t c =
     let v = visit_at old w in
     let mid = g.B.Bank.trees c.visit_process.new.bank in
     let later = visit_later old mid w c.visit_process.ensures.grows c.requires.visit in
-    let done = moved P (c.args.place.now.point + 1) v c.in_ok-below.below v (process_of c.args.left.now) old mid c.args.listing.now c.visit_process.new.listing None c.in_ok-below.ensures refl
-    (subst (λ (o : Option ℕ). Ends (protocol_at c.in_ok-below.below) (Once (process_of c.args.left.now) c.in_ok-below.below.point v) old mid c.args.listing.now c.visit_process.new.listing o) c.in-None.is c.in_ok-point.ensures.ends) in
-    parallel_ends c.visit_process-in-None.result P v (process_of c.args.left.now) (process_of c.args.right.now) c.args.place.now.point c.in_ok-after.after (visit_at mid w) old mid (g.B.Bank.trees c.visit_process-in-None.new.bank) c.args.listing.now c.visit_process.new.listing c.visit_process-in-None.new.listing
-    c.in_ok-after.ensures later.is done c.visit_process-in-None.ensures.ends
+    let done = moved P (c.args.place.now.point + 1) v c.in_ok-below.below v (process_of c.args.left.now) mid c.args.listing.now c.visit_process.new.listing None c.in_ok-below.ensures refl
+    (subst (λ (o : Option ℕ). Ends (protocol_at c.in_ok-below.below) (Once (process_of c.args.left.now) c.in_ok-below.below.point v) mid c.args.listing.now c.visit_process.new.listing o) c.in-None.is c.in_ok-point.ensures.ends) in
+    parallel_ends c.visit_process-in-None.result P v (process_of c.args.left.now) (process_of c.args.right.now) c.args.place.now.point c.in_ok-after.after (visit_at mid w) mid (g.B.Bank.trees c.visit_process-in-None.new.bank) c.args.listing.now c.visit_process.new.listing c.visit_process-in-None.new.listing
+    c.in_ok-after.ensures later.is c.visit_process-in-None.ensures.grows done c.visit_process-in-None.ensures.ends
 
 pub visit_let-visit_each-requires : goal.visit_let-visit_each-requires
 visit_let-visit_each-requires g t c κs within =
@@ -213,7 +216,7 @@ visit_let-visit_each-requires g t c κs within =
     let items = c.deref.result.now in
     let go = subst (λ (vs : List source.Visit). GoOn P v pattern expression all vs) (sym c.deref.ensures.value)
     (subst (λ (o : Option Visits). MatchOption o (IsLargeChoice P v pattern expression) (λ visits. GoOn P v pattern expression all visits.items.items)) c.in-Some.is c.in_ok-choices.ensures.go) in
-    (omega (arith, c.decreases), (within, (known_visits all items (present go.outs) go.names, ((clauses_later old all c.args.listing.now.clauses c.choices.ensures.grows c.requires.clauses).known, (c.requires.short.2, (subst (λ (P : calculus.Protocol). HasShortRules P) (sym c.in_ok-below.ensures.protocol) c.requires.rules))))))
+    (omega (arith, c.decreases), (within, (known_visits all items (present go.outs) go.names, (c.requires.short.2, (subst (λ (P : calculus.Protocol). HasShortRules P) (sym c.in_ok-below.ensures.protocol) c.requires.rules)))))
 
 pub visit_let-returns-in-Some-2-clause-ends : goal.visit_let-returns-in-Some-2-clause-ends
 visit_let-returns-in-Some-2-clause-ends g t c =
@@ -233,8 +236,8 @@ visit_let-returns-in-Some-2-clause-ends g t c =
     let mid = g.B.Bank.trees c.visit_each.new.bank in
     let small = sym c.is_large_let.ensures ∙ c.if-is_large_let.false in
     next_large P v pattern expression next otherwise point all items c.args.listing.now.left c.in-Some-2.point small go
-    (moved_each P (point + 1) c.in_ok-below.below (visits_at all items) next all mid c.args.listing.now c.visit_each.new.listing (Some c.in-Some-2.point) c.in_ok-below.ensures
-    (subst (λ (o : Option ℕ). Ends (protocol_at c.in_ok-below.below) (Each next c.in_ok-below.below.point (visits_at all items)) all mid c.args.listing.now c.visit_each.new.listing o) c.in-Some-2.is c.in_ok-point-in-Some.ensures.ends))
+    (moved_each P (point + 1) c.in_ok-below.below (visits_at all items) next mid c.args.listing.now c.visit_each.new.listing (Some c.in-Some-2.point) c.in_ok-below.ensures
+    (subst (λ (o : Option ℕ). Ends (protocol_at c.in_ok-below.below) (Each next c.in_ok-below.below.point (visits_at all items)) mid c.args.listing.now c.visit_each.new.listing o) c.in-Some-2.is c.in_ok-point-in-Some.ensures.ends))
 
 pub visit_let-visit_process-requires : goal.visit_let-visit_process-requires
 visit_let-visit_process-requires g t c κs within =
@@ -253,10 +256,10 @@ visit_let-visit_process-requires g t c κs within =
     (subst (λ (o : Option Visits). MatchOption o (IsLargeChoice P v pattern expression) (λ visits. GoOn P v pattern expression all visits.items.items)) c.in-Some.is c.in_ok-choices.ensures.go) in
     let mid = g.B.Bank.trees c.visit_each.new.bank in
     let small = sym c.is_large_let.ensures ∙ c.if-is_large_let.false in
-    let done = moved_each P (point + 1) c.in_ok-below.below (visits_at all items) next all mid c.args.listing.now c.visit_each.new.listing None c.in_ok-below.ensures
-    (subst (λ (o : Option ℕ). Ends (protocol_at c.in_ok-below.below) (Each next c.in_ok-below.below.point (visits_at all items)) all mid c.args.listing.now c.visit_each.new.listing o) c.in-None-2.is c.in_ok-point-in-Some.ensures.ends) in
+    let done = moved_each P (point + 1) c.in_ok-below.below (visits_at all items) next mid c.args.listing.now c.visit_each.new.listing None c.in_ok-below.ensures
+    (subst (λ (o : Option ℕ). Ends (protocol_at c.in_ok-below.below) (Each next c.in_ok-below.below.point (visits_at all items)) mid c.args.listing.now c.visit_each.new.listing o) c.in-None-2.is c.in_ok-point-in-Some.ensures.ends) in
     let later = visit_later old mid w (Grows_trans old all mid c.choices.ensures.grows c.visit_each.ensures.grows) c.requires.visit in
-    (omega (arith, c.decreases), (within, (later.known, (done.clauses.known, (c.requires.short.3, (subst (λ (P : calculus.Protocol). HasShortRules P) (sym c.in_ok-after.ensures.protocol) c.requires.rules))))))
+    (omega (arith, c.decreases), (within, (later.known, (c.requires.short.3, (subst (λ (P : calculus.Protocol). HasShortRules P) (sym c.in_ok-after.ensures.protocol) c.requires.rules)))))
 
 pub visit_let-returns-clause-ends : goal.visit_let-returns-clause-ends
 visit_let-returns-clause-ends g t c =
@@ -275,11 +278,11 @@ visit_let-returns-clause-ends g t c =
     (subst (λ (o : Option Visits). MatchOption o (IsLargeChoice P v pattern expression) (λ visits. GoOn P v pattern expression all visits.items.items)) c.in-Some.is c.in_ok-choices.ensures.go) in
     let mid = g.B.Bank.trees c.visit_each.new.bank in
     let small = sym c.is_large_let.ensures ∙ c.if-is_large_let.false in
-    let done = moved_each P (point + 1) c.in_ok-below.below (visits_at all items) next all mid c.args.listing.now c.visit_each.new.listing None c.in_ok-below.ensures
-    (subst (λ (o : Option ℕ). Ends (protocol_at c.in_ok-below.below) (Each next c.in_ok-below.below.point (visits_at all items)) all mid c.args.listing.now c.visit_each.new.listing o) c.in-None-2.is c.in_ok-point-in-Some.ensures.ends) in
+    let done = moved_each P (point + 1) c.in_ok-below.below (visits_at all items) next mid c.args.listing.now c.visit_each.new.listing None c.in_ok-below.ensures
+    (subst (λ (o : Option ℕ). Ends (protocol_at c.in_ok-below.below) (Each next c.in_ok-below.below.point (visits_at all items)) mid c.args.listing.now c.visit_each.new.listing o) c.in-None-2.is c.in_ok-point-in-Some.ensures.ends) in
     let later = visit_later old mid w (Grows_trans old all mid c.choices.ensures.grows c.visit_each.ensures.grows) c.requires.visit in
-    let_ends P v pattern expression next otherwise point c.visit_process.result c.in_ok-after.after (visit_at mid w) all old mid (g.B.Bank.trees c.visit_process.new.bank) items c.args.listing.now c.visit_each.new.listing c.visit_process.new.listing
-    c.in_ok-after.ensures later.is small go c.choices.ensures.grows c.requires.clauses done c.visit_process.ensures.ends
+    let_ends P v pattern expression next otherwise point c.visit_process.result c.in_ok-after.after (visit_at mid w) all mid (g.B.Bank.trees c.visit_process.new.bank) items c.args.listing.now c.visit_each.new.listing c.visit_process.new.listing
+    c.in_ok-after.ensures later.is small go c.visit_process.ensures.grows done c.visit_process.ensures.ends
 
 pub visit_process-returns-then-listing-eq0-clause-ends : goal.visit_process-returns-then-listing-eq0-clause-ends
 visit_process-returns-then-listing-eq0-clause-ends g t c =
@@ -289,132 +292,154 @@ visit_process-returns-then-listing-eq0-clause-ends g t c =
     let v = visit_at old w in
     none_left P (process_of c.args.process.now) c.args.place.now.point v c.args.listing.now.left c.if-listing-eq0.true
 
-pub visit_process-visit_output-requires : goal.visit_process-visit_output-requires
-visit_process-visit_output-requires g t c κs within =
+pub visit_process-visit_counted-requires : goal.visit_process-visit_counted-requires
+visit_process-visit_counted-requires g t c κs within =
+    (omega (arith, c.decreases), (within, (c.requires.visit, (c.requires.short, c.requires.rules))))
+
+pub visit_process-returns-clause-ends : goal.visit_process-returns-clause-ends
+visit_process-returns-clause-ends g t c =
+    let P = protocol_at c.args.place.now in
+    let v = visit_at (g.B.Bank.trees c.args.bank.now) c.args.visit.now in
+    let low : Listing = record { clauses = c.args.listing.now.clauses; left = c.args.listing.now.left - 1; keeps = c.args.listing.now.keeps } in
+    let less : c.args.listing.now.left ≡ suc low.left = omega (arith, c.if-listing-eq0.false) in
+    counted_ok c.visit_counted.result P (process_of c.args.process.now) c.args.place.now.point v (g.B.Bank.trees c.visit_counted.new.bank) c.args.listing.now low c.visit_counted.new.listing refl refl less c.visit_counted.ensures.ends
+
+pub visit_counted-visit_form-requires : goal.visit_counted-visit_form-requires
+visit_counted-visit_form-requires g t c κs within =
+    (omega (arith, c.decreases), (within, (c.requires.visit, (c.requires.short, c.requires.rules))))
+
+pub visit_counted-returns-then-count-clause-back : goal.visit_counted-returns-then-count-clause-back
+visit_counted-returns-then-count-clause-back g t c = λ same. absurd (omega (arith, ap (λ (cs : List (Clause Id)). length cs) same))
+
+pub visit_counted-returns-clause-grows : goal.visit_counted-returns-clause-grows
+visit_counted-returns-clause-grows g t c =
+    let old = g.B.Bank.trees c.args.bank.now in
+    let now = g.B.Bank.trees c.visit_form.new.bank in
+    subst (λ (all : List Term). Grows old all) (sym (c.back.ensures ∙ (ap (λ n. take n now) c.mark-mark.ensures ∙ take-grows old now c.visit_form.ensures.grows))) (Grows_refl old)
+
+pub visit_counted-returns-clause-back : goal.visit_counted-returns-clause-back
+visit_counted-returns-clause-back g t c =
+    let old = g.B.Bank.trees c.args.bank.now in
+    let now = g.B.Bank.trees c.visit_form.new.bank in
+    λ same. c.back.ensures ∙ (ap (λ n. take n now) c.mark-mark.ensures ∙ take-grows old now c.visit_form.ensures.grows)
+
+pub visit_counted-returns-clause-ends : goal.visit_counted-returns-clause-ends
+visit_counted-returns-clause-ends g t c =
+    let P = protocol_at c.args.place.now in
+    let v = visit_at (g.B.Bank.trees c.args.bank.now) c.args.visit.now in
+    let few : length c.visit_form.new.listing.clauses ≤ length c.args.listing.now.clauses = omega arith in
+    ends_back P (Uncounted (process_of c.args.process.now) c.args.place.now.point v) (g.B.Bank.trees c.back.new.self) (g.B.Bank.trees c.visit_form.new.bank) c.args.listing.now c.visit_form.new.listing c.in_ok-large.large few c.in_ok-large.ensures.ends
+
+pub visit_form-visit_output-requires : goal.visit_form-visit_output-requires
+visit_form-visit_output-requires g t c κs within =
     let same : process_of c.args.process.now ≡ calculus.Output (term_of c.in-Output.channel) (term_of c.in-Output.message) (process_of c.deref.result.now) = ap process_of c.in-Output.is ∙ ap (λ (x : Process). calculus.Output (term_of c.in-Output.channel) (term_of c.in-Output.message) (process_of x)) (sym c.deref.ensures) in
-    (omega (arith, c.decreases, ap (λ (p : calculus.Process). weight p) same), (within, (c.requires.visit, (c.requires.clauses, (subst (λ (p : calculus.Process). IsShortProcess p) same c.requires.short, c.requires.rules)))))
+    (omega (arith, c.decreases, ap (λ (p : calculus.Process). weight p) same), (within, (c.requires.visit, (subst (λ (p : calculus.Process). IsShortProcess p) same c.requires.short, c.requires.rules))))
 
-pub visit_process-returns-in-Output-clause-ends : goal.visit_process-returns-in-Output-clause-ends
-visit_process-returns-in-Output-clause-ends g t c =
+pub visit_form-returns-in-Output-clause-ends : goal.visit_form-returns-in-Output-clause-ends
+visit_form-returns-in-Output-clause-ends g t c =
     let old = g.B.Bank.trees c.args.bank.now in
     let P = protocol_at c.args.place.now in
     let w = c.args.visit.now in
     let v = visit_at old w in
-    let low : Listing = record { clauses = c.args.listing.now.clauses; left = c.args.listing.now.left - 1 } in
-    let more : c.args.listing.now.left ≡ suc low.left = omega (arith, c.if-listing-eq0.false) in
     let same : process_of c.args.process.now ≡ calculus.Output (term_of c.in-Output.channel) (term_of c.in-Output.message) (process_of c.deref.result.now) = ap process_of c.in-Output.is ∙ ap (λ (x : Process). calculus.Output (term_of c.in-Output.channel) (term_of c.in-Output.message) (process_of x)) (sym c.deref.ensures) in
-    subst (λ (p : calculus.Process). IfOk c.visit_output.result (λ large. Ends P (Once p c.args.place.now.point v) old (g.B.Bank.trees c.visit_output.new.bank) c.args.listing.now c.visit_output.new.listing large)) (sym same)
-    (counted_ok c.visit_output.result P (calculus.Output (term_of c.in-Output.channel) (term_of c.in-Output.message) (process_of c.deref.result.now)) c.args.place.now.point v old (g.B.Bank.trees c.visit_output.new.bank) c.args.listing.now low c.visit_output.new.listing refl more c.visit_output.ensures.ends)
+    subst (λ (p : calculus.Process). IfOk c.visit_output.result (λ large. Ends P (Uncounted p c.args.place.now.point v) (g.B.Bank.trees c.visit_output.new.bank) c.args.listing.now c.visit_output.new.listing large)) (sym same)
+    c.visit_output.ensures.ends
 
-pub visit_process-visit_input-requires : goal.visit_process-visit_input-requires
-visit_process-visit_input-requires g t c κs within =
+pub visit_form-visit_input-requires : goal.visit_form-visit_input-requires
+visit_form-visit_input-requires g t c κs within =
     let same : process_of c.args.process.now ≡ calculus.Input (term_of c.in-Input.channel) (pattern_of c.in-Input.pattern) (process_of c.deref-in-Input.result.now) = ap process_of c.in-Input.is ∙ ap (λ (x : Process). calculus.Input (term_of c.in-Input.channel) (pattern_of c.in-Input.pattern) (process_of x)) (sym c.deref-in-Input.ensures) in
-    (omega (arith, c.decreases, ap (λ (p : calculus.Process). weight p) same), (within, (c.requires.visit, (c.requires.clauses, (subst (λ (p : calculus.Process). IsShortProcess p) same c.requires.short, c.requires.rules)))))
+    (omega (arith, c.decreases, ap (λ (p : calculus.Process). weight p) same), (within, (c.requires.visit, (subst (λ (p : calculus.Process). IsShortProcess p) same c.requires.short, c.requires.rules))))
 
-pub visit_process-returns-in-Input-clause-ends : goal.visit_process-returns-in-Input-clause-ends
-visit_process-returns-in-Input-clause-ends g t c =
+pub visit_form-returns-in-Input-clause-ends : goal.visit_form-returns-in-Input-clause-ends
+visit_form-returns-in-Input-clause-ends g t c =
     let old = g.B.Bank.trees c.args.bank.now in
     let P = protocol_at c.args.place.now in
     let w = c.args.visit.now in
     let v = visit_at old w in
-    let low : Listing = record { clauses = c.args.listing.now.clauses; left = c.args.listing.now.left - 1 } in
-    let more : c.args.listing.now.left ≡ suc low.left = omega (arith, c.if-listing-eq0.false) in
     let same : process_of c.args.process.now ≡ calculus.Input (term_of c.in-Input.channel) (pattern_of c.in-Input.pattern) (process_of c.deref-in-Input.result.now) = ap process_of c.in-Input.is ∙ ap (λ (x : Process). calculus.Input (term_of c.in-Input.channel) (pattern_of c.in-Input.pattern) (process_of x)) (sym c.deref-in-Input.ensures) in
-    subst (λ (p : calculus.Process). IfOk c.visit_input.result (λ large. Ends P (Once p c.args.place.now.point v) old (g.B.Bank.trees c.visit_input.new.bank) c.args.listing.now c.visit_input.new.listing large)) (sym same)
-    (counted_ok c.visit_input.result P (calculus.Input (term_of c.in-Input.channel) (pattern_of c.in-Input.pattern) (process_of c.deref-in-Input.result.now)) c.args.place.now.point v old (g.B.Bank.trees c.visit_input.new.bank) c.args.listing.now low c.visit_input.new.listing refl more c.visit_input.ensures.ends)
+    subst (λ (p : calculus.Process). IfOk c.visit_input.result (λ large. Ends P (Uncounted p c.args.place.now.point v) (g.B.Bank.trees c.visit_input.new.bank) c.args.listing.now c.visit_input.new.listing large)) (sym same)
+    c.visit_input.ensures.ends
 
-pub visit_process-visit_parallel-requires : goal.visit_process-visit_parallel-requires
-visit_process-visit_parallel-requires g t c κs within =
+pub visit_form-visit_parallel-requires : goal.visit_form-visit_parallel-requires
+visit_form-visit_parallel-requires g t c κs within =
     let same : process_of c.args.process.now ≡ calculus.Parallel (process_of c.deref-in-Par.result.now) (process_of c.deref-in-Par-2.result.now) = ap process_of c.in-Par.is ∙ ap (λ (x : Process). calculus.Parallel (process_of x) (process_of c.in-Par.right.value)) (sym c.deref-in-Par.ensures) ∙ ap (λ (x : Process). calculus.Parallel (process_of c.deref-in-Par.result.now) (process_of x)) (sym c.deref-in-Par-2.ensures) in
-    (omega (arith, c.decreases, ap (λ (p : calculus.Process). weight p) same), (within, (c.requires.visit, (c.requires.clauses, (subst (λ (p : calculus.Process). IsShortProcess p) same c.requires.short, c.requires.rules)))))
+    (omega (arith, c.decreases, ap (λ (p : calculus.Process). weight p) same), (within, (c.requires.visit, (subst (λ (p : calculus.Process). IsShortProcess p) same c.requires.short, c.requires.rules))))
 
-pub visit_process-returns-in-Par-clause-ends : goal.visit_process-returns-in-Par-clause-ends
-visit_process-returns-in-Par-clause-ends g t c =
+pub visit_form-returns-in-Par-clause-ends : goal.visit_form-returns-in-Par-clause-ends
+visit_form-returns-in-Par-clause-ends g t c =
     let old = g.B.Bank.trees c.args.bank.now in
     let P = protocol_at c.args.place.now in
     let w = c.args.visit.now in
     let v = visit_at old w in
-    let low : Listing = record { clauses = c.args.listing.now.clauses; left = c.args.listing.now.left - 1 } in
-    let more : c.args.listing.now.left ≡ suc low.left = omega (arith, c.if-listing-eq0.false) in
     let same : process_of c.args.process.now ≡ calculus.Parallel (process_of c.deref-in-Par.result.now) (process_of c.deref-in-Par-2.result.now) = ap process_of c.in-Par.is ∙ ap (λ (x : Process). calculus.Parallel (process_of x) (process_of c.in-Par.right.value)) (sym c.deref-in-Par.ensures) ∙ ap (λ (x : Process). calculus.Parallel (process_of c.deref-in-Par.result.now) (process_of x)) (sym c.deref-in-Par-2.ensures) in
-    subst (λ (p : calculus.Process). IfOk c.visit_parallel.result (λ large. Ends P (Once p c.args.place.now.point v) old (g.B.Bank.trees c.visit_parallel.new.bank) c.args.listing.now c.visit_parallel.new.listing large)) (sym same)
-    (counted_ok c.visit_parallel.result P (calculus.Parallel (process_of c.deref-in-Par.result.now) (process_of c.deref-in-Par-2.result.now)) c.args.place.now.point v old (g.B.Bank.trees c.visit_parallel.new.bank) c.args.listing.now low c.visit_parallel.new.listing refl more c.visit_parallel.ensures.ends)
+    subst (λ (p : calculus.Process). IfOk c.visit_parallel.result (λ large. Ends P (Uncounted p c.args.place.now.point v) (g.B.Bank.trees c.visit_parallel.new.bank) c.args.listing.now c.visit_parallel.new.listing large)) (sym same)
+    c.visit_parallel.ensures.ends
 
-pub visit_process-visit_copies-requires : goal.visit_process-visit_copies-requires
-visit_process-visit_copies-requires g t c κs within =
+pub visit_form-visit_copies-requires : goal.visit_form-visit_copies-requires
+visit_form-visit_copies-requires g t c κs within =
     let same : process_of c.args.process.now ≡ calculus.Replication (process_of c.deref-in-Copies.result.now) = ap process_of c.in-Copies.is ∙ ap (λ (x : Process). calculus.Replication (process_of x)) (sym c.deref-in-Copies.ensures) in
-    (omega (arith, c.decreases, ap (λ (p : calculus.Process). weight p) same), (within, (c.requires.visit, (c.requires.clauses, (subst (λ (p : calculus.Process). IsShortProcess p) same c.requires.short, c.requires.rules)))))
+    (omega (arith, c.decreases, ap (λ (p : calculus.Process). weight p) same), (within, (c.requires.visit, (subst (λ (p : calculus.Process). IsShortProcess p) same c.requires.short, c.requires.rules))))
 
-pub visit_process-returns-in-Copies-clause-ends : goal.visit_process-returns-in-Copies-clause-ends
-visit_process-returns-in-Copies-clause-ends g t c =
+pub visit_form-returns-in-Copies-clause-ends : goal.visit_form-returns-in-Copies-clause-ends
+visit_form-returns-in-Copies-clause-ends g t c =
     let old = g.B.Bank.trees c.args.bank.now in
     let P = protocol_at c.args.place.now in
     let w = c.args.visit.now in
     let v = visit_at old w in
-    let low : Listing = record { clauses = c.args.listing.now.clauses; left = c.args.listing.now.left - 1 } in
-    let more : c.args.listing.now.left ≡ suc low.left = omega (arith, c.if-listing-eq0.false) in
     let same : process_of c.args.process.now ≡ calculus.Replication (process_of c.deref-in-Copies.result.now) = ap process_of c.in-Copies.is ∙ ap (λ (x : Process). calculus.Replication (process_of x)) (sym c.deref-in-Copies.ensures) in
-    subst (λ (p : calculus.Process). IfOk c.visit_copies.result (λ large. Ends P (Once p c.args.place.now.point v) old (g.B.Bank.trees c.visit_copies.new.bank) c.args.listing.now c.visit_copies.new.listing large)) (sym same)
-    (counted_ok c.visit_copies.result P (calculus.Replication (process_of c.deref-in-Copies.result.now)) c.args.place.now.point v old (g.B.Bank.trees c.visit_copies.new.bank) c.args.listing.now low c.visit_copies.new.listing refl more c.visit_copies.ensures.ends)
+    subst (λ (p : calculus.Process). IfOk c.visit_copies.result (λ large. Ends P (Uncounted p c.args.place.now.point v) (g.B.Bank.trees c.visit_copies.new.bank) c.args.listing.now c.visit_copies.new.listing large)) (sym same)
+    c.visit_copies.ensures.ends
 
-pub visit_process-visit_new-requires : goal.visit_process-visit_new-requires
-visit_process-visit_new-requires g t c κs within =
+pub visit_form-visit_new-requires : goal.visit_form-visit_new-requires
+visit_form-visit_new-requires g t c κs within =
     let same : process_of c.args.process.now ≡ calculus.New c.in-New.field-0 (process_of c.deref-in-New.result.now) = ap process_of c.in-New.is ∙ ap (λ (x : Process). calculus.New c.in-New.field-0 (process_of x)) (sym c.deref-in-New.ensures) in
-    (omega (arith, c.decreases, ap (λ (p : calculus.Process). weight p) same), (within, (c.requires.visit, (c.requires.clauses, (subst (λ (p : calculus.Process). IsShortProcess p) same c.requires.short, c.requires.rules)))))
+    (omega (arith, c.decreases, ap (λ (p : calculus.Process). weight p) same), (within, (c.requires.visit, (subst (λ (p : calculus.Process). IsShortProcess p) same c.requires.short, c.requires.rules))))
 
-pub visit_process-returns-in-New-clause-ends : goal.visit_process-returns-in-New-clause-ends
-visit_process-returns-in-New-clause-ends g t c =
+pub visit_form-returns-in-New-clause-ends : goal.visit_form-returns-in-New-clause-ends
+visit_form-returns-in-New-clause-ends g t c =
     let old = g.B.Bank.trees c.args.bank.now in
     let P = protocol_at c.args.place.now in
     let w = c.args.visit.now in
     let v = visit_at old w in
-    let low : Listing = record { clauses = c.args.listing.now.clauses; left = c.args.listing.now.left - 1 } in
-    let more : c.args.listing.now.left ≡ suc low.left = omega (arith, c.if-listing-eq0.false) in
     let same : process_of c.args.process.now ≡ calculus.New c.in-New.field-0 (process_of c.deref-in-New.result.now) = ap process_of c.in-New.is ∙ ap (λ (x : Process). calculus.New c.in-New.field-0 (process_of x)) (sym c.deref-in-New.ensures) in
-    subst (λ (p : calculus.Process). IfOk c.visit_new.result (λ large. Ends P (Once p c.args.place.now.point v) old (g.B.Bank.trees c.visit_new.new.bank) c.args.listing.now c.visit_new.new.listing large)) (sym same)
-    (counted_ok c.visit_new.result P (calculus.New c.in-New.field-0 (process_of c.deref-in-New.result.now)) c.args.place.now.point v old (g.B.Bank.trees c.visit_new.new.bank) c.args.listing.now low c.visit_new.new.listing refl more (spelled c.visit_new.result P c.in-New.field-0 (process_of c.deref-in-New.result.now) c.args.place.now.point v old (g.B.Bank.trees c.visit_new.new.bank) low c.visit_new.new.listing c.visit_new.ensures.ends))
+    subst (λ (p : calculus.Process). IfOk c.visit_new.result (λ large. Ends P (Uncounted p c.args.place.now.point v) (g.B.Bank.trees c.visit_new.new.bank) c.args.listing.now c.visit_new.new.listing large)) (sym same)
+    (spelled c.visit_new.result P c.in-New.field-0 (process_of c.deref-in-New.result.now) c.args.place.now.point v (g.B.Bank.trees c.visit_new.new.bank) c.args.listing.now c.visit_new.new.listing c.visit_new.ensures.ends)
 
-pub visit_process-visit_let-requires : goal.visit_process-visit_let-requires
-visit_process-visit_let-requires g t c κs within =
+pub visit_form-visit_let-requires : goal.visit_form-visit_let-requires
+visit_form-visit_let-requires g t c κs within =
     let same : process_of c.args.process.now ≡ calculus.Let (pattern_of c.in-Let.pattern) (expression_of c.in-Let.expression) (process_of c.deref-in-Let.result.now) (process_of c.deref-in-Let-2.result.now) = ap process_of c.in-Let.is ∙ ap (λ (x : Process). calculus.Let (pattern_of c.in-Let.pattern) (expression_of c.in-Let.expression) (process_of x) (process_of c.in-Let.otherwise.value)) (sym c.deref-in-Let.ensures) ∙ ap (λ (x : Process). calculus.Let (pattern_of c.in-Let.pattern) (expression_of c.in-Let.expression) (process_of c.deref-in-Let.result.now) (process_of x)) (sym c.deref-in-Let-2.ensures) in
-    (omega (arith, c.decreases, ap (λ (p : calculus.Process). weight p) same), (within, (c.requires.visit, (c.requires.clauses, (subst (λ (p : calculus.Process). IsShortProcess p) same c.requires.short, c.requires.rules)))))
+    (omega (arith, c.decreases, ap (λ (p : calculus.Process). weight p) same), (within, (c.requires.visit, (subst (λ (p : calculus.Process). IsShortProcess p) same c.requires.short, c.requires.rules))))
 
-pub visit_process-returns-in-Let-clause-ends : goal.visit_process-returns-in-Let-clause-ends
-visit_process-returns-in-Let-clause-ends g t c =
+pub visit_form-returns-in-Let-clause-ends : goal.visit_form-returns-in-Let-clause-ends
+visit_form-returns-in-Let-clause-ends g t c =
     let old = g.B.Bank.trees c.args.bank.now in
     let P = protocol_at c.args.place.now in
     let w = c.args.visit.now in
     let v = visit_at old w in
-    let low : Listing = record { clauses = c.args.listing.now.clauses; left = c.args.listing.now.left - 1 } in
-    let more : c.args.listing.now.left ≡ suc low.left = omega (arith, c.if-listing-eq0.false) in
     let same : process_of c.args.process.now ≡ calculus.Let (pattern_of c.in-Let.pattern) (expression_of c.in-Let.expression) (process_of c.deref-in-Let.result.now) (process_of c.deref-in-Let-2.result.now) = ap process_of c.in-Let.is ∙ ap (λ (x : Process). calculus.Let (pattern_of c.in-Let.pattern) (expression_of c.in-Let.expression) (process_of x) (process_of c.in-Let.otherwise.value)) (sym c.deref-in-Let.ensures) ∙ ap (λ (x : Process). calculus.Let (pattern_of c.in-Let.pattern) (expression_of c.in-Let.expression) (process_of c.deref-in-Let.result.now) (process_of x)) (sym c.deref-in-Let-2.ensures) in
-    subst (λ (p : calculus.Process). IfOk c.visit_let.result (λ large. Ends P (Once p c.args.place.now.point v) old (g.B.Bank.trees c.visit_let.new.bank) c.args.listing.now c.visit_let.new.listing large)) (sym same)
-    (counted_ok c.visit_let.result P (calculus.Let (pattern_of c.in-Let.pattern) (expression_of c.in-Let.expression) (process_of c.deref-in-Let.result.now) (process_of c.deref-in-Let-2.result.now)) c.args.place.now.point v old (g.B.Bank.trees c.visit_let.new.bank) c.args.listing.now low c.visit_let.new.listing refl more c.visit_let.ensures.ends)
+    subst (λ (p : calculus.Process). IfOk c.visit_let.result (λ large. Ends P (Uncounted p c.args.place.now.point v) (g.B.Bank.trees c.visit_let.new.bank) c.args.listing.now c.visit_let.new.listing large)) (sym same)
+    c.visit_let.ensures.ends
 
-pub visit_process-visit_event-requires : goal.visit_process-visit_event-requires
-visit_process-visit_event-requires g t c κs within =
+pub visit_form-visit_event-requires : goal.visit_form-visit_event-requires
+visit_form-visit_event-requires g t c κs within =
     let same : process_of c.args.process.now ≡ calculus.Event (event_of c.in-Event.atom) (process_of c.deref-in-Event.result.now) = ap process_of c.in-Event.is ∙ ap (λ (x : Process). calculus.Event (event_of c.in-Event.atom) (process_of x)) (sym c.deref-in-Event.ensures) in
-    (omega (arith, c.decreases, ap (λ (p : calculus.Process). weight p) same), (within, (c.requires.visit, (c.requires.clauses, (subst (λ (p : calculus.Process). IsShortProcess p) same c.requires.short, c.requires.rules)))))
+    (omega (arith, c.decreases, ap (λ (p : calculus.Process). weight p) same), (within, (c.requires.visit, (subst (λ (p : calculus.Process). IsShortProcess p) same c.requires.short, c.requires.rules))))
 
-pub visit_process-returns-in-Event-clause-ends : goal.visit_process-returns-in-Event-clause-ends
-visit_process-returns-in-Event-clause-ends g t c =
+pub visit_form-returns-in-Event-clause-ends : goal.visit_form-returns-in-Event-clause-ends
+visit_form-returns-in-Event-clause-ends g t c =
     let old = g.B.Bank.trees c.args.bank.now in
     let P = protocol_at c.args.place.now in
     let w = c.args.visit.now in
     let v = visit_at old w in
-    let low : Listing = record { clauses = c.args.listing.now.clauses; left = c.args.listing.now.left - 1 } in
-    let more : c.args.listing.now.left ≡ suc low.left = omega (arith, c.if-listing-eq0.false) in
     let same : process_of c.args.process.now ≡ calculus.Event (event_of c.in-Event.atom) (process_of c.deref-in-Event.result.now) = ap process_of c.in-Event.is ∙ ap (λ (x : Process). calculus.Event (event_of c.in-Event.atom) (process_of x)) (sym c.deref-in-Event.ensures) in
-    subst (λ (p : calculus.Process). IfOk c.visit_event.result (λ large. Ends P (Once p c.args.place.now.point v) old (g.B.Bank.trees c.visit_event.new.bank) c.args.listing.now c.visit_event.new.listing large)) (sym same)
-    (counted_ok c.visit_event.result P (calculus.Event (event_of c.in-Event.atom) (process_of c.deref-in-Event.result.now)) c.args.place.now.point v old (g.B.Bank.trees c.visit_event.new.bank) c.args.listing.now low c.visit_event.new.listing refl more c.visit_event.ensures.ends)
+    subst (λ (p : calculus.Process). IfOk c.visit_event.result (λ large. Ends P (Uncounted p c.args.place.now.point v) (g.B.Bank.trees c.visit_event.new.bank) c.args.listing.now c.visit_event.new.listing large)) (sym same)
+    c.visit_event.ensures.ends
 
-pub visit_process-returns-in-Nil-clause-ends : goal.visit_process-returns-in-Nil-clause-ends
-visit_process-returns-in-Nil-clause-ends g t c =
+pub visit_form-returns-in-Nil-clause-ends : goal.visit_form-returns-in-Nil-clause-ends
+visit_form-returns-in-Nil-clause-ends g t c =
     let old = g.B.Bank.trees c.args.bank.now in
     let P = protocol_at c.args.place.now in
     let w = c.args.visit.now in
     let v = visit_at old w in
-    let low : Listing = record { clauses = c.args.listing.now.clauses; left = c.args.listing.now.left - 1 } in
-    let more : c.args.listing.now.left ≡ suc low.left = omega (arith, c.if-listing-eq0.false) in
-    subst (λ (p : calculus.Process). Ends P (Once p c.args.place.now.point v) old old c.args.listing.now low None) (sym (ap process_of c.in-Nil.is))
-    (nil_ends P c.args.place.now.point v old c.args.listing.now low refl more c.requires.clauses)
+    subst (λ (p : calculus.Process). Ends P (Uncounted p c.args.place.now.point v) old c.args.listing.now c.args.listing.now None) (sym (ap process_of c.in-Nil.is))
+    (nil_ends P c.args.place.now.point v old c.args.listing.now)
