@@ -1,7 +1,7 @@
 //! Clauses that conclude `bad`, and protocols whose one query they are to satisfy.
 
 ghost use Rattle.std.specs.Prelude.{◌≡◌, true, IfSome};
-ghost use Rattle.protocol_scope.specs.Spells.{IsProtocolOf, IsSketchOf, Spells};
+ghost use Rattle.protocol_scope.specs.Spells.{IsSketchOf, Spells};
 ghost use Rattle.pi_parser.specs.Files.{file_of};
 ghost use Rattle.pi_tree.specs.Protocols.{protocol_of};
 ghost use Rattle.pi_tree.specs.Accessors.{IsThere};
@@ -16,9 +16,6 @@ use protocol_scope::within_limits;
 use row_tables::named;
 use scope_check::check_scope;
 use std::alloc::{AllocError, Global};
-
-/// The most bytes of a protocol.
-const MOST_BYTES: usize = 1048576;
 
 /// The number of the event `begin`.
 const BEGIN: u32 = 2;
@@ -104,7 +101,7 @@ fn sketch_of(alloc: Global, bytes: &[u8]) -> Option<Sketch>
 /// The protocol that the sketch of the bytes stands for, if it stands for one.
 fn scoped(alloc: Global, bytes: &[u8], sketch: &Sketch) -> Option<Protocol>
     requires { IsSketchOf bytes.now (file_of sketch.now) }
-    ensures { IfSome result (λ protocol. IsProtocolOf bytes.now (protocol_of protocol)) }
+    ensures { IfSome result (λ protocol. Spells bytes.now (protocol_of protocol)) }
 {
     match check_scope(alloc, bytes, sketch) {
         Ok(protocol) => Some(protocol),
@@ -112,13 +109,10 @@ fn scoped(alloc: Global, bytes: &[u8], sketch: &Sketch) -> Option<Protocol>
     }
 }
 
-/// The protocol that the bytes spell, if they are not too many and spell one.
+/// The protocol that the bytes spell, if they spell one.
 fn read_protocol(alloc: Global, bytes: &[u8]) -> Option<Protocol>
     ensures { IfSome result (λ protocol. Spells bytes.now (protocol_of protocol)) }
 {
-    if bytes.len() > MOST_BYTES {
-        return None;
-    }
     let sketch = sketch_of(alloc, bytes)?;
     scoped(alloc, bytes, &sketch)
 }

@@ -1,7 +1,7 @@
 //! Protocols with one query, which rows of goals spell.
 
 ghost use Rattle.std.specs.Prelude.{◌≡◌, true, IfOk, IfSome};
-ghost use Rattle.protocol_scope.specs.Spells.{IsProtocolOf, IsSketchOf, Spells};
+ghost use Rattle.protocol_scope.specs.Spells.{IsSketchOf, Spells};
 ghost use Rattle.pi_parser.specs.Files.{file_of};
 ghost use Rattle.pi_tree.specs.Protocols.{protocol_of};
 ghost use Rattle.pi_tree.specs.Accessors.{IsThere};
@@ -14,9 +14,6 @@ use pi_tree::Protocol;
 use protocol_scope::{query_leaves, within_limits};
 use scope_check::check_scope;
 use std::alloc::{AllocError, Global};
-
-/// The most bytes of a protocol.
-const MOST_BYTES: usize = 1048576;
 
 /// What stands before the query: the names that tables may use, with the numbers that they have in clauses.
 const BEFORE: &str = "free c, d, k. fun f/1. fun g/1. fun h/2. fun enc/2. data box/1. data pair/2. \
@@ -36,7 +33,7 @@ fn sketch_of(alloc: Global, bytes: &[u8]) -> Option<Sketch>
 /// The protocol that the sketch of the bytes stands for, if it stands for one.
 fn scoped(alloc: Global, bytes: &[u8], sketch: &Sketch) -> Option<Protocol>
     requires { IsSketchOf bytes.now (file_of sketch.now) }
-    ensures { IfSome result (λ protocol. IsProtocolOf bytes.now (protocol_of protocol)) }
+    ensures { IfSome result (λ protocol. Spells bytes.now (protocol_of protocol)) }
 {
     match check_scope(alloc, bytes, sketch) {
         Ok(protocol) => Some(protocol),
@@ -44,13 +41,10 @@ fn scoped(alloc: Global, bytes: &[u8], sketch: &Sketch) -> Option<Protocol>
     }
 }
 
-/// The protocol that the bytes spell, if they are not too many and spell one.
+/// The protocol that the bytes spell, if they spell one.
 pub fn read_protocol(alloc: Global, bytes: &[u8]) -> Option<Protocol>
     ensures { IfSome result (λ protocol. Spells bytes.now (protocol_of protocol)) }
 {
-    if bytes.len() > MOST_BYTES {
-        return None;
-    }
     let sketch = sketch_of(alloc, bytes)?;
     scoped(alloc, bytes, &sketch)
 }

@@ -1,7 +1,7 @@
 //! The protocols that rows are about.
 
 ghost use Rattle.std.specs.Prelude.{◌≡◌, true, IfSome};
-ghost use Rattle.protocol_scope.specs.Spells.{IsProtocolOf, IsSketchOf, Spells};
+ghost use Rattle.protocol_scope.specs.Spells.{IsSketchOf, Spells};
 ghost use Rattle.pi_parser.specs.Files.{file_of};
 ghost use Rattle.pi_tree.specs.Protocols.{protocol_of};
 ghost use Rattle.pi_tree.specs.Accessors.{IsThere};
@@ -10,7 +10,7 @@ ghost use Rattle.ruling_rows.specs.Read.{IsRead};
 
 use pi_lexer::lex;
 use pi_parser::{Sketch, parse};
-use pi_tree::{MOST_BYTES, Protocol};
+use pi_tree::Protocol;
 use protocol_scope::{proper_rules, query_leaves, well_scoped, within_limits};
 use scope_check::check_scope;
 use std::alloc::Global;
@@ -26,7 +26,7 @@ fn sketch_of(alloc: Global, bytes: &[u8]) -> Option<Sketch>
 /// The protocol that the sketch of the bytes stands for, if it stands for one.
 fn scoped(alloc: Global, bytes: &[u8], sketch: &Sketch) -> Option<Protocol>
     requires { IsSketchOf bytes.now (file_of sketch.now) }
-    ensures { IfSome result (λ protocol. IsProtocolOf bytes.now (protocol_of protocol)) }
+    ensures { IfSome result (λ protocol. Spells bytes.now (protocol_of protocol)) }
 {
     match check_scope(alloc, bytes, sketch) {
         Ok(protocol) => Some(protocol),
@@ -34,13 +34,10 @@ fn scoped(alloc: Global, bytes: &[u8], sketch: &Sketch) -> Option<Protocol>
     }
 }
 
-/// The protocol that the bytes spell, if they are not too many and spell one.
+/// The protocol that the bytes spell, if they spell one.
 fn spelled(alloc: Global, bytes: &[u8]) -> Option<Protocol>
     ensures { IfSome result (λ protocol. Spells bytes.now (protocol_of protocol)) }
 {
-    if bytes.len() > MOST_BYTES {
-        return None;
-    }
     let sketch = sketch_of(alloc, bytes)?;
     scoped(alloc, bytes, &sketch)
 }

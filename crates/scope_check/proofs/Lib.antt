@@ -9,3 +9,5 @@ pub mod Stopping
 pub mod Rows
 pub mod Restrictions
 pub mod Bytes
+pub mod Few
+pub mod Shortness

@@ -22,14 +22,14 @@ ascend_within bytes [] start i d h b = absurd (omega arith)
 ascend_within bytes (t ∷ ts) start zero d h b = record { order = omega (arith, h.1); inside = ascend_later (map token_of ts) t.to (length bytes) h.2 }
 ascend_within bytes (t ∷ ts) start (suc i) d h b = ascend_within bytes ts t.to i d h.2 (omega arith)
 
--- each token of the bytes does
-pub tokens_within : (bytes : List ℕ) (tokens : List own.Token) (ts : List Token) → map token_of ts ≡ tokens → Lexed bytes tokens → (i : ℕ) (d : Token) → i < length ts → IsWithin bytes (get_or ts i d)
-tokens_within bytes tokens ts e lexed i d b =
-    ascend_within bytes ts 0 i d (subst (λ (us : List own.Token). Ascend 0 us (length bytes)) (sym e) (Lexed-Ascend bytes tokens lexed)) b
+-- the tokens of some bytes stand one behind another
+pub lexed_ascend : (bytes : List ℕ) (tokens : List own.Token) → Lexed bytes tokens → Ascend 0 tokens (length bytes)
+lexed_ascend = Lexed-Ascend
 
--- so does one that was read there
-pub token_within : (bytes : List ℕ) (tokens : List own.Token) (ts : List Token) → map token_of ts ≡ tokens → Lexed bytes tokens → (i : ℕ) (t : Token) → i < length ts → t ≡ get_or ts i t → IsWithin bytes t
-token_within bytes tokens ts e lexed i t b is = subst (IsWithin bytes) (sym is) (tokens_within bytes tokens ts e lexed i t b)
+-- one that was read there stands within the bytes
+pub token_within : (bytes : List ℕ) (tokens : List own.Token) (ts : List Token) → map token_of ts ≡ tokens → Ascend 0 tokens (length bytes) → (i : ℕ) (t : Token) → i < length ts → t ≡ get_or ts i t → IsWithin bytes t
+token_within bytes tokens ts e ascend i t b is =
+    subst (IsWithin bytes) (sym is) (ascend_within bytes ts 0 i t (subst (λ (us : List own.Token). Ascend 0 us (length bytes)) (sym e) ascend) b)
 
 text_there : (bytes : List ℕ) (ts : List Token) (i : ℕ) (t : Token) → i < length ts → t ≡ get_or ts i t → texts bytes (map token_of ts) i ≡ own.text bytes (token_of t)
 text_there bytes [] i t b is = absurd (omega arith)

@@ -1,6 +1,6 @@
 -- A fault of one step is the fault of the whole.
-use Rattle.std.proofs.Common.{◌≡◌, ◌∙◌, List, Ok, Err, refl, sym, ap}
-use Rattle.calculus.specs.Syntax.{Process, Query, Protocol}
+use Rattle.std.proofs.Common.{◌≡◌, ◌∙◌, List, Ok, Err, refl, ap}
+use Rattle.calculus.specs.Syntax.{Process, Query}
 use Rattle.protocol_grammar.specs.Sketch.{FileSketch}
 use Rattle.protocol_scope.specs.Answers.{Answer, ◌>>=◌}
 use Rattle.protocol_scope.specs.Names as own
@@ -41,3 +41,10 @@ stops_main (stop.Fault code token) text names f declared h =
     ap (λ (a : Answer own.Names). a >>= λ found. protocol_with text found f) declared
     ∙ (with_main text names f ∙ ap (λ (a : Answer (Process × List Query)). a >>= λ x. Ok (protocol_of names x.0 x.1)) h)
 stops_main (stop.Memory e) text names f declared h = tt
+
+-- where they have none, the file stands for their protocol
+pub found_main : (text : own.Texts) (names : own.Names) (f : FileSketch) (read : Process × List Query) → declare_all text own.no_names f.declarations ≡ Ok names
+    → main_then_queries text names f ≡ Ok read → scope text f ≡ Ok (protocol_of names read.0 read.1)
+found_main text names f read declared h =
+    ap (λ (a : Answer own.Names). a >>= λ found. protocol_with text found f) declared
+    ∙ (with_main text names f ∙ ap (λ (a : Answer (Process × List Query)). a >>= λ x. Ok (protocol_of names x.0 x.1)) h)

@@ -3,8 +3,8 @@ use Rattle.std.proofs.Common.{◌≡◌, ℕ, Bool, true, false, cond, List, Opt
 use Rattle.std.specs.Cmp.Lexicographic.{bytes_decides}
 use Rattle.std.specs.Global.{Vec}
 use Rattle.std.specs.HashMap.{HashMap, get_by, UpdatesBy}
-use Rattle.std.specs.Map.{IsKeyTest, AreApart, KeepsOthers}
-use Rattle.std.proofs.lemmas.Bool.{cases_Bool, false≢true}
+use Rattle.std.specs.Map.{KeepsOthers}
+use Rattle.std.proofs.lemmas.Bool.{false≢true}
 
 same_key : (text : List ℕ) (x y : Vec ℕ) → bytes_eq text x.items ≡ true → bytes_eq text y.items ≡ bytes_eq x.items y.items
 same_key text x y e = ap (λ (t : List ℕ). bytes_eq t y.items) ((bytes_decides text x.items).0 e)

@@ -4,6 +4,8 @@ use Rattle.std.specs.HashMap.{get_by}
 use Rattle.std.specs.Str.{bytes_eq}
 use Rattle.calculus.specs.Syntax as calculus
 use Rattle.protocol_scope.specs.Names as own
+use Rattle.scope_check.specs.Text.{texts_of, AreFew}
+use Rattle.scope_check.specs.declared.source.Text.{Text}
 use Rattle.scope_check.specs.declared.bound.BoundName.{BoundName}
 use Rattle.scope_check.specs.declared.bound.BoundName.TheVariants.{Variable, Made}
 use Rattle.scope_check.specs.declared.bound.Binding.{Binding}
@@ -25,13 +27,13 @@ bound_of Nothing = []
 bound_of (One' binding p outer) = binding_of binding ∷ bound_of outer
 bound_of (Inside' bindings p outer) = map binding_of bindings.now.items.items ++ bound_of outer
 
--- the table tells what each identifier is bound to
-abbrev pub FindsBindings : own.Texts → Bindings → Type 0
-FindsBindings text b =
-    (n : ℕ) → option_map name_of (get_by (λ k. bytes_eq (text n) k.items) b.names) ≡ own.bound_as text (map binding_of b.items.items) n
+-- the table tells what each identifier is bound to, and there are few of them
+pub record FindsBindings (t : Text) (b : Bindings) : Type 0 where
+  pub finds : (n : ℕ) → option_map name_of (get_by (λ k. bytes_eq (texts_of t n) k.items) b.names) ≡ own.bound_as (texts_of t) (map binding_of b.items.items) n
+  pub few : AreFew t (map (λ b. b.token) b.items.items)
 
 -- so do the tables of all that is bound
-abbrev pub FindsBound : own.Texts → Bound → Type 0
-FindsBound text Nothing = Unit {0}
-FindsBound text (One' binding p outer) = FindsBound text outer
-FindsBound text (Inside' bindings p outer) = FindsBindings text bindings.now × FindsBound text outer
+abbrev pub FindsBound : Text → Bound → Type 0
+FindsBound t Nothing = Unit {0}
+FindsBound t (One' binding p outer) = FindsBound t outer
+FindsBound t (Inside' bindings p outer) = FindsBindings t bindings.now × FindsBound t outer

@@ -1,12 +1,15 @@
 -- Forms of processes, the macros that they see, and how much of them there is to be read.
-use Rattle.std.specs.Prelude.{◌≡◌, ℕ, ◌+◌, Bool, true, false, List, [], ◌∷◌, map, take, Option}
-use Rattle.protocol_grammar.specs.Sketch as own
+use Rattle.std.specs.Prelude.{ℕ, ◌+◌, Bool, true, false, List, [], ◌∷◌, map, take, Option}
 use Rattle.protocol_grammar.specs.Sketch.{ProcessSketch, Process, BesideSketch, alone, beside, UnitSketch, Zero, Macro, Inner, Replicated, New, Output, Input, Happens, Let, If, NextSketch, omitted, given}
 use Rattle.protocol_scope.specs.Names as names
 use Rattle.protocol_scope.specs.Processes as rules
 use Rattle.pi_parser.specs.Processes.{process_of, unit_of}
 use Rattle.scope_check.specs.Names.{macro_of}
+use Rattle.scope_check.specs.Bound.{bound_of}
+use Rattle.scope_check.specs.Numbers.{numbers_of}
+use Rattle.scope_check.specs.Scope.{scope_of}
 use Rattle.scope_check.specs.declared.names.Macro.{Macro as RustMacro}
+use Rattle.scope_check.specs.declared.site.Site.{Site}
 use Rattle.scope_check.specs.declared.site.Form.{Form}
 use Rattle.scope_check.specs.declared.site.Form.TheVariants as f
 
@@ -15,6 +18,10 @@ abbrev pub form_of : Form → ProcessSketch
 form_of (f.Both u p) = Process (unit_of u.now) (beside (process_of p.now))
 form_of (f.Unit u) = Process (unit_of u.now) alone
 
+-- where a process stands
+abbrev pub site_of : Site → rules.Site
+site_of s = record { bound = bound_of s.place.bound.now; above = s.above; used = s.used }
+
 -- what these macros stand for
 abbrev pub macros_of : names.Scope → List RustMacro → rules.Macros
 macros_of s items = rules.macros_of s rules.no_macros (map macro_of items)
@@ -22,6 +29,17 @@ macros_of s items = rules.macros_of s rules.no_macros (map macro_of items)
 -- the process that a sketch stands for where it sees these macros
 abbrev pub reading_of : names.Scope → List RustMacro → rules.Site → rules.Numbers → ProcessSketch → rules.Numbered
 reading_of s items site now p = rules.process s (macros_of s items) site now p
+
+-- the process that a sketch stands for at a site, where it sees the macros there and gets the numbers there
+abbrev pub read_at : Site → ProcessSketch → rules.Numbered
+read_at site p = reading_of (scope_of site.place.scope) site.macros.now (site_of site) (numbers_of site.numbers) p
+
+abbrev pub unit_at : Site → UnitSketch → rules.Numbered
+unit_at site u = rules.unit (scope_of site.place.scope) (macros_of (scope_of site.place.scope) site.macros.now) (site_of site) (numbers_of site.numbers) u
+
+-- and what a continuation or else branch of the unit that begins with this token stands for
+abbrev pub after_at : Site → ℕ → NextSketch → rules.Numbered
+after_at site first next = rules.after (scope_of site.place.scope) (macros_of (scope_of site.place.scope) site.macros.now) (site_of site) (numbers_of site.numbers) first next
 
 -- the site with this macro use
 abbrev pub used_at : Option ℕ → rules.Site → rules.Site

@@ -1,7 +1,12 @@
 -- What the contracts of the rules of scope speak of.
+pub mod Props
+pub mod Within
+pub mod Text
 pub mod Answer
 pub mod Names
+pub mod Scope
 pub mod Bound
+pub mod BoundProps
 pub mod Terms
 pub mod Numbers
 pub mod Forms

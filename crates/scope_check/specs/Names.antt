@@ -3,15 +3,10 @@ use Rattle.std.specs.Prelude.{◌≡◌, ℕ, ◌+◌, ◌≤◌, List, map, Non
 use Rattle.std.specs.HashMap.{get_by}
 use Rattle.std.specs.Str.{bytes_eq}
 use Rattle.calculus.specs.Bounds.{most_names}
-use Rattle.protocol_tokens.specs.Lexed.{Lexed}
 use Rattle.protocol_scope.specs.Names as own
-use Rattle.protocol_scope.specs.Spells.{texts}
 use Rattle.pi_parser.specs.Processes.{process_of}
-use Rattle.scope_check.specs.Bound.{FindsBound}
-use Rattle.scope_check.specs.declared.bound.Bound.{Bound}
 use Rattle.scope_check.specs.declared.names.Macro.{Macro}
 use Rattle.scope_check.specs.declared.names.Names.{Names}
-use Rattle.scope_check.specs.declared.names.Scope.{Scope}
 use Rattle.scope_check.specs.declared.names.Meaning.{Meaning}
 use Rattle.scope_check.specs.declared.names.Meaning.TheVariants as m
 
@@ -28,10 +23,6 @@ names_of n = record {
   events = n.events;
   macros = map macro_of n.macros.items;
 }
-
--- what names are read by
-abbrev pub scope_of : Scope → own.Scope
-scope_of s = record { text = texts s.source.now s.tokens.now; names = names_of s.names.now }
 
 -- what a declared name is
 abbrev pub meaning_of : Meaning → own.Meaning
@@ -54,16 +45,6 @@ pub record IsKept (text : own.Texts) (n : Names) : Type 0 where
 -- where they were kept and this word was not declared, they are kept with one name more
 abbrev pub StaysKept : Names → List ℕ → Names → Type 0
 StaysKept old word new = (text : own.Texts) → IsKept text old → own.meaning_of text (names_of old) word ≡ None → IsKept text new
-
--- the tokens are those of the bytes, and the names are within their limit and found
-pub record IsReady (s : Scope) : Type 0 where
-  pub lexed : Lexed s.source.now s.tokens.now
-  pub kept : IsKept (texts s.source.now s.tokens.now) s.names.now
-
--- and what is bound is found too
-pub record IsReadyAt (s : Scope) (b : Bound) : Type 0 where
-  pub ready : IsReady s
-  pub bound : FindsBound (texts s.source.now s.tokens.now) b
 
 -- nothing else is declared as the token's identifier, which is this word, and there is room for one name more
 pub record IsNew (s : own.Scope) (n : ℕ) (word : List ℕ) : Type 0 where

@@ -1,17 +1,18 @@
 -- Numbers of points and variables, and where a process stands.
+use Rattle.std.specs.Prelude.{◌+◌, ◌*◌, ◌≤◌}
 use Rattle.calculus.specs.Syntax as calculus
 use Rattle.protocol_scope.specs.Processes as own
 use Rattle.pi_tree.specs.declared.syntax.Process.{Process}
 use Rattle.pi_tree.specs.Processes.{process_of}
-use Rattle.scope_check.specs.declared.site.Numbers.{Numbers}
-use Rattle.scope_check.specs.declared.site.Site.{Site}
-use Rattle.scope_check.specs.Bound.{bound_of}
+use Rattle.scope_check.specs.Within.{most_bound}
+use Rattle.scope_check.specs.declared.numbers.Numbers.{Numbers}
+
+-- the variables of one pattern more may come before the next point
+abbrev pub HaveRoom : Numbers → Type 0
+HaveRoom n = n.variable + 2 * most_bound ≤ 1 + n.point * most_bound
 
 abbrev pub numbers_of : Numbers → own.Numbers
 numbers_of n = record { point = n.point; variable = n.variable }
-
-abbrev pub site_of : Site → own.Site
-site_of s = record { bound = bound_of s.bound.now; above = s.above; used = s.used }
 
 -- a process with the numbers behind it
 abbrev pub numbered_of : (read : Process × Numbers) → calculus.Process × own.Numbers

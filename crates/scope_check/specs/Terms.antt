@@ -1,13 +1,11 @@
 -- What contracts of terms speak of.
 use Rattle.std.specs.Prelude.{ℕ, ◌+◌, min}
 use Rattle.calculus.specs.Bounds.{most_written_symbols}
-use Rattle.protocol_scope.specs.Names.{Texts}
 use Rattle.protocol_scope.specs.Terms as own
 use Rattle.scope_check.specs.declared.leaves.Setting.{Setting}
 use Rattle.scope_check.specs.declared.leaves.Setting.TheVariants.{Process, Left, Right, Event}
-use Rattle.scope_check.specs.declared.names.Scope.{Scope}
+use Rattle.scope_check.specs.declared.source.Text.{Text}
 use Rattle.scope_check.specs.Bound.{bound_of, FindsBound}
-use Rattle.scope_check.specs.Names.{scope_of, IsReady}
 
 -- where a term stands
 abbrev pub setting_of : Setting → own.Setting
@@ -21,13 +19,8 @@ abbrev pub capped : ℕ → ℕ
 capped symbols = min symbols (most_written_symbols + 1)
 
 -- the tables find what is bound where a term stands
-abbrev pub FindsSetting : Texts → Setting → Type 0
-FindsSetting text (Process bound) = FindsBound text bound.now
-FindsSetting text Left = Unit {0}
-FindsSetting text Right = Unit {0}
-FindsSetting text Event = Unit {0}
-
--- what names are read by, and what is bound where a term stands
-pub record IsReadyIn (s : Scope) (setting : Setting) : Type 0 where
-  pub ready : IsReady s
-  pub bound : FindsSetting (scope_of s).text setting
+abbrev pub FindsSetting : Text → Setting → Type 0
+FindsSetting t (Process bound) = FindsBound t bound.now
+FindsSetting t Left = Unit {0}
+FindsSetting t Right = Unit {0}
+FindsSetting t Event = Unit {0}

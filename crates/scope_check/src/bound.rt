@@ -1,14 +1,14 @@
 //! What is bound where a term or process stands.
 
-ghost use Rattle.std.specs.Prelude.{◌≡◌, ℕ, ◌∷◌, [], ◌++◌, None, map, option_map, OnOk};
-ghost use Rattle.protocol_tokens.specs.Lexed.{Lexed};
+ghost use Rattle.std.specs.Prelude.{◌≡◌, ◌≤◌, ◌∷◌, [], ◌++◌, None, length, map, option_map, OnOk};
 ghost use Rattle.protocol_scope.specs.Names as rules;
-ghost use Rattle.protocol_scope.specs.Spells.{texts};
 ghost use Rattle.scope_check.specs.Bound.{name_of, binding_of, bound_of, FindsBindings, FindsBound};
+ghost use Rattle.scope_check.specs.Within.{most_bound};
+ghost use Rattle.scope_check.specs.Text.{texts_of};
+ghost use Rattle.scope_check.specs.declared.source.Text.{Text};
 
-use crate::names::same_text;
-use crate::text::text;
-use pi_lexer::Tokens;
+use crate::source::Text;
+use crate::text::{same_text, text_of};
 use std::alloc::{AllocError, Global};
 use std::collections::HashMap;
 
@@ -39,7 +39,7 @@ impl Bindings {
     /// Nothing. Takes no memory.
     pub fn new(alloc: Global) -> Self
         ensures items { result.items.items ≡ [] }
-        ensures finds { (text : rules.Texts) → FindsBindings text result }
+        ensures finds { (t : Text) → FindsBindings t result }
     {
         Bindings {
             items: Vec::new(alloc),
@@ -59,37 +59,40 @@ pub enum Bound<'a> {
     Inside(&'a Bindings, &'a Bound<'a>),
 }
 
+/// How many identifiers these are: no more than the tokens, and one.
+#[tactic(auto, using(crate::proofs::Few::few_bindings))]
+pub fn count_of(whole: &Text, bindings: &Bindings) -> u32
+    requires { FindsBindings whole.now bindings.now }
+    ensures count { result ≡ length bindings.now.items.items }
+    ensures few { result ≤ most_bound }
+{
+    bindings.items.len() as u32
+}
+
 /// What one of these binds the identifier to.
-pub fn bound_by(
-    source: &[u8],
-    tokens: &Tokens,
-    bindings: &Bindings,
-    token: usize,
-) -> Option<BoundName>
-    requires lexed { Lexed source.now tokens.now }
-    requires finds { FindsBindings (texts source.now tokens.now) bindings.now }
-    ensures { option_map name_of result ≡ rules.bound_as (texts source.now tokens.now)
+pub fn bound_by(whole: &Text, bindings: &Bindings, token: usize) -> Option<BoundName>
+    requires { FindsBindings whole.now bindings.now }
+    ensures { option_map name_of result ≡ rules.bound_as (texts_of whole.now)
         (map binding_of bindings.now.items.items) token }
 {
-    bindings.names.get(text(source, tokens, token)).copied()
+    bindings.names.get(text_of(whole, token)).copied()
 }
 
 /// Binds an identifier that is not bound yet.
 pub fn bind(
     bindings: &mut Bindings,
     alloc: Global,
-    source: &[u8],
-    tokens: &Tokens,
+    whole: &Text,
     binding: Binding,
 ) -> Result<(), AllocError>
-    requires lexed { Lexed source.now tokens.now }
-    requires finds { FindsBindings (texts source.now tokens.now) bindings.old }
-    requires fresh { rules.bound_as (texts source.now tokens.now)
-        (map binding_of bindings.old.items.items) binding.token ≡ None }
-    ensures items { OnOk result (bindings.new.items.items ≡ bindings.old.items.items ++ binding ∷ []) }
-    ensures finds { OnOk result (FindsBindings (texts source.now tokens.now) bindings.new) }
+    requires finds { FindsBindings whole.now bindings.old }
+    requires fresh { rules.bound_as (texts_of whole.now) (map binding_of bindings.old.items.items)
+        binding.token ≡ None }
+    ensures items { OnOk result
+        (bindings.new.items.items ≡ bindings.old.items.items ++ binding ∷ []) }
+    ensures finds { OnOk result (FindsBindings whole.now bindings.new) }
 {
-    let word = Vec::from_slice(alloc, text(source, tokens, binding.token))?;
+    let word = Vec::from_slice(alloc, text_of(whole, binding.token))?;
     bindings.names.insert(word, binding.name)?;
     bindings.items.push(binding)?;
     Ok(())
@@ -97,24 +100,23 @@ pub fn bind(
 
 /// What the identifier is bound to, the innermost first.
 #[tactic(auto, using(crate::proofs::Lists::outside))]
-pub fn bound_as(bound: &Bound, source: &[u8], tokens: &Tokens, token: usize) -> Option<BoundName>
-    requires lexed { Lexed source.now tokens.now }
-    requires finds { FindsBound (texts source.now tokens.now) bound.now }
-    ensures { option_map name_of result ≡ rules.bound_as (texts source.now tokens.now)
-        (bound_of bound.now) token }
+pub fn bound_as(bound: &Bound, whole: &Text, token: usize) -> Option<BoundName>
+    requires { FindsBound whole.now bound.now }
+    ensures { option_map name_of result ≡ rules.bound_as (texts_of whole.now) (bound_of bound.now)
+        token }
 {
     match bound {
         Bound::Nothing => None,
         Bound::One(binding, outer) => {
-            if same_text(source, tokens, binding.token, token) {
+            if same_text(whole, binding.token, token) {
                 Some(binding.name)
             } else {
-                bound_as(outer, source, tokens, token)
+                bound_as(outer, whole, token)
             }
         }
-        Bound::Inside(bindings, outer) => match bound_by(source, tokens, bindings, token) {
+        Bound::Inside(bindings, outer) => match bound_by(whole, bindings, token) {
             Some(name) => Some(name),
-            None => bound_as(outer, source, tokens, token),
+            None => bound_as(outer, whole, token),
         },
     }
 }

@@ -2,41 +2,58 @@
 
 ghost use Rattle.std.specs.Prelude.{◌≡◌, ◌+◌, map, min, IfOk, OnOk};
 ghost use Rattle.calculus.specs.Bounds.{most_arguments};
-ghost use Rattle.protocol_tokens.specs.Lexed.{Lexed};
 ghost use Rattle.protocol_scope.specs.Names as naming;
 ghost use Rattle.protocol_scope.specs.Declarations as rules;
-ghost use Rattle.protocol_scope.specs.Spells.{texts};
 ghost use Rattle.pi_parser.specs.Files as sketched;
 ghost use Rattle.pi_parser.specs.Processes.{process_of};
 ghost use Rattle.pi_tree.specs.Names.{declared_of};
 ghost use Rattle.pi_tree.specs.Rules.{rule_of, destructor_of};
 ghost use Rattle.scope_check.specs.Answer.{Gives, Turns};
-ghost use Rattle.scope_check.specs.Names.{names_of, scope_of, IsKept, IsReady, IsNew};
+ghost use Rattle.scope_check.specs.Names.{names_of, IsKept, IsNew};
+ghost use Rattle.scope_check.specs.Scope.{scope_of};
+ghost use Rattle.scope_check.specs.Text.{texts_of};
 
 use crate::leaves::Setting;
-use crate::names::{Macro, Meaning, Names, Scope, count_of, is_variable, look, same_text};
+use crate::names::{Macro, Meaning, Names, count_of, is_variable, look};
+use crate::scope::Scope;
+use crate::source::Text;
 use crate::stop::{Code, Stop};
 use crate::terms::{count_of as count_of_terms, plus, term, terms};
-use crate::text::text;
-use pi_lexer::Tokens;
+use crate::text::{same_text, text_of};
 use pi_parser::{DeclarationSketch, ProcessSketch, RuleSketch};
 use pi_tree::{
     Declared, Dtor, MOST_ARGUMENTS, MOST_NAMES, MOST_RULES, MOST_WRITTEN_SYMBOLS, Rule, Rules, Word,
 };
 use std::alloc::{AllocError, Global};
 
+/// What the declaration of a constructor says of it.
+#[derive(Clone, Copy)]
+struct Signature {
+    public: bool,
+    is_data: bool,
+    /// The token that names it.
+    name: usize,
+    /// The token that spells how many arguments it takes.
+    size: usize,
+}
+
+/// The rules of a destructor: the first, and the others.
+#[derive(Clone, Copy)]
+struct Reduction<'a> {
+    first: &'a RuleSketch,
+    others: &'a [RuleSketch],
+}
+
 /// The word of a token.
 fn word(alloc: Global, scope: &Scope, token: usize) -> Result<Word, AllocError>
-    requires { IsReady scope.now }
     ensures { IfOk result (λ word. word ≡ (scope_of scope.now).text token) }
 {
-    let items = Vec::from_slice(alloc, text(scope.source, scope.tokens, token))?;
+    let items = Vec::from_slice(alloc, text_of(&scope.text, token))?;
     Ok(Word { items })
 }
 
 /// A new name: nothing else is declared so, and there is room for one more.
 fn new_name(alloc: Global, scope: &Scope, token: usize) -> Result<Word, Stop>
-    requires { IsReady scope.now }
     ensures read { Gives (λ word. word) result (rules.new_name (scope_of scope.now) token) }
     ensures new { IfOk result (λ word. IsNew (scope_of scope.now) token word) }
 {
@@ -51,12 +68,11 @@ fn new_name(alloc: Global, scope: &Scope, token: usize) -> Result<Word, Stop>
 
 /// A new free name or constructor: its name is not a variable's.
 fn new_symbol(alloc: Global, scope: &Scope, token: usize) -> Result<Word, Stop>
-    requires { IsReady scope.now }
     ensures read { Gives (λ word. word) result (rules.new_symbol (scope_of scope.now) token) }
     ensures new { IfOk result (λ word. IsNew (scope_of scope.now) token word) }
 {
     if look(scope, token).is_none() {
-        if is_variable(text(scope.source, scope.tokens, token)) {
+        if is_variable(text_of(&scope.text, token)) {
             return Err(Stop::Fault(Code::Kind, token));
         }
     }
@@ -78,11 +94,10 @@ fn capped_number(digits: &[u8]) -> u32
 }
 
 /// The arity that a number spells.
-fn arity(source: &[u8], tokens: &Tokens, token: usize) -> Result<u32, Stop>
-    requires { Lexed source.now tokens.now }
-    ensures { Gives (λ arity. arity) result (rules.arity (texts source.now tokens.now) token) }
+fn arity(whole: &Text, token: usize) -> Result<u32, Stop>
+    ensures { Gives (λ arity. arity) result (rules.arity (texts_of whole.now) token) }
 {
-    let number = capped_number(text(source, tokens, token));
+    let number = capped_number(text_of(whole, token));
     if number as usize > MOST_ARGUMENTS {
         return Err(Stop::Fault(Code::TooMany, token));
     }
@@ -91,7 +106,6 @@ fn arity(source: &[u8], tokens: &Tokens, token: usize) -> Result<u32, Stop>
 
 /// A free name.
 fn free_name(alloc: Global, scope: &Scope, public: bool, name: usize) -> Result<Declared, Stop>
-    requires { IsReady scope.now }
     ensures read { Gives declared_of result (rules.free_name (scope_of scope.now) public name) }
     ensures new { IfOk result (λ found. IsNew (scope_of scope.now) name (declared_of found).word) }
 {
@@ -105,37 +119,29 @@ fn free_name(alloc: Global, scope: &Scope, public: bool, name: usize) -> Result<
 }
 
 /// A constructor.
-fn constructor(
-    alloc: Global,
-    scope: &Scope,
-    public: bool,
-    is_data: bool,
-    name: usize,
-    size: usize,
-) -> Result<Declared, Stop>
-    requires { IsReady scope.now }
-    ensures read { Gives declared_of result (rules.constructor (scope_of scope.now) public is_data
-        name size) }
-    ensures new { IfOk result (λ found. IsNew (scope_of scope.now) name (declared_of found).word) }
+fn constructor(alloc: Global, scope: &Scope, said: Signature) -> Result<Declared, Stop>
+    ensures read { Gives declared_of result (rules.constructor (scope_of scope.now) said.public
+        said.is_data said.name said.size) }
+    ensures new { IfOk result
+        (λ found. IsNew (scope_of scope.now) said.name (declared_of found).word) }
 {
-    let word = new_symbol(alloc, scope, name)?;
-    let arity = arity(scope.source, scope.tokens, size)?;
+    let word = new_symbol(alloc, scope, said.name)?;
+    let arity = arity(&scope.text, said.size)?;
     Ok(Declared {
         word,
         arity,
-        public,
-        is_data,
+        public: said.public,
+        is_data: said.is_data,
     })
 }
 
 /// An event.
 fn event(alloc: Global, scope: &Scope, name: usize, size: usize) -> Result<Declared, Stop>
-    requires { IsReady scope.now }
     ensures read { Gives declared_of result (rules.event (scope_of scope.now) name size) }
     ensures new { IfOk result (λ found. IsNew (scope_of scope.now) name (declared_of found).word) }
 {
     let word = new_name(alloc, scope, name)?;
-    let arity = arity(scope.source, scope.tokens, size)?;
+    let arity = arity(&scope.text, size)?;
     Ok(Declared {
         word,
         arity,
@@ -146,7 +152,6 @@ fn event(alloc: Global, scope: &Scope, name: usize, size: usize) -> Result<Decla
 
 /// A rule within its limits.
 fn rule(alloc: Global, scope: &Scope, sketch: &RuleSketch) -> Result<Rule, Stop>
-    requires { IsReady scope.now }
     ensures { Gives rule_of result (rules.rule (scope_of scope.now) (sketched.rule_of sketch.now)) }
 {
     let mut variables = Vec::new(alloc);
@@ -178,41 +183,33 @@ fn further_rule(
     first: &RuleSketch,
     sketch: &RuleSketch,
 ) -> Result<Rule, Stop>
-    requires { IsReady scope.now }
     ensures { Gives rule_of result (rules.further_rule (scope_of scope.now)
         (sketched.rule_of first.now) (sketched.rule_of sketch.now)) }
 {
     if count_of_terms(&sketch.arguments) != count_of_terms(&first.arguments) {
         return Err(Stop::Fault(Code::Arity, sketch.first));
     }
-    if !same_text(scope.source, scope.tokens, first.first, sketch.first) {
+    if !same_text(&scope.text, first.first, sketch.first) {
         return Err(Stop::Fault(Code::Kind, sketch.first));
     }
     rule(alloc, scope, sketch)
 }
 
 /// A destructor, whose declaration begins at this token.
-fn destructor(
-    alloc: Global,
-    scope: &Scope,
-    token: usize,
-    first: &RuleSketch,
-    others: &[RuleSketch],
-) -> Result<Dtor, Stop>
-    requires { IsReady scope.now }
+fn destructor(alloc: Global, scope: &Scope, token: usize, said: &Reduction) -> Result<Dtor, Stop>
     ensures read { Gives destructor_of result
-        (rules.destructor (scope_of scope.now) token (sketched.rule_of first.now)
-        (map sketched.rule_of others.now)) }
-    ensures new { IfOk result (λ found. IsNew (scope_of scope.now) (sketched.rule_of first.now).first
-        (destructor_of found).word) }
+        (rules.destructor (scope_of scope.now) token (sketched.rule_of said.now.first.now)
+        (map sketched.rule_of said.now.others.now)) }
+    ensures new { IfOk result (λ found. IsNew (scope_of scope.now)
+        (sketched.rule_of said.now.first.now).first (destructor_of found).word) }
 {
-    let word = new_name(alloc, scope, first.first)?;
+    let word = new_name(alloc, scope, said.first.first)?;
     let mut items = Vec::new(alloc);
-    items.push(rule(alloc, scope, first)?)?;
-    for other in others {
-        items.push(further_rule(alloc, scope, first, other)?)?;
+    items.push(rule(alloc, scope, said.first)?)?;
+    for other in said.others {
+        items.push(further_rule(alloc, scope, said.first, other)?)?;
     }
-    if others.len() >= MOST_RULES {
+    if said.others.len() >= MOST_RULES {
         return Err(Stop::Fault(Code::TooMany, token));
     }
     Ok(Dtor {
@@ -225,20 +222,17 @@ fn destructor(
 fn declare_free(
     names: &mut Names,
     alloc: Global,
-    source: &[u8],
-    tokens: &Tokens,
+    whole: &Text,
     public: bool,
     name: usize,
 ) -> Result<(), Stop>
-    requires lexed { Lexed source.now tokens.now }
-    requires kept { IsKept (texts source.now tokens.now) names.old }
+    requires { IsKept (texts_of whole.now) names.old }
     ensures read { Turns (names_of names.new) result
-        (rules.declare_free (texts source.now tokens.now) (names_of names.old) public name) }
-    ensures kept { OnOk result (IsKept (texts source.now tokens.now) names.new) }
+        (rules.declare_free (texts_of whole.now) (names_of names.old) public name) }
+    ensures kept { OnOk result (IsKept (texts_of whole.now) names.new) }
 {
     let scope = Scope {
-        source,
-        tokens,
+        text: *whole,
         names: &*names,
     };
     let free = free_name(alloc, &scope, public, name)?;
@@ -250,19 +244,17 @@ fn declare_free(
 fn declare_frees(
     names: &mut Names,
     alloc: Global,
-    source: &[u8],
-    tokens: &Tokens,
+    whole: &Text,
     public: bool,
     items: &[usize],
 ) -> Result<(), Stop>
-    requires lexed { Lexed source.now tokens.now }
-    requires kept { IsKept (texts source.now tokens.now) names.old }
+    requires { IsKept (texts_of whole.now) names.old }
     ensures read { Turns (names_of names.new) result
-        (rules.declare_frees (texts source.now tokens.now) (names_of names.old) public items.now) }
-    ensures kept { OnOk result (IsKept (texts source.now tokens.now) names.new) }
+        (rules.declare_frees (texts_of whole.now) (names_of names.old) public items.now) }
+    ensures kept { OnOk result (IsKept (texts_of whole.now) names.new) }
 {
     for name in items {
-        declare_free(names, alloc, source, tokens, public, *name)?;
+        declare_free(names, alloc, whole, public, *name)?;
     }
     Ok(())
 }
@@ -271,26 +263,20 @@ fn declare_frees(
 fn declare_constructor(
     names: &mut Names,
     alloc: Global,
-    source: &[u8],
-    tokens: &Tokens,
-    public: bool,
-    is_data: bool,
-    name: usize,
-    size: usize,
+    whole: &Text,
+    said: Signature,
 ) -> Result<(), Stop>
-    requires lexed { Lexed source.now tokens.now }
-    requires kept { IsKept (texts source.now tokens.now) names.old }
+    requires { IsKept (texts_of whole.now) names.old }
     ensures read { Turns (names_of names.new) result
-        (rules.declare_constructor (texts source.now tokens.now) (names_of names.old) public is_data
-        name size) }
-    ensures kept { OnOk result (IsKept (texts source.now tokens.now) names.new) }
+        (rules.declare_constructor (texts_of whole.now) (names_of names.old) said.public
+        said.is_data said.name said.size) }
+    ensures kept { OnOk result (IsKept (texts_of whole.now) names.new) }
 {
     let scope = Scope {
-        source,
-        tokens,
+        text: *whole,
         names: &*names,
     };
-    let found = constructor(alloc, &scope, public, is_data, name, size)?;
+    let found = constructor(alloc, &scope, said)?;
     names.add_constructor(alloc, found)?;
     Ok(())
 }
@@ -299,25 +285,21 @@ fn declare_constructor(
 fn declare_destructor(
     names: &mut Names,
     alloc: Global,
-    source: &[u8],
-    tokens: &Tokens,
+    whole: &Text,
     token: usize,
-    first: &RuleSketch,
-    others: &[RuleSketch],
+    said: &Reduction,
 ) -> Result<(), Stop>
-    requires lexed { Lexed source.now tokens.now }
-    requires kept { IsKept (texts source.now tokens.now) names.old }
+    requires { IsKept (texts_of whole.now) names.old }
     ensures read { Turns (names_of names.new) result
-        (rules.declare_destructor (texts source.now tokens.now) (names_of names.old) token
-        (sketched.rule_of first.now) (map sketched.rule_of others.now)) }
-    ensures kept { OnOk result (IsKept (texts source.now tokens.now) names.new) }
+        (rules.declare_destructor (texts_of whole.now) (names_of names.old) token
+        (sketched.rule_of said.now.first.now) (map sketched.rule_of said.now.others.now)) }
+    ensures kept { OnOk result (IsKept (texts_of whole.now) names.new) }
 {
     let scope = Scope {
-        source,
-        tokens,
+        text: *whole,
         names: &*names,
     };
-    let found = destructor(alloc, &scope, token, first, others)?;
+    let found = destructor(alloc, &scope, token, said)?;
     names.add_destructor(alloc, found)?;
     Ok(())
 }
@@ -326,20 +308,17 @@ fn declare_destructor(
 fn declare_event(
     names: &mut Names,
     alloc: Global,
-    source: &[u8],
-    tokens: &Tokens,
+    whole: &Text,
     name: usize,
     size: usize,
 ) -> Result<(), Stop>
-    requires lexed { Lexed source.now tokens.now }
-    requires kept { IsKept (texts source.now tokens.now) names.old }
+    requires { IsKept (texts_of whole.now) names.old }
     ensures read { Turns (names_of names.new) result
-        (rules.declare_event (texts source.now tokens.now) (names_of names.old) name size) }
-    ensures kept { OnOk result (IsKept (texts source.now tokens.now) names.new) }
+        (rules.declare_event (texts_of whole.now) (names_of names.old) name size) }
+    ensures kept { OnOk result (IsKept (texts_of whole.now) names.new) }
 {
     let scope = Scope {
-        source,
-        tokens,
+        text: *whole,
         names: &*names,
     };
     let found = event(alloc, &scope, name, size)?;
@@ -351,25 +330,22 @@ fn declare_event(
 fn declare_macro<'a>(
     names: &mut Names<'a>,
     alloc: Global,
-    source: &[u8],
-    tokens: &Tokens,
+    whole: &Text,
     name: usize,
     body: &'a ProcessSketch,
 ) -> Result<(), Stop>
-    requires lexed { Lexed source.now tokens.now }
-    requires kept { IsKept (texts source.now tokens.now) names.old }
+    requires { IsKept (texts_of whole.now) names.old }
     ensures read { Turns (names_of names.new) result
-        (rules.declare_macro (texts source.now tokens.now) (names_of names.old) name
+        (rules.declare_macro (texts_of whole.now) (names_of names.old) name
         (process_of body.now)) }
-    ensures kept { OnOk result (IsKept (texts source.now tokens.now) names.new) }
+    ensures kept { OnOk result (IsKept (texts_of whole.now) names.new) }
 {
     let scope = Scope {
-        source,
-        tokens,
+        text: *whole,
         names: &*names,
     };
     new_name(alloc, &scope, name)?;
-    let spelled = Vec::from_slice(alloc, text(source, tokens, name))?;
+    let spelled = Vec::from_slice(alloc, text_of(whole, name))?;
     names.meanings.insert(spelled, Meaning::Macro)?;
     names.macros.push(Macro { name, body })?;
     Ok(())
@@ -379,16 +355,14 @@ fn declare_macro<'a>(
 fn declare<'a>(
     names: &mut Names<'a>,
     alloc: Global,
-    source: &[u8],
-    tokens: &Tokens,
+    whole: &Text,
     declaration: &'a DeclarationSketch,
 ) -> Result<(), Stop>
-    requires lexed { Lexed source.now tokens.now }
-    requires kept { IsKept (texts source.now tokens.now) names.old }
+    requires { IsKept (texts_of whole.now) names.old }
     ensures read { Turns (names_of names.new) result
-        (rules.declare (texts source.now tokens.now) (names_of names.old)
+        (rules.declare (texts_of whole.now) (names_of names.old)
         (sketched.declaration_of declaration.now)) }
-    ensures kept { OnOk result (IsKept (texts source.now tokens.now) names.new) }
+    ensures kept { OnOk result (IsKept (texts_of whole.now) names.new) }
 {
     match declaration {
         DeclarationSketch::Free {
@@ -397,29 +371,49 @@ fn declare<'a>(
             others,
             ..
         } => {
-            declare_free(names, alloc, source, tokens, *public, *name)?;
-            declare_frees(names, alloc, source, tokens, *public, others)
+            declare_free(names, alloc, whole, *public, *name)?;
+            declare_frees(names, alloc, whole, *public, others)
         }
         DeclarationSketch::Fun {
             public,
             name,
             arity,
             ..
-        } => { declare_constructor(names, alloc, source, tokens, *public, false, *name, *arity) }
+        } => {
+            let said = Signature {
+                public: *public,
+                is_data: false,
+                name: *name,
+                size: *arity,
+            };
+            declare_constructor(names, alloc, whole, said)
+        }
         DeclarationSketch::Data { name, arity, .. } => {
-            declare_constructor(names, alloc, source, tokens, true, true, *name, *arity)
+            let said = Signature {
+                public: true,
+                is_data: true,
+                name: *name,
+                size: *arity,
+            };
+            declare_constructor(names, alloc, whole, said)
         }
         DeclarationSketch::Reduc {
             first,
             rule,
             others,
-        } => declare_destructor(names, alloc, source, tokens, *first, rule, others),
+        } => {
+            let said = Reduction {
+                first: rule,
+                others,
+            };
+            declare_destructor(names, alloc, whole, *first, &said)
+        }
         DeclarationSketch::Event { name, arity, .. } => {
-            declare_event(names, alloc, source, tokens, *name, *arity)
+            declare_event(names, alloc, whole, *name, *arity)
         }
         DeclarationSketch::Query { .. } => Ok(()),
         DeclarationSketch::Definition { name, process, .. } => {
-            declare_macro(names, alloc, source, tokens, *name, process)
+            declare_macro(names, alloc, whole, *name, process)
         }
     }
 }
@@ -427,18 +421,16 @@ fn declare<'a>(
 /// The names of all declarations, in order.
 pub fn declare_all<'a>(
     alloc: Global,
-    source: &[u8],
-    tokens: &Tokens,
+    whole: &Text,
     declarations: &'a [DeclarationSketch],
 ) -> Result<Names<'a>, Stop>
-    requires { Lexed source.now tokens.now }
-    ensures read { Gives names_of result (rules.declare_all (texts source.now tokens.now)
+    ensures read { Gives names_of result (rules.declare_all (texts_of whole.now)
         naming.no_names (map sketched.declaration_of declarations.now)) }
-    ensures kept { IfOk result (λ found. IsKept (texts source.now tokens.now) found) }
+    ensures kept { IfOk result (λ found. IsKept (texts_of whole.now) found) }
 {
     let mut names = Names::new(alloc);
     for declaration in declarations {
-        declare(&mut names, alloc, source, tokens, declaration)?;
+        declare(&mut names, alloc, whole, declaration)?;
     }
     Ok(names)
 }

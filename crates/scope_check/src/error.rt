@@ -1,12 +1,13 @@
 //! Why a sketch stands for no protocol.
 
 ghost use Rattle.std.specs.Prelude.{◌≡◌, Some};
+ghost use Rattle.protocol_scope.specs.Spells.{Scoped};
 ghost use Rattle.scope_check.specs.Answer.{code_of};
 ghost use Rattle.scope_check.specs.Error.{refusal_of, fault_of, placed};
 
+use crate::source::Text;
 use crate::stop::{Code, Stop};
 use crate::text::place;
-use pi_lexer::Tokens;
 use std::alloc::AllocError;
 use thiserror::Error;
 
@@ -34,24 +35,27 @@ pub enum ScopeError {
     /// The name at this place is that of several restrictions.
     #[error("the name at byte {0} is that of several restrictions")]
     AmbiguousNew(usize),
+    /// The bytes are more than a file may have, so the numbers of their variables might need more than 32 bits.
+    #[error("there are more bytes than a file may have")]
+    LongFile,
     /// There is no memory for the protocol.
     #[error("want of memory")]
     Memory(AllocError),
 }
 
 /// The error with the place of the token in the bytes.
-pub fn error_at(source: &[u8], tokens: &Tokens, stop: Stop) -> ScopeError
-    ensures { refusal_of result ≡ placed source.now tokens.now (fault_of stop) }
+pub fn error_at(whole: &Text, stop: Stop) -> ScopeError
+    ensures { refusal_of result ≡ placed whole.now.source.now whole.now.tokens.now (fault_of stop) }
 {
     match stop {
         Stop::Memory(error) => ScopeError::Memory(error),
-        Stop::Fault(code, token) => fault_at(code, place(source, tokens, token)),
+        Stop::Fault(code, token) => fault_at(code, place(whole, token)),
     }
 }
 
 /// The error of this code at this place.
 fn fault_at(code: Code, place: usize) -> ScopeError
-    ensures { refusal_of result ≡ Some (code_of code, place) }
+    ensures { refusal_of result ≡ Some (Scoped (code_of code), place) }
 {
     match code {
         Code::Unknown => ScopeError::Unknown(place),

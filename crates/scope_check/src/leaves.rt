@@ -1,22 +1,25 @@
 //! Bare identifiers, and the constructors and events that take arguments.
 
-ghost use Rattle.std.specs.Prelude.{◌≡◌, ◌+◌, ◌^◌, ◌<◌, ◌≤◌, length, IfOk, option_map};
-ghost use Rattle.protocol_tokens.specs.Lexed.{Lexed};
+ghost use Rattle.std.specs.Prelude.{◌≡◌, ◌≤◌, length, OnOk, option_map};
 ghost use Rattle.protocol_scope.specs.Names as naming;
 ghost use Rattle.protocol_scope.specs.Terms as rules;
-ghost use Rattle.protocol_scope.specs.Spells.{texts};
 ghost use Rattle.pi_tree.specs.Terms.{term_of};
 ghost use Rattle.scope_check.specs.Answer.{Gives, GivesWith};
-ghost use Rattle.scope_check.specs.Bound.{bound_of};
-ghost use Rattle.scope_check.specs.Names.{scope_of, IsReady, IsReadyAt, meaning_of};
-ghost use Rattle.scope_check.specs.Terms.{setting_of, IsReadyIn};
+ghost use Rattle.scope_check.specs.Bound.{bound_of, FindsBound};
+ghost use Rattle.scope_check.specs.Names.{meaning_of};
+ghost use Rattle.scope_check.specs.Within.{most_bound};
+ghost use Rattle.scope_check.specs.Scope.{scope_of};
+ghost use Rattle.scope_check.specs.Terms.{setting_of, FindsSetting};
+ghost use Rattle.scope_check.specs.Text.{texts_of, AreFew};
 
 use crate::bound::{Bound, BoundName, bound_as};
-use crate::names::{Meaning, Scope, look, same_text};
+use crate::names::{Meaning, look};
+use crate::scope::Scope;
+use crate::source::Text;
 use crate::stop::{Code, Stop};
-use pi_lexer::Tokens;
+use crate::text::same_text;
 use pi_tree::{Term, Terms};
-use std::alloc::{AllocError, Global};
+use std::alloc::Global;
 
 /// Where a term stands: this tells what a bare identifier in it is.
 #[derive(Clone, Copy)]
@@ -29,16 +32,6 @@ pub enum Setting<'a> {
     Right,
     /// In an event of a query.
     Event,
-}
-
-/// The number in 32 bits. There is no memory for as many variables as would need more.
-pub fn narrow(number: usize) -> Result<u32, AllocError>
-    ensures { IfOk result (λ narrowed. narrowed ≡ number) }
-{
-    match u32::try_from(number) {
-        Ok(narrowed) => Ok(narrowed),
-        Err(_) => Err(AllocError),
-    }
 }
 
 /// A constructor without arguments.
@@ -72,29 +65,42 @@ fn declared_leaf(alloc: Global, token: usize, meaning: Meaning) -> Result<Term, 
     }
 }
 
+/// How many variables these are: no more than the tokens, and one.
+#[tactic(auto, using(crate::proofs::Few::few_variables))]
+fn count_of(whole: &Text, variables: &[usize]) -> u32
+    requires { AreFew whole.now variables.now }
+    ensures count { result ≡ length variables.now }
+    ensures few { result ≤ most_bound }
+{
+    variables.len() as u32
+}
+
 /// The number of the variable that is spelled so, from 1.
-fn variable_of(source: &[u8], tokens: &Tokens, variables: &[usize], token: usize) -> Option<usize>
-    requires { Lexed source.now tokens.now }
-    ensures { result ≡ naming.variable_of (texts source.now tokens.now) variables.now token }
+#[tactic(auto, using(crate::proofs::Few::few_variables))]
+fn variable_of(whole: &Text, variables: &[usize], token: usize) -> Option<u32>
+    requires { AreFew whole.now variables.now }
+    ensures { result ≡ naming.variable_of (texts_of whole.now) variables.now token }
 {
     for (at, variable) in variables.iter().enumerate() {
-        if same_text(source, tokens, *variable, token) {
-            return Some(at + 1);
+        if same_text(whole, *variable, token) {
+            return Some(at as u32 + 1);
         }
     }
     None
 }
 
 /// A variable of a rule or query, new where it stands first.
-fn variable(scope: &Scope, variables: &mut Vec<usize>, token: usize) -> Result<Term, Stop>
-    requires { Lexed scope.now.source.now scope.now.tokens.now }
-    ensures { GivesWith term_of result variables.new.items
-        (rules.variable (scope_of scope.now) variables.old.items token) }
+fn variable(whole: &Text, variables: &mut Vec<usize>, token: usize) -> Result<Term, Stop>
+    requires { AreFew whole.now variables.old.items }
+    ensures read { GivesWith term_of result variables.new.items
+        (rules.variable_by (naming.variable_of (texts_of whole.now) variables.old.items token)
+        variables.old.items token) }
+    ensures few { OnOk result (AreFew whole.now variables.new.items) }
 {
-    match variable_of(scope.source, scope.tokens, variables, token) {
-        Some(number) => Ok(Term::Var(narrow(number)?)),
+    match variable_of(whole, variables, token) {
+        Some(number) => Ok(Term::Var(number)),
         None => {
-            let number = narrow(variables.len() + 1)?;
+            let number = count_of(whole, variables) + 1;
             variables.push(token)?;
             Ok(Term::Var(number))
         }
@@ -102,26 +108,26 @@ fn variable(scope: &Scope, variables: &mut Vec<usize>, token: usize) -> Result<T
 }
 
 /// A variable on the right of a rule, which stands on its left.
-fn known_variable(scope: &Scope, variables: &[usize], token: usize) -> Result<Term, Stop>
-    requires { Lexed scope.now.source.now scope.now.tokens.now }
+fn known_variable(whole: &Text, variables: &[usize], token: usize) -> Result<Term, Stop>
+    requires { AreFew whole.now variables.now }
     ensures { GivesWith term_of result variables.now
-        (rules.known_variable (naming.variable_of (texts scope.now.source.now scope.now.tokens.now)
-        variables.now token) variables.now token) }
+        (rules.known_variable (naming.variable_of (texts_of whole.now) variables.now token)
+        variables.now token) }
 {
-    match variable_of(scope.source, scope.tokens, variables, token) {
-        Some(number) => Ok(Term::Var(narrow(number)?)),
+    match variable_of(whole, variables, token) {
+        Some(number) => Ok(Term::Var(number)),
         None => Err(Stop::Fault(Code::LooseVariable, token)),
     }
 }
 
 /// A bare identifier in a process: what is bound, or else a declared name.
 fn process_leaf(scope: &Scope, alloc: Global, bound: &Bound, token: usize) -> Result<Term, Stop>
-    requires { IsReadyAt scope.now bound.now }
+    requires { FindsBound scope.now.text bound.now }
     ensures { Gives term_of result (rules.process_leaf
-        (naming.bound_as (texts scope.now.source.now scope.now.tokens.now) (bound_of bound.now)
-        token) (naming.look (scope_of scope.now) token) token) }
+        (naming.bound_as (texts_of scope.now.text) (bound_of bound.now) token)
+        (naming.look (scope_of scope.now) token) token) }
 {
-    match bound_as(bound, scope.source, scope.tokens, token) {
+    match bound_as(bound, &scope.text, token) {
         Some(BoundName::Variable(number)) => Ok(Term::Var(number)),
         Some(BoundName::Made(point)) => Ok(Term::Made(point)),
         None => match look(scope, token) {
@@ -151,23 +157,25 @@ pub fn leaf(
     variables: &mut Vec<usize>,
     token: usize,
 ) -> Result<Term, Stop>
-    requires { IsReadyIn scope.now setting.now }
-    ensures { GivesWith term_of result variables.new.items
+    requires finds { FindsSetting scope.now.text setting.now }
+    requires few { AreFew scope.now.text variables.old.items }
+    ensures read { GivesWith term_of result variables.new.items
         (rules.leaf (scope_of scope.now) (setting_of setting.now) variables.old.items token) }
+    ensures few { OnOk result (AreFew scope.now.text variables.new.items) }
 {
     match setting {
         Setting::Process(bound) => process_leaf(scope, alloc, bound, token),
         Setting::Left => match constant_of(look(scope, token)) {
             Some(number) => Ok(constant(alloc, number)),
-            None => variable(scope, variables, token),
+            None => variable(&scope.text, variables, token),
         },
         Setting::Right => match constant_of(look(scope, token)) {
             Some(number) => Ok(constant(alloc, number)),
-            None => known_variable(scope, variables, token),
+            None => known_variable(&scope.text, variables, token),
         },
         Setting::Event => match look(scope, token) {
             Some(meaning) => declared_leaf(alloc, token, meaning),
-            None => variable(scope, variables, token),
+            None => variable(&scope.text, variables, token),
         },
     }
 }
@@ -185,7 +193,6 @@ pub fn taking(token: usize, number: u32, arity: usize, given: usize) -> Result<u
 
 /// The constructor of so many arguments that the token names.
 pub fn constructor(scope: &Scope, token: usize, given: usize) -> Result<u32, Stop>
-    requires { IsReady scope.now }
     ensures { Gives (λ n. n) result (rules.constructor token given
         (naming.look (scope_of scope.now) token)) }
 {
@@ -200,7 +207,6 @@ pub fn constructor(scope: &Scope, token: usize, given: usize) -> Result<u32, Sto
 
 /// The event of so many arguments that the token names.
 pub fn event_named(scope: &Scope, token: usize, given: usize) -> Result<u32, Stop>
-    requires { IsReady scope.now }
     ensures { Gives (λ n. n) result (rules.event_named token given
         (naming.look (scope_of scope.now) token)) }
 {

@@ -3,24 +3,25 @@
 //! The rules are defined in the crate `protocol_scope`.
 #![tactic(auto)]
 
-ghost use Rattle.std.specs.Prelude.{◌≤◌, ℕ, IfOk, IfErr};
+ghost use Rattle.std.specs.Prelude.{◌≡◌, ◌+◌, ◌≤◌, ℕ, length, IfOk, IfErr};
+ghost use Rattle.calculus.specs.Bounds.{most_bytes};
 ghost use Rattle.calculus.specs.Syntax as own;
 ghost use Rattle.protocol_tokens.specs.Lexed.{Lexed};
 ghost use Rattle.pi_lexer.specs.Answer.{IsMemory};
-ghost use Rattle.protocol_scope.specs.Answers.{Code};
 ghost use Rattle.protocol_scope.specs.Names as naming;
 ghost use Rattle.protocol_scope.specs.Scope.{scope};
-ghost use Rattle.protocol_scope.specs.Spells.{texts, IsSketchOf, IsProtocolOf, Spells, Scoped, Refuses};
+ghost use Rattle.protocol_scope.specs.Spells.{texts, IsSketchOf, Spells, Refusal, Refuses};
 ghost use Rattle.pi_parser.specs.Files.{file_of};
 ghost use Rattle.pi_tree.specs.Processes.{process_of};
 ghost use Rattle.pi_tree.specs.Protocols.{protocol_of};
 ghost use Rattle.scope_check.specs.Answer.{Gives};
-ghost use Rattle.scope_check.specs.Error.{AnswersScope, main_then_queries, IsRefusalOf, GivesProtocol, GivesFault};
+ghost use Rattle.scope_check.specs.Error.{AnswersScope, main_then_queries, IsRefusalOf, GivesProtocol, GivesRefusal};
 ghost use Rattle.scope_check.specs.Names.{names_of, IsKept};
+ghost use Rattle.scope_check.specs.Text.{texts_of};
 
 use pi_lexer::{LexError, Tokens, lex};
 use pi_parser::Sketch;
-use pi_tree::{Process, Protocol, Queries};
+use pi_tree::{MOST_BYTES, Process, Protocol, Queries};
 use protocol_scope::{main_process_points, never_both, one_protocol, one_refusal};
 use std::alloc::{AllocError, Global};
 
@@ -29,10 +30,14 @@ mod declarations;
 mod error;
 mod leaves;
 mod names;
+mod numbers;
 mod patterns;
+mod place;
 mod processes;
 mod queries;
+mod scope;
 mod site;
+mod source;
 mod stop;
 mod terms;
 mod text;
@@ -40,29 +45,27 @@ mod text;
 use crate::declarations::declare_all;
 pub use crate::error::ScopeError;
 use crate::error::error_at;
-use crate::names::{Names, Scope};
+use crate::names::Names;
 use crate::processes::main_process;
 use crate::queries::queries;
+use crate::scope::Scope;
+use crate::source::Text;
 use crate::stop::Stop;
 
 /// The main process and the queries of a sketch that declares these names.
 fn main_and_queries(
     alloc: Global,
-    source: &[u8],
-    tokens: &Tokens,
+    whole: &Text,
     names: &Names,
     sketch: &Sketch,
 ) -> Result<(Process, Queries), Stop>
-    requires lexed { Lexed source.now tokens.now }
-    requires kept { IsKept (texts source.now tokens.now) names.now }
+    requires { IsKept (texts_of whole.now) names.now }
     ensures { Gives (λ x. (process_of x.0, x.1)) result
-        (main_then_queries (texts source.now tokens.now) (names_of names.now)
-        (file_of sketch.now)) }
+        (main_then_queries (texts_of whole.now) (names_of names.now) (file_of sketch.now)) }
 {
     main_process_points();
     let scope = Scope {
-        source,
-        tokens,
+        text: *whole,
         names,
     };
     let main = main_process(alloc, &scope, &sketch.main)?;
@@ -71,17 +74,11 @@ fn main_and_queries(
 }
 
 /// The protocol of a sketch, or its first fault.
-fn protocol(
-    alloc: Global,
-    source: &[u8],
-    tokens: &Tokens,
-    sketch: &Sketch,
-) -> Result<Protocol, Stop>
-    requires { Lexed source.now tokens.now }
-    ensures { Gives protocol_of result (scope (texts source.now tokens.now) (file_of sketch.now)) }
+fn protocol(alloc: Global, whole: &Text, sketch: &Sketch) -> Result<Protocol, Stop>
+    ensures { Gives protocol_of result (scope (texts_of whole.now) (file_of sketch.now)) }
 {
-    let names = declare_all(alloc, source, tokens, &sketch.declarations)?;
-    let (main, queries) = main_and_queries(alloc, source, tokens, &names, sketch)?;
+    let names = declare_all(alloc, whole, &sketch.declarations)?;
+    let (main, queries) = main_and_queries(alloc, whole, &names, sketch)?;
     Ok(Protocol {
         frees: names.frees,
         ctors: names.ctors,
@@ -93,19 +90,22 @@ fn protocol(
 }
 
 /// The protocol of a sketch of these tokens, or its first fault with the place of its token.
+#[tactic(auto, using(crate::proofs::Spans::lexed_ascend))]
 fn check_tokens(
     alloc: Global,
     source: &[u8],
     tokens: &Tokens,
     sketch: &Sketch,
 ) -> Result<Protocol, ScopeError>
-    requires { Lexed source.now tokens.now }
+    requires lexed { Lexed source.now tokens.now }
+    requires few { length tokens.now + 2 ≤ most_bytes }
     ensures { AnswersScope source.now tokens.now
         (scope (texts source.now tokens.now) (file_of sketch.now)) result }
 {
-    match protocol(alloc, source, tokens, sketch) {
+    let whole = Text { source, tokens };
+    match protocol(alloc, &whole, sketch) {
         Ok(protocol) => Ok(protocol),
-        Err(stop) => Err(error_at(source, tokens, stop)),
+        Err(stop) => Err(error_at(&whole, stop)),
     }
 }
 
@@ -119,23 +119,27 @@ fn memory_error(error: LexError) -> AllocError
     }
 }
 
-/// The protocol that the sketch of a file stands for, or the first fault by the rules of scope, which are looked at in
-/// the order of the declarations other than queries, the main process with its macros expanded, and the queries.
+/// The protocol that the sketch of a file stands for, or its first refusal. That the bytes are more than a file may
+/// have is looked at before all else; then the rules of scope, in the order of the declarations other than queries,
+/// the main process with its macros expanded, and the queries.
 ///
 /// The sketch is that of these bytes, whose tokens are read once more. Memory is taken for them and for the protocol.
 pub fn check_scope(alloc: Global, source: &[u8], sketch: &Sketch) -> Result<Protocol, ScopeError>
     requires { IsSketchOf source.now (file_of sketch.now) }
-    ensures read { IfOk result (λ protocol. IsProtocolOf source.now (protocol_of protocol)) }
+    ensures read { IfOk result (λ protocol. Spells source.now (protocol_of protocol)) }
     ensures refused { IfErr result (λ error. IsRefusalOf source.now error) }
 
-    // Bytes that spell a protocol give it, and bytes that the rules of scope refuse give that refusal.
+    // Bytes that spell a protocol give it, and bytes that are refused give that refusal.
     ensures accepts { (p : own.Protocol) → Spells source.now p → GivesProtocol p result }
-    ensures refuses { (code : Code) (place : ℕ) → Refuses source.now (Scoped code) place →
-        GivesFault code place result }
+    ensures refuses { (refusal : Refusal) (place : ℕ) → Refuses source.now refusal place →
+        GivesRefusal refusal place result }
 {
     one_protocol();
     one_refusal();
     never_both();
+    if source.len() > MOST_BYTES {
+        return Err(ScopeError::LongFile);
+    }
     match lex(alloc, source) {
         Ok(tokens) => check_tokens(alloc, source, &tokens, sketch),
         Err(error) => Err(ScopeError::Memory(memory_error(error))),

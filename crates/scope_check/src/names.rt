@@ -4,16 +4,15 @@ ghost use Rattle.std.specs.Prelude.{◌≡◌, ◌+◌, ◌<◌, ◌≤◌, [], 
 ghost use Rattle.std.specs.List.{list_all};
 ghost use Rattle.std.specs.Char.{is_ascii_digit};
 ghost use Rattle.calculus.specs.Bounds.{most_names};
-ghost use Rattle.protocol_tokens.specs.Lexed.{Lexed};
 ghost use Rattle.protocol_scope.specs.Names as rules;
 ghost use Rattle.protocol_scope.specs.Declarations.{with_free, with_constructor, with_destructor, with_event};
-ghost use Rattle.protocol_scope.specs.Spells.{texts};
 ghost use Rattle.pi_tree.specs.Names.{declared_of};
 ghost use Rattle.pi_tree.specs.Rules.{destructor_of};
-ghost use Rattle.scope_check.specs.Names.{names_of, scope_of, IsKept, StaysKept, IsReady, meaning_of};
+ghost use Rattle.scope_check.specs.Names.{names_of, IsKept, StaysKept, meaning_of};
+ghost use Rattle.scope_check.specs.Scope.{scope_of};
 
-use crate::text::text;
-use pi_lexer::Tokens;
+use crate::scope::Scope;
+use crate::text::text_of;
 use pi_parser::ProcessSketch;
 use pi_tree::{Declarations, Declared, Dtor, Dtors};
 use std::alloc::{AllocError, Global};
@@ -162,14 +161,6 @@ fn append_destructor(list: &mut Dtors, item: Dtor) -> Result<(), AllocError>
     Ok(())
 }
 
-/// What names are read by: the bytes, their tokens, and the names that are declared.
-#[derive(Clone, Copy)]
-pub struct Scope<'a> {
-    pub source: &'a [u8],
-    pub tokens: &'a Tokens,
-    pub names: &'a Names<'a>,
-}
-
 /// What a declared name is, with its number among those of its kind, from 1.
 #[derive(Clone, Copy)]
 pub enum Meaning {
@@ -202,10 +193,9 @@ pub fn arity_of(destructor: &Dtor) -> usize
 
 /// What the token's identifier is declared as.
 pub fn look(scope: &Scope, token: usize) -> Option<Meaning>
-    requires { IsReady scope.now }
     ensures { option_map meaning_of result ≡ rules.look (scope_of scope.now) token }
 {
-    let word = text(scope.source, scope.tokens, token);
+    let word = text_of(&scope.text, token);
     scope.names.meanings.get(word).copied()
 }
 
@@ -219,14 +209,6 @@ pub fn count_of(names: &Names) -> usize
         + names.dtors.items.len()
         + names.events.items.len()
         + names.macros.len()
-}
-
-/// Whether two tokens have the same text.
-pub fn same_text(source: &[u8], tokens: &Tokens, one: usize, other: usize) -> bool
-    requires { Lexed source.now tokens.now }
-    ensures { result ≡ rules.same_text (texts source.now tokens.now) one other }
-{
-    text(source, tokens, one) == text(source, tokens, other)
 }
 
 /// Whether each byte is a digit.

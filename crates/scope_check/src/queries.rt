@@ -1,6 +1,6 @@
 //! Queries, in order.
 
-ghost use Rattle.std.specs.Prelude.{◌≡◌, ℕ, ◌+◌, ◌≤◌, ◌++◌, [], ◌∷◌, List, length, map};
+ghost use Rattle.std.specs.Prelude.{◌≡◌, ℕ, ◌+◌, ◌≤◌, ◌++◌, [], ◌∷◌, List, length, map, OnOk};
 ghost use Rattle.calculus.specs.Bounds.{most_points};
 ghost use Rattle.calculus.specs.Points.{nodes};
 ghost use Rattle.protocol_scope.specs.Queries as rules;
@@ -10,15 +10,17 @@ ghost use Rattle.pi_tree.specs.Events.{event_of};
 ghost use Rattle.pi_tree.specs.Processes.{process_of};
 ghost use Rattle.pi_tree.specs.Queries.{query_of};
 ghost use Rattle.scope_check.specs.Answer.{Gives, GivesWith};
-ghost use Rattle.scope_check.specs.Names.{scope_of, IsReady};
 ghost use Rattle.scope_check.specs.Restrictions.{summary};
+ghost use Rattle.scope_check.specs.Scope.{scope_of};
+ghost use Rattle.scope_check.specs.Text.{AreFew};
 
 use crate::bound::Bound;
 use crate::leaves::Setting;
-use crate::names::Scope;
+use crate::place::Place;
+use crate::scope::Scope;
 use crate::stop::{Code, Stop};
 use crate::terms::{event, process_term};
-use crate::text::text;
+use crate::text::text_of;
 use pi_parser::{AlternativeSketch, AtomSketch, DeclarationSketch, QuerySketch};
 use pi_tree::{
     Alternatives, Atom, Atoms, MOST_ALTERNATIVES, MOST_EVENTS, MOST_QUERIES, MOST_WRITTEN_SYMBOLS,
@@ -79,12 +81,11 @@ fn look_for(process: &Process, word: &[u8], point: u32, seen: Seen) -> (Seen, u3
 
 /// A query for the name of the one restriction of this identifier.
 fn attacker_new(scope: &Scope, main: &Process, token: usize) -> Result<Query, Stop>
-    requires ready { IsReady scope.now }
-    requires few { length (nodes (process_of main.now)) ≤ most_points }
+    requires { length (nodes (process_of main.now)) ≤ most_points }
     ensures { Gives query_of result (rules.only_point token
         (rules.points_of ((scope_of scope.now).text token) 1 (nodes (process_of main.now)))) }
 {
-    let word = text(scope.source, scope.tokens, token);
+    let word = text_of(&scope.text, token);
     match look_for(main, word, 1, Seen::Nowhere).0 {
         Seen::Nowhere => Err(Stop::Fault(Code::Unknown, token)),
         Seen::Once(point) => Ok(Query::SecretNew(point)),
@@ -99,9 +100,10 @@ fn asked_event(
     scope: &Scope,
     variables: &mut Vec<usize>,
 ) -> Result<Atom, Stop>
-    requires { IsReady scope.now }
-    ensures { GivesWith event_of result variables.new.items
+    requires { AreFew scope.now.text variables.old.items }
+    ensures read { GivesWith event_of result variables.new.items
         (rules.asked_event (scope_of scope.now) variables.old.items (sketched.atom_of sketch.now)) }
+    ensures few { OnOk result (AreFew scope.now.text variables.new.items) }
 {
     let (read, symbols) = event(sketch, alloc, scope, &Setting::Event, variables)?;
     if symbols > MOST_WRITTEN_SYMBOLS {
@@ -117,10 +119,11 @@ fn alternative(
     scope: &Scope,
     variables: &mut Vec<usize>,
 ) -> Result<Atoms, Stop>
-    requires { IsReady scope.now }
-    ensures { GivesWith (λ events. events) result variables.new.items
+    requires { AreFew scope.now.text variables.old.items }
+    ensures read { GivesWith (λ events. events) result variables.new.items
         (rules.alternative (scope_of scope.now) variables.old.items
         (files.alternative_of sketch.now)) }
+    ensures few { OnOk result (AreFew scope.now.text variables.new.items) }
 {
     let mut items = Vec::new(alloc);
     items.push(asked_event(&sketch.atom, alloc, scope, variables)?)?;
@@ -140,10 +143,11 @@ fn alternatives(
     scope: &Scope,
     variables: &mut Vec<usize>,
 ) -> Result<Alternatives, Stop>
-    requires { IsReady scope.now }
-    ensures { GivesWith (λ found. found) result variables.new.items
+    requires { AreFew scope.now.text variables.old.items }
+    ensures read { GivesWith (λ found. found) result variables.new.items
         (rules.alternatives (scope_of scope.now) variables.old.items
         (map files.alternative_of sketches.now)) }
+    ensures few { OnOk result (AreFew scope.now.text variables.new.items) }
 {
     let mut items = Vec::new(alloc);
     for sketch in sketches {
@@ -160,15 +164,18 @@ fn question(
     main: &Process,
     token: usize,
 ) -> Result<Query, Stop>
-    requires ready { IsReady scope.now }
-    requires few { length (nodes (process_of main.now)) ≤ most_points }
+    requires { length (nodes (process_of main.now)) ≤ most_points }
     ensures { Gives query_of result (rules.question (scope_of scope.now) (process_of main.now) token
         (files.question_of sketch.now)) }
 {
     match sketch {
         QuerySketch::AttackerNew(_, name) => attacker_new(scope, main, *name),
         QuerySketch::Attacker(_, message) => {
-            let message = process_term(message, alloc, scope, &Bound::Nothing)?;
+            let place = Place {
+                scope: *scope,
+                bound: &Bound::Nothing,
+            };
+            let message = process_term(message, alloc, &place)?;
             Ok(Query::Secret(message))
         }
         QuerySketch::Correspondence(_, atom, others) => {
@@ -190,8 +197,7 @@ pub fn queries(
     scope: &Scope,
     main: &Process,
 ) -> Result<Queries, Stop>
-    requires ready { IsReady scope.now }
-    requires few { length (nodes (process_of main.now)) ≤ most_points }
+    requires { length (nodes (process_of main.now)) ≤ most_points }
     ensures { Gives (λ found. found) result (rules.queries (scope_of scope.now)
         (process_of main.now) 0 (map files.declaration_of declarations.now)) }
 {

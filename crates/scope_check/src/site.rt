@@ -7,33 +7,35 @@ ghost use Rattle.protocol_scope.specs.Processes as rules;
 ghost use Rattle.protocol_grammar.specs.Sketch as own;
 ghost use Rattle.pi_parser.specs.Processes.{process_of, unit_of};
 ghost use Rattle.scope_check.specs.Answer.{Gives, Stops, code_of};
-ghost use Rattle.scope_check.specs.Names.{scope_of, IsReady, meaning_of};
-ghost use Rattle.scope_check.specs.Numbers.{numbers_of, site_of};
-ghost use Rattle.scope_check.specs.Forms.{form_of, reading_of, macros_of, weight_of, used_at, expansion_at, is_point};
+ghost use Rattle.scope_check.specs.Forms.{form_of, site_of, read_at, macros_of, weight_of, used_at, expansion_at, is_point};
+ghost use Rattle.scope_check.specs.Names.{meaning_of};
+ghost use Rattle.scope_check.specs.Numbers.{HaveRoom, numbers_of};
+ghost use Rattle.scope_check.specs.Scope.{scope_of};
 
-use crate::bound::Bound;
-use crate::names::{Macro, Meaning, Scope, look};
+use crate::names::{Macro, Meaning, look};
+use crate::numbers::Numbers;
+use crate::place::Place;
+use crate::scope::Scope;
 use crate::stop::{Code, Stop};
-use crate::text::text;
+use crate::text::text_of;
 use pi_parser::{ProcessSketch, UnitSketch};
 use pi_tree::{MOST_POINTS, MOST_POINTS_ABOVE};
+use std::alloc::Global;
 
-/// The numbers that the next point and the next variable get.
+/// Where a process stands, and what is counted when it is met.
 #[derive(Clone, Copy)]
-pub struct Numbers {
-    pub point: u32,
-    pub variable: u32,
-}
-
-/// Where a process stands.
-#[derive(Clone, Copy)]
-pub struct Site<'a> {
-    /// What is bound there.
-    pub bound: &'a Bound<'a>,
+pub struct Site<'a, 'b> {
+    pub alloc: Global,
+    /// What names are read by there, and what is bound.
+    pub place: Place<'a, 'b>,
+    /// The macros that are seen there.
+    pub macros: &'a [Macro<'a>],
     /// How many points stand above it.
     pub above: usize,
     /// The identifier of the outermost macro use that it comes from.
     pub used: Option<usize>,
+    /// The numbers that come next.
+    pub numbers: Numbers,
 }
 
 /// A process of a sketch: `unit | process`, or a unit alone.
@@ -58,25 +60,25 @@ impl<'a> Form<'a> {
 }
 
 /// A process without the parentheses round the whole of it, and with its macro expanded: it begins with a point. It
-/// sees these macros, and comes from this macro use.
+/// stands at this site, where the macros before the expanded one are seen.
 #[derive(Clone, Copy)]
-pub struct Opened<'a> {
+pub struct Opened<'a, 'b> {
     pub form: Form<'a>,
-    pub macros: &'a [Macro<'a>],
-    pub used: Option<usize>,
+    pub site: Site<'a, 'b>,
 }
 
 /// Whether one more point may stand there.
-fn is_room(site: &Site, numbers: Numbers) -> bool
-    ensures { result ≡ rules.is_room (site_of site.now) (numbers_of numbers) }
+fn is_room(site: &Site) -> bool
+    ensures { result ≡ rules.is_room (site_of site.now) (numbers_of site.now.numbers) }
 {
-    numbers.point as usize <= MOST_POINTS && site.above <= MOST_POINTS_ABOVE
+    site.numbers.point as usize <= MOST_POINTS && site.above <= MOST_POINTS_ABOVE
 }
 
 /// The numbers behind the next point.
 fn counted(numbers: Numbers) -> Numbers
     requires { numbers.point ≤ most_points }
-    ensures { numbers_of result ≡ rules.counted (numbers_of numbers) }
+    ensures counted { numbers_of result ≡ rules.counted (numbers_of numbers) }
+    ensures room { HaveRoom result }
 {
     Numbers {
         point: numbers.point + 1,
@@ -85,13 +87,14 @@ fn counted(numbers: Numbers) -> Numbers
 }
 
 /// The next point is met, which begins with this token.
-pub fn reached(site: &Site, numbers: Numbers, token: usize) -> Result<Numbers, Stop>
-    ensures read { Gives numbers_of result (rules.reached (site_of site.now) (numbers_of numbers)
-        token) }
-    ensures room { OnOk result (site.now.above ≤ most_points_above) }
+pub fn reached(site: &Site, token: usize) -> Result<Numbers, Stop>
+    ensures read { Gives numbers_of result (rules.reached (site_of site.now)
+        (numbers_of site.now.numbers) token) }
+    ensures above { OnOk result (site.now.above ≤ most_points_above) }
+    ensures room { IfOk result HaveRoom }
 {
-    if is_room(site, numbers) {
-        Ok(counted(numbers))
+    if is_room(site) {
+        Ok(counted(site.numbers))
     } else {
         Err(Stop::Fault(Code::TooMany, site.used.unwrap_or(token)))
     }
@@ -110,7 +113,6 @@ fn misuse(meaning: Option<Meaning>) -> Code
 /// The place of the macro that the token uses among these, of which the latest counts.
 #[tactic(auto, using(crate::proofs::Macros::macros_up_to))]
 pub fn used_macro(scope: &Scope, macros: &[Macro], token: usize) -> Result<usize, Stop>
-    requires { IsReady scope.now }
     ensures found { IfOk result (λ at. (at < length macros.now) ×
         ((m : Macro) → m ≡ get_or macros.now at m →
         rules.used_macro (scope_of scope.now) (macros_of (scope_of scope.now) macros.now) token ≡
@@ -118,11 +120,11 @@ pub fn used_macro(scope: &Scope, macros: &[Macro], token: usize) -> Result<usize
     ensures refused { IfErr result (λ e. Stops e
         (rules.used_macro (scope_of scope.now) (macros_of (scope_of scope.now) macros.now) token)) }
 {
-    let word = text(scope.source, scope.tokens, token);
+    let word = text_of(&scope.text, token);
     let mut at = macros.len();
     while at > 0 {
         at -= 1;
-        if text(scope.source, scope.tokens, macros[at].name) == word {
+        if text_of(&scope.text, macros[at].name) == word {
             return Ok(at);
         }
     }
@@ -132,7 +134,6 @@ pub fn used_macro(scope: &Scope, macros: &[Macro], token: usize) -> Result<usize
 /// A point past the limits that begins with this unit, outside of macros: a faulty macro use there is the lesser fault.
 #[tactic(auto, using(crate::proofs::Stopping::stops_step))]
 fn crowded(scope: &Scope, macros: &[Macro], unit: &UnitSketch) -> Stop
-    requires { IsReady scope.now }
     ensures { Stops result (rules.crowded (scope_of scope.now)
         (macros_of (scope_of scope.now) macros.now) (unit_of unit.now)) }
 {
@@ -154,25 +155,18 @@ fn crowded(scope: &Scope, macros: &[Macro], unit: &UnitSketch) -> Stop
 }
 
 /// The point of `unit | process` is met.
-pub fn both_reached(
-    scope: &Scope,
-    macros: &[Macro],
-    site: &Site,
-    numbers: Numbers,
-    unit: &UnitSketch,
-) -> Result<Numbers, Stop>
-    requires { IsReady scope.now }
-    ensures read { Gives numbers_of result (rules.both_reached (scope_of scope.now)
-        (macros_of (scope_of scope.now) macros.now) (site_of site.now) (numbers_of numbers)
-        (unit_of unit.now)) }
-    ensures room { OnOk result (site.now.above ≤ most_points_above) }
+pub fn both_reached(site: &Site, unit: &UnitSketch) -> Result<Numbers, Stop>
+    ensures read { Gives numbers_of result (rules.both_reached (scope_of site.now.place.scope)
+        (macros_of (scope_of site.now.place.scope) site.now.macros.now) (site_of site.now)
+        (numbers_of site.now.numbers) (unit_of unit.now)) }
+    ensures above { OnOk result (site.now.above ≤ most_points_above) }
 {
-    if is_room(site, numbers) {
-        return Ok(counted(numbers));
+    if is_room(site) {
+        return Ok(counted(site.numbers));
     }
     match site.used {
         Some(used) => Err(Stop::Fault(Code::TooMany, used)),
-        None => Err(crowded(scope, macros, unit)),
+        None => Err(crowded(&site.place.scope, site.macros, unit)),
     }
 }
 
@@ -186,37 +180,49 @@ fn macro_at<'a>(macros: &[Macro<'a>], at: usize) -> Macro<'a>
 
 /// What a process begins with, when parentheses round the whole of it are dropped and macros are expanded.
 #[tactic(auto, using(crate::proofs::Macros::weight_up_to))]
-pub fn open_form<'a>(
-    scope: &Scope,
-    start: Form<'a>,
-    available: &'a [Macro<'a>],
-    site: &Site,
-) -> Result<Opened<'a>, Stop>
-    requires { IsReady scope.now }
-    ensures found { IfOk result (λ found. (now : rules.Numbers) →
-        reading_of (scope_of scope.now) available.now (site_of site.now) now (form_of start.entry) ≡
-        reading_of (scope_of scope.now) found.macros.now (used_at found.used (site_of site.now)) now
-        (form_of found.form)) }
-    ensures lighter { IfOk result (λ found. weight_of found.macros.now (form_of found.form) ≤
-        weight_of available.now (form_of start.entry)) }
+pub fn open_form<'a, 'b>(start: Form<'a>, site: &Site<'a, 'b>) -> Result<Opened<'a, 'b>, Stop>
+    ensures found { IfOk result (λ found. read_at site.now (form_of start.entry) ≡
+        read_at found.site (form_of found.form)) }
+    ensures lighter { IfOk result (λ found. weight_of found.site.macros.now (form_of found.form) ≤
+        weight_of site.now.macros.now (form_of start.entry)) }
     ensures point { IfOk result (λ found. IsTrue (is_point (form_of found.form))) }
-    ensures refused { IfErr result (λ e. (now : rules.Numbers) →
-        Stops e (reading_of (scope_of scope.now) available.now (site_of site.now) now
-        (form_of start.entry))) }
+    ensures refused { IfErr result (λ e. Stops e (read_at site.now (form_of start.entry))) }
 {
     let mut form = start;
-    let mut macros = available;
+    let mut macros = site.macros;
     let mut used = site.used;
     loop {
         match form {
             Form::Unit(UnitSketch::Inner(_, process)) => form = Form::new(process),
             Form::Unit(UnitSketch::Macro(token)) => {
-                let at = used_macro(scope, macros, *token)?;
+                let at = used_macro(&site.place.scope, macros, *token)?;
                 used = Some(used.unwrap_or(*token));
                 form = Form::new(macro_at(macros, at).body);
                 macros = &macros[..at];
             }
-            _ => return Ok(Opened { form, macros, used }),
+            _ => {
+                return Ok(Opened {
+                    form,
+                    site: within(site, macros, used),
+                });
+            }
         }
+    }
+}
+
+/// The same site, where these macros are seen and that one is in use.
+fn within<'a, 'b>(site: &Site<'a, 'b>, macros: &'a [Macro<'a>], used: Option<usize>) -> Site<'a, 'b>
+    ensures place { result.place ≡ site.now.place }
+    ensures macros { result.macros.now ≡ macros.now }
+    ensures used { site_of result ≡ used_at used (site_of site.now) }
+    ensures numbers { result.numbers ≡ site.now.numbers }
+{
+    Site {
+        alloc: site.alloc,
+        place: site.place,
+        macros,
+        above: site.above,
+        used,
+        numbers: site.numbers,
     }
 }

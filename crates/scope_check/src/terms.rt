@@ -1,6 +1,6 @@
 //! Terms, expressions and events, within their limits.
 
-ghost use Rattle.std.specs.Prelude.{◌≡◌, ◌+◌, ◌≤◌, length, map, IfOk};
+ghost use Rattle.std.specs.Prelude.{◌≡◌, ◌+◌, ◌≤◌, length, map, IfOk, OnOk};
 ghost use Rattle.calculus.specs.Bounds.{most_written_symbols};
 ghost use Rattle.trees.specs.Tree.{size, sizes, trees, node};
 ghost use Rattle.calculus.specs.Syntax as calculus;
@@ -13,12 +13,15 @@ ghost use Rattle.pi_tree.specs.Patterns.{expression_of};
 ghost use Rattle.pi_tree.specs.Events.{event_of};
 ghost use Rattle.scope_check.specs.Answer.{Gives, GivesWith};
 ghost use Rattle.scope_check.specs.Bound.{bound_of};
-ghost use Rattle.scope_check.specs.Names.{scope_of, IsReadyAt, meaning_of};
-ghost use Rattle.scope_check.specs.Terms.{setting_of, IsReadyIn, capped};
+ghost use Rattle.scope_check.specs.Names.{meaning_of};
+ghost use Rattle.scope_check.specs.Scope.{scope_of};
+ghost use Rattle.scope_check.specs.Terms.{setting_of, FindsSetting, capped};
+ghost use Rattle.scope_check.specs.Text.{AreFew};
 
-use crate::bound::Bound;
 use crate::leaves::{Setting, constructor, event_named, leaf, taking};
-use crate::names::{Meaning, Scope, look};
+use crate::names::{Meaning, look};
+use crate::place::Place;
+use crate::scope::Scope;
 use crate::stop::{Code, Stop};
 use pi_parser::{AtomSketch, TermSketch, TermsSketch};
 use pi_tree::{Atom, Expr, MOST_ARGUMENTS, MOST_WRITTEN_SYMBOLS, Term, Terms};
@@ -96,10 +99,12 @@ pub fn term(
     setting: &Setting,
     variables: &mut Vec<usize>,
 ) -> Result<(Term, u32), Stop>
-    requires { IsReadyIn scope.now setting.now }
+    requires finds { FindsSetting scope.now.text setting.now }
+    requires few { AreFew scope.now.text variables.old.items }
     ensures read { GivesWith (λ x. term_of x.0) result variables.new.items
         (rules.term (scope_of scope.now) (setting_of setting.now) variables.old.items
         (sketched.term_of sketch.now)) }
+    ensures few { OnOk result (AreFew scope.now.text variables.new.items) }
     ensures counted { IfOk result (λ x. x.1 ≡ capped (size (term_of x.0))) }
 {
     match sketch {
@@ -129,10 +134,12 @@ pub fn terms(
     setting: &Setting,
     variables: &mut Vec<usize>,
 ) -> Result<(Terms, u32), Stop>
-    requires { IsReadyIn scope.now setting.now }
+    requires finds { FindsSetting scope.now.text setting.now }
+    requires few { AreFew scope.now.text variables.old.items }
     ensures read { GivesWith (λ x. x.0) result variables.new.items
         (rules.terms (scope_of scope.now) (setting_of setting.now) variables.old.items
         (terms_sketch sketches.now)) }
+    ensures few { OnOk result (AreFew scope.now.text variables.new.items) }
     ensures counted { IfOk result (λ x. x.1 ≡ capped (sizes (trees x.0))) }
 {
     let mut items = Vec::new(alloc);
@@ -145,23 +152,17 @@ pub fn terms(
     Ok((Terms { items }, symbols))
 }
 
-/// A term of a process, where this is bound.
-pub fn process_term(
-    sketch: &TermSketch,
-    alloc: Global,
-    scope: &Scope,
-    bound: &Bound,
-) -> Result<Term, Stop>
-    requires { IsReadyAt scope.now bound.now }
-    ensures { Gives term_of result (rules.process_term (scope_of scope.now) (bound_of bound.now)
-        (sketched.term_of sketch.now)) }
+/// A term of a process, at this place.
+pub fn process_term(sketch: &TermSketch, alloc: Global, place: &Place) -> Result<Term, Stop>
+    ensures { Gives term_of result (rules.process_term (scope_of place.now.scope)
+        (bound_of place.now.bound.now) (sketched.term_of sketch.now)) }
 {
     let mut variables = Vec::new(alloc);
     let (read, _) = term(
         sketch,
         alloc,
-        scope,
-        &Setting::Process(bound),
+        &place.scope,
+        &Setting::Process(place.bound),
         &mut variables,
     )?;
     Ok(read)
@@ -184,18 +185,16 @@ fn bare(sketch: &TermSketch) -> &TermSketch
 fn call(
     sketches: &TermsSketch,
     alloc: Global,
-    scope: &Scope,
-    bound: &Bound,
+    place: &Place,
     token: usize,
     destructor: u32,
 ) -> Result<Expr, Stop>
-    requires { IsReadyAt scope.now bound.now }
-    ensures { Gives expression_of result (rules.call (scope_of scope.now) (bound_of bound.now) token
-        destructor (terms_sketch sketches.now)) }
+    ensures { Gives expression_of result (rules.call (scope_of place.now.scope)
+        (bound_of place.now.bound.now) token destructor (terms_sketch sketches.now)) }
 {
     let mut variables = Vec::new(alloc);
-    let setting = Setting::Process(bound);
-    let (arguments, symbols) = terms(sketches, alloc, scope, &setting, &mut variables)?;
+    let setting = Setting::Process(place.bound);
+    let (arguments, symbols) = terms(sketches, alloc, &place.scope, &setting, &mut variables)?;
     if plus(1, symbols) > MOST_WRITTEN_SYMBOLS {
         return Err(Stop::Fault(Code::TooMany, token));
     }
@@ -203,49 +202,36 @@ fn call(
 }
 
 /// A term as an expression.
-fn plain(sketch: &TermSketch, alloc: Global, scope: &Scope, bound: &Bound) -> Result<Expr, Stop>
-    requires { IsReadyAt scope.now bound.now }
-    ensures { Gives expression_of result (rules.plain (scope_of scope.now) (bound_of bound.now)
-        (sketched.term_of sketch.now)) }
+fn plain(sketch: &TermSketch, alloc: Global, place: &Place) -> Result<Expr, Stop>
+    ensures { Gives expression_of result (rules.plain (scope_of place.now.scope)
+        (bound_of place.now.bound.now) (sketched.term_of sketch.now)) }
 {
-    Ok(Expr::Term(process_term(sketch, alloc, scope, bound)?))
+    Ok(Expr::Term(process_term(sketch, alloc, place)?))
 }
 
 /// What a `let` evaluates, without the parentheses round it.
-fn expression_of(
-    sketch: &TermSketch,
-    alloc: Global,
-    scope: &Scope,
-    bound: &Bound,
-) -> Result<Expr, Stop>
-    requires { IsReadyAt scope.now bound.now }
-    ensures { Gives expression_of result (rules.expression_of (scope_of scope.now)
-        (bound_of bound.now) (sketched.term_of sketch.now)) }
+fn expression_of(sketch: &TermSketch, alloc: Global, place: &Place) -> Result<Expr, Stop>
+    ensures { Gives expression_of result (rules.expression_of (scope_of place.now.scope)
+        (bound_of place.now.bound.now) (sketched.term_of sketch.now)) }
 {
     if let TermSketch::Named(first, arguments) = sketch {
         let given = count_of(arguments);
         if given != 0 {
-            if let Some(Meaning::Destructor { number, arity }) = look(scope, *first) {
+            if let Some(Meaning::Destructor { number, arity }) = look(&place.scope, *first) {
                 let destructor = taking(*first, number, arity, given)?;
-                return call(arguments, alloc, scope, bound, *first, destructor);
+                return call(arguments, alloc, place, *first, destructor);
             }
         }
     }
-    plain(sketch, alloc, scope, bound)
+    plain(sketch, alloc, place)
 }
 
 /// What a `let` evaluates: a term, or a destructor of terms.
-pub fn expression(
-    sketch: &TermSketch,
-    alloc: Global,
-    scope: &Scope,
-    bound: &Bound,
-) -> Result<Expr, Stop>
-    requires { IsReadyAt scope.now bound.now }
-    ensures { Gives expression_of result (rules.expression (scope_of scope.now) (bound_of bound.now)
-        (sketched.term_of sketch.now)) }
+pub fn expression(sketch: &TermSketch, alloc: Global, place: &Place) -> Result<Expr, Stop>
+    ensures { Gives expression_of result (rules.expression (scope_of place.now.scope)
+        (bound_of place.now.bound.now) (sketched.term_of sketch.now)) }
 {
-    expression_of(bare(sketch), alloc, scope, bound)
+    expression_of(bare(sketch), alloc, place)
 }
 
 /// An event, and how many symbols it has with its own.
@@ -256,10 +242,12 @@ pub fn event(
     setting: &Setting,
     variables: &mut Vec<usize>,
 ) -> Result<(Atom, u32), Stop>
-    requires { IsReadyIn scope.now setting.now }
+    requires finds { FindsSetting scope.now.text setting.now }
+    requires few { AreFew scope.now.text variables.old.items }
     ensures read { GivesWith (λ x. event_of x.0) result variables.new.items
         (rules.event (scope_of scope.now) (setting_of setting.now) variables.old.items
         (sketched.atom_of sketch.now)) }
+    ensures few { OnOk result (AreFew scope.now.text variables.new.items) }
     ensures counted { IfOk result (λ x. x.1 ≡ capped (1 + sizes (trees x.0.args))) }
 {
     let event = event_named(scope, sketch.first, count_of(&sketch.arguments))?;

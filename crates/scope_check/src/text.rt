@@ -2,12 +2,13 @@
 
 ghost use Rattle.std.specs.Prelude.{◌≡◌, ◌≤◌, length};
 ghost use Rattle.protocol_tokens.specs.Token as own;
-ghost use Rattle.protocol_tokens.specs.Lexed.{Lexed};
 ghost use Rattle.protocol_scope.specs.Names as rules;
 ghost use Rattle.protocol_scope.specs.Spells.{texts, place_of};
 ghost use Rattle.pi_lexer.specs.Token.{token_of};
+ghost use Rattle.scope_check.specs.Text.{texts_of};
 
-use pi_lexer::{Token, Tokens};
+use crate::source::Text;
+use pi_lexer::Token;
 
 /// The bytes of a token.
 fn bytes_of(bytes: &[u8], token: Token) -> &[u8]
@@ -19,24 +20,32 @@ fn bytes_of(bytes: &[u8], token: Token) -> &[u8]
 }
 
 /// The text of a token, nothing where there is none of this number.
-pub fn text<'a>(bytes: &'a [u8], tokens: &Tokens, number: usize) -> &'a [u8]
-    requires { Lexed bytes.now tokens.now }
-    ensures { result.now ≡ texts bytes.now tokens.now number }
+pub fn text_of<'a>(whole: &Text<'a>, number: usize) -> &'a [u8]
+    ensures { result.now ≡ texts_of whole.now number }
 {
+    let tokens = whole.tokens;
     if number < tokens.items.len() {
-        bytes_of(bytes, tokens.items[number])
+        bytes_of(whole.source, tokens.items[number])
     } else {
         &[]
     }
 }
 
-/// Where a token stands; behind the last, at the end.
-pub fn place(bytes: &[u8], tokens: &Tokens, number: usize) -> usize
-    ensures { result ≡ place_of bytes.now tokens.now number }
+/// Whether two tokens have the same text.
+pub fn same_text(whole: &Text, one: usize, other: usize) -> bool
+    ensures { result ≡ rules.same_text (texts_of whole.now) one other }
 {
+    text_of(whole, one) == text_of(whole, other)
+}
+
+/// Where a token stands; behind the last, at the end.
+pub fn place(whole: &Text, number: usize) -> usize
+    ensures { result ≡ place_of whole.now.source.now whole.now.tokens.now number }
+{
+    let tokens = whole.tokens;
     if number < tokens.items.len() {
         tokens.items[number].from
     } else {
-        bytes.len()
+        whole.source.len()
     }
 }

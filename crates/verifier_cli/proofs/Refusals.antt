@@ -7,7 +7,7 @@ use Rattle.protocol_tokens.specs.Piece as piece
 use Rattle.protocol_tokens.specs.Lexed.{Lexed, Stops}
 use Rattle.protocol_tokens.specs.Laws.{Ascend}
 use Rattle.protocol_scope.specs.Answers as own
-use Rattle.protocol_scope.specs.Spells.{Refuses, Lexical, Scoped, IsFaultAt, place_of}
+use Rattle.protocol_scope.specs.Spells.{Refuses, Lexical, Scoped, place_of}
 use Rattle.pi_lexer.specs.declared.error.LexError.{LexError}
 use Rattle.pi_lexer.specs.declared.error.LexError.TheVariants as lex
 use Rattle.pi_lexer.specs.Answer as lexing
@@ -70,15 +70,16 @@ parse_refused law bytes tokens (parse.TooDeep place) fits lexed (n, refused, e) 
 parse_refused law bytes tokens (parse.Memory m) fits lexed h = tt
 
 -- sketches that the rules of scope refuse
-fault_refused : SpansAscend → (bytes : List ℕ) (code : own.Code) (place : ℕ) → length bytes ≤ 1048576 → IsFaultAt bytes code place → Refuses bytes (Scoped code) place × (place ≤ length bytes)
-fault_refused law bytes code place fits fault = ((fits, fault), place_within law bytes fault.tokens fault.token place fault.lexed fault.stands)
+fault_refused : SpansAscend → (bytes : List ℕ) (code : own.Code) (place : ℕ) → Refuses bytes (Scoped code) place → Refuses bytes (Scoped code) place × (place ≤ length bytes)
+fault_refused law bytes code place h = (h, place_within law bytes h.1.tokens h.1.token place h.1.lexed h.1.stands)
 
-pub scope_refused : SpansAscend → (bytes : List ℕ) (e : ScopeError) → length bytes ≤ 1048576 → scoping.IsRefusalOf bytes e → IsStopOf bytes (scope_stop e)
-scope_refused law bytes (scope.Unknown place) fits h = fault_refused law bytes own.Unknown place fits h
-scope_refused law bytes (scope.Twice place) fits h = fault_refused law bytes own.Twice place fits h
-scope_refused law bytes (scope.Arity place) fits h = fault_refused law bytes own.Arity place fits h
-scope_refused law bytes (scope.Kind place) fits h = fault_refused law bytes own.Kind place fits h
-scope_refused law bytes (scope.LooseVariable place) fits h = fault_refused law bytes own.LooseVariable place fits h
-scope_refused law bytes (scope.TooMany place) fits h = fault_refused law bytes own.TooMany place fits h
-scope_refused law bytes (scope.AmbiguousNew place) fits h = fault_refused law bytes own.AmbiguousNew place fits h
-scope_refused law bytes (scope.Memory m) fits h = tt
+pub scope_refused : SpansAscend → (bytes : List ℕ) (e : ScopeError) → scoping.IsRefusalOf bytes e → IsStopOf bytes (scope_stop e)
+scope_refused law bytes (scope.Unknown place) h = fault_refused law bytes own.Unknown place h
+scope_refused law bytes (scope.Twice place) h = fault_refused law bytes own.Twice place h
+scope_refused law bytes (scope.Arity place) h = fault_refused law bytes own.Arity place h
+scope_refused law bytes (scope.Kind place) h = fault_refused law bytes own.Kind place h
+scope_refused law bytes (scope.LooseVariable place) h = fault_refused law bytes own.LooseVariable place h
+scope_refused law bytes (scope.TooMany place) h = fault_refused law bytes own.TooMany place h
+scope_refused law bytes (scope.AmbiguousNew place) h = fault_refused law bytes own.AmbiguousNew place h
+scope_refused law bytes scope.LongFile h = (h, omega arith)
+scope_refused law bytes (scope.Memory m) h = tt

@@ -37,6 +37,7 @@ scope_stop (scope.Kind place) = stop.Refused code.Kind place
 scope_stop (scope.LooseVariable place) = stop.Refused code.LooseVariable place
 scope_stop (scope.TooMany place) = stop.Refused code.TooMany place
 scope_stop (scope.AmbiguousNew place) = stop.Refused code.AmbiguousNew place
+scope_stop scope.LongFile = stop.Refused code.LongFile 0
 scope_stop (scope.Memory e) = stop.Memory
 
 -- the bytes are refused so, at one of them or at their end; want of memory says nothing of them

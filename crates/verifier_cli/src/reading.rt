@@ -67,6 +67,7 @@ impl From<ScopeError> for Stop {
             ScopeError::LooseVariable(place) => Stop::Refused(ProtocolCode::LooseVariable, place),
             ScopeError::TooMany(place) => Stop::Refused(ProtocolCode::TooMany, place),
             ScopeError::AmbiguousNew(place) => Stop::Refused(ProtocolCode::AmbiguousNew, place),
+            ScopeError::LongFile => Stop::Refused(ProtocolCode::LongFile, 0),
             ScopeError::Memory(_) => Stop::Memory,
         }
     }
@@ -86,8 +87,7 @@ fn read_sketch(alloc: Global, bytes: &[u8]) -> Result<Sketch, Stop>
 
 /// The protocol that the sketch of these bytes stands for, or why it is refused and at which byte.
 fn scoped(alloc: Global, bytes: &[u8], sketch: &Sketch) -> Result<Protocol, Stop>
-    requires few { length bytes.now ≤ most_bytes }
-    requires sketched { IsSketchOf bytes.now (file_of sketch.now) }
+    requires { IsSketchOf bytes.now (file_of sketch.now) }
     ensures spelled { IfOk result (λ protocol. Spells bytes.now (protocol_of protocol)) }
     ensures refused { IfErr result (λ stop. IsStopOf bytes.now stop) }
 {

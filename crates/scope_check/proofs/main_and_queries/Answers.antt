@@ -1,10 +1,10 @@
 -- The main process has few points.
-use Rattle.protocol_scope.specs.Spells.{texts}
+use Rattle.scope_check.specs.Text.{texts_of}
 use Rattle.pi_parser.specs.Files.{file_of}
 use Rattle.pi_tree.specs.Processes.{process_of}
 use Rattle.scope_check.specs.Names.{names_of}
 use Rattle.scope_check.proofs.main_and_queries.Goals as goal
 
-pub queries-requires-clause-few : goal.queries-requires-clause-few
-queries-requires-clause-few c =
-    c.main_process_points.ensures (record { text = texts c.args.source.now c.args.tokens.now; names = names_of c.args.names.now }) (file_of c.args.sketch.now).main (process_of c.in_ok-main.main) c.in_ok-main.ensures
+pub queries-requires : goal.queries-requires
+queries-requires c =
+    c.main_process_points.ensures (record { text = texts_of c.args.whole.now; names = names_of c.args.names.now }) (file_of c.args.sketch.now).main (process_of c.in_ok-main.main) c.in_ok-main.ensures

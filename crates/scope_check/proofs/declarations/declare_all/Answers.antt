@@ -2,13 +2,13 @@
 use Rattle.std.proofs.Common.{map, ap}
 use Rattle.protocol_scope.specs.Names as own
 use Rattle.protocol_scope.specs.Declarations.{declare_all}
-use Rattle.protocol_scope.specs.Spells.{texts}
+use Rattle.scope_check.specs.Text.{texts_of}
 use Rattle.pi_parser.specs.Files.{declaration_of}
 use Rattle.scope_check.proofs.declarations.declare_all.Goals as goal
 
 pub loop-declaration-init : goal.loop-declaration-init
 loop-declaration-init c =
-    let text = texts c.args.source.now c.args.tokens.now in
+    let text = texts_of c.args.whole.now in
     record {
       rest = ap (λ (names : own.Names). declare_all text names (map declaration_of c.args.declarations.now)) c.new-names.ensures.none;
       kept = c.new-names.ensures.kept text;

@@ -2,13 +2,13 @@
 use Rattle.std.proofs.Common.{◌≡◌, map, drop}
 use Rattle.protocol_scope.specs.Names.{no_names}
 use Rattle.protocol_scope.specs.Declarations.{declare_all}
-use Rattle.protocol_scope.specs.Spells.{texts}
+use Rattle.scope_check.specs.Text.{texts_of}
 use Rattle.pi_parser.specs.Files.{declaration_of}
 use Rattle.scope_check.specs.Names.{names_of, IsKept}
 use Rattle.scope_check.proofs.declarations.declare_all.Given as goal
 
 abbrev pub invariant-loop-declaration : goal.invariant-loop-declaration
 invariant-loop-declaration l = record {
-  rest : declare_all (texts l.source l.tokens) (names_of l.names) (map declaration_of (drop l.declaration-index l.declarations)) ≡ declare_all (texts l.source l.tokens) no_names (map declaration_of l.declarations);
-  kept : IsKept (texts l.source l.tokens) l.names;
+  rest : declare_all (texts_of l.whole) (names_of l.names) (map declaration_of (drop l.declaration-index l.declarations)) ≡ declare_all (texts_of l.whole) no_names (map declaration_of l.declarations);
+  kept : IsKept (texts_of l.whole) l.names;
 }

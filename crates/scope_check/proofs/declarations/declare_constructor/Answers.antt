@@ -1,12 +1,12 @@
 -- The word was not declared before.
 use Rattle.std.proofs.Common.{ap, ◌∙◌}
 use Rattle.protocol_scope.specs.Names as own
-use Rattle.protocol_scope.specs.Spells.{texts}
+use Rattle.scope_check.specs.Text.{texts_of}
 use Rattle.scope_check.specs.Names.{names_of}
 use Rattle.scope_check.proofs.declarations.declare_constructor.Goals as goal
 
 pub returns-clause-kept : goal.returns-clause-kept
 returns-clause-kept c =
     let new = c.in_ok-found.ensures.new in
-    let text = texts c.args.source.now c.args.tokens.now in
-    c.in_ok-add_constructor.ensures.kept text c.requires.kept (ap (own.meaning_of text (names_of c.args.names.now)) new.spelled ∙ new.fresh)
+    let text = texts_of c.args.whole.now in
+    c.in_ok-add_constructor.ensures.kept text c.requires (ap (own.meaning_of text (names_of c.args.names.now)) new.spelled ∙ new.fresh)

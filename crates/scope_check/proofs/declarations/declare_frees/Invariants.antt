@@ -1,12 +1,12 @@
 -- the names so far and those from here on are all of them
 use Rattle.std.proofs.Common.{◌≡◌, drop}
 use Rattle.protocol_scope.specs.Declarations.{declare_frees}
-use Rattle.protocol_scope.specs.Spells.{texts}
+use Rattle.scope_check.specs.Text.{texts_of}
 use Rattle.scope_check.specs.Names.{names_of, IsKept}
 use Rattle.scope_check.proofs.declarations.declare_frees.Given as goal
 
 abbrev pub invariant-loop-name : goal.invariant-loop-name
 invariant-loop-name l = record {
-  rest : declare_frees (texts l.source l.tokens) (names_of l.names) l.public (drop l.name-index l.items) ≡ declare_frees (texts l.source l.tokens) (names_of l.initial.names) l.public l.items;
-  kept : IsKept (texts l.source l.tokens) l.names;
+  rest : declare_frees (texts_of l.whole) (names_of l.names) l.public (drop l.name-index l.items) ≡ declare_frees (texts_of l.whole) (names_of l.initial.names) l.public l.items;
+  kept : IsKept (texts_of l.whole) l.names;
 }

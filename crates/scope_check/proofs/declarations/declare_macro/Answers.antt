@@ -1,8 +1,8 @@
 -- The table finds the names with one more.
-use Rattle.std.proofs.Common.{rules, refl, ◌≡◌, ◌∙◌, ap, map}
+use Rattle.std.proofs.Common.{refl, ◌∙◌, ap, map}
 use Rattle.std.proofs.lemmas.List.{map-append}
 use Rattle.protocol_scope.specs.Names as own
-use Rattle.protocol_scope.specs.Spells.{texts}
+use Rattle.scope_check.specs.Text.{texts_of}
 use Rattle.protocol_scope.specs.Declarations.{with_macro}
 use Rattle.pi_parser.specs.Processes.{process_of}
 use Rattle.scope_check.specs.declared.names.Meaning.TheVariants.{Macro}
@@ -13,10 +13,10 @@ use Rattle.scope_check.proofs.declarations.declare_macro.Goals as goal
 pub returns-clause-kept : goal.returns-clause-kept
 returns-clause-kept c =
     let new = c.in_ok-new_name.ensures.new in
-    let text = texts c.args.source.now c.args.tokens.now in
+    let text = texts_of c.args.whole.now in
     let names = names_of c.args.names.now in
     let m : own.Macro = record { name = c.args.name; body = process_of c.args.body.now } in
     kept_more text c.args.names.now _ (with_macro names m) (text c.args.name) c.in_ok-spelled.spelled.items Macro _
     (one_more_macro names _ m (ap (map macro_of) c.in_ok-push.ensures.items ∙ map-append macro_of c.args.names.now.macros.items _)) new.few
-    (c.in_ok-spelled.ensures.items ∙ c.text.ensures) refl c.in_ok-insert.ensures.updates c.requires.kept
+    (c.in_ok-spelled.ensures.items ∙ c.text_of.ensures) refl c.in_ok-insert.ensures.updates c.requires
     (adds_macro text names m new.fresh)

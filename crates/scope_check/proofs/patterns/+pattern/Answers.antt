@@ -1,13 +1,13 @@
 -- One more pattern is read.
 use Rattle.std.proofs.Common.{map}
 use Rattle.scope_check.specs.Bound.{binding_of, bound_of}
-use Rattle.scope_check.specs.Names.{scope_of}
+use Rattle.scope_check.specs.Scope.{scope_of}
 use Rattle.scope_check.proofs.Rows.{one_pattern_more}
 use Rattle.scope_check.proofs.patterns.+pattern.Goals as goal
 
 pub patterns-loop-sketch-preserved : goal.patterns-loop-sketch-preserved
 patterns-loop-sketch-preserved t c = record {
   finds = c.in_ok-item.ensures.finds;
-  rest = one_pattern_more (scope_of c.args.scope.now) (bound_of c.args.outer.now) c.args.first (map binding_of c.loop-sketch.found.items.items) (map binding_of c.pattern.new.found.items.items) c.deref-sketch-items.result.now c.loop-sketch.sketch-index
+  rest = one_pattern_more (scope_of c.args.place.now.scope) (bound_of c.args.place.now.bound.now) c.args.first (map binding_of c.loop-sketch.found.items.items) (map binding_of c.pattern.new.found.items.items) c.deref-sketch-items.result.now c.loop-sketch.sketch-index
       c.sketch-item.result c.loop-sketch.items.items c.push.new.self.items c.in_ok-item.item _ c.loop-sketch-test.true c.sketch-item.is c.in_ok-push.ensures.items c.in_ok-item.ensures.read c.loop-sketch.invariant.rest;
 }

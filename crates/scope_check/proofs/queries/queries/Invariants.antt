@@ -4,7 +4,7 @@ use Rattle.protocol_scope.specs.Queries as rules
 use Rattle.pi_parser.specs.Files.{declaration_of}
 use Rattle.pi_tree.specs.Processes.{process_of}
 use Rattle.pi_tree.specs.Queries.{query_of}
-use Rattle.scope_check.specs.Names.{scope_of}
+use Rattle.scope_check.specs.Scope.{scope_of}
 use Rattle.scope_check.proofs.Steps.{joined}
 use Rattle.scope_check.proofs.queries.queries.Given as goal
 

@@ -1,11 +1,12 @@
 -- One more term is read.
-use Rattle.scope_check.specs.Names.{scope_of}
+use Rattle.scope_check.specs.Scope.{scope_of}
 use Rattle.scope_check.specs.Terms.{setting_of}
 use Rattle.scope_check.proofs.Rows.{one_term_more, counted_more}
 use Rattle.scope_check.proofs.terms.+term.Goals as goal
 
 pub terms-loop-sketch-preserved : goal.terms-loop-sketch-preserved
 terms-loop-sketch-preserved t c = record {
+  few = c.in_ok-item.ensures.few;
   rest = one_term_more (scope_of c.args.scope.now) (setting_of c.args.setting.now) c.loop-sketch.variables.items c.term.new.variables.items c.deref-sketch-items.result.now c.loop-sketch.sketch-index c.sketch-item.result
       c.loop-sketch.items.items c.push.new.self.items c.in_ok-item.item _ c.loop-sketch-test.true c.sketch-item.is c.in_ok-push.ensures.items c.in_ok-item.ensures.read c.loop-sketch.invariant.rest;
   counted = counted_more c.loop-sketch.items.items c.push.new.self.items c.in_ok-item.item c.loop-sketch.symbols c.in_ok-item.more c.plus-symbols.result
