@@ -1,5 +1,5 @@
 -- Variables, and what a pattern binds, are no more than the tokens, since each has a text of its own.
-use Rattle.std.proofs.Common.{◌≡◌, ℕ, zero, suc, ◌+◌, ◌<◌, ◌≤◌, Bool, true, false, if◌then◌else◌, ◌||◌, List, [], ◌∷◌, ◌++◌, length, map, Option, Some, None, option_map, bytes_eq, nat_eq, ◌⊎◌, inl, inr, refl, sym, ap, subst, ◌∙◌, arith, length-append}
+use Rattle.std.proofs.Common.{◌≡◌, ℕ, zero, suc, ◌+◌, ◌<◌, ◌≤◌, Bool, true, false, if◌then◌else◌, ◌||◌, List, [], ◌∷◌, ◌++◌, length, map, Some, None, bytes_eq, nat_eq, ◌⊎◌, inl, inr, refl, sym, ap, subst, ◌∙◌, arith, length-append}
 use Rattle.std.proofs.lemmas.List.{map-append}
 use Rattle.std.proofs.lemmas.Bool.{cases_lt, false≢true, eqb-true, eqb-false}
 use Rattle.std.proofs.Math.Bool.{or-true}
@@ -10,7 +10,10 @@ use Rattle.protocol_scope.specs.Spells.{texts}
 use Rattle.scope_check.specs.declared.bound.Binding.{Binding}
 use Rattle.scope_check.specs.declared.bound.Bindings.{Bindings}
 use Rattle.scope_check.specs.declared.source.Text.{Text}
+use Rattle.scope_check.specs.declared.variables.Variables.{Variables}
+use Rattle.scope_check.specs.Variables.{FindsVariables}
 use Rattle.scope_check.specs.Bound.{binding_of, name_of, FindsBindings}
+use Rattle.scope_check.proofs.Found.{unmapped}
 use Rattle.scope_check.specs.Within.{most_bound}
 use Rattle.scope_check.specs.Text.{texts_of, is_among, passing, AreFew}
 
@@ -101,8 +104,8 @@ few_more t ns n few fresh = by_place (cases_lt n (length t.tokens.now))
 few_tokens : (t : Text) (ns : List ℕ) → AreFew t ns → length ns ≤ most_bound
 few_tokens t ns few = omega (arith, few, passing_few (is_among (texts_of t) ns) (length t.tokens.now + 1), t.few)
 
-pub few_variables : (t : Text) (variables : List ℕ) → AreFew t variables → length variables ≤ most_bound
-few_variables t variables few = few_tokens t variables few
+pub few_variables : (t : Text) (v : Variables) → FindsVariables t v → length v.items.items ≤ most_bound
+few_variables t v found = few_tokens t v.items.items found.few
 
 -- the number of a variable that is spelled as none of these is none
 find_none : (text : Texts) (variables : List ℕ) (k n : ℕ) → find_from text k variables (text n) ≡ None → is_among text variables n ≡ false
@@ -114,14 +117,10 @@ find_none text (m ∷ ms) k n h = by_test (same_text text m n) refl (find_none t
     by_test false e further =
         ap (λ b. b || is_among text ms n) e ∙ further (ap (λ b. if b then Some (k, m) else find_from text (k + 1) ms (text n)) (sym e) ∙ h)
 
-mapped_none : {A B : Type 0} (f : A → B) (o : Option A) → option_map f o ≡ None → o ≡ None
-mapped_none f None h = refl
-mapped_none f (Some x) h = absurd (let both : Some (f x) ≡ None = h in cc)
-
 -- one variable more
 pub variables_more : (t : Text) (variables now : List ℕ) (n : ℕ) → now ≡ variables ++ n ∷ [] → variable_of (texts_of t) variables n ≡ None → AreFew t variables → AreFew t now
 variables_more t variables now n pushed fresh few =
-    subst (AreFew t) (sym pushed) (few_more t variables n few (find_none (texts_of t) variables 1 n (mapped_none (λ found. found.0) (find_from (texts_of t) 1 variables (texts_of t n)) fresh)))
+    subst (AreFew t) (sym pushed) (few_more t variables n few (find_none (texts_of t) variables 1 n (unmapped (λ found. found.0) (find_from (texts_of t) 1 variables (texts_of t n)) fresh)))
 
 bound_none : (text : Texts) (bindings : List Binding) (n : ℕ) → bound_as text (map binding_of bindings) n ≡ None → is_among text (map (λ b. b.token) bindings) n ≡ false
 bound_none text [] n h = refl

@@ -1,5 +1,5 @@
 -- One name more, in the lists and in the table that finds them.
-use Rattle.std.proofs.Common.{◌≡◌, ℕ, ◌+◌, ◌≤◌, Bool, true, false, cond, if◌then◌else◌, List, [], ◌∷◌, ◌++◌, length, Option, Some, None, option_map, bytes_eq, refl, sym, ap, subst, ◌∙◌, arith}
+use Rattle.std.proofs.Common.{◌≡◌, ℕ, ◌+◌, ◌≤◌, Bool, true, false, cond, List, [], ◌∷◌, ◌++◌, length, Option, Some, None, option_map, bytes_eq, refl, sym, ap, subst, ◌∙◌, arith}
 use Rattle.std.specs.Option.{option_or}
 use Rattle.std.proofs.lemmas.List.{length-append}
 use Rattle.std.specs.Cmp.Lexicographic.{bytes_decides}
@@ -8,6 +8,7 @@ use Rattle.std.specs.declared.hash.BuildHasherDefault.{BuildHasherDefault}
 use Rattle.std.specs.declared.hash.FoldHasher.{FoldHasher}
 use Rattle.std.specs.Global.{Vec}
 use Rattle.scope_check.proofs.Texts.{updates_text}
+use Rattle.scope_check.proofs.Found.{none_some, missed, hit, unmapped}
 use Rattle.calculus.specs.Bounds.{most_names}
 use Rattle.calculus.specs.Syntax.{Declared, Destructor}
 use Rattle.protocol_scope.specs.Names as own
@@ -52,29 +53,6 @@ one_more_event names ds d h = ap (events_are names) h
 pub one_more_macro : (names : own.Names) (ms : List own.Macro) (m : own.Macro) → ms ≡ names.macros ++ m ∷ [] → macros_are names ms ≡ with_macro names m
 one_more_macro names ms m h = ap (macros_are names) h
 
--- nothing where there is none
-none_some : {A : Type 0} {x : A} → Some x ≡ None → ⊥
-none_some h = cc
-
--- one item more, of another word
-missed : {X : Type 0} (word_of : X → List ℕ) (number : ℕ) (xs : List X) (x : X) (word : List ℕ) → bytes_eq (word_of x) word ≡ false
-    → find_from word_of number (xs ++ x ∷ []) word ≡ find_from word_of number xs word
-missed word_of number [] x word e = ap (λ b. if b then Some (number, x) else None) e
-missed word_of number (y ∷ ys) x word e = ap (λ found. if bytes_eq (word_of y) word then Some (number, y) else found) (missed word_of (number + 1) ys x word e)
-
-passed : {X : Type 0} (b : Bool) (y : X) (rest : Option X) → (if b then Some y else rest) ≡ None → (b ≡ false) × (rest ≡ None)
-passed true y rest h = absurd (none_some h)
-passed false y rest h = (refl, h)
-
--- one item more, of this word, which none had
-hit : {X : Type 0} (word_of : X → List ℕ) (number : ℕ) (xs : List X) (x : X) (word : List ℕ) → bytes_eq (word_of x) word ≡ true
-    → find_from word_of number xs word ≡ None → find_from word_of number (xs ++ x ∷ []) word ≡ Some (number + length xs, x)
-hit word_of number [] x word e none = ap (λ b. if b then Some (number, x) else None) e ∙ ap (λ (n : ℕ). Some (n, x)) (omega arith)
-hit word_of number (y ∷ ys) x word e none =
-    let p = passed (bytes_eq (word_of y) word) (number, y) (find_from word_of (number + 1) ys word) none in
-    ap (λ b. if b then Some (number, y) else find_from word_of (number + 1) (ys ++ x ∷ []) word) p.0
-    ∙ (hit word_of (number + 1) ys x word e p.1 ∙ ap (λ (n : ℕ). Some (n, x)) (omega arith))
-
 -- what a word means, by what is found of each kind
 abbrev chain : (a b c d e : Option own.Meaning) → Option own.Meaning
 chain a b c d e = option_or (option_or a (option_or b (option_or c d))) e
@@ -93,10 +71,6 @@ all_none None None (Some x) d e h = absurd (none_some h)
 all_none None None None (Some x) e h = absurd (none_some h)
 all_none None None None None (Some x) h = absurd (none_some h)
 all_none None None None None None h = record { first = refl; second = refl; third = refl; fourth = refl; fifth = refl }
-
-unmapped : {A B : Type 0} (f : A → B) (o : Option A) → option_map f o ≡ None → o ≡ None
-unmapped f None h = refl
-unmapped f (Some x) h = absurd (none_some h)
 
 -- what is found of each kind
 abbrev frees_at : own.Names → List ℕ → Option own.Meaning

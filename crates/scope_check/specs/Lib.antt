@@ -7,6 +7,7 @@ pub mod Names
 pub mod Scope
 pub mod Bound
 pub mod BoundProps
+pub mod Variables
 pub mod Terms
 pub mod Numbers
 pub mod Forms

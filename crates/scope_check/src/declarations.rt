@@ -20,6 +20,7 @@ use crate::source::Text;
 use crate::stop::{Code, Stop};
 use crate::terms::{count_of as count_of_terms, plus, term, terms};
 use crate::text::{same_text, text_of};
+use crate::variables::Variables;
 use pi_parser::{DeclarationSketch, ProcessSketch, RuleSketch};
 use pi_tree::{
     Declared, Dtor, MOST_ARGUMENTS, MOST_NAMES, MOST_RULES, MOST_WRITTEN_SYMBOLS, Rule, Rules, Word,
@@ -154,7 +155,7 @@ fn event(alloc: Global, scope: &Scope, name: usize, size: usize) -> Result<Decla
 fn rule(alloc: Global, scope: &Scope, sketch: &RuleSketch) -> Result<Rule, Stop>
     ensures { Gives rule_of result (rules.rule (scope_of scope.now) (sketched.rule_of sketch.now)) }
 {
-    let mut variables = Vec::new(alloc);
+    let mut variables = Variables::new(alloc);
     let (left, of_left) = terms(
         &sketch.arguments,
         alloc,

@@ -7,17 +7,17 @@ ghost use Rattle.pi_tree.specs.Terms.{term_of};
 ghost use Rattle.scope_check.specs.Answer.{Gives, GivesWith};
 ghost use Rattle.scope_check.specs.Bound.{bound_of, FindsBound};
 ghost use Rattle.scope_check.specs.Names.{meaning_of};
-ghost use Rattle.scope_check.specs.Within.{most_bound};
 ghost use Rattle.scope_check.specs.Scope.{scope_of};
 ghost use Rattle.scope_check.specs.Terms.{setting_of, FindsSetting};
-ghost use Rattle.scope_check.specs.Text.{texts_of, AreFew};
+ghost use Rattle.scope_check.specs.Text.{texts_of};
+ghost use Rattle.scope_check.specs.Variables.{FindsVariables};
 
 use crate::bound::{Bound, BoundName, bound_as};
 use crate::names::{Meaning, look};
 use crate::scope::Scope;
 use crate::source::Text;
 use crate::stop::{Code, Stop};
-use crate::text::same_text;
+use crate::variables::{Variables, add_variable, count_of, variable_of};
 use pi_tree::{Term, Terms};
 use std::alloc::Global;
 
@@ -65,54 +65,37 @@ fn declared_leaf(alloc: Global, token: usize, meaning: Meaning) -> Result<Term, 
     }
 }
 
-/// How many variables these are: no more than the tokens, and one.
-#[tactic(auto, using(crate::proofs::Few::few_variables))]
-fn count_of(whole: &Text, variables: &[usize]) -> u32
-    requires { AreFew whole.now variables.now }
-    ensures count { result ≡ length variables.now }
-    ensures few { result ≤ most_bound }
-{
-    variables.len() as u32
-}
-
-/// The number of the variable that is spelled so, from 1.
-#[tactic(auto, using(crate::proofs::Few::few_variables))]
-fn variable_of(whole: &Text, variables: &[usize], token: usize) -> Option<u32>
-    requires { AreFew whole.now variables.now }
-    ensures { result ≡ naming.variable_of (texts_of whole.now) variables.now token }
-{
-    for (at, variable) in variables.iter().enumerate() {
-        if same_text(whole, *variable, token) {
-            return Some(at as u32 + 1);
-        }
-    }
-    None
-}
-
 /// A variable of a rule or query, new where it stands first.
-fn variable(whole: &Text, variables: &mut Vec<usize>, token: usize) -> Result<Term, Stop>
-    requires { AreFew whole.now variables.old.items }
-    ensures read { GivesWith term_of result variables.new.items
-        (rules.variable_by (naming.variable_of (texts_of whole.now) variables.old.items token)
-        variables.old.items token) }
-    ensures few { OnOk result (AreFew whole.now variables.new.items) }
+fn variable(
+    whole: &Text,
+    alloc: Global,
+    variables: &mut Variables,
+    token: usize,
+) -> Result<Term, Stop>
+    requires { FindsVariables whole.now variables.old }
+    ensures read { GivesWith term_of result variables.new.items.items
+        (rules.variable_by
+        (naming.variable_of (texts_of whole.now) variables.old.items.items token)
+        variables.old.items.items token) }
+    ensures known { OnOk result (FindsVariables whole.now variables.new) }
 {
     match variable_of(whole, variables, token) {
         Some(number) => Ok(Term::Var(number)),
         None => {
             let number = count_of(whole, variables) + 1;
-            variables.push(token)?;
+            add_variable(variables, alloc, whole, token, number)?;
             Ok(Term::Var(number))
         }
     }
 }
 
 /// A variable on the right of a rule, which stands on its left.
-fn known_variable(whole: &Text, variables: &[usize], token: usize) -> Result<Term, Stop>
-    requires { AreFew whole.now variables.now }
-    ensures { GivesWith term_of result variables.now
-        (rules.known_variable (naming.variable_of (texts_of whole.now) variables.now token)
-        variables.now token) }
+fn known_variable(whole: &Text, variables: &Variables, token: usize) -> Result<Term, Stop>
+    requires { FindsVariables whole.now variables.now }
+    ensures { GivesWith term_of result variables.now.items.items
+        (rules.known_variable
+        (naming.variable_of (texts_of whole.now) variables.now.items.items token)
+        variables.now.items.items token) }
 {
     match variable_of(whole, variables, token) {
         Some(number) => Ok(Term::Var(number)),
@@ -154,20 +137,20 @@ pub fn leaf(
     scope: &Scope,
     alloc: Global,
     setting: &Setting,
-    variables: &mut Vec<usize>,
+    variables: &mut Variables,
     token: usize,
 ) -> Result<Term, Stop>
     requires finds { FindsSetting scope.now.text setting.now }
-    requires few { AreFew scope.now.text variables.old.items }
-    ensures read { GivesWith term_of result variables.new.items
-        (rules.leaf (scope_of scope.now) (setting_of setting.now) variables.old.items token) }
-    ensures few { OnOk result (AreFew scope.now.text variables.new.items) }
+    requires known { FindsVariables scope.now.text variables.old }
+    ensures read { GivesWith term_of result variables.new.items.items
+        (rules.leaf (scope_of scope.now) (setting_of setting.now) variables.old.items.items token) }
+    ensures known { OnOk result (FindsVariables scope.now.text variables.new) }
 {
     match setting {
         Setting::Process(bound) => process_leaf(scope, alloc, bound, token),
         Setting::Left => match constant_of(look(scope, token)) {
             Some(number) => Ok(constant(alloc, number)),
-            None => variable(&scope.text, variables, token),
+            None => variable(&scope.text, alloc, variables, token),
         },
         Setting::Right => match constant_of(look(scope, token)) {
             Some(number) => Ok(constant(alloc, number)),
@@ -175,7 +158,7 @@ pub fn leaf(
         },
         Setting::Event => match look(scope, token) {
             Some(meaning) => declared_leaf(alloc, token, meaning),
-            None => variable(&scope.text, variables, token),
+            None => variable(&scope.text, alloc, variables, token),
         },
     }
 }

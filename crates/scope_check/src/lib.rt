@@ -41,6 +41,7 @@ mod source;
 mod stop;
 mod terms;
 mod text;
+mod variables;
 
 use crate::declarations::declare_all;
 pub use crate::error::ScopeError;

@@ -25,6 +25,7 @@ use crate::source::Text;
 use crate::stop::Stop;
 use crate::terms::{event, expression, process_term};
 use crate::text::text_of;
+use crate::variables::Variables;
 use pi_parser::{AtomSketch, NextSketch, PatternSketch, ProcessSketch, TermSketch, UnitSketch};
 use pi_tree::{Expr, Pat, Process, Word};
 use std::alloc::Global;
@@ -240,7 +241,7 @@ fn happening(
         (own.Happens first (terms_seen.atom_of atom.now) (sketched.next_of next.now))) }
 {
     let after = reached(site, first)?;
-    let mut variables = Vec::new(site.alloc);
+    let mut variables = Variables::new(site.alloc);
     let setting = Setting::Process(site.place.bound);
     let (performed, _) = event(
         atom,

@@ -12,7 +12,7 @@ ghost use Rattle.pi_tree.specs.Queries.{query_of};
 ghost use Rattle.scope_check.specs.Answer.{Gives, GivesWith};
 ghost use Rattle.scope_check.specs.Restrictions.{summary};
 ghost use Rattle.scope_check.specs.Scope.{scope_of};
-ghost use Rattle.scope_check.specs.Text.{AreFew};
+ghost use Rattle.scope_check.specs.Variables.{FindsVariables};
 
 use crate::bound::Bound;
 use crate::leaves::Setting;
@@ -21,6 +21,7 @@ use crate::scope::Scope;
 use crate::stop::{Code, Stop};
 use crate::terms::{event, process_term};
 use crate::text::text_of;
+use crate::variables::Variables;
 use pi_parser::{AlternativeSketch, AtomSketch, DeclarationSketch, QuerySketch};
 use pi_tree::{
     Alternatives, Atom, Atoms, MOST_ALTERNATIVES, MOST_EVENTS, MOST_QUERIES, MOST_WRITTEN_SYMBOLS,
@@ -98,12 +99,12 @@ fn asked_event(
     sketch: &AtomSketch,
     alloc: Global,
     scope: &Scope,
-    variables: &mut Vec<usize>,
+    variables: &mut Variables,
 ) -> Result<Atom, Stop>
-    requires { AreFew scope.now.text variables.old.items }
-    ensures read { GivesWith event_of result variables.new.items
-        (rules.asked_event (scope_of scope.now) variables.old.items (sketched.atom_of sketch.now)) }
-    ensures few { OnOk result (AreFew scope.now.text variables.new.items) }
+    requires { FindsVariables scope.now.text variables.old }
+    ensures read { GivesWith event_of result variables.new.items.items
+        (rules.asked_event (scope_of scope.now) variables.old.items.items (sketched.atom_of sketch.now)) }
+    ensures known { OnOk result (FindsVariables scope.now.text variables.new) }
 {
     let (read, symbols) = event(sketch, alloc, scope, &Setting::Event, variables)?;
     if symbols > MOST_WRITTEN_SYMBOLS {
@@ -117,13 +118,13 @@ fn alternative(
     sketch: &AlternativeSketch,
     alloc: Global,
     scope: &Scope,
-    variables: &mut Vec<usize>,
+    variables: &mut Variables,
 ) -> Result<Atoms, Stop>
-    requires { AreFew scope.now.text variables.old.items }
-    ensures read { GivesWith (λ events. events) result variables.new.items
-        (rules.alternative (scope_of scope.now) variables.old.items
+    requires { FindsVariables scope.now.text variables.old }
+    ensures read { GivesWith (λ events. events) result variables.new.items.items
+        (rules.alternative (scope_of scope.now) variables.old.items.items
         (files.alternative_of sketch.now)) }
-    ensures few { OnOk result (AreFew scope.now.text variables.new.items) }
+    ensures known { OnOk result (FindsVariables scope.now.text variables.new) }
 {
     let mut items = Vec::new(alloc);
     items.push(asked_event(&sketch.atom, alloc, scope, variables)?)?;
@@ -141,13 +142,13 @@ fn alternatives(
     sketches: &[AlternativeSketch],
     alloc: Global,
     scope: &Scope,
-    variables: &mut Vec<usize>,
+    variables: &mut Variables,
 ) -> Result<Alternatives, Stop>
-    requires { AreFew scope.now.text variables.old.items }
-    ensures read { GivesWith (λ found. found) result variables.new.items
-        (rules.alternatives (scope_of scope.now) variables.old.items
+    requires { FindsVariables scope.now.text variables.old }
+    ensures read { GivesWith (λ found. found) result variables.new.items.items
+        (rules.alternatives (scope_of scope.now) variables.old.items.items
         (map files.alternative_of sketches.now)) }
-    ensures few { OnOk result (AreFew scope.now.text variables.new.items) }
+    ensures known { OnOk result (FindsVariables scope.now.text variables.new) }
 {
     let mut items = Vec::new(alloc);
     for sketch in sketches {
@@ -179,7 +180,7 @@ fn question(
             Ok(Query::Secret(message))
         }
         QuerySketch::Correspondence(_, atom, others) => {
-            let mut variables = Vec::new(alloc);
+            let mut variables = Variables::new(alloc);
             let left = asked_event(atom, alloc, scope, &mut variables)?;
             let alternatives = alternatives(others, alloc, scope, &mut variables)?;
             if others.len() > MOST_ALTERNATIVES {

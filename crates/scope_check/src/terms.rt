@@ -16,13 +16,14 @@ ghost use Rattle.scope_check.specs.Bound.{bound_of};
 ghost use Rattle.scope_check.specs.Names.{meaning_of};
 ghost use Rattle.scope_check.specs.Scope.{scope_of};
 ghost use Rattle.scope_check.specs.Terms.{setting_of, FindsSetting, capped};
-ghost use Rattle.scope_check.specs.Text.{AreFew};
+ghost use Rattle.scope_check.specs.Variables.{FindsVariables};
 
 use crate::leaves::{Setting, constructor, event_named, leaf, taking};
 use crate::names::{Meaning, look};
 use crate::place::Place;
 use crate::scope::Scope;
 use crate::stop::{Code, Stop};
+use crate::variables::Variables;
 use pi_parser::{AtomSketch, TermSketch, TermsSketch};
 use pi_tree::{Atom, Expr, MOST_ARGUMENTS, MOST_WRITTEN_SYMBOLS, Term, Terms};
 use std::alloc::Global;
@@ -97,14 +98,14 @@ pub fn term(
     alloc: Global,
     scope: &Scope,
     setting: &Setting,
-    variables: &mut Vec<usize>,
+    variables: &mut Variables,
 ) -> Result<(Term, u32), Stop>
     requires finds { FindsSetting scope.now.text setting.now }
-    requires few { AreFew scope.now.text variables.old.items }
-    ensures read { GivesWith (λ x. term_of x.0) result variables.new.items
-        (rules.term (scope_of scope.now) (setting_of setting.now) variables.old.items
+    requires known { FindsVariables scope.now.text variables.old }
+    ensures read { GivesWith (λ x. term_of x.0) result variables.new.items.items
+        (rules.term (scope_of scope.now) (setting_of setting.now) variables.old.items.items
         (sketched.term_of sketch.now)) }
-    ensures few { OnOk result (AreFew scope.now.text variables.new.items) }
+    ensures known { OnOk result (FindsVariables scope.now.text variables.new) }
     ensures counted { IfOk result (λ x. x.1 ≡ capped (size (term_of x.0))) }
 {
     match sketch {
@@ -132,14 +133,14 @@ pub fn terms(
     alloc: Global,
     scope: &Scope,
     setting: &Setting,
-    variables: &mut Vec<usize>,
+    variables: &mut Variables,
 ) -> Result<(Terms, u32), Stop>
     requires finds { FindsSetting scope.now.text setting.now }
-    requires few { AreFew scope.now.text variables.old.items }
-    ensures read { GivesWith (λ x. x.0) result variables.new.items
-        (rules.terms (scope_of scope.now) (setting_of setting.now) variables.old.items
+    requires known { FindsVariables scope.now.text variables.old }
+    ensures read { GivesWith (λ x. x.0) result variables.new.items.items
+        (rules.terms (scope_of scope.now) (setting_of setting.now) variables.old.items.items
         (terms_sketch sketches.now)) }
-    ensures few { OnOk result (AreFew scope.now.text variables.new.items) }
+    ensures known { OnOk result (FindsVariables scope.now.text variables.new) }
     ensures counted { IfOk result (λ x. x.1 ≡ capped (sizes (trees x.0))) }
 {
     let mut items = Vec::new(alloc);
@@ -157,7 +158,7 @@ pub fn process_term(sketch: &TermSketch, alloc: Global, place: &Place) -> Result
     ensures { Gives term_of result (rules.process_term (scope_of place.now.scope)
         (bound_of place.now.bound.now) (sketched.term_of sketch.now)) }
 {
-    let mut variables = Vec::new(alloc);
+    let mut variables = Variables::new(alloc);
     let (read, _) = term(
         sketch,
         alloc,
@@ -192,7 +193,7 @@ fn call(
     ensures { Gives expression_of result (rules.call (scope_of place.now.scope)
         (bound_of place.now.bound.now) token destructor (terms_sketch sketches.now)) }
 {
-    let mut variables = Vec::new(alloc);
+    let mut variables = Variables::new(alloc);
     let setting = Setting::Process(place.bound);
     let (arguments, symbols) = terms(sketches, alloc, &place.scope, &setting, &mut variables)?;
     if plus(1, symbols) > MOST_WRITTEN_SYMBOLS {
@@ -240,14 +241,14 @@ pub fn event(
     alloc: Global,
     scope: &Scope,
     setting: &Setting,
-    variables: &mut Vec<usize>,
+    variables: &mut Variables,
 ) -> Result<(Atom, u32), Stop>
     requires finds { FindsSetting scope.now.text setting.now }
-    requires few { AreFew scope.now.text variables.old.items }
-    ensures read { GivesWith (λ x. event_of x.0) result variables.new.items
-        (rules.event (scope_of scope.now) (setting_of setting.now) variables.old.items
+    requires known { FindsVariables scope.now.text variables.old }
+    ensures read { GivesWith (λ x. event_of x.0) result variables.new.items.items
+        (rules.event (scope_of scope.now) (setting_of setting.now) variables.old.items.items
         (sketched.atom_of sketch.now)) }
-    ensures few { OnOk result (AreFew scope.now.text variables.new.items) }
+    ensures known { OnOk result (FindsVariables scope.now.text variables.new) }
     ensures counted { IfOk result (λ x. x.1 ≡ capped (1 + sizes (trees x.0.args))) }
 {
     let event = event_named(scope, sketch.first, count_of(&sketch.arguments))?;

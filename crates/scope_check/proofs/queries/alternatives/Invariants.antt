@@ -3,13 +3,13 @@ use Rattle.std.proofs.Common.{◌≡◌, map, drop}
 use Rattle.protocol_scope.specs.Queries as rules
 use Rattle.pi_parser.specs.Files.{alternative_of}
 use Rattle.scope_check.specs.Scope.{scope_of}
-use Rattle.scope_check.specs.Text.{AreFew}
+use Rattle.scope_check.specs.Variables.{FindsVariables}
 use Rattle.scope_check.proofs.Steps.{collected}
 use Rattle.scope_check.proofs.queries.alternatives.Given as goal
 
 abbrev pub invariant-loop-sketch : goal.invariant-loop-sketch
 invariant-loop-sketch l = record {
-  few : AreFew l.scope.text l.variables.items;
-  rest : collected l.items.items (rules.alternatives (scope_of l.scope) l.variables.items (map alternative_of (drop l.sketch-index l.sketches)))
-      ≡ rules.alternatives (scope_of l.scope) l.initial.variables.items (map alternative_of l.sketches);
+  known : FindsVariables l.scope.text l.variables;
+  rest : collected l.items.items (rules.alternatives (scope_of l.scope) l.variables.items.items (map alternative_of (drop l.sketch-index l.sketches)))
+      ≡ rules.alternatives (scope_of l.scope) l.initial.variables.items.items (map alternative_of l.sketches);
 }

@@ -6,8 +6,8 @@ use Rattle.scope_check.proofs.terms.+term.Goals as goal
 
 pub terms-loop-sketch-preserved : goal.terms-loop-sketch-preserved
 terms-loop-sketch-preserved t c = record {
-  few = c.in_ok-item.ensures.few;
-  rest = one_term_more (scope_of c.args.scope.now) (setting_of c.args.setting.now) c.loop-sketch.variables.items c.term.new.variables.items c.deref-sketch-items.result.now c.loop-sketch.sketch-index c.sketch-item.result
+  known = c.in_ok-item.ensures.known;
+  rest = one_term_more (scope_of c.args.scope.now) (setting_of c.args.setting.now) c.loop-sketch.variables.items.items c.term.new.variables.items.items c.deref-sketch-items.result.now c.loop-sketch.sketch-index c.sketch-item.result
       c.loop-sketch.items.items c.push.new.self.items c.in_ok-item.item _ c.loop-sketch-test.true c.sketch-item.is c.in_ok-push.ensures.items c.in_ok-item.ensures.read c.loop-sketch.invariant.rest;
   counted = counted_more c.loop-sketch.items.items c.push.new.self.items c.in_ok-item.item c.loop-sketch.symbols c.in_ok-item.more c.plus-symbols.result
       c.in_ok-push.ensures.items c.loop-sketch.invariant.counted c.in_ok-item.ensures.counted c.plus-symbols.ensures;

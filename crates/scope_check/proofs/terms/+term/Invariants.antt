@@ -7,14 +7,14 @@ use Rattle.pi_parser.specs.Terms as sketched
 use Rattle.pi_tree.specs.Terms.{term_of}
 use Rattle.scope_check.specs.Scope.{scope_of}
 use Rattle.scope_check.specs.Terms.{setting_of, capped}
-use Rattle.scope_check.specs.Text.{AreFew}
+use Rattle.scope_check.specs.Variables.{FindsVariables}
 use Rattle.scope_check.proofs.Steps.{collected}
 use Rattle.scope_check.proofs.terms.+term.Given as goal
 
 abbrev pub invariant-terms-loop-sketch : goal.invariant-terms-loop-sketch
 invariant-terms-loop-sketch l = record {
-  few : AreFew l.scope.text l.variables.items;
-  rest : collected (map term_of l.items.items) (rules.terms (scope_of l.scope) (setting_of l.setting) l.variables.items (terms_sketch (map sketched.term_of (drop l.sketch-index l.sketch-items))))
-      ≡ rules.terms (scope_of l.scope) (setting_of l.setting) l.initial.variables.items (terms_sketch (map sketched.term_of l.sketch-items));
+  known : FindsVariables l.scope.text l.variables;
+  rest : collected (map term_of l.items.items) (rules.terms (scope_of l.scope) (setting_of l.setting) l.variables.items.items (terms_sketch (map sketched.term_of (drop l.sketch-index l.sketch-items))))
+      ≡ rules.terms (scope_of l.scope) (setting_of l.setting) l.initial.variables.items.items (terms_sketch (map sketched.term_of l.sketch-items));
   counted : l.symbols ≡ capped (sizes (trees (map term_of l.items.items)));
 }
