@@ -1,21 +1,15 @@
 //! Clauses that conclude `bad`, and protocols whose one query they are to satisfy.
 
-ghost use Rattle.std.specs.Prelude.{◌≡◌, true, IfSome};
-ghost use Rattle.protocol_scope.specs.Spells.{IsSketchOf, Spells};
-ghost use Rattle.pi_parser.specs.Files.{file_of};
+ghost use Rattle.std.specs.Prelude.{IfSome};
 ghost use Rattle.pi_tree.specs.Protocols.{protocol_of};
-ghost use Rattle.pi_tree.specs.Accessors.{IsThere};
-ghost use Rattle.pi_tree.specs.declared.accessors.Kind.TheVariants.{Query};
 ghost use Rattle.bench_pairs.specs.Asked.{IsAsked};
 
 use clause_form::{PlainClause, PlainFact, PlainFacts, Tree, Trees};
-use pi_lexer::lex;
-use pi_parser::{Sketch, parse};
 use pi_tree::Protocol;
 use protocol_scope::within_limits;
 use row_tables::named;
-use scope_check::check_scope;
 use std::alloc::{AllocError, Global};
+use table_protocols::{asks, spelled};
 
 /// The number of the event `begin`.
 const BEGIN: u32 = 2;
@@ -90,47 +84,13 @@ pub fn clause_of(alloc: Global, family: GoalFamily, size: u32) -> Result<PlainCl
     })
 }
 
-/// What the grammar makes of the bytes, if they have a sketch.
-fn sketch_of(alloc: Global, bytes: &[u8]) -> Option<Sketch>
-    ensures { IfSome result (λ sketch. IsSketchOf bytes.now (file_of sketch)) }
-{
-    let tokens = lex(alloc, bytes).ok()?;
-    parse(alloc, bytes, &tokens).ok()
-}
-
-/// The protocol that the sketch of the bytes stands for, if it stands for one.
-fn scoped(alloc: Global, bytes: &[u8], sketch: &Sketch) -> Option<Protocol>
-    requires { IsSketchOf bytes.now (file_of sketch.now) }
-    ensures { IfSome result (λ protocol. Spells bytes.now (protocol_of protocol)) }
-{
-    match check_scope(alloc, bytes, sketch) {
-        Ok(protocol) => Some(protocol),
-        Err(_) => None,
-    }
-}
-
-/// The protocol that the bytes spell, if they spell one.
-fn read_protocol(alloc: Global, bytes: &[u8]) -> Option<Protocol>
-    ensures { IfSome result (λ protocol. Spells bytes.now (protocol_of protocol)) }
-{
-    let sketch = sketch_of(alloc, bytes)?;
-    scoped(alloc, bytes, &sketch)
-}
-
-/// Whether the protocol has a query.
-fn asks(protocol: &Protocol) -> bool
-    ensures { result ≡ true → IsThere (protocol_of protocol.now) Query 1 }
-{
-    !protocol.queries.items.is_empty()
-}
-
 /// The protocol of a family, if its text spells one with a query.
 pub fn protocol_for(alloc: Global, family: GoalFamily) -> Option<Protocol>
     ensures { IfSome result (λ protocol. IsAsked (protocol_of protocol)) }
 {
     within_limits();
-    let protocol = read_protocol(alloc, family.protocol().as_bytes())?;
-    if asks(&protocol) {
+    let protocol = spelled(alloc, family.protocol().as_bytes())?;
+    if asks(&protocol, 1) {
         return Some(protocol);
     }
     None

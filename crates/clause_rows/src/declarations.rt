@@ -9,7 +9,6 @@ ghost use Rattle.pi_tree.specs.Rules.{rule_of};
 ghost use Rattle.term_tree.specs.Bank.{AreKnown};
 ghost use Rattle.clause_rows.specs.Declaring.{IsDeclared, CanBeShown, CanAllBeShown};
 
-use crate::asking::read_protocol;
 use crate::tables::texts_of;
 use crate::term_lists::{add_behind, text_of};
 use attacker_clauses::attacker_list;
@@ -17,6 +16,7 @@ use destructor_rules::rename_rule;
 use pi_tree::{Protocol, Rule, Rules};
 use protocol_scope::{proper_rules, well_scoped, within_limits};
 use std::alloc::{AllocError, Global};
+use table_protocols::spelled;
 use table_texts::writing::write_behind;
 use term_tree::{Id, TreeBank};
 
@@ -59,7 +59,7 @@ fn read_declared(alloc: Global, bytes: &[u8]) -> Option<Protocol>
     within_limits();
     proper_rules();
     well_scoped();
-    let protocol = read_protocol(alloc, bytes)?;
+    let protocol = spelled(alloc, bytes)?;
     Some(protocol)
 }
 

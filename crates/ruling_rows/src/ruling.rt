@@ -6,12 +6,13 @@ ghost use Rattle.pi_tree.specs.declared.accessors.Kind.TheVariants.{Query};
 ghost use Rattle.ruling_rows.specs.Read.{IsRead};
 
 use crate::certificate::certificate_of;
-use crate::protocol::{asks, read_protocol};
+use crate::protocol::read_protocol;
 use crate::setting::Setting;
 use cert_checker::{Ruling, check_cert};
 use cert_text::Cert;
 use pi_tree::Protocol;
 use std::alloc::{AllocError, Global};
+use table_protocols::asks;
 
 /// What is ruled of the certificate that is set, of the query with this number.
 pub fn ruled(alloc: Global, setting: &Setting, query: u32) -> Result<String, AllocError> {
