@@ -1,3 +1,5 @@
+pub mod Short
+pub mod ShortProps
 pub mod Places
 pub mod Sizes
 pub mod Built
@@ -6,11 +8,11 @@ pub mod Spans
 pub mod Visits
 pub mod Forms
 pub mod Channels
+pub mod Processes
 pub mod Patterns
 pub mod Solving
 pub mod Ways
 pub mod Choices
-pub mod Short
 pub mod Jobs
 pub mod Whole
 pub mod Soundness

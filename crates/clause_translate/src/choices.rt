@@ -2,26 +2,24 @@
 
 ghost use Rattle.std.specs.Prelude.{◌≡◌, ◌<◌, Option, length, map, IfOk, IfSome, MatchOption, MatchBool};
 ghost use Rattle.std.specs.List.{AllByRecursion};
-ghost use Rattle.trees.specs.Tree.{bind};
 ghost use Rattle.pi_tree.specs.Terms.{term_of};
 ghost use Rattle.pi_tree.specs.Patterns.{pattern_of, expression_of};
 ghost use Rattle.pi_tree.specs.Rules.{rule_of};
-ghost use Rattle.calculus.specs.Syntax.{Plain, Call};
-ghost use Rattle.clauses.specs.Variables.{IsBelow, AreBelow};
+ghost use Rattle.calculus.specs.Syntax.{Call};
+ghost use Rattle.clauses.specs.Variables.{AreBelow};
 ghost use Rattle.term_tree.specs.Bank.{tree_at, AreKnown, Grows};
-ghost use Rattle.clause_form.specs.Seen.{NameTerms};
-ghost use Rattle.translation.specs.Conversion.{term_in};
 ghost use Rattle.translation.specs.Visit as translation;
-ghost use Rattle.translation.specs.Choice.{GoesOn, TermGoesOn, RuleGoesOn};
+ghost use Rattle.translation.specs.Choice.{GoesOn, TermGoesOn};
 ghost use Rattle.clause_terms.specs.Conditions.{HasShortTuples, IsShortPattern, IsShortRule};
 ghost use Rattle.clause_translate.specs.Places.{protocol_at};
-ghost use Rattle.clause_translate.specs.Short.{IsShortExpression, HasShortRules};
+ghost use Rattle.clause_translate.specs.Short.{IsShortExpression};
 ghost use Rattle.clause_translate.specs.Forms.{GoOn, IsLargeChoice};
 ghost use Rattle.clause_translate.specs.Visits.{visit_at, IsVisitIn};
 ghost use Rattle.clause_translate.specs.Ways.{IsWay, choice_at, HasChoiceBelow};
 ghost use Rattle.clause_translate.specs.declared.choices.Way.TheVariants as ways;
 ghost use Rattle.clause_translate.specs.Choices.{ByRule, GoByRules, IsLargeByRules, IsAlone};
 
+use crate::choice::Choosing;
 use crate::inputs::with_pattern;
 use crate::large::is_large_visit;
 use crate::place::Place;
@@ -92,23 +90,19 @@ fn way_of<B: Bank>(
 }
 
 /// How a `let` goes on by a term. On `Err` the bank may have grown.
-fn by_term<B: Bank>(
-    place: &Place<'_>,
-    bank: &mut B,
-    visit: &Visit,
-    pattern: &Pat,
-    term: &Term,
-) -> Result<Way, AllocError>
-    requires visit { IsVisitIn (B.trees bank.old) visit.now }
-    requires short { IsShortPattern (pattern_of pattern.now) }
+fn by_term<B: Bank>(choosing: &Choosing<'_>, bank: &mut B, term: &Term) -> Result<Way, AllocError>
+    requires visit { IsVisitIn (B.trees bank.old) choosing.now.visit.now }
     requires term { HasShortTuples (term_of term.now) }
     ensures grows { Grows (B.trees bank.old) (B.trees bank.new) }
     ensures way { IfOk result (λ way. (out : Option translation.Visit)
-        × TermGoesOn (protocol_at place.now) (visit_at (B.trees bank.old) visit.now)
-        (pattern_of pattern.now) (term_of term.now) out × IsWay (B.trees bank.new) way out) }
+        × TermGoesOn (protocol_at choosing.now.place.now)
+        (visit_at (B.trees bank.old) choosing.now.visit.now) (pattern_of choosing.now.pattern.now)
+        (term_of term.now) out × IsWay (B.trees bank.new) way out) }
 {
+    let place = choosing.place;
+    let visit = choosing.visit;
     let value = term_in(place.alloc, bank, place.protocol, &visit.scope, term)?;
-    let (made, target) = with_pattern(place, bank, visit, visit.next, pattern)?;
+    let (made, target) = with_pattern(place, bank, visit, visit.next, choosing.pattern)?;
     let equations = Equations {
         arguments: &[],
         sides: &[],
@@ -121,28 +115,29 @@ fn by_term<B: Bank>(
 /// How a `let` goes on by a rule of its destructor, of the values of its arguments. On `Err`, and where there is no
 /// unifier, the bank may have grown.
 fn by_rule_grown<B: Bank>(
-    place: &Place<'_>,
+    choosing: &Choosing<'_>,
     bank: &mut B,
-    visit: &Visit,
-    pattern: &Pat,
     arguments: &[Id],
     rule: &Rule,
 ) -> Result<Way, AllocError>
-    requires visit { IsVisitIn (B.trees bank.old) visit.now }
-    requires short { IsShortPattern (pattern_of pattern.now) }
+    requires visit { IsVisitIn (B.trees bank.old) choosing.now.visit.now }
     requires arguments { AreKnown (B.trees bank.old) arguments.now }
-    requires below { AreBelow visit.now.next (map (tree_at (B.trees bank.old)) arguments.now) }
+    requires below { AreBelow choosing.now.visit.now.next
+        (map (tree_at (B.trees bank.old)) arguments.now) }
     requires rule { IsShortRule (rule_of rule.now) }
     ensures grows { Grows (B.trees bank.old) (B.trees bank.new) }
     ensures way { IfOk result (λ way. (out : Option translation.Visit)
-        × ByRule (protocol_at place.now) (visit_at (B.trees bank.old) visit.now)
-        (pattern_of pattern.now) (map (tree_at (B.trees bank.old)) arguments.now)
-        (rule_of rule.now) out × IsWay (B.trees bank.new) way out) }
+        × ByRule (protocol_at choosing.now.place.now)
+        (visit_at (B.trees bank.old) choosing.now.visit.now) (pattern_of choosing.now.pattern.now)
+        (map (tree_at (B.trees bank.old)) arguments.now) (rule_of rule.now) out
+        × IsWay (B.trees bank.new) way out) }
 {
+    let place = choosing.place;
+    let visit = choosing.visit;
     let base = end_of_rule(visit.next, rule)?;
     let sides = rule_terms(place.alloc, bank, place.protocol, visit.next, &rule.left)?;
     let value = rule_term(place.alloc, bank, place.protocol, visit.next, &rule.right)?;
-    let (made, target) = with_pattern(place, bank, visit, base, pattern)?;
+    let (made, target) = with_pattern(place, bank, visit, base, choosing.pattern)?;
     let equations = Equations {
         arguments,
         sides: &sides.items,
@@ -155,28 +150,27 @@ fn by_rule_grown<B: Bank>(
 /// How a `let` goes on by a rule of its destructor, of the values of its arguments. Where there is no unifier, the bank
 /// is as before; on `Err` it may have grown.
 fn by_rule<B: Bank>(
-    place: &Place<'_>,
+    choosing: &Choosing<'_>,
     bank: &mut B,
-    visit: &Visit,
-    pattern: &Pat,
     arguments: &[Id],
     rule: &Rule,
 ) -> Result<Way, AllocError>
-    requires visit { IsVisitIn (B.trees bank.old) visit.now }
-    requires short { IsShortPattern (pattern_of pattern.now) }
+    requires visit { IsVisitIn (B.trees bank.old) choosing.now.visit.now }
     requires arguments { AreKnown (B.trees bank.old) arguments.now }
-    requires below { AreBelow visit.now.next (map (tree_at (B.trees bank.old)) arguments.now) }
+    requires below { AreBelow choosing.now.visit.now.next
+        (map (tree_at (B.trees bank.old)) arguments.now) }
     requires rule { IsShortRule (rule_of rule.now) }
     ensures grows { Grows (B.trees bank.old) (B.trees bank.new) }
     ensures way { IfOk result (λ way. (out : Option translation.Visit)
-        × ByRule (protocol_at place.now) (visit_at (B.trees bank.old) visit.now)
-        (pattern_of pattern.now) (map (tree_at (B.trees bank.old)) arguments.now)
-        (rule_of rule.now) out × IsWay (B.trees bank.new) way out) }
+        × ByRule (protocol_at choosing.now.place.now)
+        (visit_at (B.trees bank.old) choosing.now.visit.now) (pattern_of choosing.now.pattern.now)
+        (map (tree_at (B.trees bank.old)) arguments.now) (rule_of rule.now) out
+        × IsWay (B.trees bank.new) way out) }
     ensures nowhere { IfOk result (λ way. way ≡ ways.Nowhere →
         B.trees bank.new ≡ B.trees bank.old) }
 {
     let mark = bank.mark();
-    match by_rule_grown(place, bank, visit, pattern, arguments, rule)? {
+    match by_rule_grown(choosing, bank, arguments, rule)? {
         Way::Nowhere => {
             bank.back(mark);
             Ok(Way::Nowhere)
@@ -189,31 +183,30 @@ fn by_rule<B: Bank>(
 /// The visits that go on by rules, of the values of the arguments, in order; none where one is too large. On `Err` the
 /// bank may have grown.
 fn by_rules<B: Bank>(
-    place: &Place<'_>,
+    choosing: &Choosing<'_>,
     bank: &mut B,
-    visit: &Visit,
-    pattern: &Pat,
     arguments: &[Id],
     rules: &[Rule],
 ) -> Result<Option<Visits>, AllocError>
-    requires visit { IsVisitIn (B.trees bank.old) visit.now }
-    requires short { IsShortPattern (pattern_of pattern.now) }
+    requires visit { IsVisitIn (B.trees bank.old) choosing.now.visit.now }
     requires arguments { AreKnown (B.trees bank.old) arguments.now }
-    requires below { AreBelow visit.now.next (map (tree_at (B.trees bank.old)) arguments.now) }
+    requires below { AreBelow choosing.now.visit.now.next
+        (map (tree_at (B.trees bank.old)) arguments.now) }
     requires rules { AllByRecursion IsShortRule (map rule_of rules.now) }
     ensures grows { Grows (B.trees bank.old) (B.trees bank.new) }
     ensures go { IfOk result (λ found. MatchOption found
-        (IsLargeByRules (protocol_at place.now) (visit_at (B.trees bank.old) visit.now)
-        (pattern_of pattern.now) (map (tree_at (B.trees bank.old)) arguments.now)
-        (map rule_of rules.now))
-        (λ visits. GoByRules (protocol_at place.now) (visit_at (B.trees bank.old) visit.now)
-        (pattern_of pattern.now) (map (tree_at (B.trees bank.old)) arguments.now)
-        (map rule_of rules.now) (B.trees bank.new) visits.items.items)) }
+        (IsLargeByRules (protocol_at choosing.now.place.now)
+        (visit_at (B.trees bank.old) choosing.now.visit.now) (pattern_of choosing.now.pattern.now)
+        (map (tree_at (B.trees bank.old)) arguments.now) (map rule_of rules.now))
+        (λ visits. GoByRules (protocol_at choosing.now.place.now)
+        (visit_at (B.trees bank.old) choosing.now.visit.now) (pattern_of choosing.now.pattern.now)
+        (map (tree_at (B.trees bank.old)) arguments.now) (map rule_of rules.now)
+        (B.trees bank.new) visits.items.items)) }
 {
-    let mut items = Vec::new(place.alloc);
+    let mut items = Vec::new(choosing.place.alloc);
     let mut large = false;
     'each: for rule in rules {
-        match by_rule(place, bank, visit, pattern, arguments, rule)? {
+        match by_rule(choosing, bank, arguments, rule)? {
             Way::Nowhere => {}
             Way::Large => large = true,
             Way::Visit(made) => items.push(made)?,
@@ -227,28 +220,27 @@ fn by_rules<B: Bank>(
 
 /// The visits that go on by a destructor. On `Err` the bank may have grown.
 fn by_call<B: Bank>(
-    place: &Place<'_>,
+    choosing: &Choosing<'_>,
     bank: &mut B,
-    visit: &Visit,
-    pattern: &Pat,
     destructor: u32,
     arguments: &Terms,
 ) -> Result<Option<Visits>, AllocError>
-    requires visit { IsVisitIn (B.trees bank.old) visit.now }
-    requires short { IsShortPattern (pattern_of pattern.now) }
+    requires visit { IsVisitIn (B.trees bank.old) choosing.now.visit.now }
     requires arguments { AllByRecursion HasShortTuples arguments.now }
-    requires rules { HasShortRules (protocol_at place.now) }
     ensures grows { Grows (B.trees bank.old) (B.trees bank.new) }
     ensures go { IfOk result (λ found. MatchOption found
-        (IsLargeChoice (protocol_at place.now) (visit_at (B.trees bank.old) visit.now)
-        (pattern_of pattern.now) (Call destructor arguments.now))
-        (λ visits. GoOn (protocol_at place.now) (visit_at (B.trees bank.old) visit.now)
-        (pattern_of pattern.now) (Call destructor arguments.now) (B.trees bank.new)
-        visits.items.items)) }
+        (IsLargeChoice (protocol_at choosing.now.place.now)
+        (visit_at (B.trees bank.old) choosing.now.visit.now) (pattern_of choosing.now.pattern.now)
+        (Call destructor arguments.now))
+        (λ visits. GoOn (protocol_at choosing.now.place.now)
+        (visit_at (B.trees bank.old) choosing.now.visit.now) (pattern_of choosing.now.pattern.now)
+        (Call destructor arguments.now) (B.trees bank.new) visits.items.items)) }
 {
-    let arguments = terms_in(place.alloc, bank, place.protocol, &visit.scope, arguments)?;
+    let place = choosing.place;
+    let scope = &choosing.visit.scope;
+    let arguments = terms_in(place.alloc, bank, place.protocol, scope, arguments)?;
     let rules = rules_of(place.protocol, destructor);
-    by_rules(place, bank, visit, pattern, &arguments.items, rules)
+    by_rules(choosing, bank, &arguments.items, rules)
 }
 
 /// The visit of a choice, if it goes on, alone.
@@ -280,7 +272,6 @@ pub fn choices<B: Bank>(
     requires visit { IsVisitIn (B.trees bank.old) visit.now }
     requires short { IsShortPattern (pattern_of pattern.now) }
     requires expression { IsShortExpression (expression_of expression.now) }
-    requires rules { HasShortRules (protocol_at place.now) }
     ensures grows { Grows (B.trees bank.old) (B.trees bank.new) }
     ensures go { IfOk result (λ found. MatchOption found
         (IsLargeChoice (protocol_at place.now) (visit_at (B.trees bank.old) visit.now)
@@ -289,13 +280,16 @@ pub fn choices<B: Bank>(
         (pattern_of pattern.now) (expression_of expression.now) (B.trees bank.new)
         visits.items.items)) }
 {
+    let choosing = Choosing {
+        place,
+        visit,
+        pattern,
+    };
     match expression {
         Expr::Term(term) => {
-            let way = by_term(place, bank, visit, pattern, term)?;
+            let way = by_term(&choosing, bank, term)?;
             alone(place.alloc, way)
         }
-        Expr::Call(destructor, arguments) => {
-            by_call(place, bank, visit, pattern, *destructor, arguments)
-        }
+        Expr::Call(destructor, arguments) => by_call(&choosing, bank, *destructor, arguments),
     }
 }

@@ -1,16 +1,14 @@
 //! Events: the clause that it may have run, and the hypothesis that it must have.
 
-ghost use Rattle.std.specs.Prelude.{◌≡◌, false, true, map, IfOk, MatchBool};
+ghost use Rattle.std.specs.Prelude.{◌≡◌, map, IfOk};
 ghost use Rattle.std.specs.List.{AllByRecursion};
 ghost use Rattle.pi_tree.specs.Events.{event_of};
 ghost use Rattle.clauses.specs.Fact as horn;
-ghost use Rattle.clauses.specs.Limits.{is_large_raw};
-ghost use Rattle.clauses.specs.Norm.{norms};
 ghost use Rattle.clauses.specs.Variables.{AreBelow};
 ghost use Rattle.term_tree.specs.Bank.{tree_at, AreKnown, Grows};
 ghost use Rattle.clause_terms.specs.Conditions.{HasShortTuples};
 ghost use Rattle.clause_translate.specs.Places.{protocol_at};
-ghost use Rattle.clause_translate.specs.Forms.{Adds, raw_event, below_event, IsSmallVisit, EventAdds};
+ghost use Rattle.clause_translate.specs.Forms.{below_event, IsSmallVisit, EventAdds};
 ghost use Rattle.clause_translate.specs.Visits.{visit_at, IsVisitIn};
 
 use crate::large::{is_large_visit, some_large_term};
@@ -39,33 +37,6 @@ fn event_clause(
         hyps,
         concl: Fact::Ev(event, arguments),
     })
-}
-
-/// Adds what an event with these arguments adds, unless it is too large, and tells whether it did. On `Err` the bank may
-/// have grown.
-fn add_event_clause<B: Bank>(
-    alloc: Global,
-    bank: &mut B,
-    listing: &mut Listing,
-    visit: &Visit,
-    event: u32,
-    arguments: &Ids,
-) -> Result<bool, AllocError>
-    requires visit { IsVisitIn (B.trees bank.old) visit.now }
-    requires arguments { AreKnown (B.trees bank.old) arguments.now }
-    ensures grows { Grows (B.trees bank.old) (B.trees bank.new) }
-    ensures large { IfOk result (λ added. MatchBool added
-        (is_large_raw (raw_event (visit_at (B.trees bank.old) visit.now) event
-        (map (tree_at (B.trees bank.old)) arguments.now)) ≡ false)
-        (is_large_raw (raw_event (visit_at (B.trees bank.old) visit.now) event
-        (map (tree_at (B.trees bank.old)) arguments.now)) ≡ true)) }
-    ensures adds { IfOk result (λ added. added ≡ true
-        → Adds (B.trees bank.new) listing.old listing.new
-        (norms (raw_event (visit_at (B.trees bank.old) visit.now) event
-        (map (tree_at (B.trees bank.old)) arguments.now)))) }
-{
-    let raw = event_clause(alloc, visit, event, arguments)?;
-    listing.add(alloc, bank, &raw)
 }
 
 /// The visit below an event with these arguments; none where it is too large.
@@ -109,7 +80,8 @@ pub fn add_event<B: Bank>(
         return Ok(None);
     }
     let arguments = terms_in(place.alloc, bank, place.protocol, &visit.scope, &atom.args)?;
-    let added = add_event_clause(place.alloc, bank, listing, visit, atom.event, &arguments)?;
+    let raw = event_clause(place.alloc, visit, atom.event, &arguments)?;
+    let added = listing.add(place.alloc, bank, &raw)?;
     if added {
         return event_below(place.alloc, bank, visit, atom.event, arguments);
     }

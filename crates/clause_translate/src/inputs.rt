@@ -1,7 +1,6 @@
 //! Inputs: the message is the pattern's term, with new variables.
 
-ghost use Rattle.std.specs.Prelude.{◌≡◌, ◌≤◌, ◌∷◌, ◌++◌, false, true, IfOk, MatchOption};
-ghost use Rattle.calculus.specs.Limits.{compared};
+ghost use Rattle.std.specs.Prelude.{◌≡◌, ◌≤◌, IfOk, MatchOption};
 ghost use Rattle.pi_tree.specs.Terms.{term_of};
 ghost use Rattle.pi_tree.specs.Patterns.{pattern_of};
 ghost use Rattle.translation.specs.Conversion.{Fresh, bound_numbers};
@@ -12,7 +11,7 @@ ghost use Rattle.term_tree.specs.Bank.{Grows};
 ghost use Rattle.clause_terms.specs.Fresh.{fresh_of};
 ghost use Rattle.clause_terms.specs.Conditions.{HasShortTuples, IsShortPattern};
 ghost use Rattle.clause_translate.specs.Places.{protocol_at};
-ghost use Rattle.clause_translate.specs.Forms.{are_large_in, IsLargeInput, Receives};
+ghost use Rattle.clause_translate.specs.Forms.{IsLargeInput, Receives};
 ghost use Rattle.clause_translate.specs.Visits.{visit_at, IsVisitIn, NamesVisit};
 ghost use Rattle.clause_translate.specs.Spans.{IsSpan};
 ghost use Rattle.clause_translate.specs.Patterns.{WithPattern};

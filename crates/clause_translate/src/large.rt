@@ -1,6 +1,6 @@
 //! What is counted before it is built: terms and facts over the limit of size.
 
-ghost use Rattle.std.specs.Prelude.{◌≡◌, ◌<◌, ◌||◌, not, nat_le, length, map};
+ghost use Rattle.std.specs.Prelude.{◌≡◌, ◌<◌, not, nat_le, length, map};
 ghost use Rattle.std.specs.List.{list_any};
 ghost use Rattle.trees.specs.Tree.{trees};
 ghost use Rattle.calculus.specs.Bounds.{most_symbols};

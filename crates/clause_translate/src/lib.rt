@@ -3,9 +3,11 @@
 
 mod built;
 mod channels;
+mod choice;
 mod choices;
 mod copies;
 mod events;
+mod forms;
 mod inputs;
 mod large;
 mod listing;
@@ -13,6 +15,7 @@ mod names;
 mod numbers;
 mod outputs;
 mod place;
+mod points;
 mod raw;
 mod runs;
 mod spans;

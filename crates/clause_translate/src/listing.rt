@@ -51,7 +51,8 @@ impl Listing {
         requires { IsClauseIn (B.trees bank.old) raw.now }
         ensures grows { Grows (B.trees bank.old) (B.trees bank.new) }
         ensures adds { IfOk result (λ added. MatchBool added
-            (Adds (B.trees bank.new) self.old self.new (norms (clause_at (B.trees bank.old) raw.now)))
+            (Adds (B.trees bank.new) self.old self.new
+            (norms (clause_at (B.trees bank.old) raw.now)))
             (is_large_raw (clause_at (B.trees bank.old) raw.now) ≡ true)) }
         ensures small { IfOk result (λ added. added ≡ true
             → is_large_raw (clause_at (B.trees bank.old) raw.now) ≡ false) }

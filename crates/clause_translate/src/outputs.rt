@@ -15,6 +15,7 @@ ghost use Rattle.clause_translate.specs.Forms.{Adds, output_raw, is_large_output
 ghost use Rattle.clause_translate.specs.Visits.{visit_at, IsVisitIn};
 
 use crate::channels::sent;
+use crate::forms::Output;
 use crate::large::is_large_term;
 use crate::listing::Listing;
 use crate::place::Place;
@@ -75,29 +76,28 @@ pub fn add_output<B: Bank>(
     bank: &mut B,
     listing: &mut Listing,
     visit: &Visit,
-    channel: &Term,
-    message: &Term,
+    output: &Output<'_>,
 ) -> Result<bool, AllocError>
     requires visit { IsVisitIn (B.trees bank.old) visit.now }
-    requires channel { HasShortTuples (term_of channel.now) }
-    requires message { HasShortTuples (term_of message.now) }
+    requires channel { HasShortTuples (term_of output.now.channel.now) }
+    requires message { HasShortTuples (term_of output.now.message.now) }
     ensures grows { Grows (B.trees bank.old) (B.trees bank.new) }
     ensures large { IfOk result (λ added. MatchBool added
         (is_large_output (protocol_at place.now) (visit_at (B.trees bank.old) visit.now)
-        (term_of channel.now) (term_of message.now) ≡ false)
+        (term_of output.now.channel.now) (term_of output.now.message.now) ≡ false)
         (is_large_output (protocol_at place.now) (visit_at (B.trees bank.old) visit.now)
-        (term_of channel.now) (term_of message.now) ≡ true)) }
+        (term_of output.now.channel.now) (term_of output.now.message.now) ≡ true)) }
     ensures adds { IfOk result (λ added. added ≡ true
         → Adds (B.trees bank.new) listing.old listing.new
         (norms (output_raw (protocol_at place.now) (visit_at (B.trees bank.old) visit.now)
-        (term_of channel.now) (term_of message.now)))) }
+        (term_of output.now.channel.now) (term_of output.now.message.now)))) }
 {
-    if is_large_term(place, bank, &visit.scope, channel) {
+    if is_large_term(place, bank, &visit.scope, output.channel) {
         return Ok(false);
     }
-    if is_large_term(place, bank, &visit.scope, message) {
+    if is_large_term(place, bank, &visit.scope, output.message) {
         return Ok(false);
     }
-    let raw = output_clause(place, bank, visit, channel, message)?;
+    let raw = output_clause(place, bank, visit, output.channel, output.message)?;
     listing.add(place.alloc, bank, &raw)
 }

@@ -1,9 +1,7 @@
 //! Raw clauses: they are counted before their norms are made.
 
-ghost use Rattle.std.specs.Prelude.{◌≡◌, not, nat_le, map, IfOk};
+ghost use Rattle.std.specs.Prelude.{◌≡◌, map, IfOk};
 ghost use Rattle.std.specs.List.{list_any};
-ghost use Rattle.calculus.specs.Bounds.{most_symbols};
-ghost use Rattle.clauses.specs.Fact.{clause_size};
 ghost use Rattle.clauses.specs.Limits.{is_large_clause, is_large_raw};
 ghost use Rattle.clause_form.specs.Seen.{clause_at, IsClauseIn, AreClausesIn};
 

@@ -1,6 +1,6 @@
 //! New variables: where those of a pattern, and those of a rule, begin and end.
 
-ghost use Rattle.std.specs.Prelude.{◌≡◌, ◌+◌, ◌-◌, ◌<◌, ◌≤◌, IfOk, IfSome};
+ghost use Rattle.std.specs.Prelude.{◌+◌, ◌-◌, ◌<◌, ◌≤◌, IfOk, IfSome};
 ghost use Rattle.std.specs.List.{AllByRecursion};
 ghost use Rattle.pi_tree.specs.Terms.{term_of};
 ghost use Rattle.pi_tree.specs.Rules.{rule_of};

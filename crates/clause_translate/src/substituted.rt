@@ -20,6 +20,13 @@ use std::alloc::{AllocError, Global};
 use term_tree::{Bank, Id, Node, Sym};
 use unify_match::{Binds, apply_bound};
 
+/// A message that is sent, and the channel.
+#[derive(Clone, Copy)]
+pub struct Sent {
+    pub channel: Id,
+    pub message: Id,
+}
+
 /// The term that a variable is bound to, under the bindings; none where it is over the limit.
 fn bound_under<B: Bank>(
     bank: &mut B,
@@ -161,29 +168,28 @@ pub fn terms_under<B: Bank>(
     Ok(Some(Ids { items }))
 }
 
-/// The fact of two terms under the bindings; none where one has more symbols than the limit. On `Err` the bank may have
-/// grown.
+/// The fact that the message is sent under the bindings; none where one of the two terms has more symbols than the limit.
+/// On `Err` the bank may have grown.
 fn message_under<B: Bank>(
     alloc: Global,
     bank: &mut B,
     binds: &Binds,
     built: &mut Built,
-    channel: Id,
-    message: Id,
+    sent: Sent,
 ) -> Result<Option<Fact>, AllocError>
-    requires known { IsFactIn (B.trees bank.old) (horn.Mess channel message) }
+    requires known { IsFactIn (B.trees bank.old) (horn.Mess sent.channel sent.message) }
     requires ready { IsReady (B.trees bank.old) binds.now.pairs }
     requires built { AreBuilt (B.trees bank.old) binds.now.pairs built.old }
     ensures grows { Grows (B.trees bank.old) (B.trees bank.new) }
     ensures built { OnOk result (AreBuilt (B.trees bank.new) binds.now.pairs built.new) }
     ensures under { let made = fact_under (resolved (seen (B.trees bank.old) binds.now.pairs))
-        (fact_at (B.trees bank.old) (horn.Mess channel message)) in
+        (fact_at (B.trees bank.old) (horn.Mess sent.channel sent.message)) in
         IfOk result (λ found. MatchOption found (some_over_in most_symbols made ≡ true)
         (λ fact. NamesFact (B.trees bank.new) (fact_of fact) made)) }
 {
-    match term_under(alloc, bank, binds, built, channel)? {
+    match term_under(alloc, bank, binds, built, sent.channel)? {
         None => Ok(None),
-        Some(channel) => match term_under(alloc, bank, binds, built, message)? {
+        Some(channel) => match term_under(alloc, bank, binds, built, sent.message)? {
             None => Ok(None),
             Some(message) => Ok(Some(Fact::Mess(channel, message))),
         },
@@ -215,7 +221,11 @@ fn fact_under<B: Bank>(
             Some(made) => Ok(Some(Fact::Att(made))),
         },
         Fact::Mess(channel, message) => {
-            message_under(alloc, bank, binds, built, *channel, *message)
+            let sent = Sent {
+                channel: *channel,
+                message: *message,
+            };
+            message_under(alloc, bank, binds, built, sent)
         }
         Fact::Ev(event, arguments) => {
             match terms_under(alloc, bank, binds, built, &arguments.items)? {

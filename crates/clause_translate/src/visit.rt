@@ -1,8 +1,6 @@
 //! Visits: what is known where a point is visited.
 
-ghost use Rattle.std.specs.Prelude.{◌≡◌, ◌<◌, [], ◌∷◌, ◌++◌, length, map, IfOk};
-ghost use Rattle.clauses.specs.Variables.{AreBelow};
-ghost use Rattle.term_tree.specs.Bank.{tree_at};
+ghost use Rattle.std.specs.Prelude.{◌≡◌, [], ◌∷◌, ◌++◌, IfOk};
 ghost use Rattle.clause_form.specs.Facts.{fact_of};
 ghost use Rattle.clause_terms.specs.Slots.{held_of};
 

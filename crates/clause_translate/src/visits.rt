@@ -5,19 +5,19 @@ ghost use Rattle.calculus.specs.Limits.{compared, terms_in};
 ghost use Rattle.clause_terms.specs.Scopes.{scope_at, IsScopeIn};
 ghost use Rattle.clause_translate.specs.Forms.{are_large_in};
 ghost use Rattle.calculus.specs.Syntax as calculus;
-ghost use Rattle.pi_tree.specs.Terms.{term_of};
 ghost use Rattle.pi_tree.specs.Patterns.{pattern_of, expression_of};
-ghost use Rattle.pi_tree.specs.Events.{event_of};
 ghost use Rattle.pi_tree.specs.Processes.{process_of};
 ghost use Rattle.term_tree.specs.Bank.{Grows};
 ghost use Rattle.clause_translate.specs.Places.{protocol_at};
-ghost use Rattle.clause_translate.specs.Short.{IsShortProcess, HasShortRules};
+ghost use Rattle.clause_translate.specs.Processes.{output_form, input_form, parallel_form, let_form, event_form};
+ghost use Rattle.clause_translate.specs.Short.{IsShortProcess};
 ghost use Rattle.clause_translate.specs.Visits.{visit_at, IsVisitIn};
 ghost use Rattle.clause_translate.specs.Jobs.{Once, Uncounted, Each, Ends, visits_at, AreVisitsIn};
 
 use crate::choices::choices;
 use crate::copies::after_copy;
 use crate::events::add_event;
+use crate::forms::{Event, Input, Let, Output, Parallel};
 use crate::inputs::after_input;
 use crate::large::{some_large_compared, some_large_in};
 use crate::listing::Listing;
@@ -26,7 +26,7 @@ use crate::outputs::add_output;
 use crate::place::Place;
 use crate::visit::Visit;
 use clause_terms::Scope;
-use pi_tree::{Atom, Expr, Pat, Process, Term};
+use pi_tree::{Expr, Pat, Process};
 use std::alloc::AllocError;
 use term_tree::Bank;
 
@@ -59,7 +59,6 @@ pub fn visit_process<B: Bank>(
 ) -> Result<Option<u32>, AllocError>
     requires visit { IsVisitIn (B.trees bank.old) visit.now }
     requires short { IsShortProcess (process_of process.now) }
-    requires rules { HasShortRules (protocol_at place.now) }
     ensures grows { Grows (B.trees bank.old) (B.trees bank.new) }
     ensures ends { IfOk result (λ large. Ends (protocol_at place.now)
         (Once (process_of process.now) place.now.point (visit_at (B.trees bank.old) visit.now))
@@ -86,7 +85,6 @@ fn visit_counted<B: Bank>(
 ) -> Result<Option<u32>, AllocError>
     requires visit { IsVisitIn (B.trees bank.old) visit.now }
     requires short { IsShortProcess (process_of process.now) }
-    requires rules { HasShortRules (protocol_at place.now) }
     ensures grows { Grows (B.trees bank.old) (B.trees bank.new) }
     ensures ends { IfOk result (λ large. Ends (protocol_at place.now)
         (Uncounted (process_of process.now) place.now.point
@@ -115,7 +113,6 @@ fn visit_form<B: Bank>(
 ) -> Result<Option<u32>, AllocError>
     requires visit { IsVisitIn (B.trees bank.old) visit.now }
     requires short { IsShortProcess (process_of process.now) }
-    requires rules { HasShortRules (protocol_at place.now) }
     ensures grows { Grows (B.trees bank.old) (B.trees bank.new) }
     ensures ends { IfOk result (λ large. Ends (protocol_at place.now)
         (Uncounted (process_of process.now) place.now.point
@@ -125,101 +122,110 @@ fn visit_form<B: Bank>(
     match process {
         Process::Nil => Ok(None),
         Process::Output(channel, message, next) => {
-            visit_output(next, place, bank, listing, visit, channel, message)
+            let output = Output {
+                channel,
+                message,
+                next,
+            };
+            visit_output(&output, place, bank, listing, visit)
         }
         Process::Input(channel, pattern, next) => {
-            visit_input(next, place, bank, listing, visit, channel, pattern)
+            let input = Input {
+                channel,
+                pattern,
+                next,
+            };
+            visit_input(&input, place, bank, listing, visit)
         }
-        Process::Par(left, right) => visit_parallel(left, right, place, bank, listing, visit),
+        Process::Par(left, right) => {
+            let both = Parallel { left, right };
+            visit_parallel(&both, place, bank, listing, visit)
+        }
         Process::Copies(copied) => visit_copies(copied, place, bank, listing, visit),
         Process::New(_, next) => visit_new(next, place, bank, listing, visit),
-        Process::Let(pattern, expression, next, otherwise) => visit_let(
-            next, otherwise, place, bank, listing, visit, pattern, expression,
-        ),
-        Process::Event(atom, next) => visit_event(next, place, bank, listing, visit, atom),
+        Process::Let(pattern, expression, next, otherwise) => {
+            let choice = Let {
+                pattern,
+                expression,
+                next,
+                otherwise,
+            };
+            visit_let(&choice, place, bank, listing, visit)
+        }
+        Process::Event(atom, next) => {
+            let event = Event { atom, next };
+            visit_event(&event, place, bank, listing, visit)
+        }
     }
 }
 
 /// Visits an output. On `Err` the bank may have grown.
 #[cycle(visits)]
 fn visit_output<B: Bank>(
-    next: &Process,
+    output: &Output<'_>,
     place: &Place<'_>,
     bank: &mut B,
     listing: &mut Listing,
     visit: &Visit,
-    channel: &Term,
-    message: &Term,
 ) -> Result<Option<u32>, AllocError>
     requires visit { IsVisitIn (B.trees bank.old) visit.now }
-    requires short { IsShortProcess (calculus.Output (term_of channel.now) (term_of message.now)
-        (process_of next.now)) }
-    requires rules { HasShortRules (protocol_at place.now) }
+    requires short { IsShortProcess (output_form output.now) }
     ensures grows { Grows (B.trees bank.old) (B.trees bank.new) }
     ensures ends { IfOk result (λ large. Ends (protocol_at place.now)
-        (Uncounted (calculus.Output (term_of channel.now) (term_of message.now)
-        (process_of next.now)) place.now.point (visit_at (B.trees bank.old) visit.now))
+        (Uncounted (output_form output.now) place.now.point (visit_at (B.trees bank.old) visit.now))
         (B.trees bank.new) listing.old listing.new large) }
 {
-    if !add_output(place, bank, listing, visit, channel, message)? {
+    if !add_output(place, bank, listing, visit, output)? {
         return Ok(Some(place.point));
     }
     let below = place.below()?;
-    visit_process(next, &below, bank, listing, visit)
+    visit_process(output.next, &below, bank, listing, visit)
 }
 
 /// Visits an input. On `Err` the bank may have grown.
 #[cycle(visits)]
 fn visit_input<B: Bank>(
-    next: &Process,
+    input: &Input<'_>,
     place: &Place<'_>,
     bank: &mut B,
     listing: &mut Listing,
     visit: &Visit,
-    channel: &Term,
-    pattern: &Pat,
 ) -> Result<Option<u32>, AllocError>
     requires visit { IsVisitIn (B.trees bank.old) visit.now }
-    requires short { IsShortProcess (calculus.Input (term_of channel.now) (pattern_of pattern.now)
-        (process_of next.now)) }
-    requires rules { HasShortRules (protocol_at place.now) }
+    requires short { IsShortProcess (input_form input.now) }
     ensures grows { Grows (B.trees bank.old) (B.trees bank.new) }
     ensures ends { IfOk result (λ large. Ends (protocol_at place.now)
-        (Uncounted (calculus.Input (term_of channel.now) (pattern_of pattern.now)
-        (process_of next.now)) place.now.point (visit_at (B.trees bank.old) visit.now))
+        (Uncounted (input_form input.now) place.now.point (visit_at (B.trees bank.old) visit.now))
         (B.trees bank.new) listing.old listing.new large) }
 {
     let below = place.below()?;
-    match after_input(place, bank, visit, channel, pattern)? {
+    match after_input(place, bank, visit, input.channel, input.pattern)? {
         None => Ok(Some(place.point)),
-        Some(made) => visit_process(next, &below, bank, listing, &made),
+        Some(made) => visit_process(input.next, &below, bank, listing, &made),
     }
 }
 
 /// Visits two processes in parallel. On `Err` the bank may have grown.
 #[cycle(visits)]
 fn visit_parallel<B: Bank>(
-    left: &Process,
-    right: &Process,
+    both: &Parallel<'_>,
     place: &Place<'_>,
     bank: &mut B,
     listing: &mut Listing,
     visit: &Visit,
 ) -> Result<Option<u32>, AllocError>
     requires visit { IsVisitIn (B.trees bank.old) visit.now }
-    requires short { IsShortProcess (calculus.Parallel (process_of left.now)
-        (process_of right.now)) }
-    requires rules { HasShortRules (protocol_at place.now) }
+    requires short { IsShortProcess (parallel_form both.now) }
     ensures grows { Grows (B.trees bank.old) (B.trees bank.new) }
     ensures ends { IfOk result (λ large. Ends (protocol_at place.now)
-        (Uncounted (calculus.Parallel (process_of left.now) (process_of right.now)) place.now.point
-        (visit_at (B.trees bank.old) visit.now)) (B.trees bank.new) listing.old listing.new large) }
+        (Uncounted (parallel_form both.now) place.now.point (visit_at (B.trees bank.old) visit.now))
+        (B.trees bank.new) listing.old listing.new large) }
 {
     let below = place.below()?;
-    let after = place.after(left)?;
-    match visit_process(left, &below, bank, listing, visit)? {
+    let after = place.after(both.left)?;
+    match visit_process(both.left, &below, bank, listing, visit)? {
         Some(point) => Ok(Some(point)),
-        None => visit_process(right, &after, bank, listing, visit),
+        None => visit_process(both.right, &after, bank, listing, visit),
     }
 }
 
@@ -234,7 +240,6 @@ fn visit_copies<B: Bank>(
 ) -> Result<Option<u32>, AllocError>
     requires visit { IsVisitIn (B.trees bank.old) visit.now }
     requires short { IsShortProcess (calculus.Replication (process_of copied.now)) }
-    requires rules { HasShortRules (protocol_at place.now) }
     ensures grows { Grows (B.trees bank.old) (B.trees bank.new) }
     ensures ends { IfOk result (λ large. Ends (protocol_at place.now)
         (Uncounted (calculus.Replication (process_of copied.now)) place.now.point
@@ -256,7 +261,6 @@ fn visit_new<B: Bank>(
 ) -> Result<Option<u32>, AllocError>
     requires visit { IsVisitIn (B.trees bank.old) visit.now }
     requires short { IsShortProcess (calculus.New [] (process_of next.now)) }
-    requires rules { HasShortRules (protocol_at place.now) }
     ensures grows { Grows (B.trees bank.old) (B.trees bank.new) }
     ensures ends { IfOk result (λ large. Ends (protocol_at place.now)
         (Uncounted (calculus.New [] (process_of next.now)) place.now.point
@@ -272,35 +276,29 @@ fn visit_new<B: Bank>(
 /// Visits a `let`. On `Err` the bank may have grown.
 #[cycle(visits)]
 fn visit_let<B: Bank>(
-    next: &Process,
-    otherwise: &Process,
+    choice: &Let<'_>,
     place: &Place<'_>,
     bank: &mut B,
     listing: &mut Listing,
     visit: &Visit,
-    pattern: &Pat,
-    expression: &Expr,
 ) -> Result<Option<u32>, AllocError>
     requires visit { IsVisitIn (B.trees bank.old) visit.now }
-    requires short { IsShortProcess (calculus.Let (pattern_of pattern.now)
-        (expression_of expression.now) (process_of next.now) (process_of otherwise.now)) }
-    requires rules { HasShortRules (protocol_at place.now) }
+    requires short { IsShortProcess (let_form choice.now) }
     ensures grows { Grows (B.trees bank.old) (B.trees bank.new) }
     ensures ends { IfOk result (λ large. Ends (protocol_at place.now)
-        (Uncounted (calculus.Let (pattern_of pattern.now) (expression_of expression.now)
-        (process_of next.now) (process_of otherwise.now)) place.now.point
-        (visit_at (B.trees bank.old) visit.now)) (B.trees bank.new) listing.old listing.new large) }
+        (Uncounted (let_form choice.now) place.now.point (visit_at (B.trees bank.old) visit.now))
+        (B.trees bank.new) listing.old listing.new large) }
 {
-    if is_large_let(place, bank, &visit.scope, pattern, expression) {
+    if is_large_let(place, bank, &visit.scope, choice.pattern, choice.expression) {
         return Ok(Some(place.point));
     }
     let below = place.below()?;
-    let after = place.after(next)?;
-    match choices(place, bank, visit, pattern, expression)? {
+    let after = place.after(choice.next)?;
+    match choices(place, bank, visit, choice.pattern, choice.expression)? {
         None => Ok(Some(place.point)),
-        Some(visits) => match visit_each(next, &below, bank, listing, &visits.items)? {
+        Some(visits) => match visit_each(choice.next, &below, bank, listing, &visits.items)? {
             Some(point) => Ok(Some(point)),
-            None => visit_process(otherwise, &after, bank, listing, visit),
+            None => visit_process(choice.otherwise, &after, bank, listing, visit),
         },
     }
 }
@@ -308,25 +306,23 @@ fn visit_let<B: Bank>(
 /// Visits an event. On `Err` the bank may have grown.
 #[cycle(visits)]
 fn visit_event<B: Bank>(
-    next: &Process,
+    event: &Event<'_>,
     place: &Place<'_>,
     bank: &mut B,
     listing: &mut Listing,
     visit: &Visit,
-    atom: &Atom,
 ) -> Result<Option<u32>, AllocError>
     requires visit { IsVisitIn (B.trees bank.old) visit.now }
-    requires short { IsShortProcess (calculus.Event (event_of atom.now) (process_of next.now)) }
-    requires rules { HasShortRules (protocol_at place.now) }
+    requires short { IsShortProcess (event_form event.now) }
     ensures grows { Grows (B.trees bank.old) (B.trees bank.new) }
     ensures ends { IfOk result (λ large. Ends (protocol_at place.now)
-        (Uncounted (calculus.Event (event_of atom.now) (process_of next.now)) place.now.point
-        (visit_at (B.trees bank.old) visit.now)) (B.trees bank.new) listing.old listing.new large) }
+        (Uncounted (event_form event.now) place.now.point (visit_at (B.trees bank.old) visit.now))
+        (B.trees bank.new) listing.old listing.new large) }
 {
     let below = place.below()?;
-    match add_event(place, bank, listing, visit, atom)? {
+    match add_event(place, bank, listing, visit, event.atom)? {
         None => Ok(Some(place.point)),
-        Some(made) => visit_process(next, &below, bank, listing, &made),
+        Some(made) => visit_process(event.next, &below, bank, listing, &made),
     }
 }
 
@@ -341,7 +337,6 @@ fn visit_each<B: Bank>(
 ) -> Result<Option<u32>, AllocError>
     requires visits { AreVisitsIn (B.trees bank.old) visits.now }
     requires short { IsShortProcess (process_of process.now) }
-    requires rules { HasShortRules (protocol_at place.now) }
     ensures grows { Grows (B.trees bank.old) (B.trees bank.new) }
     ensures ends { IfOk result (λ large. Ends (protocol_at place.now)
         (Each (process_of process.now) place.now.point (visits_at (B.trees bank.old) visits.now))

@@ -14,7 +14,7 @@ use Rattle.clause_translate.proofs.Calling.{called}
 use Rattle.clause_translate.proofs.choices.by_call.Goals as goal
 
 pub by_rules-requires-clause-visit : goal.by_rules-requires-clause-visit
-by_rules-requires-clause-visit g c = (visit_later (g.B.Bank.trees c.args.bank.now) (g.B.Bank.trees c.terms_in.new.bank) c.args.visit.now c.terms_in.ensures.grows c.requires.visit).known
+by_rules-requires-clause-visit g c = (visit_later (g.B.Bank.trees c.args.bank.now) (g.B.Bank.trees c.terms_in.new.bank) c.args.choosing.now.visit.now c.terms_in.ensures.grows c.requires.visit).known
 
 pub by_rules-requires-clause-arguments : goal.by_rules-requires-clause-arguments
 by_rules-requires-clause-arguments g c = subst (λ (ids : List Id). AreKnown (g.B.Bank.trees c.terms_in.new.bank) ids) (sym (c.deref.ensures.value ∙ c.arguments.view_is)) c.in_ok-arguments.ensures.names.known
@@ -23,20 +23,20 @@ pub by_rules-requires-clause-below : goal.by_rules-requires-clause-below
 by_rules-requires-clause-below g c =
     let old = g.B.Bank.trees c.args.bank.now in
     let mid = g.B.Bank.trees c.terms_in.new.bank in
-    let v = c.args.visit.now in
-    let P = protocol_at c.args.place.now in
+    let v = c.args.choosing.now.visit.now in
+    let P = protocol_at c.args.choosing.now.place.now in
     subst (λ ts. AreBelow v.next ts) (sym (ap (map (tree_at mid)) (c.deref.ensures.value ∙ c.arguments.view_is) ∙ c.in_ok-arguments.ensures.names.are))
     (terms_in_below P v.next (visit_at old v).scope (below_parts old mid v c.terms_in.ensures.grows c.requires.visit).scope c.args.arguments.now)
 
 pub by_rules-requires-clause-rules : goal.by_rules-requires-clause-rules
-by_rules-requires-clause-rules g c = subst (λ rs. AllByRecursion IsShortRule rs) (sym c.rules_of-rules.ensures) (c.requires.rules c.args.destructor)
+by_rules-requires-clause-rules g c = subst (λ rs. AllByRecursion IsShortRule rs) (sym c.rules_of-rules.ensures) (c.args.choosing.now.place.now.rules c.args.destructor)
 
 pub returns-clause-go : goal.returns-clause-go
 returns-clause-go g c =
     let old = g.B.Bank.trees c.args.bank.now in
     let mid = g.B.Bank.trees c.terms_in.new.bank in
     let new = g.B.Bank.trees c.by_rules.new.bank in
-    let w = c.args.visit.now in
-    let P = protocol_at c.args.place.now in
-    called P (visit_at old w) (pattern_of c.args.pattern.now) c.args.arguments.now c.by_rules.result c.args.destructor (visit_at mid w) (map (tree_at mid) c.deref.result.now) (map rule_of c.rules_of-rules.result.now) new
+    let w = c.args.choosing.now.visit.now in
+    let P = protocol_at c.args.choosing.now.place.now in
+    called P (visit_at old w) (pattern_of c.args.choosing.now.pattern.now) c.args.arguments.now c.by_rules.result c.args.destructor (visit_at mid w) (map (tree_at mid) c.deref.result.now) (map rule_of c.rules_of-rules.result.now) new
     (visit_later old mid w c.terms_in.ensures.grows c.requires.visit).is (ap (map (tree_at mid)) (c.deref.ensures.value ∙ c.arguments.view_is) ∙ c.in_ok-arguments.ensures.names.are) c.rules_of-rules.ensures c.by_rules.ensures.go

@@ -21,16 +21,16 @@ use Rattle.clause_translate.proofs.Choosing.{by_rule_goes}
 use Rattle.clause_translate.proofs.choices.by_rule_grown.Goals as goal
 
 pub rule_terms-requires-clause-room : goal.rule_terms-requires-clause-room
-rule_terms-requires-clause-room g c = rooms_for c.args.visit.now.next c.in_ok-base.base c.in_ok-base.ensures.fits (rule_of c.args.rule.now).left c.in_ok-base.ensures.end.left
+rule_terms-requires-clause-room g c = rooms_for c.args.choosing.now.visit.now.next c.in_ok-base.base c.in_ok-base.ensures.fits (rule_of c.args.rule.now).left c.in_ok-base.ensures.end.left
 
 pub rule_term-requires-clause-room : goal.rule_term-requires-clause-room
-rule_term-requires-clause-room g c = room_for c.args.visit.now.next c.in_ok-base.base c.in_ok-base.ensures.fits (rule_of c.args.rule.now).right c.in_ok-base.ensures.end.right
+rule_term-requires-clause-room g c = room_for c.args.choosing.now.visit.now.next c.in_ok-base.base c.in_ok-base.ensures.fits (rule_of c.args.rule.now).right c.in_ok-base.ensures.end.right
 
 pub with_pattern-requires-clause-visit : goal.with_pattern-requires-clause-visit
 with_pattern-requires-clause-visit g c =
     let old = g.B.Bank.trees c.args.bank.now in
     let second = g.B.Bank.trees c.rule_term.new.bank in
-    (visit_later old second c.args.visit.now (Grows_trans old (g.B.Bank.trees c.rule_terms.new.bank) second c.rule_terms.ensures.grows c.rule_term.ensures.grows) c.requires.visit).known
+    (visit_later old second c.args.choosing.now.visit.now (Grows_trans old (g.B.Bank.trees c.rule_terms.new.bank) second c.rule_terms.ensures.grows c.rule_term.ensures.grows) c.requires.visit).known
 
 pub way_of-requires : goal.way_of-requires
 way_of-requires g c =
@@ -38,8 +38,8 @@ way_of-requires g c =
     let first = g.B.Bank.trees c.rule_terms.new.bank in
     let second = g.B.Bank.trees c.rule_term.new.bank in
     let new = g.B.Bank.trees c.with_pattern.new.bank in
-    let P = protocol_at c.args.place.now in
-    let v = c.args.visit.now in
+    let P = protocol_at c.args.choosing.now.place.now in
+    let v = c.args.choosing.now.visit.now in
     let rule = rule_of c.args.rule.now in
     let end = c.in_ok-base.base in
     let made = c.in_ok-made.made in
@@ -73,11 +73,11 @@ returns-clause-way g c =
     let second = g.B.Bank.trees c.rule_term.new.bank in
     let new = g.B.Bank.trees c.with_pattern.new.bank in
     let last = g.B.Bank.trees c.way_of.new.bank in
-    let P = protocol_at c.args.place.now in
-    let w = c.args.visit.now in
+    let P = protocol_at c.args.choosing.now.place.now in
+    let w = c.args.choosing.now.visit.now in
     let v = visit_at old w in
     let rule = rule_of c.args.rule.now in
-    let pattern = pattern_of c.args.pattern.now in
+    let pattern = pattern_of c.args.choosing.now.pattern.now in
     let end = c.in_ok-base.base in
     let made = c.in_ok-made.made in
     let values = map (tree_at old) c.args.arguments.now in

@@ -8,4 +8,4 @@ use Rattle.clause_translate.proofs.choices.by_rules.Given as goal
 
 abbrev pub invariant-each : goal.invariant-each
 invariant-each g l =
-    AreRuled (protocol_at l.place) (visit_at (g.B.Bank.trees l.fn.bank) l.visit) (pattern_of l.pattern) (map (tree_at (g.B.Bank.trees l.fn.bank)) l.arguments) (g.B.Bank.trees l.fn.bank) (g.B.Bank.trees l.bank) l.rules l.rule-index l.items.items l.large
+    AreRuled (protocol_at l.choosing.place.now) (visit_at (g.B.Bank.trees l.fn.bank) l.choosing.visit.now) (pattern_of l.choosing.pattern.now) (map (tree_at (g.B.Bank.trees l.fn.bank)) l.arguments) (g.B.Bank.trees l.fn.bank) (g.B.Bank.trees l.bank) l.rules l.rule-index l.items.items l.large

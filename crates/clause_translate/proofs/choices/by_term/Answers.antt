@@ -19,7 +19,7 @@ use Rattle.clause_translate.proofs.Choosing.{by_term_goes}
 use Rattle.clause_translate.proofs.choices.by_term.Goals as goal
 
 pub with_pattern-requires-clause-visit : goal.with_pattern-requires-clause-visit
-with_pattern-requires-clause-visit g c = (visit_later (g.B.Bank.trees c.args.bank.now) (g.B.Bank.trees c.term_in.new.bank) c.args.visit.now c.term_in.ensures.grows c.requires.visit).known
+with_pattern-requires-clause-visit g c = (visit_later (g.B.Bank.trees c.args.bank.now) (g.B.Bank.trees c.term_in.new.bank) c.args.choosing.now.visit.now c.term_in.ensures.grows c.requires.visit).known
 
 pub way_of-requires-clause-visit : goal.way_of-requires-clause-visit
 way_of-requires-clause-visit g c = c.in_ok-made.ensures.names.visit.known
@@ -27,7 +27,7 @@ way_of-requires-clause-visit g c = c.in_ok-made.ensures.names.visit.known
 pub way_of-requires-clause-value : goal.way_of-requires-clause-value
 way_of-requires-clause-value g c =
     let old = g.B.Bank.trees c.args.bank.now in
-    (Names-grows (g.B.Bank.trees c.term_in.new.bank) (g.B.Bank.trees c.with_pattern.new.bank) c.in_ok-value.value (term_in (protocol_at c.args.place.now) (scope_at old c.args.visit.now.scope) (term_of c.args.term.now)) c.with_pattern.ensures.grows c.in_ok-value.ensures.names).known
+    (Names-grows (g.B.Bank.trees c.term_in.new.bank) (g.B.Bank.trees c.with_pattern.new.bank) c.in_ok-value.value (term_in (protocol_at c.args.choosing.now.place.now) (scope_at old c.args.choosing.now.visit.now.scope) (term_of c.args.term.now)) c.with_pattern.ensures.grows c.in_ok-value.ensures.names).known
 
 pub way_of-requires-clause-target : goal.way_of-requires-clause-target
 way_of-requires-clause-target g c = c.in_ok-made.ensures.names.term.known
@@ -37,8 +37,8 @@ way_of-requires-clause-below g c =
     let old = g.B.Bank.trees c.args.bank.now in
     let mid = g.B.Bank.trees c.term_in.new.bank in
     let new = g.B.Bank.trees c.with_pattern.new.bank in
-    let P = protocol_at c.args.place.now in
-    let v = c.args.visit.now in
+    let P = protocol_at c.args.choosing.now.place.now in
+    let v = c.args.choosing.now.visit.now in
     let made = c.in_ok-made.made in
     let bound = c.in_ok-made.ensures.names in
     let t = term_in P (scope_at old v.scope) (term_of c.args.term.now) in
@@ -57,11 +57,11 @@ returns-clause-way g c =
     let mid = g.B.Bank.trees c.term_in.new.bank in
     let new = g.B.Bank.trees c.with_pattern.new.bank in
     let last = g.B.Bank.trees c.way_of.new.bank in
-    let P = protocol_at c.args.place.now in
-    let w = c.args.visit.now in
+    let P = protocol_at c.args.choosing.now.place.now in
+    let w = c.args.choosing.now.visit.now in
     let v = visit_at old w in
     let made = c.in_ok-made.made in
-    let pattern = pattern_of c.args.pattern.now in
+    let pattern = pattern_of c.args.choosing.now.pattern.now in
     let term = term_of c.args.term.now in
     let same = (visit_later old mid w c.term_in.ensures.grows c.requires.visit).is in
     let bound = subst (λ (x : Visit). WithPattern P x pattern w.next new made c.in_ok-made.target) same c.in_ok-made.ensures.names in

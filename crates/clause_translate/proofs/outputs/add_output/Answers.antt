@@ -14,9 +14,9 @@ returns-clause-large g c =
     let mid = g.B.Bank.trees c.output_clause.new.bank in
     let P = protocol_at c.args.place.now in
     let v = visit_at old c.args.visit.now in
-    is_told c.add.result mid (g.B.Bank.trees c.add.new.bank) c.args.listing.now c.add.new.self c.in_ok-raw.raw (output_raw P v (term_of c.args.channel.now) (term_of c.args.message.now)) c.in_ok-raw.ensures.names c.add.ensures.adds c.add.ensures.small
-    (are_large_in P v.scope (term_of c.args.channel.now ∷ term_of c.args.message.now ∷ []))
-    (both_small (is_large_term (term_in P v.scope (term_of c.args.channel.now))) (is_large_term (term_in P v.scope (term_of c.args.message.now))) (sym c.is_large_term.ensures ∙ c.if-is_large_term.false) (sym c.is_large_term-2.ensures ∙ c.if-is_large_term-2.false))
+    is_told c.add.result mid (g.B.Bank.trees c.add.new.bank) c.args.listing.now c.add.new.self c.in_ok-raw.raw (output_raw P v (term_of c.args.output.now.channel.now) (term_of c.args.output.now.message.now)) c.in_ok-raw.ensures.names c.add.ensures.adds c.add.ensures.small
+    (are_large_in P v.scope (term_of c.args.output.now.channel.now ∷ term_of c.args.output.now.message.now ∷ []))
+    (both_small (is_large_term (term_in P v.scope (term_of c.args.output.now.channel.now))) (is_large_term (term_in P v.scope (term_of c.args.output.now.message.now))) (sym c.is_large_term.ensures ∙ c.if-is_large_term.false) (sym c.is_large_term-2.ensures ∙ c.if-is_large_term-2.false))
 
 pub returns-clause-adds : goal.returns-clause-adds
 returns-clause-adds g c =
@@ -24,4 +24,4 @@ returns-clause-adds g c =
     let mid = g.B.Bank.trees c.output_clause.new.bank in
     let P = protocol_at c.args.place.now in
     let v = visit_at old c.args.visit.now in
-    is_added c.add.result mid (g.B.Bank.trees c.add.new.bank) c.args.listing.now c.add.new.self c.in_ok-raw.raw (output_raw P v (term_of c.args.channel.now) (term_of c.args.message.now)) c.in_ok-raw.ensures.names c.add.ensures.adds c.add.ensures.small
+    is_added c.add.result mid (g.B.Bank.trees c.add.new.bank) c.args.listing.now c.add.new.self c.in_ok-raw.raw (output_raw P v (term_of c.args.output.now.channel.now) (term_of c.args.output.now.message.now)) c.in_ok-raw.ensures.names c.add.ensures.adds c.add.ensures.small

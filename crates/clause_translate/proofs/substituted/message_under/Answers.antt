@@ -17,8 +17,8 @@ returns-in-None-2-clause-under g c =
     let old = g.B.Bank.trees c.args.bank.now in
     let now = g.B.Bank.trees c.term_under.new.bank in
     let s = resolved (seen old c.args.binds.now.pairs) in
-    second_over (is_over most_symbols (bind s (tree_at old c.args.channel))) (is_over most_symbols (bind s (tree_at old c.args.message)))
-    (over_later old now c.args.binds.now.pairs c.term_under.ensures.grows c.requires.ready (g.B.Bank.trees c.term_under-in-Some.new.bank) c.args.message c.in_ok-term_under-in-Some.field-0 c.requires.known.1.0 c.in-None-2.is c.in_ok-term_under-in-Some.ensures.under)
+    second_over (is_over most_symbols (bind s (tree_at old c.args.sent.channel))) (is_over most_symbols (bind s (tree_at old c.args.sent.message)))
+    (over_later old now c.args.binds.now.pairs c.term_under.ensures.grows c.requires.ready (g.B.Bank.trees c.term_under-in-Some.new.bank) c.args.sent.message c.in_ok-term_under-in-Some.field-0 c.requires.known.1.0 c.in-None-2.is c.in_ok-term_under-in-Some.ensures.under)
 
 pub returns-in-Some-2-clause-under : goal.returns-in-Some-2-clause-under
 returns-in-Some-2-clause-under g c =
@@ -27,6 +27,6 @@ returns-in-Some-2-clause-under g c =
     let new = g.B.Bank.trees c.term_under-in-Some.new.bank in
     let pairs = c.args.binds.now.pairs in
     let s = resolved (seen old pairs) in
-    message_named now new c.in-Some.channel c.in-Some-2.message (bind s (tree_at old c.args.channel)) (bind s (tree_at old c.args.message)) c.term_under-in-Some.ensures.grows
-    (names_later old old pairs (Grows_refl old) c.requires.ready now c.args.channel c.in-Some.channel c.in_ok-term_under.field-0 c.requires.known.0 c.in-Some.is c.in_ok-term_under.ensures.under)
-    (names_later old now pairs c.term_under.ensures.grows c.requires.ready new c.args.message c.in-Some-2.message c.in_ok-term_under-in-Some.field-0 c.requires.known.1.0 c.in-Some-2.is c.in_ok-term_under-in-Some.ensures.under)
+    message_named now new c.in-Some.channel c.in-Some-2.message (bind s (tree_at old c.args.sent.channel)) (bind s (tree_at old c.args.sent.message)) c.term_under-in-Some.ensures.grows
+    (names_later old old pairs (Grows_refl old) c.requires.ready now c.args.sent.channel c.in-Some.channel c.in_ok-term_under.field-0 c.requires.known.0 c.in-Some.is c.in_ok-term_under.ensures.under)
+    (names_later old now pairs c.term_under.ensures.grows c.requires.ready new c.args.sent.message c.in-Some-2.message c.in_ok-term_under-in-Some.field-0 c.requires.known.1.0 c.in-Some-2.is c.in_ok-term_under-in-Some.ensures.under)

@@ -16,7 +16,7 @@ use Rattle.clause_translate.specs.declared.listing.Listing.{Listing}
 use Rattle.clause_translate.specs.declared.visit.Visit as source
 use Rattle.clause_translate.specs.declared.visit.Visits.{Visits}
 use Rattle.clause_translate.specs.Places.{protocol_at}
-use Rattle.clause_translate.specs.Short.{IsShortProcess, HasShortRules}
+use Rattle.clause_translate.specs.Short.{IsShortProcess}
 use Rattle.clause_translate.specs.Visits.{visit_at, NamesVisit}
 use Rattle.clause_translate.specs.Forms.{is_large_output, present, Receives, IsLargeInput, EventAdds, GoOn, IsLargeChoice}
 use Rattle.clause_translate.specs.Jobs.{Once, Uncounted, Each, Ends, visits_at}
@@ -28,9 +28,7 @@ use Rattle.clause_translate.proofs.visits.+visits.Goals as goal
 
 pub visit_copies-visit_process-requires : goal.visit_copies-visit_process-requires
 visit_copies-visit_process-requires g t c κs within =
-    let old = g.B.Bank.trees c.args.bank.now in
-    let mid = g.B.Bank.trees c.after_copy.new.bank in
-    (omega (arith, c.decreases), (within, (c.in_ok-made.ensures.names.known, (c.requires.short, (subst (λ (P : calculus.Protocol). HasShortRules P) (sym c.in_ok-below.ensures.protocol) c.requires.rules)))))
+    (omega (arith, c.decreases), (within, (c.in_ok-made.ensures.names.known, c.requires.short)))
 
 pub visit_copies-returns-clause-ends : goal.visit_copies-returns-clause-ends
 visit_copies-returns-clause-ends g t c =
@@ -51,7 +49,7 @@ visit_each-visit_process-requires g t c κs within =
     let old = g.B.Bank.trees c.args.bank.now in
     let now = g.B.Bank.trees c.each.bank in
     let known = visit_of old c.args.visits.now c.each.visit-index c.visit-item.result c.visit-item.is c.requires.visits c.each-test.true in
-    (omega (arith, c.decreases), (within, ((visit_later old now c.visit-item.result c.each.invariant.grows known).known, (c.requires.short, c.requires.rules))))
+    (omega (arith, c.decreases), (within, ((visit_later old now c.visit-item.result c.each.invariant.grows known).known, c.requires.short)))
 
 pub visit_each-returns-in_err-point-clause-grows : goal.visit_each-returns-in_err-point-clause-grows
 visit_each-returns-in_err-point-clause-grows g t c =
@@ -89,8 +87,8 @@ visit_event-visit_process-requires g t c κs within =
     let w = c.args.visit.now in
     let v = visit_at old w in
     let mid = g.B.Bank.trees c.add_event.new.bank in
-    let adds = subst (λ (o : Option source.Visit). EventAdds P v (event_of c.args.atom.now) mid c.args.listing.now c.add_event.new.listing o) c.in-Some.is c.in_ok-add_event.ensures.adds in
-    (omega (arith, c.decreases), (within, (adds.names.known, (c.requires.short.1, (subst (λ (P : calculus.Protocol). HasShortRules P) (sym c.in_ok-below.ensures.protocol) c.requires.rules)))))
+    let adds = subst (λ (o : Option source.Visit). EventAdds P v (event_of c.args.event.now.atom.now) mid c.args.listing.now c.add_event.new.listing o) c.in-Some.is c.in_ok-add_event.ensures.adds in
+    (omega (arith, c.decreases), (within, (adds.names.known, c.requires.short.1)))
 
 pub visit_event-returns-in-Some-clause-ends : goal.visit_event-returns-in-Some-clause-ends
 visit_event-returns-in-Some-clause-ends g t c =
@@ -99,8 +97,8 @@ visit_event-returns-in-Some-clause-ends g t c =
     let w = c.args.visit.now in
     let v = visit_at old w in
     let mid = g.B.Bank.trees c.add_event.new.bank in
-    let adds = subst (λ (o : Option source.Visit). EventAdds P v (event_of c.args.atom.now) mid c.args.listing.now c.add_event.new.listing o) c.in-Some.is c.in_ok-add_event.ensures.adds in
-    event_ends c.visit_process.result P v (event_of c.args.atom.now) (process_of c.args.next.now) c.args.place.now.point c.in_ok-below.below c.in-Some.made mid (g.B.Bank.trees c.visit_process.new.bank) c.args.listing.now c.add_event.new.listing c.visit_process.new.listing
+    let adds = subst (λ (o : Option source.Visit). EventAdds P v (event_of c.args.event.now.atom.now) mid c.args.listing.now c.add_event.new.listing o) c.in-Some.is c.in_ok-add_event.ensures.adds in
+    event_ends c.visit_process.result P v (event_of c.args.event.now.atom.now) (process_of c.args.event.now.next.now) c.args.place.now.point c.in_ok-below.below c.in-Some.made mid (g.B.Bank.trees c.visit_process.new.bank) c.args.listing.now c.add_event.new.listing c.visit_process.new.listing
     c.in_ok-below.ensures c.visit_process.ensures.grows adds c.visit_process.ensures.ends
 
 pub visit_input-visit_process-requires : goal.visit_input-visit_process-requires
@@ -110,8 +108,8 @@ visit_input-visit_process-requires g t c κs within =
     let w = c.args.visit.now in
     let v = visit_at old w in
     let mid = g.B.Bank.trees c.after_input.new.bank in
-    let got = subst (λ (o : Option source.Visit). MatchOption o (IsLargeInput P v (term_of c.args.channel.now) (pattern_of c.args.pattern.now)) (λ made. Receives P v (term_of c.args.channel.now) (pattern_of c.args.pattern.now) mid made)) c.in-Some.is c.in_ok-after_input.ensures.receives in
-    (omega (arith, c.decreases), (within, (got.names.known, (c.requires.short.2, (subst (λ (P : calculus.Protocol). HasShortRules P) (sym c.in_ok-below.ensures.protocol) c.requires.rules)))))
+    let got = subst (λ (o : Option source.Visit). MatchOption o (IsLargeInput P v (term_of c.args.input.now.channel.now) (pattern_of c.args.input.now.pattern.now)) (λ made. Receives P v (term_of c.args.input.now.channel.now) (pattern_of c.args.input.now.pattern.now) mid made)) c.in-Some.is c.in_ok-after_input.ensures.receives in
+    (omega (arith, c.decreases), (within, (got.names.known, c.requires.short.2)))
 
 pub visit_input-returns-in-Some-clause-ends : goal.visit_input-returns-in-Some-clause-ends
 visit_input-returns-in-Some-clause-ends g t c =
@@ -120,20 +118,18 @@ visit_input-returns-in-Some-clause-ends g t c =
     let w = c.args.visit.now in
     let v = visit_at old w in
     let mid = g.B.Bank.trees c.after_input.new.bank in
-    let got = subst (λ (o : Option source.Visit). MatchOption o (IsLargeInput P v (term_of c.args.channel.now) (pattern_of c.args.pattern.now)) (λ made. Receives P v (term_of c.args.channel.now) (pattern_of c.args.pattern.now) mid made)) c.in-Some.is c.in_ok-after_input.ensures.receives in
-    input_ends c.visit_process.result P v (term_of c.args.channel.now) (pattern_of c.args.pattern.now) (process_of c.args.next.now) c.args.place.now.point c.in_ok-below.below c.in-Some.made mid (g.B.Bank.trees c.visit_process.new.bank) c.args.listing.now c.visit_process.new.listing
+    let got = subst (λ (o : Option source.Visit). MatchOption o (IsLargeInput P v (term_of c.args.input.now.channel.now) (pattern_of c.args.input.now.pattern.now)) (λ made. Receives P v (term_of c.args.input.now.channel.now) (pattern_of c.args.input.now.pattern.now) mid made)) c.in-Some.is c.in_ok-after_input.ensures.receives in
+    input_ends c.visit_process.result P v (term_of c.args.input.now.channel.now) (pattern_of c.args.input.now.pattern.now) (process_of c.args.input.now.next.now) c.args.place.now.point c.in_ok-below.below c.in-Some.made mid (g.B.Bank.trees c.visit_process.new.bank) c.args.listing.now c.visit_process.new.listing
     c.in_ok-below.ensures got c.visit_process.ensures.ends
 
 pub visit_new-visit_process-requires : goal.visit_new-visit_process-requires
 visit_new-visit_process-requires g t c κs within =
     let old = g.B.Bank.trees c.args.bank.now in
-    let P = protocol_at c.args.place.now in
     let w = c.args.visit.now in
     let v = visit_at old w in
     let mid = g.B.Bank.trees c.after_new.new.bank in
     let names : NamesVisit mid c.in-Some.made (after_new v c.args.place.now.point) = subst (λ (o : Option source.Visit). IfSome o (λ made. NamesVisit mid made (after_new v c.args.place.now.point))) c.in-Some.is c.in_ok-after_new.ensures.names in
-    let small : is_large_visit (after_new v c.args.place.now.point) ≡ false = subst (λ (o : Option source.Visit). MatchOption o (is_large_visit (after_new v c.args.place.now.point) ≡ true) (λ made. is_large_visit (after_new v c.args.place.now.point) ≡ false)) c.in-Some.is c.in_ok-after_new.ensures.large in
-    (omega (arith, c.decreases), (within, (names.known, (c.requires.short, (subst (λ (P : calculus.Protocol). HasShortRules P) (sym c.in_ok-below.ensures.protocol) c.requires.rules)))))
+    (omega (arith, c.decreases), (within, (names.known, c.requires.short)))
 
 pub visit_new-returns-in-Some-clause-ends : goal.visit_new-returns-in-Some-clause-ends
 visit_new-returns-in-Some-clause-ends g t c =
@@ -150,13 +146,10 @@ visit_new-returns-in-Some-clause-ends g t c =
 pub visit_output-visit_process-requires : goal.visit_output-visit_process-requires
 visit_output-visit_process-requires g t c κs within =
     let old = g.B.Bank.trees c.args.bank.now in
-    let P = protocol_at c.args.place.now in
     let w = c.args.visit.now in
-    let v = visit_at old w in
     let mid = g.B.Bank.trees c.add_output.new.bank in
-    let adds = c.in_ok-add_output.ensures.adds c.if-not-branch.false in
     let later = visit_later old mid w c.add_output.ensures.grows c.requires.visit in
-    (omega (arith, c.decreases), (within, (later.known, (c.requires.short.2, (subst (λ (P : calculus.Protocol). HasShortRules P) (sym c.in_ok-below.ensures.protocol) c.requires.rules)))))
+    (omega (arith, c.decreases), (within, (later.known, c.requires.short.2)))
 
 pub visit_output-returns-clause-ends : goal.visit_output-returns-clause-ends
 visit_output-returns-clause-ends g t c =
@@ -167,14 +160,13 @@ visit_output-returns-clause-ends g t c =
     let mid = g.B.Bank.trees c.add_output.new.bank in
     let adds = c.in_ok-add_output.ensures.adds c.if-not-branch.false in
     let later = visit_later old mid w c.add_output.ensures.grows c.requires.visit in
-    let small = subst (λ b. MatchBool b (is_large_output P v (term_of c.args.channel.now) (term_of c.args.message.now) ≡ false) (is_large_output P v (term_of c.args.channel.now) (term_of c.args.message.now) ≡ true)) c.if-not-branch.false c.in_ok-add_output.ensures.large in
-    output_ends c.visit_process.result P v (term_of c.args.channel.now) (term_of c.args.message.now) (process_of c.args.next.now) c.args.place.now.point c.in_ok-below.below (visit_at mid w) mid (g.B.Bank.trees c.visit_process.new.bank) c.args.listing.now c.add_output.new.listing c.visit_process.new.listing
+    let small = subst (λ b. MatchBool b (is_large_output P v (term_of c.args.output.now.channel.now) (term_of c.args.output.now.message.now) ≡ false) (is_large_output P v (term_of c.args.output.now.channel.now) (term_of c.args.output.now.message.now) ≡ true)) c.if-not-branch.false c.in_ok-add_output.ensures.large in
+    output_ends c.visit_process.result P v (term_of c.args.output.now.channel.now) (term_of c.args.output.now.message.now) (process_of c.args.output.now.next.now) c.args.place.now.point c.in_ok-below.below (visit_at mid w) mid (g.B.Bank.trees c.visit_process.new.bank) c.args.listing.now c.add_output.new.listing c.visit_process.new.listing
     c.in_ok-below.ensures later.is small c.visit_process.ensures.grows adds c.visit_process.ensures.ends
 
 pub visit_parallel-visit_process-requires : goal.visit_parallel-visit_process-requires
 visit_parallel-visit_process-requires g t c κs within =
-    let old = g.B.Bank.trees c.args.bank.now in
-    (omega (arith, c.decreases), (within, (c.requires.visit, (c.requires.short.0, (subst (λ (P : calculus.Protocol). HasShortRules P) (sym c.in_ok-below.ensures.protocol) c.requires.rules)))))
+    (omega (arith, c.decreases), (within, (c.requires.visit, c.requires.short.0)))
 
 pub visit_parallel-visit_process-requires-in-None : goal.visit_parallel-visit_process-requires-in-None
 visit_parallel-visit_process-requires-in-None g t c κs within =
@@ -184,9 +176,9 @@ visit_parallel-visit_process-requires-in-None g t c κs within =
     let v = visit_at old w in
     let mid = g.B.Bank.trees c.visit_process.new.bank in
     let later = visit_later old mid w c.visit_process.ensures.grows c.requires.visit in
-    let done = moved P (c.args.place.now.point + 1) v c.in_ok-below.below v (process_of c.args.left.now) mid c.args.listing.now c.visit_process.new.listing None c.in_ok-below.ensures refl
-    (subst (λ (o : Option ℕ). Ends (protocol_at c.in_ok-below.below) (Once (process_of c.args.left.now) c.in_ok-below.below.point v) mid c.args.listing.now c.visit_process.new.listing o) c.in-None.is c.in_ok-point.ensures.ends) in
-    (omega (arith, c.decreases), (within, (later.known, (c.requires.short.1, (subst (λ (P : calculus.Protocol). HasShortRules P) (sym c.in_ok-after.ensures.protocol) c.requires.rules)))))
+    let done = moved P (c.args.place.now.point + 1) v c.in_ok-below.below v (process_of c.args.both.now.left.now) mid c.args.listing.now c.visit_process.new.listing None c.in_ok-below.ensures refl
+    (subst (λ (o : Option ℕ). Ends (protocol_at c.in_ok-below.below) (Once (process_of c.args.both.now.left.now) c.in_ok-below.below.point v) mid c.args.listing.now c.visit_process.new.listing o) c.in-None.is c.in_ok-point.ensures.ends) in
+    (omega (arith, c.decreases), (within, (later.known, c.requires.short.1)))
 
 pub visit_parallel-returns-in-None-clause-ends : goal.visit_parallel-returns-in-None-clause-ends
 visit_parallel-returns-in-None-clause-ends g t c =
@@ -196,9 +188,9 @@ visit_parallel-returns-in-None-clause-ends g t c =
     let v = visit_at old w in
     let mid = g.B.Bank.trees c.visit_process.new.bank in
     let later = visit_later old mid w c.visit_process.ensures.grows c.requires.visit in
-    let done = moved P (c.args.place.now.point + 1) v c.in_ok-below.below v (process_of c.args.left.now) mid c.args.listing.now c.visit_process.new.listing None c.in_ok-below.ensures refl
-    (subst (λ (o : Option ℕ). Ends (protocol_at c.in_ok-below.below) (Once (process_of c.args.left.now) c.in_ok-below.below.point v) mid c.args.listing.now c.visit_process.new.listing o) c.in-None.is c.in_ok-point.ensures.ends) in
-    parallel_ends c.visit_process-in-None.result P v (process_of c.args.left.now) (process_of c.args.right.now) c.args.place.now.point c.in_ok-after.after (visit_at mid w) mid (g.B.Bank.trees c.visit_process-in-None.new.bank) c.args.listing.now c.visit_process.new.listing c.visit_process-in-None.new.listing
+    let done = moved P (c.args.place.now.point + 1) v c.in_ok-below.below v (process_of c.args.both.now.left.now) mid c.args.listing.now c.visit_process.new.listing None c.in_ok-below.ensures refl
+    (subst (λ (o : Option ℕ). Ends (protocol_at c.in_ok-below.below) (Once (process_of c.args.both.now.left.now) c.in_ok-below.below.point v) mid c.args.listing.now c.visit_process.new.listing o) c.in-None.is c.in_ok-point.ensures.ends) in
+    parallel_ends c.visit_process-in-None.result P v (process_of c.args.both.now.left.now) (process_of c.args.both.now.right.now) c.args.place.now.point c.in_ok-after.after (visit_at mid w) mid (g.B.Bank.trees c.visit_process-in-None.new.bank) c.args.listing.now c.visit_process.new.listing c.visit_process-in-None.new.listing
     c.in_ok-after.ensures later.is c.visit_process-in-None.ensures.grows done c.visit_process-in-None.ensures.ends
 
 pub visit_let-visit_each-requires : goal.visit_let-visit_each-requires
@@ -208,15 +200,12 @@ visit_let-visit_each-requires g t c κs within =
     let w = c.args.visit.now in
     let v = visit_at old w in
     let all = g.B.Bank.trees c.choices.new.bank in
-    let pattern = pattern_of c.args.pattern.now in
-    let expression = expression_of c.args.expression.now in
-    let next = process_of c.args.next.now in
-    let otherwise = process_of c.args.otherwise.now in
-    let point = c.args.place.now.point in
+    let pattern = pattern_of c.args.choice.now.pattern.now in
+    let expression = expression_of c.args.choice.now.expression.now in
     let items = c.deref.result.now in
     let go = subst (λ (vs : List source.Visit). GoOn P v pattern expression all vs) (sym c.deref.ensures.value)
     (subst (λ (o : Option Visits). MatchOption o (IsLargeChoice P v pattern expression) (λ visits. GoOn P v pattern expression all visits.items.items)) c.in-Some.is c.in_ok-choices.ensures.go) in
-    (omega (arith, c.decreases), (within, (known_visits all items (present go.outs) go.names, (c.requires.short.2, (subst (λ (P : calculus.Protocol). HasShortRules P) (sym c.in_ok-below.ensures.protocol) c.requires.rules)))))
+    (omega (arith, c.decreases), (within, (known_visits all items (present go.outs) go.names, c.requires.short.2)))
 
 pub visit_let-returns-in-Some-2-clause-ends : goal.visit_let-returns-in-Some-2-clause-ends
 visit_let-returns-in-Some-2-clause-ends g t c =
@@ -225,10 +214,10 @@ visit_let-returns-in-Some-2-clause-ends g t c =
     let w = c.args.visit.now in
     let v = visit_at old w in
     let all = g.B.Bank.trees c.choices.new.bank in
-    let pattern = pattern_of c.args.pattern.now in
-    let expression = expression_of c.args.expression.now in
-    let next = process_of c.args.next.now in
-    let otherwise = process_of c.args.otherwise.now in
+    let pattern = pattern_of c.args.choice.now.pattern.now in
+    let expression = expression_of c.args.choice.now.expression.now in
+    let next = process_of c.args.choice.now.next.now in
+    let otherwise = process_of c.args.choice.now.otherwise.now in
     let point = c.args.place.now.point in
     let items = c.deref.result.now in
     let go = subst (λ (vs : List source.Visit). GoOn P v pattern expression all vs) (sym c.deref.ensures.value)
@@ -246,20 +235,18 @@ visit_let-visit_process-requires g t c κs within =
     let w = c.args.visit.now in
     let v = visit_at old w in
     let all = g.B.Bank.trees c.choices.new.bank in
-    let pattern = pattern_of c.args.pattern.now in
-    let expression = expression_of c.args.expression.now in
-    let next = process_of c.args.next.now in
-    let otherwise = process_of c.args.otherwise.now in
+    let pattern = pattern_of c.args.choice.now.pattern.now in
+    let expression = expression_of c.args.choice.now.expression.now in
+    let next = process_of c.args.choice.now.next.now in
     let point = c.args.place.now.point in
     let items = c.deref.result.now in
     let go = subst (λ (vs : List source.Visit). GoOn P v pattern expression all vs) (sym c.deref.ensures.value)
     (subst (λ (o : Option Visits). MatchOption o (IsLargeChoice P v pattern expression) (λ visits. GoOn P v pattern expression all visits.items.items)) c.in-Some.is c.in_ok-choices.ensures.go) in
     let mid = g.B.Bank.trees c.visit_each.new.bank in
-    let small = sym c.is_large_let.ensures ∙ c.if-is_large_let.false in
     let done = moved_each P (point + 1) c.in_ok-below.below (visits_at all items) next mid c.args.listing.now c.visit_each.new.listing None c.in_ok-below.ensures
     (subst (λ (o : Option ℕ). Ends (protocol_at c.in_ok-below.below) (Each next c.in_ok-below.below.point (visits_at all items)) mid c.args.listing.now c.visit_each.new.listing o) c.in-None-2.is c.in_ok-point-in-Some.ensures.ends) in
     let later = visit_later old mid w (Grows_trans old all mid c.choices.ensures.grows c.visit_each.ensures.grows) c.requires.visit in
-    (omega (arith, c.decreases), (within, (later.known, (c.requires.short.3, (subst (λ (P : calculus.Protocol). HasShortRules P) (sym c.in_ok-after.ensures.protocol) c.requires.rules)))))
+    (omega (arith, c.decreases), (within, (later.known, c.requires.short.3)))
 
 pub visit_let-returns-clause-ends : goal.visit_let-returns-clause-ends
 visit_let-returns-clause-ends g t c =
@@ -268,10 +255,10 @@ visit_let-returns-clause-ends g t c =
     let w = c.args.visit.now in
     let v = visit_at old w in
     let all = g.B.Bank.trees c.choices.new.bank in
-    let pattern = pattern_of c.args.pattern.now in
-    let expression = expression_of c.args.expression.now in
-    let next = process_of c.args.next.now in
-    let otherwise = process_of c.args.otherwise.now in
+    let pattern = pattern_of c.args.choice.now.pattern.now in
+    let expression = expression_of c.args.choice.now.expression.now in
+    let next = process_of c.args.choice.now.next.now in
+    let otherwise = process_of c.args.choice.now.otherwise.now in
     let point = c.args.place.now.point in
     let items = c.deref.result.now in
     let go = subst (λ (vs : List source.Visit). GoOn P v pattern expression all vs) (sym c.deref.ensures.value)
@@ -294,7 +281,7 @@ visit_process-returns-then-listing-eq0-clause-ends g t c =
 
 pub visit_process-visit_counted-requires : goal.visit_process-visit_counted-requires
 visit_process-visit_counted-requires g t c κs within =
-    (omega (arith, c.decreases), (within, (c.requires.visit, (c.requires.short, c.requires.rules))))
+    (omega (arith, c.decreases), (within, (c.requires.visit, c.requires.short)))
 
 pub visit_process-returns-clause-ends : goal.visit_process-returns-clause-ends
 visit_process-returns-clause-ends g t c =
@@ -306,7 +293,7 @@ visit_process-returns-clause-ends g t c =
 
 pub visit_counted-visit_form-requires : goal.visit_counted-visit_form-requires
 visit_counted-visit_form-requires g t c κs within =
-    (omega (arith, c.decreases), (within, (c.requires.visit, (c.requires.short, c.requires.rules))))
+    (omega (arith, c.decreases), (within, (c.requires.visit, c.requires.short)))
 
 pub visit_counted-returns-then-count-clause-back : goal.visit_counted-returns-then-count-clause-back
 visit_counted-returns-then-count-clause-back g t c = λ same. absurd (omega (arith, ap (λ (cs : List (Clause Id)). length cs) same))
@@ -333,7 +320,7 @@ visit_counted-returns-clause-ends g t c =
 pub visit_form-visit_output-requires : goal.visit_form-visit_output-requires
 visit_form-visit_output-requires g t c κs within =
     let same : process_of c.args.process.now ≡ calculus.Output (term_of c.in-Output.channel) (term_of c.in-Output.message) (process_of c.deref.result.now) = ap process_of c.in-Output.is ∙ ap (λ (x : Process). calculus.Output (term_of c.in-Output.channel) (term_of c.in-Output.message) (process_of x)) (sym c.deref.ensures) in
-    (omega (arith, c.decreases, ap (λ (p : calculus.Process). weight p) same), (within, (c.requires.visit, (subst (λ (p : calculus.Process). IsShortProcess p) same c.requires.short, c.requires.rules))))
+    (omega (arith, c.decreases, ap (λ (p : calculus.Process). weight p) same), (within, (c.requires.visit, (subst (λ (p : calculus.Process). IsShortProcess p) same c.requires.short))))
 
 pub visit_form-returns-in-Output-clause-ends : goal.visit_form-returns-in-Output-clause-ends
 visit_form-returns-in-Output-clause-ends g t c =
@@ -348,7 +335,7 @@ visit_form-returns-in-Output-clause-ends g t c =
 pub visit_form-visit_input-requires : goal.visit_form-visit_input-requires
 visit_form-visit_input-requires g t c κs within =
     let same : process_of c.args.process.now ≡ calculus.Input (term_of c.in-Input.channel) (pattern_of c.in-Input.pattern) (process_of c.deref-in-Input.result.now) = ap process_of c.in-Input.is ∙ ap (λ (x : Process). calculus.Input (term_of c.in-Input.channel) (pattern_of c.in-Input.pattern) (process_of x)) (sym c.deref-in-Input.ensures) in
-    (omega (arith, c.decreases, ap (λ (p : calculus.Process). weight p) same), (within, (c.requires.visit, (subst (λ (p : calculus.Process). IsShortProcess p) same c.requires.short, c.requires.rules))))
+    (omega (arith, c.decreases, ap (λ (p : calculus.Process). weight p) same), (within, (c.requires.visit, (subst (λ (p : calculus.Process). IsShortProcess p) same c.requires.short))))
 
 pub visit_form-returns-in-Input-clause-ends : goal.visit_form-returns-in-Input-clause-ends
 visit_form-returns-in-Input-clause-ends g t c =
@@ -363,7 +350,7 @@ visit_form-returns-in-Input-clause-ends g t c =
 pub visit_form-visit_parallel-requires : goal.visit_form-visit_parallel-requires
 visit_form-visit_parallel-requires g t c κs within =
     let same : process_of c.args.process.now ≡ calculus.Parallel (process_of c.deref-in-Par.result.now) (process_of c.deref-in-Par-2.result.now) = ap process_of c.in-Par.is ∙ ap (λ (x : Process). calculus.Parallel (process_of x) (process_of c.in-Par.right.value)) (sym c.deref-in-Par.ensures) ∙ ap (λ (x : Process). calculus.Parallel (process_of c.deref-in-Par.result.now) (process_of x)) (sym c.deref-in-Par-2.ensures) in
-    (omega (arith, c.decreases, ap (λ (p : calculus.Process). weight p) same), (within, (c.requires.visit, (subst (λ (p : calculus.Process). IsShortProcess p) same c.requires.short, c.requires.rules))))
+    (omega (arith, c.decreases, ap (λ (p : calculus.Process). weight p) same), (within, (c.requires.visit, (subst (λ (p : calculus.Process). IsShortProcess p) same c.requires.short))))
 
 pub visit_form-returns-in-Par-clause-ends : goal.visit_form-returns-in-Par-clause-ends
 visit_form-returns-in-Par-clause-ends g t c =
@@ -378,7 +365,7 @@ visit_form-returns-in-Par-clause-ends g t c =
 pub visit_form-visit_copies-requires : goal.visit_form-visit_copies-requires
 visit_form-visit_copies-requires g t c κs within =
     let same : process_of c.args.process.now ≡ calculus.Replication (process_of c.deref-in-Copies.result.now) = ap process_of c.in-Copies.is ∙ ap (λ (x : Process). calculus.Replication (process_of x)) (sym c.deref-in-Copies.ensures) in
-    (omega (arith, c.decreases, ap (λ (p : calculus.Process). weight p) same), (within, (c.requires.visit, (subst (λ (p : calculus.Process). IsShortProcess p) same c.requires.short, c.requires.rules))))
+    (omega (arith, c.decreases, ap (λ (p : calculus.Process). weight p) same), (within, (c.requires.visit, (subst (λ (p : calculus.Process). IsShortProcess p) same c.requires.short))))
 
 pub visit_form-returns-in-Copies-clause-ends : goal.visit_form-returns-in-Copies-clause-ends
 visit_form-returns-in-Copies-clause-ends g t c =
@@ -393,7 +380,7 @@ visit_form-returns-in-Copies-clause-ends g t c =
 pub visit_form-visit_new-requires : goal.visit_form-visit_new-requires
 visit_form-visit_new-requires g t c κs within =
     let same : process_of c.args.process.now ≡ calculus.New c.in-New.field-0 (process_of c.deref-in-New.result.now) = ap process_of c.in-New.is ∙ ap (λ (x : Process). calculus.New c.in-New.field-0 (process_of x)) (sym c.deref-in-New.ensures) in
-    (omega (arith, c.decreases, ap (λ (p : calculus.Process). weight p) same), (within, (c.requires.visit, (subst (λ (p : calculus.Process). IsShortProcess p) same c.requires.short, c.requires.rules))))
+    (omega (arith, c.decreases, ap (λ (p : calculus.Process). weight p) same), (within, (c.requires.visit, (subst (λ (p : calculus.Process). IsShortProcess p) same c.requires.short))))
 
 pub visit_form-returns-in-New-clause-ends : goal.visit_form-returns-in-New-clause-ends
 visit_form-returns-in-New-clause-ends g t c =
@@ -408,7 +395,7 @@ visit_form-returns-in-New-clause-ends g t c =
 pub visit_form-visit_let-requires : goal.visit_form-visit_let-requires
 visit_form-visit_let-requires g t c κs within =
     let same : process_of c.args.process.now ≡ calculus.Let (pattern_of c.in-Let.pattern) (expression_of c.in-Let.expression) (process_of c.deref-in-Let.result.now) (process_of c.deref-in-Let-2.result.now) = ap process_of c.in-Let.is ∙ ap (λ (x : Process). calculus.Let (pattern_of c.in-Let.pattern) (expression_of c.in-Let.expression) (process_of x) (process_of c.in-Let.otherwise.value)) (sym c.deref-in-Let.ensures) ∙ ap (λ (x : Process). calculus.Let (pattern_of c.in-Let.pattern) (expression_of c.in-Let.expression) (process_of c.deref-in-Let.result.now) (process_of x)) (sym c.deref-in-Let-2.ensures) in
-    (omega (arith, c.decreases, ap (λ (p : calculus.Process). weight p) same), (within, (c.requires.visit, (subst (λ (p : calculus.Process). IsShortProcess p) same c.requires.short, c.requires.rules))))
+    (omega (arith, c.decreases, ap (λ (p : calculus.Process). weight p) same), (within, (c.requires.visit, (subst (λ (p : calculus.Process). IsShortProcess p) same c.requires.short))))
 
 pub visit_form-returns-in-Let-clause-ends : goal.visit_form-returns-in-Let-clause-ends
 visit_form-returns-in-Let-clause-ends g t c =
@@ -423,7 +410,7 @@ visit_form-returns-in-Let-clause-ends g t c =
 pub visit_form-visit_event-requires : goal.visit_form-visit_event-requires
 visit_form-visit_event-requires g t c κs within =
     let same : process_of c.args.process.now ≡ calculus.Event (event_of c.in-Event.atom) (process_of c.deref-in-Event.result.now) = ap process_of c.in-Event.is ∙ ap (λ (x : Process). calculus.Event (event_of c.in-Event.atom) (process_of x)) (sym c.deref-in-Event.ensures) in
-    (omega (arith, c.decreases, ap (λ (p : calculus.Process). weight p) same), (within, (c.requires.visit, (subst (λ (p : calculus.Process). IsShortProcess p) same c.requires.short, c.requires.rules))))
+    (omega (arith, c.decreases, ap (λ (p : calculus.Process). weight p) same), (within, (c.requires.visit, (subst (λ (p : calculus.Process). IsShortProcess p) same c.requires.short))))
 
 pub visit_form-returns-in-Event-clause-ends : goal.visit_form-returns-in-Event-clause-ends
 visit_form-returns-in-Event-clause-ends g t c =

@@ -19,10 +19,10 @@ abbrev pub decreases-visit_each : goal.decreases-visit_each
 decreases-visit_each g l = 5 * weight (process_of l.process.now) + 3
 
 abbrev pub decreases-visit_output : goal.decreases-visit_output
-decreases-visit_output g l = 5 * weight (process_of l.next.now) + 4
+decreases-visit_output g l = 5 * weight (process_of l.output.now.next.now) + 4
 
 abbrev pub decreases-visit_input : goal.decreases-visit_input
-decreases-visit_input g l = 5 * weight (process_of l.next.now) + 4
+decreases-visit_input g l = 5 * weight (process_of l.input.now.next.now) + 4
 
 abbrev pub decreases-visit_copies : goal.decreases-visit_copies
 decreases-visit_copies g l = 5 * weight (process_of l.copied.now) + 4
@@ -31,13 +31,13 @@ abbrev pub decreases-visit_new : goal.decreases-visit_new
 decreases-visit_new g l = 5 * weight (process_of l.next.now) + 4
 
 abbrev pub decreases-visit_event : goal.decreases-visit_event
-decreases-visit_event g l = 5 * weight (process_of l.next.now) + 4
+decreases-visit_event g l = 5 * weight (process_of l.event.now.next.now) + 4
 
 abbrev pub decreases-visit_parallel : goal.decreases-visit_parallel
-decreases-visit_parallel g l = 5 * (weight (process_of l.left.now) + weight (process_of l.right.now)) + 4
+decreases-visit_parallel g l = 5 * (weight (process_of l.both.now.left.now) + weight (process_of l.both.now.right.now)) + 4
 
 abbrev pub decreases-visit_let : goal.decreases-visit_let
-decreases-visit_let g l = 5 * (weight (process_of l.next.now) + weight (process_of l.otherwise.now)) + 4
+decreases-visit_let g l = 5 * (weight (process_of l.choice.now.next.now) + weight (process_of l.choice.now.otherwise.now)) + 4
 
 abbrev pub invariant-visit_each-each : goal.invariant-visit_each-each
 invariant-visit_each-each g l =
