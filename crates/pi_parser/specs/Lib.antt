@@ -10,3 +10,4 @@ pub mod Errors
 pub mod Gives
 pub mod Answers
 pub mod Tokens
+pub mod Tables

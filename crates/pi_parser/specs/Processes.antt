@@ -1,7 +1,8 @@
 -- What contracts see of a sketched process.
+use Rattle.std.specs.Global.{Box}
 use Rattle.protocol_grammar.specs.Sketch as own
 use Rattle.pi_parser.specs.declared.sketch.ProcessSketch.{ProcessSketch}
-use Rattle.pi_parser.specs.declared.sketch.ProcessSketch.TheVariants.{Alone, Beside'}
+use Rattle.pi_parser.specs.declared.sketch.ProcessSketch.TheVariants.{Alone', Beside'}
 use Rattle.pi_parser.specs.declared.sketch.UnitSketch.{UnitSketch}
 use Rattle.pi_parser.specs.declared.sketch.UnitSketch.TheVariants.{Zero, Macro, Inner', Replicated', New, Output, Input, Happens, Let', If'}
 use Rattle.pi_parser.specs.declared.sketch.NextSketch.{NextSketch}
@@ -11,8 +12,8 @@ use Rattle.pi_parser.specs.Patterns.{pattern_of}
 
 abbrev mutual
   pub process_of : ProcessSketch → own.ProcessSketch
-  process_of (Alone u) = own.Process (unit_of u) own.alone
-  process_of (Beside' u q p) = own.Process (unit_of u) (own.beside (process_of p))
+  process_of (Alone' q u) = own.Process (unit_of u) own.alone
+  process_of (Beside' q u r p) = own.Process (unit_of u) (own.beside (process_of p))
 
   pub unit_of : UnitSketch → own.UnitSketch
   unit_of (Zero n) = own.Zero n
@@ -29,3 +30,7 @@ abbrev mutual
   pub next_of : NextSketch → own.NextSketch
   next_of Omitted = own.omitted
   next_of (Given' q u) = own.given (unit_of u)
+
+-- a unit and its else branch, as they are read
+abbrev pub branches_of : Box UnitSketch × NextSketch → own.UnitSketch × own.NextSketch
+branches_of x = (unit_of x.0.value, next_of x.1)

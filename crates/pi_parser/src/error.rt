@@ -22,16 +22,13 @@ pub enum ParseError {
 }
 
 /// The same, with the number of the token, from 0, or the number of tokens at their end.
-#[derive(Debug, Drop, Error)]
+#[derive(Drop)]
 pub enum Fault {
     /// The token is unexpected.
-    #[error("token {0} is unexpected")]
     Unexpected(usize),
     /// The token begins a construct that would stand too deep.
-    #[error("what begins with token {0} stands too deep")]
     TooDeep(usize),
     /// There is no memory.
-    #[error("want of memory")]
     Memory(AllocError),
 }
 

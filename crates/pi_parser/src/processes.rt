@@ -2,9 +2,9 @@
 
 ghost use Rattle.std.specs.Prelude.{◌≡◌, ◌<◌, ◌≤◌, ℕ, false, length, IfOk};
 ghost use Rattle.protocol_grammar.specs.Classes.{words, same};
-ghost use Rattle.protocol_grammar.specs.Reading.{next_at, begins_unit, unit_by, unit_at, process_at};
+ghost use Rattle.protocol_grammar.specs.Reading.{both, next_at, begins_unit, unit_by, unit_at, process_at};
 ghost use Rattle.pi_parser.specs.Gives.{Gives, IsBehind, most_of};
-ghost use Rattle.pi_parser.specs.Processes.{unit_of, next_of, process_of};
+ghost use Rattle.pi_parser.specs.Processes.{unit_of, next_of, branches_of, process_of};
 
 use crate::error::{Fault, lowest};
 use crate::patterns::pattern;
@@ -53,8 +53,9 @@ fn inner(
     ensures within { IsBehind classes.now at result }
 {
     let (process, behind) = process(alloc, classes, at + 1, left)?;
+    let process = Box::new(alloc, process)?;
     let close = mark(classes, behind, Class::Close)?;
-    Ok((UnitSketch::Inner(at, Box::new(alloc, process)?), close))
+    Ok((UnitSketch::Inner(at, process), close))
 }
 
 /// `! unit`.
@@ -165,6 +166,25 @@ fn happens(
     Ok((UnitSketch::Happens(at, atom, next), end))
 }
 
+/// A unit, and an else branch.
+#[cycle(process)]
+fn branches(
+    alloc: Global,
+    classes: &[Class],
+    at: usize,
+    left: usize,
+) -> Result<((Box<UnitSketch>, NextSketch), usize), Fault>
+    requires { at ≤ length classes.now }
+    ensures read { Gives branches_of result (both (unit_at (most_of classes.now) left)
+        (next_at Class.Else (unit_at (most_of classes.now) left)) (words classes.now) at) }
+    ensures within { IsBehind classes.now at result }
+{
+    let (unit, behind) = unit(alloc, classes, at, left)?;
+    let unit = Box::new(alloc, unit)?;
+    let (otherwise, end) = next(alloc, classes, behind, left, Class::Else)?;
+    Ok(((unit, otherwise), end))
+}
+
 /// `let pattern = term in unit`, and its else branch.
 #[cycle(process)]
 fn let_in(
@@ -184,12 +204,8 @@ fn let_in(
     let right = mark(classes, equals, Class::Equals)?;
     let (term, word) = term(alloc, classes, right, left)?;
     let body = mark(classes, word, Class::In)?;
-    let (unit, behind) = unit(alloc, classes, body, left)?;
-    let (otherwise, end) = next(alloc, classes, behind, left, Class::Else)?;
-    Ok((
-        UnitSketch::Let(at, pattern, term, Box::new(alloc, unit)?, otherwise),
-        end,
-    ))
+    let ((unit, otherwise), end) = branches(alloc, classes, body, left)?;
+    Ok((UnitSketch::Let(at, pattern, term, unit, otherwise), end))
 }
 
 /// `if left = right then unit`, and its else branch.
@@ -211,12 +227,8 @@ fn if_then(
     let right = mark(classes, equals, Class::Equals)?;
     let (second, word) = term(alloc, classes, right, left)?;
     let body = mark(classes, word, Class::Then)?;
-    let (unit, behind) = unit(alloc, classes, body, left)?;
-    let (otherwise, end) = next(alloc, classes, behind, left, Class::Else)?;
-    Ok((
-        UnitSketch::If(at, first, second, Box::new(alloc, unit)?, otherwise),
-        end,
-    ))
+    let ((unit, otherwise), end) = branches(alloc, classes, body, left)?;
+    Ok((UnitSketch::If(at, first, second, unit, otherwise), end))
 }
 
 #[tactic(auto, using(crate::proofs::Levels::begins_unit_other))]
@@ -289,6 +301,7 @@ pub fn process(
         return Err(lowest(begins_unit(class_at(classes, at)), at));
     }
     let (unit, behind) = unit(alloc, classes, at, left - 1)?;
+    let unit = Box::new(alloc, unit)?;
     if is_at(classes, behind, Class::Bar) {
         let (others, end) = process(alloc, classes, behind + 1, left - 1)?;
         Ok((ProcessSketch::Beside(unit, Box::new(alloc, others)?), end))

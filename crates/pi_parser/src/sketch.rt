@@ -91,9 +91,9 @@ pub struct AtomSketch {
 #[derive(Debug, Drop)]
 pub enum ProcessSketch {
     /// A unit alone.
-    Alone(UnitSketch),
+    Alone(Box<UnitSketch>),
     /// `unit | process`.
-    Beside(UnitSketch, Box<ProcessSketch>),
+    Beside(Box<UnitSketch>, Box<ProcessSketch>),
 }
 
 /// A unit of a process.

@@ -3,9 +3,10 @@
 ghost use Rattle.std.specs.Prelude.{◌≡◌, ◌+◌, ◌<◌, ◌≤◌, List, map, length, slice_index_or, false, IsTrue, IfOk};
 ghost use Rattle.std.specs.Str.{bytes_eq};
 ghost use Rattle.protocol_tokens.specs.Token as own;
-ghost use Rattle.protocol_grammar.specs.Classes.{class_of, class_by, reserved_class, symbol_class, number_class, same, fits, words, code};
+ghost use Rattle.protocol_grammar.specs.Classes.{class_of, class_by, class_among, reserved_class, symbol_class, number_class, same, fits, words, code};
 ghost use Rattle.pi_lexer.specs.Token.{token_of, kind_of};
 ghost use Rattle.pi_parser.specs.Gives.{Marks};
+ghost use Rattle.pi_parser.specs.Tables.{table_of};
 
 use crate::error::Fault;
 use pi_lexer::{Token, TokenKind, Tokens};
@@ -18,48 +19,62 @@ fn is(text: &[u8], spelling: &[u8]) -> bool
     text == spelling
 }
 
+/// The reserved words of the grammar; the others are reserved for later.
+const RESERVED: [(&[u8], Class); 17] = [
+    (b"private", Class::Private),
+    (b"free", Class::Free),
+    (b"fun", Class::Fun),
+    (b"data", Class::Data),
+    (b"reduc", Class::Reduc),
+    (b"event", Class::Event),
+    (b"query", Class::Query),
+    (b"attacker", Class::Attacker),
+    (b"process", Class::Process),
+    (b"new", Class::New),
+    (b"false", Class::False),
+    (b"let", Class::Let),
+    (b"in", Class::In),
+    (b"out", Class::Out),
+    (b"if", Class::If),
+    (b"then", Class::Then),
+    (b"else", Class::Else),
+];
+
+/// The symbols.
+const SYMBOLS: [(&[u8], Class); 13] = [
+    (b"(", Class::Open),
+    (b")", Class::Close),
+    (b",", Class::Comma),
+    (b";", Class::Semicolon),
+    (b".", Class::Dot),
+    (b"/", Class::Slash),
+    (b"=", Class::Equals),
+    (b"==>", Class::Implies),
+    (b"|", Class::Bar),
+    (b"||", Class::Or),
+    (b"&&", Class::And),
+    (b"!", Class::Bang),
+    (b"->", Class::Arrow),
+];
+
+/// The class that a table gives a text, `Later` where it gives none.
+fn class_among(table: &[(&[u8], Class)], text: &[u8]) -> Class
+    ensures { result ≡ class_among (table_of table.now) text.now }
+{
+    'entries: for entry in table {
+        if is(text, entry.0) {
+            return entry.1;
+        }
+    }
+    Class::Later
+}
+
 /// The class of a reserved word.
 #[tactic(auto, unfolding(protocol_grammar::specs::Classes::reserved_class))]
 fn reserved_class(word: &[u8]) -> Class
     ensures { result ≡ reserved_class word.now }
 {
-    if is(word, b"private") {
-        Class::Private
-    } else if is(word, b"free") {
-        Class::Free
-    } else if is(word, b"fun") {
-        Class::Fun
-    } else if is(word, b"data") {
-        Class::Data
-    } else if is(word, b"reduc") {
-        Class::Reduc
-    } else if is(word, b"event") {
-        Class::Event
-    } else if is(word, b"query") {
-        Class::Query
-    } else if is(word, b"attacker") {
-        Class::Attacker
-    } else if is(word, b"process") {
-        Class::Process
-    } else if is(word, b"new") {
-        Class::New
-    } else if is(word, b"false") {
-        Class::False
-    } else if is(word, b"let") {
-        Class::Let
-    } else if is(word, b"in") {
-        Class::In
-    } else if is(word, b"out") {
-        Class::Out
-    } else if is(word, b"if") {
-        Class::If
-    } else if is(word, b"then") {
-        Class::Then
-    } else if is(word, b"else") {
-        Class::Else
-    } else {
-        Class::Later
-    }
+    class_among(&RESERVED, word)
 }
 
 /// The class of a symbol.
@@ -67,35 +82,7 @@ fn reserved_class(word: &[u8]) -> Class
 fn symbol_class(symbol: &[u8]) -> Class
     ensures { result ≡ symbol_class symbol.now }
 {
-    if is(symbol, b"(") {
-        Class::Open
-    } else if is(symbol, b")") {
-        Class::Close
-    } else if is(symbol, b",") {
-        Class::Comma
-    } else if is(symbol, b";") {
-        Class::Semicolon
-    } else if is(symbol, b".") {
-        Class::Dot
-    } else if is(symbol, b"/") {
-        Class::Slash
-    } else if is(symbol, b"=") {
-        Class::Equals
-    } else if is(symbol, b"==>") {
-        Class::Implies
-    } else if is(symbol, b"|") {
-        Class::Bar
-    } else if is(symbol, b"||") {
-        Class::Or
-    } else if is(symbol, b"&&") {
-        Class::And
-    } else if is(symbol, b"!") {
-        Class::Bang
-    } else if is(symbol, b"->") {
-        Class::Arrow
-    } else {
-        Class::Later
-    }
+    class_among(&SYMBOLS, symbol)
 }
 
 /// The class of a number.

@@ -1,35 +1,38 @@
 use Rattle.std.proofs.Common.{◌+◌, ◌*◌}
 use Rattle.pi_parser.proofs.processes.+process.Given as goal
 
+abbrev pub decreases-branches : goal.decreases-branches
+decreases-branches l = 4 * l.left + 2
+
 abbrev pub decreases-happens : goal.decreases-happens
-decreases-happens l = 3 * l.left + 2
+decreases-happens l = 4 * l.left + 3
 
 abbrev pub decreases-if_then : goal.decreases-if_then
-decreases-if_then l = 3 * l.left + 2
+decreases-if_then l = 4 * l.left + 3
 
 abbrev pub decreases-inner : goal.decreases-inner
-decreases-inner l = 3 * l.left + 2
+decreases-inner l = 4 * l.left + 3
 
 abbrev pub decreases-input : goal.decreases-input
-decreases-input l = 3 * l.left + 2
+decreases-input l = 4 * l.left + 3
 
 abbrev pub decreases-let_in : goal.decreases-let_in
-decreases-let_in l = 3 * l.left + 2
+decreases-let_in l = 4 * l.left + 3
 
 abbrev pub decreases-new : goal.decreases-new
-decreases-new l = 3 * l.left + 2
+decreases-new l = 4 * l.left + 3
 
 abbrev pub decreases-next : goal.decreases-next
-decreases-next l = 3 * l.left + 1
+decreases-next l = 4 * l.left + 1
 
 abbrev pub decreases-output : goal.decreases-output
-decreases-output l = 3 * l.left + 2
+decreases-output l = 4 * l.left + 3
 
 abbrev pub decreases-process : goal.decreases-process
-decreases-process l = 3 * l.left
+decreases-process l = 4 * l.left
 
 abbrev pub decreases-replicated : goal.decreases-replicated
-decreases-replicated l = 3 * l.left + 2
+decreases-replicated l = 4 * l.left + 3
 
 abbrev pub decreases-unit : goal.decreases-unit
-decreases-unit l = 3 * l.left
+decreases-unit l = 4 * l.left
