@@ -1,9 +1,6 @@
 //! The texts of rings, which measurements use: exactly what the definitions say.
 #![tactic(auto)]
 
-#[cfg(test)]
-mod tests;
-
 ghost use Rattle.std.specs.Prelude.{◌≡◌, ◌≤◌, ◌++◌, [], IfOk, OnOk};
 ghost use Rattle.protocol_scope.specs.Spells.{Spells};
 ghost use Rattle.ring_text.specs.Meaning.{ring_protocol};
