@@ -3,10 +3,7 @@ use Rattle.std.proofs.Common.{◌≡◌, ℕ, ◌+◌, ◌≤◌, Bool, true, fa
 use Rattle.std.specs.Option.{option_or}
 use Rattle.std.proofs.lemmas.List.{length-append}
 use Rattle.std.specs.Cmp.Lexicographic.{bytes_decides}
-use Rattle.std.specs.HashMap.{HashMap, get_by, UpdatesBy}
-use Rattle.std.specs.declared.hash.BuildHasherDefault.{BuildHasherDefault}
-use Rattle.std.specs.declared.hash.FoldHasher.{FoldHasher}
-use Rattle.std.specs.Global.{Vec}
+use Rattle.std.specs.HashMap.{get_by}
 use Rattle.scope_check.proofs.Texts.{updates_text}
 use Rattle.scope_check.proofs.Found.{none_some, missed, hit, unmapped}
 use Rattle.calculus.specs.Bounds.{most_names}
@@ -17,9 +14,7 @@ use Rattle.protocol_scope.specs.Declarations.{with_free, with_constructor, with_
 use Rattle.scope_check.specs.declared.names.Meaning.{Meaning}
 use Rattle.scope_check.specs.declared.names.Names.{Names}
 use Rattle.scope_check.specs.Names.{names_of, meaning_of, IsKept}
-
-abbrev Table : Type 0
-Table = HashMap (Vec ℕ) Meaning (BuildHasherDefault FoldHasher)
+use Rattle.scope_check.specs.Tables.{Table, TellsBesides}
 
 -- the names with one of their lists as it is now
 abbrev frees_are : own.Names → List Declared → own.Names
@@ -226,7 +221,7 @@ adds_macro text names m fresh = record {
 
 -- the table with one entry more finds the names with one name more
 pub found_more : (text : Texts) (old new : Table) (names more : own.Names) (added spelled : List ℕ) (meaning : Meaning)
-    → spelled ≡ added → UpdatesBy (λ x y. bytes_eq x.items y.items) (λ k. bytes_eq spelled k.items) old new (Some meaning)
+    → spelled ≡ added → TellsBesides spelled meaning old new
     → ((word : List ℕ) → option_map meaning_of (get_by (λ k. bytes_eq word k.items) old) ≡ own.meaning_of text names word)
     → HasMore text names more added (meaning_of meaning)
     → (word : List ℕ) → option_map meaning_of (get_by (λ k. bytes_eq word k.items) new) ≡ own.meaning_of text more word
@@ -237,7 +232,7 @@ found_more text old new names more added spelled meaning same put was is word =
 -- names with one more are kept; the table was the one that is changed
 pub kept_more : (text : Texts) (old new : Names) (more : own.Names) (added spelled : List ℕ) (meaning : Meaning) (table : Table)
     → names_of new ≡ more → own.count_of (names_of old) + 1 ≤ most_names → spelled ≡ added → table ≡ old.meanings
-    → UpdatesBy (λ x y. bytes_eq x.items y.items) (λ k. bytes_eq spelled k.items) table new.meanings (Some meaning)
+    → TellsBesides spelled meaning table new.meanings
     → IsKept text old → Adds text (names_of old) more added (meaning_of meaning)
     → IsKept text new
 kept_more text old new more added spelled meaning table is few same was put kept adds = record {

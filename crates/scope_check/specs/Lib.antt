@@ -4,6 +4,7 @@ pub mod Within
 pub mod Text
 pub mod Answer
 pub mod Names
+pub mod Tables
 pub mod Scope
 pub mod Bound
 pub mod BoundProps

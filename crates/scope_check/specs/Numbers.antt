@@ -1,5 +1,6 @@
 -- Numbers of points and variables, and where a process stands.
 use Rattle.std.specs.Prelude.{◌+◌, ◌*◌, ◌≤◌}
+use Rattle.std.specs.Global.{Box}
 use Rattle.calculus.specs.Syntax as calculus
 use Rattle.protocol_scope.specs.Processes as own
 use Rattle.pi_tree.specs.declared.syntax.Process.{Process}
@@ -15,5 +16,5 @@ abbrev pub numbers_of : Numbers → own.Numbers
 numbers_of n = record { point = n.point; variable = n.variable }
 
 -- a process with the numbers behind it
-abbrev pub numbered_of : (read : Process × Numbers) → calculus.Process × own.Numbers
-numbered_of read = (process_of read.0, numbers_of read.1)
+abbrev pub numbered_of : (read : Box Process × Numbers) → calculus.Process × own.Numbers
+numbered_of read = (process_of read.0.value, numbers_of read.1)

@@ -60,7 +60,6 @@ pub enum Bound<'a> {
 }
 
 /// How many identifiers these are: no more than the tokens, and one.
-#[tactic(auto, using(crate::proofs::Few::few_bindings))]
 pub fn count_of(whole: &Text, bindings: &Bindings) -> u32
     requires { FindsBindings whole.now bindings.now }
     ensures count { result ≡ length bindings.now.items.items }
@@ -99,7 +98,6 @@ pub fn bind(
 }
 
 /// What the identifier is bound to, the innermost first.
-#[tactic(auto, using(crate::proofs::Lists::outside))]
 pub fn bound_as(bound: &Bound, whole: &Text, token: usize) -> Option<BoundName>
     requires { FindsBound whole.now bound.now }
     ensures { option_map name_of result ≡ rules.bound_as (texts_of whole.now) (bound_of bound.now)

@@ -14,7 +14,7 @@ ghost use Rattle.scope_check.specs.Scope.{scope_of};
 ghost use Rattle.scope_check.specs.Text.{texts_of};
 
 use crate::leaves::Setting;
-use crate::names::{Macro, Meaning, Names, count_of, is_variable, look};
+use crate::names::{Macro, Meaning, Names, count_of, enter, is_variable, look};
 use crate::scope::Scope;
 use crate::source::Text;
 use crate::stop::{Code, Stop};
@@ -81,7 +81,6 @@ fn new_symbol(alloc: Global, scope: &Scope, token: usize) -> Result<Word, Stop>
 }
 
 /// The number that the digits spell, or one more than an arity may be, where it is more.
-#[tactic(auto, using(crate::proofs::Steps::decimal_snoc))]
 fn capped_number(digits: &[u8]) -> u32
     ensures { result ≡ min (naming.decimal digits.now) (most_arguments + 1) }
 {
@@ -346,8 +345,12 @@ fn declare_macro<'a>(
         names: &*names,
     };
     new_name(alloc, &scope, name)?;
-    let spelled = Vec::from_slice(alloc, text_of(whole, name))?;
-    names.meanings.insert(spelled, Meaning::Macro)?;
+    enter(
+        &mut names.meanings,
+        alloc,
+        text_of(whole, name),
+        Meaning::Macro,
+    )?;
     names.macros.push(Macro { name, body })?;
     Ok(())
 }

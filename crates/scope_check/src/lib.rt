@@ -59,9 +59,9 @@ fn main_and_queries(
     whole: &Text,
     names: &Names,
     sketch: &Sketch,
-) -> Result<(Process, Queries), Stop>
+) -> Result<(Box<Process>, Queries), Stop>
     requires { IsKept (texts_of whole.now) names.now }
-    ensures { Gives (λ x. (process_of x.0, x.1)) result
+    ensures { Gives (λ x. (process_of x.0.value, x.1)) result
         (main_then_queries (texts_of whole.now) (names_of names.now) (file_of sketch.now)) }
 {
     main_process_points();
@@ -86,7 +86,7 @@ fn protocol(alloc: Global, whole: &Text, sketch: &Sketch) -> Result<Protocol, St
         dtors: names.dtors,
         events: names.events,
         queries,
-        main,
+        main: Box::into_inner(main),
     })
 }
 

@@ -10,6 +10,7 @@ ghost use Rattle.pi_tree.specs.Names.{declared_of};
 ghost use Rattle.pi_tree.specs.Rules.{destructor_of};
 ghost use Rattle.scope_check.specs.Names.{names_of, IsKept, StaysKept, meaning_of};
 ghost use Rattle.scope_check.specs.Scope.{scope_of};
+ghost use Rattle.scope_check.specs.Tables.{TellsBesides};
 
 use crate::scope::Scope;
 use crate::text::text_of;
@@ -69,9 +70,8 @@ impl<'a> Names<'a> {
             (names_of self.new ≡ with_free (names_of self.old) (declared_of free)) }
         ensures kept { OnOk result (StaysKept self.old (declared_of free).word self.new) }
     {
-        let word = Vec::from_slice(alloc, &free.word.items)?;
         let meaning = Meaning::Free(number_behind(&self.frees));
-        self.meanings.insert(word, meaning)?;
+        enter(&mut self.meanings, alloc, &free.word.items, meaning)?;
         append(&mut self.frees, free)?;
         Ok(())
     }
@@ -83,13 +83,12 @@ impl<'a> Names<'a> {
             (names_of self.new ≡ with_constructor (names_of self.old) (declared_of found)) }
         ensures kept { OnOk result (StaysKept self.old (declared_of found).word self.new) }
     {
-        let word = Vec::from_slice(alloc, &found.word.items)?;
         let meaning = Meaning::Constructor {
             number: number_behind(&self.ctors),
             arity: found.arity,
             is_data: found.is_data,
         };
-        self.meanings.insert(word, meaning)?;
+        enter(&mut self.meanings, alloc, &found.word.items, meaning)?;
         append(&mut self.ctors, found)?;
         Ok(())
     }
@@ -101,12 +100,11 @@ impl<'a> Names<'a> {
             (names_of self.new ≡ with_destructor (names_of self.old) (destructor_of found)) }
         ensures kept { OnOk result (StaysKept self.old (destructor_of found).word self.new) }
     {
-        let word = Vec::from_slice(alloc, &found.word.items)?;
         let meaning = Meaning::Destructor {
             number: destructor_behind(&self.dtors),
             arity: arity_of(&found),
         };
-        self.meanings.insert(word, meaning)?;
+        enter(&mut self.meanings, alloc, &found.word.items, meaning)?;
         append_destructor(&mut self.dtors, found)?;
         Ok(())
     }
@@ -118,15 +116,28 @@ impl<'a> Names<'a> {
             (names_of self.new ≡ with_event (names_of self.old) (declared_of found)) }
         ensures kept { OnOk result (StaysKept self.old (declared_of found).word self.new) }
     {
-        let word = Vec::from_slice(alloc, &found.word.items)?;
         let meaning = Meaning::Event {
             number: number_behind(&self.events),
             arity: found.arity,
         };
-        self.meanings.insert(word, meaning)?;
+        enter(&mut self.meanings, alloc, &found.word.items, meaning)?;
         append(&mut self.events, found)?;
         Ok(())
     }
+}
+
+/// Enters a word with its meaning.
+pub fn enter(
+    meanings: &mut HashMap<Vec<u8>, Meaning>,
+    alloc: Global,
+    word: &[u8],
+    meaning: Meaning,
+) -> Result<(), AllocError>
+    ensures { OnOk result (TellsBesides word.now meaning meanings.old meanings.new) }
+{
+    let word = Vec::from_slice(alloc, word)?;
+    meanings.insert(word, meaning)?;
+    Ok(())
 }
 
 /// The number of the name behind these.

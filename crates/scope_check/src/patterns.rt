@@ -1,6 +1,6 @@
 //! Patterns, and what they bind.
 
-ghost use Rattle.std.specs.Prelude.{◌≡◌, ◌+◌, ◌≤◌, length, map, OnOk};
+ghost use Rattle.std.specs.Prelude.{◌≡◌, ◌+◌, ◌≤◌, [], length, map, IfOk, OnOk};
 ghost use Rattle.protocol_grammar.specs.Sketch.{patterns_sketch};
 ghost use Rattle.protocol_scope.specs.Names as naming;
 ghost use Rattle.protocol_scope.specs.Patterns as rules;
@@ -96,7 +96,7 @@ fn count_of(sketches: &PatternsSketch) -> usize
 /// The pattern of a sketch at this place, where the pattern's first variable has this number; `found` takes what it
 /// binds.
 #[cycle(pattern)]
-pub fn pattern(
+fn pattern(
     sketch: &PatternSketch,
     alloc: Global,
     place: &Place,
@@ -149,4 +149,22 @@ fn patterns(
         items.push(item)?;
     }
     Ok(Pats { items })
+}
+
+/// A whole pattern at this place, in a box, and what it binds; its first variable has this number.
+pub fn whole_pattern(
+    sketch: &PatternSketch,
+    alloc: Global,
+    place: &Place,
+    first: u32,
+) -> Result<(Box<Pat>, Bindings), Stop>
+    requires { first + most_bound ≤ most_variables }
+    ensures read { Gives (λ x. (pattern_of x.0.value, map binding_of x.1.items.items)) result
+        (rules.pattern (scope_of place.now.scope) (bound_of place.now.bound.now) first []
+        (sketched.pattern_of sketch.now)) }
+    ensures finds { IfOk result (λ x. FindsBindings place.now.scope.text x.1) }
+{
+    let mut found = Bindings::new(alloc);
+    let read = pattern(sketch, alloc, place, first, &mut found)?;
+    Ok((Box::new(alloc, read)?, found))
 }

@@ -17,7 +17,7 @@ ghost use Rattle.scope_check.specs.Scope.{scope_of};
 use crate::bound::{Binding, Bindings, Bound, BoundName, count_of};
 use crate::leaves::Setting;
 use crate::numbers::Numbers;
-use crate::patterns::pattern;
+use crate::patterns::whole_pattern;
 use crate::place::Place;
 use crate::scope::Scope;
 use crate::site::{Form, Site, both_reached, open_form, reached};
@@ -91,9 +91,16 @@ fn binding<'a, 'b>(site: &Site<'a, '_>, bound: &'b Bound<'b>, numbers: Numbers) 
     }
 }
 
+/// A process in a box, with the numbers behind it.
+fn numbered(alloc: Global, made: Process, after: Numbers) -> Result<(Box<Process>, Numbers), Stop>
+    ensures { Gives numbered_of result (Ok (process_of made, numbers_of after)) }
+{
+    Ok((Box::new(alloc, made)?, after))
+}
+
 /// The process of a sketch, and the numbers behind it.
 #[cycle(process)]
-pub fn process(start: Form, site: &Site) -> Result<(Process, Numbers), Stop>
+pub fn process(start: Form, site: &Site) -> Result<(Box<Process>, Numbers), Stop>
     ensures { Gives numbered_of result (read_at site.now (form_of start.entry)) }
 {
     let found = open_form(start, &*site)?;
@@ -102,14 +109,14 @@ pub fn process(start: Form, site: &Site) -> Result<(Process, Numbers), Stop>
 
 /// The process of a sketch that begins with a point.
 #[cycle(process)]
-fn at_point(form: Form, site: &Site) -> Result<(Process, Numbers), Stop>
+fn at_point(form: Form, site: &Site) -> Result<(Box<Process>, Numbers), Stop>
     requires { IsTrue (is_point (form_of form)) }
     ensures { Gives numbered_of result (read_at site.now (form_of form.entry)) }
 {
     match form {
         Form::Both(unit, others) => both(unit, others, site),
         Form::Unit(unit) => match unit {
-            UnitSketch::Zero(first) => Ok((Process::Nil, reached(site, *first)?)),
+            UnitSketch::Zero(first) => nil(*first, site),
             UnitSketch::Macro(_) | UnitSketch::Inner(_, _) => unreachable!(),
             UnitSketch::Replicated(first, copied) => replication(copied, *first, site),
             UnitSketch::New(first, name, next) => restriction(next, *first, *name, site),
@@ -130,29 +137,43 @@ fn at_point(form: Form, site: &Site) -> Result<(Process, Numbers), Stop>
     }
 }
 
+/// `0`.
+fn nil(first: usize, site: &Site) -> Result<(Box<Process>, Numbers), Stop>
+    ensures { Gives numbered_of result (unit_at site.now (own.Zero first)) }
+{
+    let next = reached(site, first)?;
+    numbered(site.alloc, Process::Nil, next)
+}
+
 /// `unit | process`.
 #[cycle(process)]
-fn both(unit: &UnitSketch, others: &ProcessSketch, site: &Site) -> Result<(Process, Numbers), Stop>
+fn both(
+    unit: &UnitSketch,
+    others: &ProcessSketch,
+    site: &Site,
+) -> Result<(Box<Process>, Numbers), Stop>
     ensures { Gives numbered_of result (read_at site.now
         (own.Process (sketched.unit_of unit.now) (own.beside (sketched.process_of others.now)))) }
 {
     let next = both_reached(site, unit)?;
     let (left, next) = process(Form::Unit(unit), &below(site, next))?;
     let (right, next) = process(Form::new(others), &below(site, next))?;
-    let left = Box::new(site.alloc, left)?;
-    let right = Box::new(site.alloc, right)?;
-    Ok((Process::Par(left, right), next))
+    numbered(site.alloc, Process::Par(left, right), next)
 }
 
 /// `! unit`.
 #[cycle(process)]
-fn replication(copied: &UnitSketch, first: usize, site: &Site) -> Result<(Process, Numbers), Stop>
+fn replication(
+    copied: &UnitSketch,
+    first: usize,
+    site: &Site,
+) -> Result<(Box<Process>, Numbers), Stop>
     ensures { Gives numbered_of result
         (unit_at site.now (own.Replicated first (sketched.unit_of copied.now))) }
 {
     let next = reached(site, first)?;
     let (copied, next) = process(Form::Unit(copied), &below(site, next))?;
-    Ok((Process::Copies(Box::new(site.alloc, copied)?), next))
+    numbered(site.alloc, Process::Copies(copied), next)
 }
 
 /// `new name`.
@@ -162,7 +183,7 @@ fn restriction(
     first: usize,
     name: usize,
     site: &Site,
-) -> Result<(Process, Numbers), Stop>
+) -> Result<(Box<Process>, Numbers), Stop>
     ensures { Gives numbered_of result
         (unit_at site.now (own.New first name (sketched.next_of next.now))) }
 {
@@ -174,8 +195,7 @@ fn restriction(
     let bound = Bound::One(made, site.place.bound);
     let (rest, after) = continuation(next, first, &binding(site, &bound, after))?;
     let items = Vec::from_slice(site.alloc, text_of(&site.place.scope.text, name))?;
-    let rest = Box::new(site.alloc, rest)?;
-    Ok((Process::New(Word { items }, rest), after))
+    numbered(site.alloc, Process::New(Word { items }, rest), after)
 }
 
 /// `out(channel, message)`.
@@ -186,7 +206,7 @@ fn output(
     channel: &TermSketch,
     message: &TermSketch,
     site: &Site,
-) -> Result<(Process, Numbers), Stop>
+) -> Result<(Box<Process>, Numbers), Stop>
     ensures { Gives numbered_of result (unit_at site.now (own.Output first
         (terms_seen.term_of channel.now) (terms_seen.term_of message.now)
         (sketched.next_of next.now))) }
@@ -195,8 +215,7 @@ fn output(
     let channel = process_term(channel, site.alloc, &site.place)?;
     let message = process_term(message, site.alloc, &site.place)?;
     let (rest, after) = continuation(next, first, &below(site, after))?;
-    let rest = Box::new(site.alloc, rest)?;
-    Ok((Process::Output(channel, message, rest), after))
+    numbered(site.alloc, Process::Output(channel, message, rest), after)
 }
 
 /// `in(channel, pattern)`.
@@ -207,26 +226,19 @@ fn input(
     channel: &TermSketch,
     received: &PatternSketch,
     site: &Site,
-) -> Result<(Process, Numbers), Stop>
+) -> Result<(Box<Process>, Numbers), Stop>
     ensures { Gives numbered_of result (unit_at site.now (own.Input first
         (terms_seen.term_of channel.now) (patterns_seen.pattern_of received.now)
         (sketched.next_of next.now))) }
 {
     let after = reached(site, first)?;
     let channel = process_term(channel, site.alloc, &site.place)?;
-    let mut found = Bindings::new(site.alloc);
-    let received = pattern(
-        received,
-        site.alloc,
-        &site.place,
-        after.variable,
-        &mut found,
-    )?;
+    let (received, found) = whole_pattern(received, site.alloc, &site.place, after.variable)?;
     let after = with_variables(after, &site.place.scope.text, &found);
     let bound = Bound::Inside(&found, site.place.bound);
     let (rest, after) = continuation(next, first, &binding(site, &bound, after))?;
-    let rest = Box::new(site.alloc, rest)?;
-    Ok((Process::Input(channel, received, rest), after))
+    let received = Box::into_inner(received);
+    numbered(site.alloc, Process::Input(channel, received, rest), after)
 }
 
 /// `event atom`.
@@ -236,7 +248,7 @@ fn happening(
     first: usize,
     atom: &AtomSketch,
     site: &Site,
-) -> Result<(Process, Numbers), Stop>
+) -> Result<(Box<Process>, Numbers), Stop>
     ensures { Gives numbered_of result (unit_at site.now
         (own.Happens first (terms_seen.atom_of atom.now) (sketched.next_of next.now))) }
 {
@@ -250,9 +262,9 @@ fn happening(
         &setting,
         &mut variables,
     )?;
+    drop(variables);
     let (rest, after) = continuation(next, first, &below(site, after))?;
-    let rest = Box::new(site.alloc, rest)?;
-    Ok((Process::Event(performed, rest), after))
+    numbered(site.alloc, Process::Event(performed, rest), after)
 }
 
 /// `let pattern = term in unit`, and its else branch.
@@ -263,23 +275,26 @@ fn choice(
     matched: &PatternSketch,
     term: &TermSketch,
     site: &Site,
-) -> Result<(Process, Numbers), Stop>
+) -> Result<(Box<Process>, Numbers), Stop>
     ensures { Gives numbered_of result (unit_at site.now (own.Let first
         (patterns_seen.pattern_of matched.now) (terms_seen.term_of term.now)
         (sketched.unit_of branches.now.unit.now) (sketched.next_of branches.now.otherwise.now))) }
 {
     let after = reached(site, first)?;
-    let mut found = Bindings::new(site.alloc);
-    let matched = pattern(matched, site.alloc, &site.place, after.variable, &mut found)?;
+    let (matched, found) = whole_pattern(matched, site.alloc, &site.place, after.variable)?;
     let evaluated = expression(term, site.alloc, &site.place)?;
     let after = with_variables(after, &site.place.scope.text, &found);
     let bound = Bound::Inside(&found, site.place.bound);
     let inside = binding(site, &bound, after);
     let (done, after) = process(Form::Unit(branches.unit), &inside)?;
     let (rest, after) = continuation(branches.otherwise, first, &below(site, after))?;
-    let done = Box::new(site.alloc, done)?;
-    let rest = Box::new(site.alloc, rest)?;
-    Ok((Process::Let(matched, evaluated, done, rest), after))
+    let matched = Box::into_inner(matched);
+    let evaluated = Box::into_inner(evaluated);
+    numbered(
+        site.alloc,
+        Process::Let(matched, evaluated, done, rest),
+        after,
+    )
 }
 
 /// `if left = right then unit`, and its else branch.
@@ -290,7 +305,7 @@ fn comparison(
     left: &TermSketch,
     right: &TermSketch,
     site: &Site,
-) -> Result<(Process, Numbers), Stop>
+) -> Result<(Box<Process>, Numbers), Stop>
     ensures { Gives numbered_of result (unit_at site.now (own.If first
         (terms_seen.term_of left.now) (terms_seen.term_of right.now)
         (sketched.unit_of branches.now.unit.now) (sketched.next_of branches.now.otherwise.now))) }
@@ -300,26 +315,36 @@ fn comparison(
     let right = process_term(right, site.alloc, &site.place)?;
     let (done, after) = process(Form::Unit(branches.unit), &below(site, after))?;
     let (rest, after) = continuation(branches.otherwise, first, &below(site, after))?;
-    let done = Box::new(site.alloc, done)?;
-    let rest = Box::new(site.alloc, rest)?;
     let matched = Pat::Equal(right);
-    Ok((Process::Let(matched, Expr::Term(left), done, rest), after))
+    numbered(
+        site.alloc,
+        Process::Let(matched, Expr::Term(left), done, rest),
+        after,
+    )
 }
 
 /// A continuation or else branch of the unit that begins with this token.
 #[cycle(process)]
-fn continuation(next: &NextSketch, first: usize, site: &Site) -> Result<(Process, Numbers), Stop>
+fn continuation(
+    next: &NextSketch,
+    first: usize,
+    site: &Site,
+) -> Result<(Box<Process>, Numbers), Stop>
     ensures { Gives numbered_of result (after_at site.now first (sketched.next_of next.now)) }
 {
     match next {
-        NextSketch::Omitted => Ok((Process::Nil, reached(site, first)?)),
+        NextSketch::Omitted => nil(first, site),
         NextSketch::Given(unit) => process(Form::Unit(unit), site),
     }
 }
 
 /// The main process.
-pub fn main_process(alloc: Global, scope: &Scope, main: &ProcessSketch) -> Result<Process, Stop>
-    ensures { Gives process_of result (rules.main_process (scope_of scope.now)
+pub fn main_process(
+    alloc: Global,
+    scope: &Scope,
+    main: &ProcessSketch,
+) -> Result<Box<Process>, Stop>
+    ensures { Gives (λ main. process_of main.value) result (rules.main_process (scope_of scope.now)
         (sketched.process_of main.now)) }
 {
     let place = Place {

@@ -211,6 +211,7 @@ pub fn queries(
         {
             let read = question(asked, alloc, scope, main, *first)?;
             if items.len() >= MOST_QUERIES {
+                drop(read);
                 return Err(Stop::Fault(Code::TooMany, *first));
             }
             items.push(read)?;

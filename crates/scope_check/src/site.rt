@@ -111,7 +111,6 @@ fn misuse(meaning: Option<Meaning>) -> Code
 }
 
 /// The place of the macro that the token uses among these, of which the latest counts.
-#[tactic(auto, using(crate::proofs::Macros::macros_up_to))]
 pub fn used_macro(scope: &Scope, macros: &[Macro], token: usize) -> Result<usize, Stop>
     ensures found { IfOk result (λ at. (at < length macros.now) ×
         ((m : Macro) → m ≡ get_or macros.now at m →
@@ -179,7 +178,6 @@ fn macro_at<'a>(macros: &[Macro<'a>], at: usize) -> Macro<'a>
 }
 
 /// What a process begins with, when parentheses round the whole of it are dropped and macros are expanded.
-#[tactic(auto, using(crate::proofs::Macros::weight_up_to))]
 pub fn open_form<'a, 'b>(start: Form<'a>, site: &Site<'a, 'b>) -> Result<Opened<'a, 'b>, Stop>
     ensures found { IfOk result (λ found. read_at site.now (form_of start.entry) ≡
         read_at found.site (form_of found.form)) }

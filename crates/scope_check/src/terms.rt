@@ -227,12 +227,13 @@ fn expression_of(sketch: &TermSketch, alloc: Global, place: &Place) -> Result<Ex
     plain(sketch, alloc, place)
 }
 
-/// What a `let` evaluates: a term, or a destructor of terms.
-pub fn expression(sketch: &TermSketch, alloc: Global, place: &Place) -> Result<Expr, Stop>
-    ensures { Gives expression_of result (rules.expression (scope_of place.now.scope)
-        (bound_of place.now.bound.now) (sketched.term_of sketch.now)) }
+/// What a `let` evaluates, in a box: a term, or a destructor of terms.
+pub fn expression(sketch: &TermSketch, alloc: Global, place: &Place) -> Result<Box<Expr>, Stop>
+    ensures { Gives (λ read. expression_of read.value) result (rules.expression
+        (scope_of place.now.scope) (bound_of place.now.bound.now) (sketched.term_of sketch.now)) }
 {
-    expression_of(bare(sketch), alloc, place)
+    let read = expression_of(bare(sketch), alloc, place)?;
+    Ok(Box::new(alloc, read)?)
 }
 
 /// An event, and how many symbols it has with its own.

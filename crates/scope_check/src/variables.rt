@@ -34,7 +34,6 @@ impl Variables {
 }
 
 /// How many variables these are: no more than the tokens, and one.
-#[tactic(auto, using(crate::proofs::Few::few_variables))]
 pub fn count_of(whole: &Text, variables: &Variables) -> u32
     requires { FindsVariables whole.now variables.now }
     ensures count { result ≡ length variables.now.items.items }

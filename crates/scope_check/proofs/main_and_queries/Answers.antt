@@ -7,4 +7,4 @@ use Rattle.scope_check.proofs.main_and_queries.Goals as goal
 
 pub queries-requires : goal.queries-requires
 queries-requires c =
-    c.main_process_points.ensures (record { text = texts_of c.args.whole.now; names = names_of c.args.names.now }) (file_of c.args.sketch.now).main (process_of c.in_ok-main.main) c.in_ok-main.ensures
+    rw c.deref-2.ensures (c.main_process_points.ensures (record { text = texts_of c.args.whole.now; names = names_of c.args.names.now }) (file_of c.args.sketch.now).main (process_of c.in_ok-main.main.value) c.in_ok-main.ensures)

@@ -14,8 +14,8 @@ pub returns : goal.returns
 returns c =
     let text = texts_of c.args.whole.now in
     let are : map declaration_of c.args.sketch.now.declarations.items ≡ map declaration_of c.deref.result.now = search rules in
-    found_main text (names_of c.in_ok-names.names) (file_of c.args.sketch.now) (process_of c.in_ok-main.main, c.in_ok-main.queries)
-    (ap (declare_all text no_names) are ∙ c.in_ok-names.ensures.read) c.in_ok-main.ensures
+    rw c.into_inner.ensures (found_main text (names_of c.in_ok-names.names) (file_of c.args.sketch.now) (process_of c.in_ok-main.main.value, c.in_ok-main.queries)
+    (ap (declare_all text no_names) are ∙ c.in_ok-names.ensures.read) c.in_ok-main.ensures)
 
 pub returns-in_err-main : goal.returns-in_err-main
 returns-in_err-main c =

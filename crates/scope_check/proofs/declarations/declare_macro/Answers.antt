@@ -1,5 +1,6 @@
 -- The table finds the names with one more.
-use Rattle.std.proofs.Common.{refl, ◌∙◌, ap, map}
+use Rattle.std.proofs.Common.{refl, ◌∙◌, ap, map, arith}
+use Rattle.std.proofs.lemmas.Grind.{common_steps}
 use Rattle.std.proofs.lemmas.List.{map-append}
 use Rattle.protocol_scope.specs.Names as own
 use Rattle.scope_check.specs.Text.{texts_of}
@@ -16,7 +17,10 @@ returns-clause-kept c =
     let text = texts_of c.args.whole.now in
     let names = names_of c.args.names.now in
     let m : own.Macro = record { name = c.args.name; body = process_of c.args.body.now } in
-    kept_more text c.args.names.now _ (with_macro names m) (text c.args.name) c.in_ok-spelled.spelled.items Macro _
+    kept_more text c.args.names.now _ (with_macro names m) (text c.args.name) c.text_of.result.now Macro _
     (one_more_macro names _ m (ap (map macro_of) c.in_ok-push.ensures.items ∙ map-append macro_of c.args.names.now.macros.items _)) new.few
-    (c.in_ok-spelled.ensures.items ∙ c.text_of.ensures) refl c.in_ok-insert.ensures.updates c.requires
+    c.text_of.ensures refl c.in_ok-enter.ensures c.requires
     (adds_macro text names m new.fresh)
+
+pub returns-clause-read : goal.returns-clause-read
+returns-clause-read c = grind (arith, common_steps)

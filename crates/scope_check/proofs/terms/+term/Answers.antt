@@ -1,7 +1,10 @@
 -- One more term is read.
+use Rattle.std.proofs.Common.{arith}
+use Rattle.std.proofs.lemmas.Grind.{common_steps}
 use Rattle.scope_check.specs.Scope.{scope_of}
 use Rattle.scope_check.specs.Terms.{setting_of}
 use Rattle.scope_check.proofs.Rows.{one_term_more, counted_more}
+use Rattle.scope_check.proofs.Steps.{sizes_seen}
 use Rattle.scope_check.proofs.terms.+term.Goals as goal
 
 pub terms-loop-sketch-preserved : goal.terms-loop-sketch-preserved
@@ -12,3 +15,9 @@ terms-loop-sketch-preserved t c = record {
   counted = counted_more c.loop-sketch.items.items c.push.new.self.items c.in_ok-item.item c.loop-sketch.symbols c.in_ok-item.more c.plus-symbols.result
       c.in_ok-push.ensures.items c.loop-sketch.invariant.counted c.in_ok-item.ensures.counted c.plus-symbols.ensures;
 }
+
+pub terms-returns-in_err-item-clause-read : goal.terms-returns-in_err-item-clause-read
+terms-returns-in_err-item-clause-read t c = grind (arith, common_steps, sizes_seen)
+
+pub terms-returns-clause-read : goal.terms-returns-clause-read
+terms-returns-clause-read t c = grind (arith, common_steps, sizes_seen)

@@ -1,0 +1,7 @@
+-- There is room for the variables of a pattern.
+use Rattle.std.proofs.Common.{arith}
+use Rattle.std.proofs.lemmas.Grind.{common_steps}
+use Rattle.scope_check.proofs.processes.with_variables.Goals as goal
+
+pub returns : goal.returns
+returns c = grind (arith, common_steps)
