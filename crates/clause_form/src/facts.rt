@@ -82,7 +82,7 @@ impl Model for Clause {
 }
 
 /// Clauses in order.
-#[derive(Debug, Drop)]
+#[derive(Drop)]
 pub struct Clauses {
     pub items: Vec<Clause>,
 }

@@ -95,6 +95,17 @@ fn flat_of_all<B: Bank>(alloc: Global, bank: &B, facts: &Facts) -> Result<Facts,
     Ok(made)
 }
 
+/// The clause with these hypotheses and this conclusion.
+fn concluded(alloc: Global, hyps: &Facts, concl: Fact) -> Result<Clause, AllocError>
+    ensures { IfOk result (λ made. made ≡ record {
+      hypotheses = hyps.now;
+      conclusion = fact_of concl;
+    }) }
+{
+    let hyps = hyps.copy(alloc)?;
+    Ok(Clause { hyps, concl })
+}
+
 /// The clauses with these hypotheses, one for each conclusion, in order.
 fn concluding(alloc: Global, hyps: &Facts, concls: Facts) -> Result<Clauses, AllocError>
     ensures { IfOk result (λ made. made ≡ map
@@ -102,11 +113,7 @@ fn concluding(alloc: Global, hyps: &Facts, concls: Facts) -> Result<Clauses, All
 {
     let mut items = Vec::with_capacity(alloc, concls.items.len())?;
     for concl in concls.items {
-        let copied = hyps.copy(alloc)?;
-        items.push(Clause {
-            hyps: copied,
-            concl,
-        })?;
+        items.push(concluded(alloc, hyps, concl)?)?;
     }
     Ok(Clauses { items })
 }

@@ -1,10 +1,11 @@
 //! The norm of a clause (Blanchet 2016, section 3.3.1: elimination of duplicate hypotheses, of tautologies and
 //! of useless hypotheses).
 
-ghost use Rattle.std.specs.Prelude.{◌≡◌, ◌&&◌, not, cond, [], ◌∷◌, ◌++◌, filter, map, IfOk, OnOk, OnErr};
+ghost use Rattle.std.specs.Prelude.{◌≡◌, ◌&&◌, not, cond, [], ◌∷◌, ◌++◌, filter, map, flat_map, IfOk, OnOk, OnErr};
 ghost use Rattle.std.specs.List.{list_all};
 ghost use Rattle.clauses.specs.Fact.{is_variable_known as is_variable_known_fact};
 ghost use Rattle.clauses.specs.Selection.{is_solved};
+ghost use Rattle.clauses.specs.Variables.{fact_variables};
 ghost use Rattle.clauses.specs.Norm.{norm as norm_of, is_lonely as is_lonely_fact, generalized, numbered};
 ghost use Rattle.term_tree.specs.Bank.{Grows};
 ghost use Rattle.clause_form.specs.Facts.{fact_of};
@@ -22,7 +23,7 @@ use std::alloc::{AllocError, Global};
 use term_tree::{Bank, Node};
 
 /// The norm of a clause, if it has one.
-#[derive(Debug, Drop)]
+#[derive(Drop)]
 pub enum Normal {
     /// The conclusion is among the hypotheses.
     Tautology,
@@ -115,6 +116,26 @@ fn without_lonely<B: Bank>(
     each_shared(alloc, bank, numbers, &facts.items)
 }
 
+/// The hypotheses that are no `att` of a variable that occurs but once in the clause.
+fn shared_hypotheses<B: Bank>(
+    alloc: Global,
+    bank: &B,
+    concl: &Fact,
+    hyps: Facts,
+) -> Result<Facts, AllocError>
+    requires concl { IsFactIn (B.trees bank.now) (fact_of concl.now) }
+    requires hyps { AreFactsIn (B.trees bank.now) hyps }
+    ensures { let trees = map (fact_at (B.trees bank.now)) hyps in
+        let variables = flat_map fact_variables
+        (fact_at (B.trees bank.now) (fact_of concl.now) ∷ trees) in
+        IfOk result (λ kept. NameFacts (B.trees bank.now) kept
+        (filter (λ h. not (is_lonely_fact variables h)) trees)) }
+{
+    let occurring = variables_of(alloc, bank, concl, &hyps.items)?;
+    let numbers = Counts::new(alloc, occurring)?;
+    without_lonely(alloc, bank, &numbers, hyps)
+}
+
 /// Whether the clause is solved and concludes `att` of a variable.
 pub(crate) fn is_general<B: Bank>(bank: &B, concl: &Fact, hyps: &[Fact]) -> bool
     requires concl { IsFactIn (B.trees bank.now) (fact_of concl.now) }
@@ -170,9 +191,7 @@ fn norm_grown<B: Bank>(
     if is_among(bank, &kept.items, concl) {
         return Ok(Normal::Tautology);
     }
-    let occurring = variables_of(alloc, bank, concl, &kept.items)?;
-    let numbers = Counts::new(alloc, occurring)?;
-    let few = without_lonely(alloc, bank, &numbers, kept)?;
+    let few = shared_hypotheses(alloc, bank, concl, kept)?;
     let made = generalized_clause(alloc, bank, concl, &few.items)?;
     Ok(Normal::Clause(made))
 }

@@ -56,6 +56,17 @@ impl Numbering {
             None => place_among(number, &self.numbers),
         }
     }
+
+    /// The numbers, each where it stands first.
+    fn firsts(&self, alloc: Global) -> Result<Vec<u32>, AllocError>
+        ensures { IfOk result (λ found. found.items ≡ distinct nat_eq self.now) }
+    {
+        let mut found = Vec::with_capacity(alloc, 16)?;
+        'each: for (i, number) in self.numbers.iter().enumerate() {
+            add_if(self.place(*number) == i, *number, &mut found)?;
+        }
+        Ok(found)
+    }
 }
 
 /// Where each of many numbers stands first.
@@ -103,11 +114,7 @@ pub(crate) fn distinct_of(alloc: Global, numbers: Vec<u32>) -> Result<Vec<u32>, 
     ensures { IfOk result (λ found. found.items ≡ distinct nat_eq numbers.items) }
 {
     let all = Numbering::new(alloc, numbers)?;
-    let mut found = Vec::with_capacity(alloc, 16)?;
-    'each: for (i, number) in all.numbers.iter().enumerate() {
-        add_if(all.place(*number) == i, *number, &mut found)?;
-    }
-    Ok(found)
+    all.firsts(alloc)
 }
 
 /// Numbers, and how often they occur.

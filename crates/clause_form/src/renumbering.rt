@@ -1,9 +1,10 @@
 //! Facts and clauses with their variables renumbered.
 
-ghost use Rattle.std.specs.Prelude.{◌≡◌, ◌↔◌, ◌<◌, true, IsTrue, length, map, slice_index_or, IfOk, OnOk};
+ghost use Rattle.std.specs.Prelude.{◌≡◌, ◌↔◌, ◌<◌, true, IsTrue, ◌∷◌, nat_eq, length, map, flat_map, slice_index_or, IfOk, OnOk};
 ghost use Rattle.trees.specs.Tree.{Leaf, bind};
 ghost use Rattle.clauses.specs.Fact.{fact_under};
-ghost use Rattle.clauses.specs.Norm.{numbered};
+ghost use Rattle.clauses.specs.Variables.{fact_variables};
+ghost use Rattle.clauses.specs.Norm.{distinct, numbered};
 ghost use Rattle.term_tree.specs.Bank.{tree_at, AreKnown, Names, Grows};
 ghost use Rattle.unify_match.specs.Substitution.{arguments};
 ghost use Rattle.clause_form.specs.Facts.{fact_of};
@@ -192,6 +193,51 @@ fn renumbered_facts<B: Bank>(
     Ok(Facts { items })
 }
 
+/// The variables of a clause by their first occurrence, the conclusion's first.
+fn order_of<B: Bank>(
+    alloc: Global,
+    bank: &B,
+    concl: &Fact,
+    hyps: &[Fact],
+) -> Result<Numbering, AllocError>
+    requires concl { IsFactIn (B.trees bank.now) (fact_of concl.now) }
+    requires hyps { AreFactsIn (B.trees bank.now) (map fact_of hyps.now) }
+    ensures { IfOk result (λ order. order ≡ distinct nat_eq
+        (flat_map fact_variables (fact_at (B.trees bank.now) (fact_of concl.now) ∷ map
+        (fact_at (B.trees bank.now)) (map fact_of hyps.now)))) }
+{
+    let numbers = variables_of(alloc, bank, concl, hyps)?;
+    let firsts = distinct_of(alloc, numbers)?;
+    Numbering::new(alloc, firsts)
+}
+
+/// The clause with its variables numbered by this order, that of their first occurrence. On `Err` the bank may
+/// have grown.
+fn clause_in_order<B: Bank>(
+    alloc: Global,
+    bank: &mut B,
+    order: &Numbering,
+    concl: &Fact,
+    hyps: &[Fact],
+) -> Result<Clause, AllocError>
+    requires concl { IsFactIn (B.trees bank.old) (fact_of concl.now) }
+    requires hyps { AreFactsIn (B.trees bank.old) (map fact_of hyps.now) }
+    requires order { order.now ≡ distinct nat_eq
+        (flat_map fact_variables (fact_at (B.trees bank.old) (fact_of concl.now) ∷ map
+        (fact_at (B.trees bank.old)) (map fact_of hyps.now))) }
+    ensures grows { Grows (B.trees bank.old) (B.trees bank.new) }
+    ensures names { IfOk result (λ made. NamesClause (B.trees bank.new) made
+        (numbered record {
+          hypotheses = map (fact_at (B.trees bank.old)) (map fact_of hyps.now);
+          conclusion = fact_at (B.trees bank.old) (fact_of concl.now);
+        })) }
+{
+    let mut stack = Vec::with_capacity(alloc, 16)?;
+    let hyps = renumbered_facts(alloc, bank, order, &mut stack, hyps)?;
+    let concl = renumbered_fact(alloc, bank, order, &mut stack, concl)?;
+    Ok(Clause { hyps, concl })
+}
+
 /// The clause with its variables numbered by their first occurrence. On `Err` the bank may have grown.
 pub(crate) fn numbered_clause<B: Bank>(
     alloc: Global,
@@ -208,11 +254,6 @@ pub(crate) fn numbered_clause<B: Bank>(
           conclusion = fact_at (B.trees bank.old) (fact_of concl.now);
         })) }
 {
-    let numbers = variables_of(alloc, bank, concl, hyps)?;
-    let firsts = distinct_of(alloc, numbers)?;
-    let order = Numbering::new(alloc, firsts)?;
-    let mut stack = Vec::with_capacity(alloc, 16)?;
-    let made = renumbered_facts(alloc, bank, &order, &mut stack, hyps)?;
-    let concl = renumbered_fact(alloc, bank, &order, &mut stack, concl)?;
-    Ok(Clause { hyps: made, concl })
+    let order = order_of(alloc, bank, concl, hyps)?;
+    clause_in_order(alloc, bank, &order, concl, hyps)
 }

@@ -68,6 +68,22 @@ fn add_fact_variables<B: Bank>(
     }
 }
 
+/// Adds the variables of facts.
+fn add_facts_variables<B: Bank>(
+    bank: &B,
+    facts: &[Fact],
+    numbers: &mut Vec<u32>,
+) -> Result<(), AllocError>
+    requires { AreFactsIn (B.trees bank.now) (map fact_of facts.now) }
+    ensures { OnOk result (numbers.new.items ≡ numbers.old.items ++ flat_map fact_variables
+        (map (fact_at (B.trees bank.now)) (map fact_of facts.now))) }
+{
+    for fact in facts {
+        add_fact_variables(bank, fact, numbers)?;
+    }
+    Ok(())
+}
+
 /// The variables of a clause, each as often as it occurs: the conclusion's first.
 pub(crate) fn variables_of<B: Bank>(
     alloc: Global,
@@ -83,8 +99,6 @@ pub(crate) fn variables_of<B: Bank>(
 {
     let mut numbers = Vec::with_capacity(alloc, 16)?;
     add_fact_variables(bank, concl, &mut numbers)?;
-    for hyp in hyps {
-        add_fact_variables(bank, hyp, &mut numbers)?;
-    }
+    add_facts_variables(bank, hyps, &mut numbers)?;
     Ok(numbers)
 }

@@ -7,6 +7,7 @@ use Rattle.unify_match.proofs.Substituting.{Names-same}
 use Rattle.clause_form.specs.Numbers.{placed}
 use Rattle.clause_form.proofs.Walks.{argument_later}
 use Rattle.clause_form.proofs.Renumber.{stacked_begins, stacked_on, stacked_same, stacked_known, stacked_ends, part_at, parts_count}
+use Rattle.term_tree.proofs.BankLaws.{Grows_trans}
 use Rattle.clause_form.proofs.renumbering.+renumbered.Goals as goal
 
 pub each-init : goal.each-init
@@ -60,3 +61,15 @@ returns-in_ok-made-in-App-2-clause-names g t c =
     let rest : slice ≡ drop c.len-base.result c.deref.result.now = take_rest c.deref.result.now c.len-base.result in
     let ends = stacked_ends old now s c.args.id f (length c.in-App.parts.now) before c.each.stack.items c.each.i c.each.kept c.each.invariant (omega (arith, c.each-test.false, c.each.auto.i-end)) in
     Names-same (g.B.Bank.trees c.app.new.self) c.in_ok-made-in-App-2.made (node f (map (tree_at now) slice)) (bind s (tree_at old c.args.id)) (ap (λ l. node f (map (tree_at now) l)) (rest ∙ items) ∙ ends) c.in_ok-made-in-App-2.ensures.names
+
+pub returns-in_err-made-in-App-clause-grows : goal.returns-in_err-made-in-App-clause-grows
+returns-in_err-made-in-App-clause-grows g t c = Grows_trans (g.B.Bank.trees c.args.bank.now) (g.B.Bank.trees c.each.bank) (g.B.Bank.trees c.renumbered.new.bank) c.each.invariant.grows c.renumbered.ensures.grows
+
+pub returns-in_err-push-in-App-clause-grows : goal.returns-in_err-push-in-App-clause-grows
+returns-in_err-push-in-App-clause-grows g t c = Grows_trans (g.B.Bank.trees c.args.bank.now) (g.B.Bank.trees c.each.bank) (g.B.Bank.trees c.renumbered.new.bank) c.each.invariant.grows c.renumbered.ensures.grows
+
+pub returns-in_err-made-in-App-2-clause-grows : goal.returns-in_err-made-in-App-2-clause-grows
+returns-in_err-made-in-App-2-clause-grows g t c = Grows_trans (g.B.Bank.trees c.args.bank.now) (g.B.Bank.trees c.each.bank) (g.B.Bank.trees c.app.new.self) c.each.invariant.grows c.app.ensures.grows
+
+pub returns-in_ok-made-in-App-2-clause-grows : goal.returns-in_ok-made-in-App-2-clause-grows
+returns-in_ok-made-in-App-2-clause-grows g t c = Grows_trans (g.B.Bank.trees c.args.bank.now) (g.B.Bank.trees c.each.bank) (g.B.Bank.trees c.app.new.self) c.each.invariant.grows c.app.ensures.grows

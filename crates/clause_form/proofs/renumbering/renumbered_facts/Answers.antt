@@ -3,6 +3,7 @@ use Rattle.clause_form.specs.Numbers.{placed}
 use Rattle.clause_form.proofs.Walks.{fact_known_at}
 use Rattle.clause_form.proofs.Copying.{IsFactIn-grows}
 use Rattle.clause_form.proofs.Renumber.{facts_renumbered_on, facts_renumbered}
+use Rattle.term_tree.proofs.BankLaws.{Grows_trans}
 use Rattle.clause_form.proofs.renumbering.renumbered_facts.Goals as goal
 
 pub renumbered_fact-requires : goal.renumbered_fact-requires
@@ -18,3 +19,9 @@ each-preserved g c =
 
 pub returns-clause-names : goal.returns-clause-names
 returns-clause-names g c = facts_renumbered (g.B.Bank.trees c.args.bank.now) (g.B.Bank.trees c.each.bank) (placed c.args.order.now) c.args.facts.now c.each.fact-index c.each.items.items c.each.invariant c.each-test.false
+
+pub returns-in_err-next-clause-grows : goal.returns-in_err-next-clause-grows
+returns-in_err-next-clause-grows g c = Grows_trans (g.B.Bank.trees c.args.bank.now) (g.B.Bank.trees c.each.bank) (g.B.Bank.trees c.renumbered_fact.new.bank) c.each.invariant.grows c.renumbered_fact.ensures.grows
+
+pub returns-in_err-push-clause-grows : goal.returns-in_err-push-clause-grows
+returns-in_err-push-clause-grows g c = Grows_trans (g.B.Bank.trees c.args.bank.now) (g.B.Bank.trees c.each.bank) (g.B.Bank.trees c.renumbered_fact.new.bank) c.each.invariant.grows c.renumbered_fact.ensures.grows

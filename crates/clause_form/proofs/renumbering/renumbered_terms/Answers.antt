@@ -1,6 +1,7 @@
 use Rattle.clause_form.specs.Numbers.{placed}
 use Rattle.clause_form.proofs.Walks.{known_later}
 use Rattle.clause_form.proofs.Renumber.{renumbered_on, renumbered_all}
+use Rattle.term_tree.proofs.BankLaws.{Grows_trans}
 use Rattle.clause_form.proofs.renumbering.renumbered_terms.Goals as goal
 
 pub renumbered-requires : goal.renumbered-requires
@@ -16,3 +17,9 @@ each-preserved g c =
 
 pub returns-clause-names : goal.returns-clause-names
 returns-clause-names g c = renumbered_all (g.B.Bank.trees c.args.bank.now) (g.B.Bank.trees c.each.bank) (placed c.args.order.now) c.args.terms.now c.each.term-index c.each.items.items c.each.invariant c.each-test.false
+
+pub returns-in_err-next-clause-grows : goal.returns-in_err-next-clause-grows
+returns-in_err-next-clause-grows g c = Grows_trans (g.B.Bank.trees c.args.bank.now) (g.B.Bank.trees c.each.bank) (g.B.Bank.trees c.renumbered.new.bank) c.each.invariant.grows c.renumbered.ensures.grows
+
+pub returns-in_err-push-clause-grows : goal.returns-in_err-push-clause-grows
+returns-in_err-push-clause-grows g c = Grows_trans (g.B.Bank.trees c.args.bank.now) (g.B.Bank.trees c.each.bank) (g.B.Bank.trees c.renumbered.new.bank) c.each.invariant.grows c.renumbered.ensures.grows

@@ -1,6 +1,6 @@
 use Rattle.std.proofs.Common.{◌≡◌, nat_eq, take}
 use Rattle.clauses.specs.Norm.{distinct}
-use Rattle.clause_form.proofs.numbers.distinct_of.Given as goal
+use Rattle.clause_form.proofs.numbers.Numbering.firsts.Given as goal
 
 abbrev pub invariant-each : goal.invariant-each
 invariant-each l = l.found.items ≡ distinct nat_eq (take l.i l.number-items)

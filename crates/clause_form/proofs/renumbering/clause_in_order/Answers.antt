@@ -1,0 +1,20 @@
+use Rattle.std.proofs.Common.{map}
+use Rattle.clause_form.specs.Facts.{fact_of}
+use Rattle.clause_form.proofs.Copying.{IsFactIn-grows}
+use Rattle.clause_form.proofs.Norming.{numbered_named}
+use Rattle.term_tree.proofs.BankLaws.{Grows_trans}
+use Rattle.clause_form.proofs.renumbering.clause_in_order.Goals as goal
+
+pub renumbered_fact-requires : goal.renumbered_fact-requires
+renumbered_fact-requires g c = IsFactIn-grows (g.B.Bank.trees c.args.bank.now) (g.B.Bank.trees c.renumbered_facts.new.bank) (fact_of c.args.concl.now) c.renumbered_facts.ensures.grows c.requires.concl
+
+pub returns-clause-names : goal.returns-clause-names
+returns-clause-names g c =
+    numbered_named (g.B.Bank.trees c.args.bank.now) (g.B.Bank.trees c.renumbered_facts.new.bank) (g.B.Bank.trees c.renumbered_fact.new.bank) (map fact_of c.args.hyps.now) (fact_of c.args.concl.now) c.args.order.now c.args.order.now c.in_ok-hyps.hyps (fact_of c.in_ok-concl.concl)
+    c.requires.concl c.renumbered_facts.ensures.grows c.renumbered_fact.ensures.grows c.requires.order c.requires.order c.in_ok-hyps.ensures.names c.in_ok-concl.ensures.names
+
+pub returns-in_err-concl-clause-grows : goal.returns-in_err-concl-clause-grows
+returns-in_err-concl-clause-grows g c = Grows_trans (g.B.Bank.trees c.args.bank.now) (g.B.Bank.trees c.renumbered_facts.new.bank) (g.B.Bank.trees c.renumbered_fact.new.bank) c.renumbered_facts.ensures.grows c.renumbered_fact.ensures.grows
+
+pub returns-clause-grows : goal.returns-clause-grows
+returns-clause-grows g c = Grows_trans (g.B.Bank.trees c.args.bank.now) (g.B.Bank.trees c.renumbered_facts.new.bank) (g.B.Bank.trees c.renumbered_fact.new.bank) c.renumbered_facts.ensures.grows c.renumbered_fact.ensures.grows
