@@ -1,4 +1,5 @@
 use Rattle.std.proofs.Common.{◌-◌, arith}
+use Rattle.std.proofs.lemmas.Grind.{common_steps}
 use Rattle.terms.specs.Rank.{ranks}
 use Rattle.term_tree.specs.Bank.{symbol_of}
 use Rattle.unify_match.specs.Seen.{seen}
@@ -21,3 +22,12 @@ spare-requires g t c κs within =
 pub returns-in-Var : goal.returns-in-Var
 returns-in-Var g t c =
     counted_variable (g.B.Bank.trees c.args.bank.now) c.args.binds.now.pairs c.args.id c.walk-end.result c.args.most (c.args.most - 1) _ c.requires.ready c.walk-end.ensures c.in-Var.ensures (omega arith)
+
+pub returns-in_err-left-in-App : goal.returns-in_err-left-in-App
+returns-in_err-left-in-App g t c = grind (arith, common_steps)
+
+pub each-preserved : goal.each-preserved
+each-preserved g t c = grind (arith, common_steps)
+
+pub returns-after-each : goal.returns-after-each
+returns-after-each g t c = grind (arith, common_steps)

@@ -1,4 +1,5 @@
-use Rattle.std.proofs.Common.{map}
+use Rattle.std.proofs.Common.{map, arith}
+use Rattle.std.proofs.lemmas.Grind.{common_steps}
 use Rattle.std.proofs.lemmas.Bool.{MatchBool-at_true}
 use Rattle.term_tree.specs.Bank.{tree_at}
 use Rattle.unify_match.proofs.Matchings.{matched_all}
@@ -9,3 +10,21 @@ returns-in-Ok-true-clause-outcome g c =
     let all = g.B.Bank.trees c.args.bank.now in
     matched_all all c.args.binds.now.pairs c.match_each.new.binds.pairs (map (tree_at all) c.args.generals.now) (map (tree_at all) c.args.specials.now) c.match_each.ensures.bindings c.match_each.ensures.extends
     (MatchBool-at_true _ _ c.in-Ok-true.field-0-test c.in-Ok-true.ensures.outcome)
+
+pub undo-requires : goal.undo-requires
+undo-requires g c = grind (arith, common_steps)
+
+pub undo-requires-in-Err : goal.undo-requires-in-Err
+undo-requires-in-Err g c = grind (arith, common_steps)
+
+pub returns-in-Ok-false-clause-bindings : goal.returns-in-Ok-false-clause-bindings
+returns-in-Ok-false-clause-bindings g c = grind (arith, common_steps)
+
+pub returns-in-Ok-false-clause-no_match : goal.returns-in-Ok-false-clause-no_match
+returns-in-Ok-false-clause-no_match g c = grind (arith, common_steps)
+
+pub returns-in-Err-clause-bindings : goal.returns-in-Err-clause-bindings
+returns-in-Err-clause-bindings g c = grind (arith, common_steps)
+
+pub returns-in-Err-clause-err : goal.returns-in-Err-clause-err
+returns-in-Err-clause-err g c = grind (arith, common_steps)

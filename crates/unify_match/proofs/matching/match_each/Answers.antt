@@ -1,4 +1,5 @@
 use Rattle.std.proofs.Common.{◌<◌, ◌+◌, arith, length}
+use Rattle.std.proofs.lemmas.Grind.{common_steps}
 use Rattle.std.proofs.lemmas.Bool.{MatchBool-at_true, MatchBool-at_false}
 use Rattle.unify_match.proofs.Trails.{Extends-trans}
 use Rattle.unify_match.proofs.Walking.{heights_of}
@@ -36,3 +37,9 @@ returns-clause-outcome g c =
     let xs = c.args.generals.now in
     let ys = c.args.specials.now in
     all_matched all c.args.binds.now.pairs c.each.binds.pairs (heights_of (λ x. 1) all xs + 1) xs ys c.each.i c.requires.paired c.each.invariant c.each-test.false
+
+pub match_from-requires-clause-general_known : goal.match_from-requires-clause-general_known
+match_from-requires-clause-general_known g c = grind (arith, common_steps)
+
+pub match_from-requires-clause-special_known : goal.match_from-requires-clause-special_known
+match_from-requires-clause-special_known g c = grind (arith, common_steps)

@@ -1,4 +1,5 @@
 use Rattle.std.proofs.Common.{◌≡◌, ◌∙◌, ◌<◌, ◌+◌, ◌-◌, List, [], ◌∷◌, ◌++◌, Bool, IfOk, length, take, drop, map, get_or, ap, sym, subst, arith}
+use Rattle.std.proofs.lemmas.Grind.{common_steps}
 use Rattle.std.proofs.lemmas.Bool.{false≢true}
 use Rattle.std.proofs.lemmas.List.{take_rest}
 use Rattle.trees.specs.Tree.{Leaf, node, bind}
@@ -149,3 +150,42 @@ returns-clause-names g t c =
     let rest : slice ≡ drop c.len-base.result c.deref.result.now = take_rest c.deref.result.now c.len-base.result in
     Names-same (g.B.Bank.trees c.app.new.self) c.in_ok-made-2.made (node f (map (tree_at now) slice)) (bind s (tree_at old c.args.id))
     (ap (λ l. node f (map (tree_at now) l)) (rest ∙ items) ∙ (ends ∙ c.led-end.ensures.same)) c.in_ok-made-2.ensures.names
+
+pub renamed-requires-clause-none : goal.renamed-requires-clause-none
+renamed-requires-clause-none g t c = grind (arith, common_steps)
+
+pub argument-arg-requires-clause-known : goal.argument-arg-requires-clause-known
+argument-arg-requires-clause-known g t c = grind (arith, common_steps)
+
+pub returns-in_err-made-clause-grows : goal.returns-in_err-made-clause-grows
+returns-in_err-made-clause-grows g t c = grind (arith, common_steps)
+
+pub returns-in_err-push-clause-grows : goal.returns-in_err-push-clause-grows
+returns-in_err-push-clause-grows g t c = grind (arith, common_steps)
+
+pub returns-then-kept-clause-stack : goal.returns-then-kept-clause-stack
+returns-then-kept-clause-stack g t c = grind (arith, common_steps)
+
+pub returns-then-kept-clause-unchanged : goal.returns-then-kept-clause-unchanged
+returns-then-kept-clause-unchanged g t c = grind (arith, common_steps)
+
+pub symbol-requires-clause-known : goal.symbol-requires-clause-known
+symbol-requires-clause-known g t c = grind (arith, common_steps)
+
+pub offset_bounds-deref-base : goal.offset_bounds-deref-base
+offset_bounds-deref-base g t c = grind (arith, common_steps)
+
+pub slice_bounds-app-count : goal.slice_bounds-app-count
+slice_bounds-app-count g t c = grind (arith, common_steps)
+
+pub slice_bounds-app-start : goal.slice_bounds-app-start
+slice_bounds-app-start g t c = grind (arith, common_steps)
+
+pub app-requires : goal.app-requires
+app-requires g t c = grind (arith, common_steps)
+
+pub returns-clause-grows : goal.returns-clause-grows
+returns-clause-grows g t c = grind (arith, common_steps)
+
+pub returns-clause-stack : goal.returns-clause-stack
+returns-clause-stack g t c = grind (arith, common_steps)

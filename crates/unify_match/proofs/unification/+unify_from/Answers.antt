@@ -1,4 +1,5 @@
 use Rattle.std.proofs.Common.{◌<◌, sym, ap, subst, arith, length, get_or}
+use Rattle.std.proofs.lemmas.Grind.{common_steps}
 use Rattle.std.proofs.lemmas.Bool.{MatchBool-at_true, MatchBool-at_false, false≢true}
 use Rattle.terms.specs.Rank.{height, ranks}
 use Rattle.term_tree.specs.Bank.{tree_at, symbol_of, IsNodeOf}
@@ -120,3 +121,6 @@ returns-in_ok-pass-in-App-App-clause-outcome g t c =
     solutions_walked all c.args.binds.now.pairs c.each.binds.pairs c.args.left c.args.right c.walk-a.result c.walk-b.result c.walk-a.ensures c.walk-b.ensures
     (going_ends all c.args.binds.now.pairs c.each.binds.pairs c.each.made (height (ranks (seen all c.args.binds.now.pairs)) (tree_at all c.args.left)) c.walk-a.result c.walk-b.result (symbol_of c.in-App-App.f) (symbol_of c.in-App-App.g) c.in-App-App.xs.now c.in-App-App.ys.now c.each.i
     c.in-App-App.ensures.0 c.in-App-App.ensures'.0 (ap symbol_of (c.is_same.ensures.0 c.if-not-is_same.false)) (omega (arith, c.if-xs-ys.false)) c.each.invariant c.each-test.false)
+
+pub returns-then-is_empty-clause-outcome : goal.returns-then-is_empty-clause-outcome
+returns-then-is_empty-clause-outcome g t c = grind (arith, common_steps)

@@ -1,4 +1,5 @@
 use Rattle.std.proofs.Common.{◌<◌, ◌+◌, arith, length}
+use Rattle.std.proofs.lemmas.Grind.{common_steps}
 use Rattle.std.proofs.lemmas.Bool.{MatchBool-at_true, MatchBool-at_false}
 use Rattle.terms.specs.Rank.{ranks}
 use Rattle.unify_match.specs.Seen.{seen}
@@ -41,3 +42,9 @@ returns-clause-outcome g c =
     let xs = c.args.lefts.now in
     let ys = c.args.rights.now in
     all_gone all old c.each.binds.pairs c.each.made (heights_of (ranks (seen all old)) all xs + 1) xs ys c.each.i c.requires.paired c.each.invariant c.each-test.false
+
+pub unify_from-requires-clause-left_known : goal.unify_from-requires-clause-left_known
+unify_from-requires-clause-left_known g c = grind (arith, common_steps)
+
+pub unify_from-requires-clause-right_known : goal.unify_from-requires-clause-right_known
+unify_from-requires-clause-right_known g c = grind (arith, common_steps)

@@ -1,4 +1,5 @@
 use Rattle.std.proofs.Common.{◌∙◌, sym, refl, arith, length, eqb-true}
+use Rattle.std.proofs.lemmas.Grind.{common_steps}
 use Rattle.terms.specs.Rank.{ranks}
 use Rattle.term_tree.specs.Bank.{symbol_of}
 use Rattle.unify_match.specs.Seen.{seen}
@@ -52,3 +53,6 @@ pub returns-then-is_empty-clause-found : goal.returns-then-is_empty-clause-found
 returns-then-is_empty-clause-found g t c =
     sym (sym (walked-has (g.B.Bank.trees c.args.bank.now) c.args.binds.now.pairs c.args.id c.walk-end.result c.args.number c.requires.ready c.walk-end.ensures)
     ∙ has-none (g.B.Bank.trees c.args.bank.now) c.args.binds.now.pairs c.walk-end.result c.args.number (symbol_of c.in-App.field-0) c.in-App.args.now 0 c.in-App.ensures.0 refl (let none = eqb-true (length c.in-App.args.now) 0 (sym c.if-is_empty.ensures) in omega (arith, none)))
+
+pub args-2-preserved : goal.args-2-preserved
+args-2-preserved g t c = grind (arith, common_steps)
