@@ -50,10 +50,7 @@ impl Word {
     pub fn copy(&self, alloc: Global) -> Result<Word, AllocError>
         ensures { IfOk result (λ copied. copied ≡ self.now) }
     {
-        let mut items = Vec::new(alloc);
-        for byte in &self.items {
-            items.push(*byte)?;
-        }
+        let items = Vec::from_slice(alloc, &self.items)?;
         Ok(Word { items })
     }
 }

@@ -360,39 +360,44 @@ impl Process {
     pub fn copy(&self, alloc: Global) -> Result<Process, AllocError>
         ensures { IfOk result (λ copied. process_of copied ≡ process_of self.now) }
     {
-        match self {
-            Process::Nil => Ok(Process::Nil),
-            Process::Output(channel, message, next) => Ok(Process::Output(
-                channel.copy(alloc)?,
-                message.copy(alloc)?,
-                Box::new(alloc, next.copy(alloc)?)?,
-            )),
-            Process::Input(channel, pattern, next) => Ok(Process::Input(
-                channel.copy(alloc)?,
-                pattern.copy(alloc)?,
-                Box::new(alloc, next.copy(alloc)?)?,
-            )),
-            Process::Par(left, right) => Ok(Process::Par(
-                Box::new(alloc, left.copy(alloc)?)?,
-                Box::new(alloc, right.copy(alloc)?)?,
-            )),
-            Process::Copies(copied) => {
-                Ok(Process::Copies(Box::new(alloc, copied.copy(alloc)?)?))
+        let copied = self.boxed_copy(alloc)?;
+        Ok(Box::into_inner(copied))
+    }
+
+    /// A copy in a box. The children are copied first, since a box is all that is let go where then a term's copy
+    /// finds no memory.
+    fn boxed_copy(&self, alloc: Global) -> Result<Box<Process>, AllocError>
+        ensures { IfOk result (λ copied. process_of copied.value ≡ process_of self.now) }
+    {
+        let copied = match self {
+            Process::Nil => Process::Nil,
+            Process::Output(channel, message, next) => {
+                let next = next.boxed_copy(alloc)?;
+                Process::Output(channel.copy(alloc)?, message.copy(alloc)?, next)
             }
-            Process::New(word, next) => Ok(Process::New(
-                word.copy(alloc)?,
-                Box::new(alloc, next.copy(alloc)?)?,
-            )),
-            Process::Let(pattern, expression, next, otherwise) => Ok(Process::Let(
-                pattern.copy(alloc)?,
-                expression.copy(alloc)?,
-                Box::new(alloc, next.copy(alloc)?)?,
-                Box::new(alloc, otherwise.copy(alloc)?)?,
-            )),
-            Process::Event(atom, next) => Ok(Process::Event(
-                atom.copy(alloc)?,
-                Box::new(alloc, next.copy(alloc)?)?,
-            )),
-        }
+            Process::Input(channel, pattern, next) => {
+                let next = next.boxed_copy(alloc)?;
+                Process::Input(channel.copy(alloc)?, pattern.copy(alloc)?, next)
+            }
+            Process::Par(left, right) => {
+                Process::Par(left.boxed_copy(alloc)?, right.boxed_copy(alloc)?)
+            }
+            Process::Copies(copied) => Process::Copies(copied.boxed_copy(alloc)?),
+            Process::New(word, next) => {
+                let next = next.boxed_copy(alloc)?;
+                Process::New(word.copy(alloc)?, next)
+            }
+            Process::Let(pattern, expression, next, otherwise) => {
+                let next = next.boxed_copy(alloc)?;
+                let otherwise = otherwise.boxed_copy(alloc)?;
+                let expression = expression.copy(alloc)?;
+                Process::Let(pattern.copy(alloc)?, expression, next, otherwise)
+            }
+            Process::Event(atom, next) => {
+                let next = next.boxed_copy(alloc)?;
+                Process::Event(atom.copy(alloc)?, next)
+            }
+        };
+        Ok(Box::new(alloc, copied)?)
     }
 }
