@@ -8,7 +8,7 @@ use std::marker::Model;
 
 /// The calls of an object: which of them are to fail, how many were made, and how many faults were counted.
 /// A count that stands at the last value of its type stays there.
-#[derive(Debug, Drop)]
+#[derive(Drop)]
 pub struct CallLog {
     failing: Vec<u64>,
     made: u64,

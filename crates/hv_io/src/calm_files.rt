@@ -8,7 +8,7 @@ use std::alloc::{AllocError, Global};
 use std::marker::Model;
 
 /// Files in memory of which no load fails. A name that was never added holds nothing, and its load gives no bytes.
-#[derive(Debug, Drop)]
+#[derive(Drop)]
 pub struct CalmFiles {
     entries: Vec<NamedBytes>,
     alloc: Global,

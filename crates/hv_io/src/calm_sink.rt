@@ -5,7 +5,7 @@ use crate::writing::{Failed, Sink};
 use std::alloc::{AllocError, Global};
 
 /// A sink that takes every byte, and never fails. It keeps no byte, and so tells nothing of what was written.
-#[derive(Clone, Copy, Debug)]
+#[derive(Clone, Copy)]
 pub struct CalmSink;
 
 impl CalmSink {

@@ -6,7 +6,7 @@ use std::alloc::{AllocError, Global};
 use std::marker::Model;
 
 /// A name, and the bytes under it.
-#[derive(Debug, Drop)]
+#[derive(Drop)]
 pub struct NamedBytes {
     name: String,
     bytes: Vec<u8>,

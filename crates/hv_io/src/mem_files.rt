@@ -13,7 +13,7 @@ use std::marker::Model;
 ///
 /// A load of a name that was never added fails too; such a name holds nothing. One counter, which stays at its last
 /// value, is the count of faults of every name.
-#[derive(Debug, Drop)]
+#[derive(Drop)]
 pub struct MemFiles {
     entries: Vec<NamedBytes>,
     calls: CallLog,

@@ -11,7 +11,7 @@ use std::marker::Model;
 /// A sink in memory, for tests: it takes so many bytes a call at most, and fails at the calls of a list.
 ///
 /// A write for which there is no memory fails too, and is counted as a fault.
-#[derive(Debug, Drop)]
+#[derive(Drop)]
 pub struct MemSink {
     bytes: Vec<u8>,
     most: usize,

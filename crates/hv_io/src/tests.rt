@@ -1,102 +1,49 @@
+//! Files and sinks in memory, of which a call fails.
+
 use super::*;
+use std::alloc::{AllocError, Global};
 use std::test::Fail;
 
-/// Loads through the bound, as callers do.
-fn load<F: Files>(files: &mut F, name: &str, most: usize) -> Result<Vec<u8>, LoadError> {
-    files.load(name, most)
+/// Lets a file hold bytes, and the first load fail.
+fn prepare(files: &mut MemFiles) -> Result<(), AllocError> {
+    files.add("a", b"abcd")?;
+    files.fail_at(1)
+}
+
+/// Whether a load fails, and not for want of memory.
+fn fails<F: Files>(files: &mut F, name: &str) -> bool {
+    matches!(files.load(name, 9), Err(LoadError::Failed))
+}
+
+/// Whether a load gives these bytes.
+fn gives<F: Files>(files: &mut F, name: &str, bytes: &[u8]) -> bool {
+    files
+        .load(name, 9)
+        .is_ok_and(|loaded| loaded.as_slice() == bytes)
 }
 
 #[test]
-fn loads_from_memory(rt: HostRuntime) -> Result<(), Fail> {
+fn the_load_behind_a_fault_gives_the_bytes(rt: HostRuntime) -> Result<(), Fail> {
     let mut files = MemFiles::new(rt.alloc())?;
-    files.add("a", b"old")?;
-    files.add("b", b"abcd")?;
-    files.add("a", b"new")?;
-    files.fail_at(1)?;
-    assert!(rt; matches!(load(&mut files, "b", 9), Err(LoadError::Failed)));
+    prepare(&mut files)?;
+    assert!(rt; fails(&mut files, "a"));
+    assert!(rt; gives(&mut files, "a", b"abcd"));
     assert_eq!(rt; files.faults(), 1);
-    for (name, most, want) in [
-        ("b", 9, "abcd"),
-        ("b", 3, "abc"),
-        ("b", 0, ""),
-        ("a", 3, "new"),
-    ] {
-        assert_eq!(rt;
-            load(&mut files, name, most)?.as_slice(),
-            want.as_bytes(),
-            "{most} of {name}"
-        );
-    }
-    assert_eq!(rt; files.faults(), 1);
-    assert!(rt; matches!(load(&mut files, "c", 9), Err(LoadError::Failed)));
-    assert_eq!(rt; files.faults(), 2);
     Ok(())
 }
 
-#[test]
-fn loads_calmly(rt: HostRuntime) -> Result<(), Fail> {
-    let mut files = CalmFiles::new(rt.alloc())?;
-    files.add("a", b"old")?;
-    files.add("a", b"new")?;
-    for (name, most, want) in [("a", 9, "new"), ("a", 2, "ne"), ("b", 9, "")] {
-        assert_eq!(rt;
-            load(&mut files, name, most)?.as_slice(),
-            want.as_bytes(),
-            "{most} of {name}"
-        );
-    }
-    Ok(())
+/// A sink that takes three bytes at once, and whose second write fails.
+fn narrow_sink(alloc: Global) -> Result<MemSink, AllocError> {
+    let mut sink = MemSink::new(alloc, 3)?;
+    sink.fail_at(2)?;
+    Ok(sink)
 }
 
 #[test]
-fn writes_to_memory(rt: HostRuntime) -> Result<(), Fail> {
-    let mut whole = MemSink::new(rt.alloc(), 3)?;
-    assert_eq!(rt; put_all(&mut whole, b"abcdefg"), Ok(()));
-    assert_eq!(rt; whole.written(), b"abcdefg".as_slice());
-    assert_eq!(rt; whole.faults(), 0);
-
-    let mut part = MemSink::new(rt.alloc(), 3)?;
-    part.fail_at(2)?;
-    assert_eq!(rt; put_all(&mut part, b"abcdef"), Err(Failed));
-    assert_eq!(rt; part.written(), b"abc".as_slice());
-    assert_eq!(rt; part.faults(), 1);
+fn a_write_that_fails_leaves_a_part(rt: HostRuntime) -> Result<(), Fail> {
+    let mut sink = narrow_sink(rt.alloc())?;
+    assert!(rt; put_all(&mut sink, b"abcdef").is_err());
+    assert!(rt; sink.written() == b"abc".as_slice());
+    assert_eq!(rt; sink.faults(), 1);
     Ok(())
-}
-
-#[test]
-fn writes_calmly(rt: HostRuntime) -> Result<(), Fail> {
-    let mut sink = CalmSink::new(rt.alloc())?;
-    assert_eq!(rt; sink.write(b"abc"), Ok(3));
-    assert_eq!(rt; put_all(&mut sink, b"abcdef"), Ok(()));
-    Ok(())
-}
-
-#[test]
-fn spells_numbers(rt: HostRuntime) -> Result<(), Fail> {
-    for (number, want) in [
-        (0, "0"),
-        (7, "7"),
-        (10, "10"),
-        (4096, "4096"),
-        (u64::MAX, "18446744073709551615"),
-    ] {
-        assert_eq!(rt; decimal(rt.alloc(), number)?.as_slice(), want.as_bytes());
-    }
-    Ok(())
-}
-
-#[test]
-fn places_bytes(rt: HostRuntime) {
-    let text = b"ab\n\ncd";
-    for (at, want) in [
-        (0, (1, 1)),
-        (1, (1, 2)),
-        (2, (1, 3)),
-        (3, (2, 1)),
-        (4, (3, 1)),
-        (6, (3, 3)),
-    ] {
-        assert!(rt; at <= text.len());
-        assert_eq!(rt; place(text, at), want, "at {at}");
-    }
 }
