@@ -28,11 +28,7 @@ pub fn name_of_point<B: Bank>(
     ensures grows { Grows (B.trees bank.old) (B.trees bank.new) }
     ensures err { OnErr result (B.trees bank.new ≡ B.trees bank.old) }
 {
-    let mut arguments = Vec::new(alloc);
-    arguments.extend_from_slice(inputs)?;
+    let mut arguments = inputs.to_vec(alloc)?;
     arguments.extend_from_slice(sessions)?;
     bank.app(Sym::Point(point), &arguments)
 }
-
-#[cfg(test)]
-mod tests;
