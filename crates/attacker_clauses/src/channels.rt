@@ -4,7 +4,7 @@ ghost use Rattle.std.specs.Prelude.{◌≡◌, ◌<◌, [], ◌∷◌, ◌++◌,
 ghost use Rattle.trees.specs.Tree.{Leaf};
 ghost use Rattle.translation.specs.Attacker.{message_heard, message_sent};
 ghost use Rattle.term_tree.specs.Bank.{Names, Grows};
-ghost use Rattle.clause_form.specs.Facts.{fact_of};
+ghost use Rattle.clauses.specs.Fact.{Att, Mess};
 ghost use Rattle.attacker_clauses.specs.Listed.{Adds};
 
 use crate::listing::add_raw;
@@ -12,13 +12,23 @@ use clause_form::{Clause, Clauses, Fact, Facts};
 use std::alloc::{AllocError, Global};
 use term_tree::{Bank, Id};
 
-/// Two facts.
-fn two_facts(alloc: Global, first: Fact, second: Fact) -> Result<Facts, AllocError>
-    ensures { IfOk result (λ facts. facts ≡ fact_of first ∷ fact_of second ∷ []) }
+/// That a message is sent on a channel, and that the attacker has the channel.
+fn heard_facts(alloc: Global, channel: Id, message: Id) -> Result<Facts, AllocError>
+    ensures { IfOk result (λ facts. facts ≡ Mess channel message ∷ Att channel ∷ []) }
 {
     let mut facts = Facts::new(alloc);
-    facts.push(first)?;
-    facts.push(second)?;
+    facts.push(Fact::Mess(channel, message))?;
+    facts.push(Fact::Att(channel))?;
+    Ok(facts)
+}
+
+/// That the attacker has a channel and a message.
+fn sent_facts(alloc: Global, channel: Id, message: Id) -> Result<Facts, AllocError>
+    ensures { IfOk result (λ facts. facts ≡ Att channel ∷ Att message ∷ []) }
+{
+    let mut facts = Facts::new(alloc);
+    facts.push(Fact::Att(channel))?;
+    facts.push(Fact::Att(message))?;
     Ok(facts)
 }
 
@@ -36,12 +46,12 @@ fn add_heard<B: Bank>(
     ensures adds { OnOk result (Adds (B.trees bank.old) list.old (B.trees bank.new) list.new
         (message_heard ∷ [])) }
 {
-    let hyps = two_facts(alloc, Fact::Mess(channel, message), Fact::Att(channel))?;
+    let hyps = heard_facts(alloc, channel, message)?;
     let raw = Clause {
         hyps,
         concl: Fact::Att(message),
     };
-    add_raw(alloc, bank, &raw, list)
+    add_raw(alloc, bank, raw, list)
 }
 
 /// Adds that the attacker sends what he has on a channel that he has. On `Err` the bank may have grown.
@@ -58,12 +68,12 @@ fn add_sent<B: Bank>(
     ensures adds { OnOk result (Adds (B.trees bank.old) list.old (B.trees bank.new) list.new
         (message_sent ∷ [])) }
 {
-    let hyps = two_facts(alloc, Fact::Att(channel), Fact::Att(message))?;
+    let hyps = sent_facts(alloc, channel, message)?;
     let raw = Clause {
         hyps,
         concl: Fact::Mess(channel, message),
     };
-    add_raw(alloc, bank, &raw, list)
+    add_raw(alloc, bank, raw, list)
 }
 
 /// Adds that the attacker hears and sends. On `Err` the bank may have grown.

@@ -11,8 +11,8 @@ use clause_norms::norms_of;
 use std::alloc::{AllocError, Global};
 use term_tree::{Bank, Id};
 
-/// Adds what a raw clause gives. On `Err` the bank may have grown.
-pub(crate) fn add_raw<B: Bank>(
+/// Adds the norms of the flat parts of a raw clause. On `Err` the bank may have grown.
+fn add_norms<B: Bank>(
     alloc: Global,
     bank: &mut B,
     raw: &Clause,
@@ -26,6 +26,23 @@ pub(crate) fn add_raw<B: Bank>(
     let mut made = norms_of(alloc, bank, raw)?;
     list.items.append(&mut made.items)?;
     Ok(())
+}
+
+/// Adds what a raw clause gives. On `Err` the bank may have grown.
+pub(crate) fn add_raw<B: Bank>(
+    alloc: Global,
+    bank: &mut B,
+    raw: Clause,
+    list: &mut Clauses,
+) -> Result<(), AllocError>
+    requires { IsClauseIn (B.trees bank.old) raw }
+    ensures grows { Grows (B.trees bank.old) (B.trees bank.new) }
+    ensures adds { OnOk result (Adds (B.trees bank.old) list.old (B.trees bank.new) list.new
+        (clause_at (B.trees bank.old) raw ∷ [])) }
+{
+    let added = add_norms(alloc, bank, &raw, list);
+    drop(raw);
+    added
 }
 
 /// That the attacker has each of these terms.
@@ -62,5 +79,5 @@ pub(crate) fn add_known<B: Bank>(
         hyps,
         concl: Fact::Att(last),
     };
-    add_raw(alloc, bank, &raw, list)
+    add_raw(alloc, bank, raw, list)
 }

@@ -1,7 +1,7 @@
 use Rattle.std.proofs.Common.{◌∙◌, ◌++◌, ap}
 use Rattle.clause_form.specs.Seen.{clause_at}
 use Rattle.attacker_clauses.proofs.Adding.{raw_added}
-use Rattle.attacker_clauses.proofs.listing.add_raw.Goals as goal
+use Rattle.attacker_clauses.proofs.listing.add_norms.Goals as goal
 
 pub returns-clause-adds : goal.returns-clause-adds
 returns-clause-adds g c =
