@@ -3,6 +3,7 @@ use Rattle.std.specs.List.{enumerate_from}
 use Rattle.translation.specs.Attacker.{name_known, fresh_known, constructor_applied, rule_applied, message_heard, message_sent, attacker_raw}
 use Rattle.pi_tree.specs.Protocols.{protocol_of}
 use Rattle.attacker_clauses.proofs.Adding.{both_added, all_listed}
+use Rattle.term_tree.proofs.BankLaws.{Grows_trans}
 use Rattle.attacker_clauses.proofs.list_grown.Goals as goal
 
 pub returns-clause-names : goal.returns-clause-names
@@ -22,3 +23,18 @@ returns-clause-names g c =
     let others = both_added named own end c.add_names.new.list c.add_own_names.new.list c.add_channels.new.list (fresh_known ∷ []) (constructors ++ (rules ++ channels)) c.in_ok-add_own_names.ensures.adds made in
     let whole = both_added start named end c.new.result.items c.add_names.new.list c.add_channels.new.list (filter_map name_known (enumerate_from 1 P.frees)) (fresh_known ∷ (constructors ++ (rules ++ channels))) c.in_ok-add_names.ensures.adds others in
     all_listed start end c.new.result.items c.add_channels.new.list (attacker_raw P) c.new.ensures.items whole
+
+pub returns-in_err-add_own_names-clause-grows : goal.returns-in_err-add_own_names-clause-grows
+returns-in_err-add_own_names-clause-grows g c = Grows_trans (g.B.Bank.trees c.args.bank.now) (g.B.Bank.trees c.add_names.new.bank) (g.B.Bank.trees c.add_own_names.new.bank) c.add_names.ensures.grows c.add_own_names.ensures.grows
+
+pub returns-in_err-add_constructors-clause-grows : goal.returns-in_err-add_constructors-clause-grows
+returns-in_err-add_constructors-clause-grows g c = Grows_trans (g.B.Bank.trees c.args.bank.now) (g.B.Bank.trees c.add_own_names.new.bank) (g.B.Bank.trees c.add_constructors.new.bank) (Grows_trans (g.B.Bank.trees c.args.bank.now) (g.B.Bank.trees c.add_names.new.bank) (g.B.Bank.trees c.add_own_names.new.bank) c.add_names.ensures.grows c.add_own_names.ensures.grows) c.add_constructors.ensures.grows
+
+pub returns-in_err-add_destructors-clause-grows : goal.returns-in_err-add_destructors-clause-grows
+returns-in_err-add_destructors-clause-grows g c = Grows_trans (g.B.Bank.trees c.args.bank.now) (g.B.Bank.trees c.add_constructors.new.bank) (g.B.Bank.trees c.add_destructors.new.bank) (Grows_trans (g.B.Bank.trees c.args.bank.now) (g.B.Bank.trees c.add_own_names.new.bank) (g.B.Bank.trees c.add_constructors.new.bank) (Grows_trans (g.B.Bank.trees c.args.bank.now) (g.B.Bank.trees c.add_names.new.bank) (g.B.Bank.trees c.add_own_names.new.bank) c.add_names.ensures.grows c.add_own_names.ensures.grows) c.add_constructors.ensures.grows) c.add_destructors.ensures.grows
+
+pub returns-in_err-add_channels-clause-grows : goal.returns-in_err-add_channels-clause-grows
+returns-in_err-add_channels-clause-grows g c = Grows_trans (g.B.Bank.trees c.args.bank.now) (g.B.Bank.trees c.add_destructors.new.bank) (g.B.Bank.trees c.add_channels.new.bank) (Grows_trans (g.B.Bank.trees c.args.bank.now) (g.B.Bank.trees c.add_constructors.new.bank) (g.B.Bank.trees c.add_destructors.new.bank) (Grows_trans (g.B.Bank.trees c.args.bank.now) (g.B.Bank.trees c.add_own_names.new.bank) (g.B.Bank.trees c.add_constructors.new.bank) (Grows_trans (g.B.Bank.trees c.args.bank.now) (g.B.Bank.trees c.add_names.new.bank) (g.B.Bank.trees c.add_own_names.new.bank) c.add_names.ensures.grows c.add_own_names.ensures.grows) c.add_constructors.ensures.grows) c.add_destructors.ensures.grows) c.add_channels.ensures.grows
+
+pub returns-clause-grows : goal.returns-clause-grows
+returns-clause-grows g c = Grows_trans (g.B.Bank.trees c.args.bank.now) (g.B.Bank.trees c.add_destructors.new.bank) (g.B.Bank.trees c.add_channels.new.bank) (Grows_trans (g.B.Bank.trees c.args.bank.now) (g.B.Bank.trees c.add_constructors.new.bank) (g.B.Bank.trees c.add_destructors.new.bank) (Grows_trans (g.B.Bank.trees c.args.bank.now) (g.B.Bank.trees c.add_own_names.new.bank) (g.B.Bank.trees c.add_constructors.new.bank) (Grows_trans (g.B.Bank.trees c.args.bank.now) (g.B.Bank.trees c.add_names.new.bank) (g.B.Bank.trees c.add_own_names.new.bank) c.add_names.ensures.grows c.add_own_names.ensures.grows) c.add_constructors.ensures.grows) c.add_destructors.ensures.grows) c.add_channels.ensures.grows

@@ -12,3 +12,12 @@ returns-clause-adds g c =
     let sent = g.B.Bank.trees c.add_sent.new.bank in
     added_after old heard sent c.args.list.now c.add_heard.new.list c.add_sent.new.list (message_heard ∷ []) (message_sent ∷ []) c.add_sent.result
     (added_later old named heard c.args.list.now c.add_heard.new.list (message_heard ∷ []) (Grows_trans old (g.B.Bank.trees c.var.new.self) named c.var.ensures.grows c.var-2.ensures.grows) c.in_ok-add_heard.ensures.adds) c.add_sent.ensures.adds
+
+pub returns-in_err-message-clause-grows : goal.returns-in_err-message-clause-grows
+returns-in_err-message-clause-grows g c = Grows_trans (g.B.Bank.trees c.args.bank.now) (g.B.Bank.trees c.var.new.self) (g.B.Bank.trees c.var-2.new.self) c.var.ensures.grows c.var-2.ensures.grows
+
+pub returns-in_err-add_heard-clause-grows : goal.returns-in_err-add_heard-clause-grows
+returns-in_err-add_heard-clause-grows g c = Grows_trans (g.B.Bank.trees c.args.bank.now) (g.B.Bank.trees c.var-2.new.self) (g.B.Bank.trees c.add_heard.new.bank) (Grows_trans (g.B.Bank.trees c.args.bank.now) (g.B.Bank.trees c.var.new.self) (g.B.Bank.trees c.var-2.new.self) c.var.ensures.grows c.var-2.ensures.grows) c.add_heard.ensures.grows
+
+pub returns-clause-grows : goal.returns-clause-grows
+returns-clause-grows g c = Grows_trans (g.B.Bank.trees c.args.bank.now) (g.B.Bank.trees c.add_heard.new.bank) (g.B.Bank.trees c.add_sent.new.bank) (Grows_trans (g.B.Bank.trees c.args.bank.now) (g.B.Bank.trees c.var-2.new.self) (g.B.Bank.trees c.add_heard.new.bank) (Grows_trans (g.B.Bank.trees c.args.bank.now) (g.B.Bank.trees c.var.new.self) (g.B.Bank.trees c.var-2.new.self) c.var.ensures.grows c.var-2.ensures.grows) c.add_heard.ensures.grows) c.add_sent.ensures.grows

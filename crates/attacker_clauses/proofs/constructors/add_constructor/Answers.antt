@@ -25,3 +25,9 @@ returns-clause-adds g c =
     let whole = constructor_listed c.args.number (declared_of c.args.declared.now) (map (tree_at made) c.deref-2.result.now) (tree_at made c.in_ok-made.made) (sym c.is_applied.ensures ∙ c.if-not-is_applied.false) later (c.in_ok-made.ensures.names.is ∙ ap (node (Ctor c.args.number)) first) in
     last_added old made (g.B.Bank.trees c.add_known.new.bank) c.args.list.now c.add_known.new.list (known_clause (map (tree_at made) c.deref-2.result.now) (tree_at made c.in_ok-made.made) ∷ []) (cons_option (constructor_applied (c.args.number, declared_of c.args.declared.now)) [])
     c.add_known.result (Grows_trans old mid made c.variables.ensures.grows c.app.ensures.grows) whole c.add_known.ensures.adds
+
+pub returns-in_err-made-clause-grows : goal.returns-in_err-made-clause-grows
+returns-in_err-made-clause-grows g c = Grows_trans (g.B.Bank.trees c.args.bank.now) (g.B.Bank.trees c.variables.new.bank) (g.B.Bank.trees c.app.new.self) c.variables.ensures.grows c.app.ensures.grows
+
+pub returns-clause-grows : goal.returns-clause-grows
+returns-clause-grows g c = Grows_trans (g.B.Bank.trees c.args.bank.now) (g.B.Bank.trees c.app.new.self) (g.B.Bank.trees c.add_known.new.bank) (Grows_trans (g.B.Bank.trees c.args.bank.now) (g.B.Bank.trees c.variables.new.bank) (g.B.Bank.trees c.app.new.self) c.variables.ensures.grows c.app.ensures.grows) c.add_known.ensures.grows

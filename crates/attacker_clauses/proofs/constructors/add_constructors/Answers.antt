@@ -4,6 +4,7 @@ use Rattle.translation.specs.Attacker.{constructor_applied}
 use Rattle.pi_tree.specs.Names.{declared_of}
 use Rattle.attacker_clauses.proofs.Numbering.{numbered_more}
 use Rattle.attacker_clauses.proofs.Adding.{added_on}
+use Rattle.term_tree.proofs.BankLaws.{Grows_trans}
 use Rattle.attacker_clauses.proofs.constructors.add_constructors.Goals as goal
 
 pub loop-index-preserved : goal.loop-index-preserved
@@ -14,3 +15,6 @@ loop-index-preserved g c =
     (filter_map constructor_applied (enumerate_from 1 (map declared_of (take (c.loop-index.index + 1) items))))
     c.loop-index.invariant c.add_constructor.ensures.grows c.in_ok-add_constructor.ensures.adds
     (numbered_more declared_of constructor_applied items c.loop-index.index c.declared-item.result c.loop-index-test.true c.declared-item.is)
+
+pub returns-in_err-add_constructor-clause-grows : goal.returns-in_err-add_constructor-clause-grows
+returns-in_err-add_constructor-clause-grows g c = Grows_trans (g.B.Bank.trees c.args.bank.now) (g.B.Bank.trees c.loop-index.bank) (g.B.Bank.trees c.add_constructor.new.bank) c.loop-index.invariant.grows c.add_constructor.ensures.grows

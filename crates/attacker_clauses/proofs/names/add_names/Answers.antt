@@ -4,6 +4,7 @@ use Rattle.translation.specs.Attacker.{name_known}
 use Rattle.pi_tree.specs.Names.{declared_of}
 use Rattle.attacker_clauses.proofs.Numbering.{numbered_more}
 use Rattle.attacker_clauses.proofs.Adding.{added_on}
+use Rattle.term_tree.proofs.BankLaws.{Grows_trans}
 use Rattle.attacker_clauses.proofs.names.add_names.Goals as goal
 
 pub loop-index-preserved : goal.loop-index-preserved
@@ -14,3 +15,6 @@ loop-index-preserved g c =
     (filter_map name_known (enumerate_from 1 (map declared_of (take (c.loop-index.index + 1) items))))
     c.loop-index.invariant c.add_name.ensures.grows c.in_ok-add_name.ensures.adds
     (numbered_more declared_of name_known items c.loop-index.index c.declared-item.result c.loop-index-test.true c.declared-item.is)
+
+pub returns-in_err-add_name-clause-grows : goal.returns-in_err-add_name-clause-grows
+returns-in_err-add_name-clause-grows g c = Grows_trans (g.B.Bank.trees c.args.bank.now) (g.B.Bank.trees c.loop-index.bank) (g.B.Bank.trees c.add_name.new.bank) c.loop-index.invariant.grows c.add_name.ensures.grows
