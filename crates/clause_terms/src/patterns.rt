@@ -20,7 +20,7 @@ use std::alloc::{AllocError, Global};
 use term_tree::{Bank, Id, Sym};
 
 /// Where new variables begin, and the number of the first that becomes one.
-#[derive(Clone, Copy, Debug)]
+#[derive(Clone, Copy)]
 pub struct Fresh {
     pub base: u32,
     pub first: u32,

@@ -10,7 +10,7 @@ use std::marker::Model;
 use term_tree::Id;
 
 /// What is bound: a variable by its number, or the name of the restriction at a point.
-#[derive(Clone, Copy, Debug)]
+#[derive(Clone, Copy)]
 pub enum Slot {
     Var(u32),
     Made(u32),
@@ -35,14 +35,14 @@ impl Slot {
 }
 
 /// What is bound, and the id of the term that it stands for.
-#[derive(Clone, Copy, Debug)]
+#[derive(Clone, Copy)]
 pub struct Standing {
     pub slot: Slot,
     pub term: Id,
 }
 
 /// What is bound, in the order in which it was bound; of two of one slot the earlier counts.
-#[derive(Debug, Drop)]
+#[derive(Drop)]
 pub struct Scope {
     pub items: Vec<Standing>,
 }

@@ -7,6 +7,7 @@ use Rattle.clause_terms.specs.Conditions.{HasRoomAt}
 use Rattle.clause_terms.specs.Fresh.{fresh_of}
 use Rattle.clause_terms.proofs.Rows.{room_pattern_arguments, all_at, lower_at}
 use Rattle.clause_terms.proofs.Binding.{bound_on, all_bound, node_bound, hole_bound}
+use Rattle.term_tree.proofs.BankLaws.{Grows_trans}
 use Rattle.clause_terms.proofs.bound.+bound.Goals as goal
 
 pub add_bound-add_all_bound-requires : goal.add_bound-add_all_bound-requires
@@ -54,3 +55,6 @@ add_all_bound-returns-clause-names g t c =
     let seen : map pattern_of c.deref-pattern-items.result.now ≡ c.args.patterns.now = ap (map pattern_of) c.deref-pattern-items.ensures.value ∙ c.patterns.view_is in
     all_bound (fresh_of c.args.at) (g.B.Bank.trees c.args.bank.now) (g.B.Bank.trees c.loop-pattern.bank) c.args.scope.now c.loop-pattern.scope c.deref-pattern-items.result.now c.args.patterns.now c.loop-pattern.pattern-index
     c.loop-pattern.invariant c.loop-pattern-test.false seen
+
+pub add_all_bound-returns-in_err-add_bound-clause-grows : goal.add_all_bound-returns-in_err-add_bound-clause-grows
+add_all_bound-returns-in_err-add_bound-clause-grows g t c = Grows_trans (g.B.Bank.trees c.args.bank.now) (g.B.Bank.trees c.loop-pattern.bank) (g.B.Bank.trees c.add_bound.new.bank) c.loop-pattern.invariant.grows c.add_bound.ensures.grows

@@ -12,6 +12,7 @@ use Rattle.clause_terms.specs.Conditions.{HasShortTuples}
 use Rattle.clause_terms.proofs.Rows.{seen_length, short_arguments, few_parts, all_at, lower_at}
 use Rattle.clause_terms.proofs.Standings.{IsScopeIn-grows, scope_at-grows}
 use Rattle.clause_terms.proofs.Making.{made_on, all_made, applied}
+use Rattle.term_tree.proofs.BankLaws.{Grows_trans}
 use Rattle.clause_terms.proofs.in_scope.+term.Goals as goal
 
 pub term_grown-terms_grown-requires : goal.term_grown-terms_grown-requires
@@ -75,3 +76,15 @@ terms_grown-returns-clause-names g t c =
     let seen : map term_of c.deref-term-items.result.now ≡ c.args.terms.now = ap (map term_of) c.deref-term-items.ensures.value ∙ c.terms.view_is in
     all_made term_of (term_in (protocol_of c.args.protocol.now) (scope_at (g.B.Bank.trees c.args.bank.now) c.args.scope.now)) (g.B.Bank.trees c.args.bank.now) (g.B.Bank.trees c.loop-term.bank) c.loop-term.items.items
     c.deref-term-items.result.now c.args.terms.now c.loop-term.term-index c.loop-term.invariant c.loop-term-test.false seen
+
+pub term_grown-returns-in_ok-ids-in-App-clause-grows : goal.term_grown-returns-in_ok-ids-in-App-clause-grows
+term_grown-returns-in_ok-ids-in-App-clause-grows g t c = Grows_trans (g.B.Bank.trees c.args.bank.now) (g.B.Bank.trees c.terms_grown.new.bank) (g.B.Bank.trees c.app-in-App.new.self) c.terms_grown.ensures.grows c.app-in-App.ensures.grows
+
+pub term_grown-returns-in_ok-ids-in-Tuple-clause-grows : goal.term_grown-returns-in_ok-ids-in-Tuple-clause-grows
+term_grown-returns-in_ok-ids-in-Tuple-clause-grows g t c = Grows_trans (g.B.Bank.trees c.args.bank.now) (g.B.Bank.trees c.terms_grown-in-Tuple.new.bank) (g.B.Bank.trees c.app-in-Tuple.new.self) c.terms_grown-in-Tuple.ensures.grows c.app-in-Tuple.ensures.grows
+
+pub terms_grown-returns-in_err-id-clause-grows : goal.terms_grown-returns-in_err-id-clause-grows
+terms_grown-returns-in_err-id-clause-grows g t c = Grows_trans (g.B.Bank.trees c.args.bank.now) (g.B.Bank.trees c.loop-term.bank) (g.B.Bank.trees c.term_grown.new.bank) c.loop-term.invariant.grows c.term_grown.ensures.grows
+
+pub terms_grown-returns-in_err-push-clause-grows : goal.terms_grown-returns-in_err-push-clause-grows
+terms_grown-returns-in_err-push-clause-grows g t c = Grows_trans (g.B.Bank.trees c.args.bank.now) (g.B.Bank.trees c.loop-term.bank) (g.B.Bank.trees c.term_grown.new.bank) c.loop-term.invariant.grows c.term_grown.ensures.grows

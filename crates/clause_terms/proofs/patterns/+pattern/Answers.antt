@@ -13,6 +13,7 @@ use Rattle.clause_terms.specs.Conditions.{IsShortPattern, HasRoomAt}
 use Rattle.clause_terms.proofs.Rows.{seen_length, short_pattern_arguments, room_pattern_arguments, few_parts, all_at, lower_at}
 use Rattle.clause_terms.proofs.Standings.{IsScopeIn-grows, scope_at-grows}
 use Rattle.clause_terms.proofs.Making.{made_on, all_made, applied}
+use Rattle.term_tree.proofs.BankLaws.{Grows_trans}
 use Rattle.clause_terms.proofs.patterns.+pattern.Goals as goal
 
 pub pattern_grown-patterns_grown-requires : goal.pattern_grown-patterns_grown-requires
@@ -97,3 +98,15 @@ patterns_grown-returns-clause-names g t c =
     let seen : map pattern_of c.deref-pattern-items.result.now ≡ c.args.patterns.now = ap (map pattern_of) c.deref-pattern-items.ensures.value ∙ c.patterns.view_is in
     all_made pattern_of (pattern_term (protocol_of c.args.protocol.now) (scope_at (g.B.Bank.trees c.args.bank.now) c.args.holes.now.scope.now) (fresh_of c.args.holes.now.at)) (g.B.Bank.trees c.args.bank.now) (g.B.Bank.trees c.loop-pattern.bank) c.loop-pattern.items.items
     c.deref-pattern-items.result.now c.args.patterns.now c.loop-pattern.pattern-index c.loop-pattern.invariant c.loop-pattern-test.false seen
+
+pub pattern_grown-returns-in_ok-ids-in-App-clause-grows : goal.pattern_grown-returns-in_ok-ids-in-App-clause-grows
+pattern_grown-returns-in_ok-ids-in-App-clause-grows g t c = Grows_trans (g.B.Bank.trees c.args.bank.now) (g.B.Bank.trees c.patterns_grown.new.bank) (g.B.Bank.trees c.app.new.self) c.patterns_grown.ensures.grows c.app.ensures.grows
+
+pub pattern_grown-returns-in_ok-ids-in-Tuple-clause-grows : goal.pattern_grown-returns-in_ok-ids-in-Tuple-clause-grows
+pattern_grown-returns-in_ok-ids-in-Tuple-clause-grows g t c = Grows_trans (g.B.Bank.trees c.args.bank.now) (g.B.Bank.trees c.patterns_grown-in-Tuple.new.bank) (g.B.Bank.trees c.app-in-Tuple.new.self) c.patterns_grown-in-Tuple.ensures.grows c.app-in-Tuple.ensures.grows
+
+pub patterns_grown-returns-in_err-id-clause-grows : goal.patterns_grown-returns-in_err-id-clause-grows
+patterns_grown-returns-in_err-id-clause-grows g t c = Grows_trans (g.B.Bank.trees c.args.bank.now) (g.B.Bank.trees c.loop-pattern.bank) (g.B.Bank.trees c.pattern_grown.new.bank) c.loop-pattern.invariant.grows c.pattern_grown.ensures.grows
+
+pub patterns_grown-returns-in_err-push-clause-grows : goal.patterns_grown-returns-in_err-push-clause-grows
+patterns_grown-returns-in_err-push-clause-grows g t c = Grows_trans (g.B.Bank.trees c.args.bank.now) (g.B.Bank.trees c.loop-pattern.bank) (g.B.Bank.trees c.pattern_grown.new.bank) c.loop-pattern.invariant.grows c.pattern_grown.ensures.grows

@@ -10,6 +10,7 @@ use Rattle.pi_tree.specs.Protocols.{protocol_of}
 use Rattle.clause_terms.specs.Conditions.{HasShortTuples, HasRoomFrom}
 use Rattle.clause_terms.proofs.Rows.{seen_length, short_arguments, few_parts, room_arguments, all_at, lower_at}
 use Rattle.clause_terms.proofs.Making.{made_on, all_made, applied}
+use Rattle.term_tree.proofs.BankLaws.{Grows_trans}
 use Rattle.clause_terms.proofs.rules.+rule.Goals as goal
 
 pub rule_term_grown-rule_terms_grown-requires : goal.rule_term_grown-rule_terms_grown-requires
@@ -80,3 +81,15 @@ rule_terms_grown-returns-clause-names g t c =
     let seen : map term_of c.deref-term-items.result.now ≡ c.args.terms.now = ap (map term_of) c.deref-term-items.ensures.value ∙ c.terms.view_is in
     all_made term_of (rule_term (protocol_of c.args.protocol.now) c.args.base) (g.B.Bank.trees c.args.bank.now) (g.B.Bank.trees c.loop-term.bank) c.loop-term.items.items
     c.deref-term-items.result.now c.args.terms.now c.loop-term.term-index c.loop-term.invariant c.loop-term-test.false seen
+
+pub rule_term_grown-returns-in_ok-ids-in-App-clause-grows : goal.rule_term_grown-returns-in_ok-ids-in-App-clause-grows
+rule_term_grown-returns-in_ok-ids-in-App-clause-grows g t c = Grows_trans (g.B.Bank.trees c.args.bank.now) (g.B.Bank.trees c.rule_terms_grown.new.bank) (g.B.Bank.trees c.app-in-App.new.self) c.rule_terms_grown.ensures.grows c.app-in-App.ensures.grows
+
+pub rule_term_grown-returns-in_ok-ids-in-Tuple-clause-grows : goal.rule_term_grown-returns-in_ok-ids-in-Tuple-clause-grows
+rule_term_grown-returns-in_ok-ids-in-Tuple-clause-grows g t c = Grows_trans (g.B.Bank.trees c.args.bank.now) (g.B.Bank.trees c.rule_terms_grown-in-Tuple.new.bank) (g.B.Bank.trees c.app-in-Tuple.new.self) c.rule_terms_grown-in-Tuple.ensures.grows c.app-in-Tuple.ensures.grows
+
+pub rule_terms_grown-returns-in_err-id-clause-grows : goal.rule_terms_grown-returns-in_err-id-clause-grows
+rule_terms_grown-returns-in_err-id-clause-grows g t c = Grows_trans (g.B.Bank.trees c.args.bank.now) (g.B.Bank.trees c.loop-term.bank) (g.B.Bank.trees c.rule_term_grown.new.bank) c.loop-term.invariant.grows c.rule_term_grown.ensures.grows
+
+pub rule_terms_grown-returns-in_err-push-clause-grows : goal.rule_terms_grown-returns-in_err-push-clause-grows
+rule_terms_grown-returns-in_err-push-clause-grows g t c = Grows_trans (g.B.Bank.trees c.args.bank.now) (g.B.Bank.trees c.loop-term.bank) (g.B.Bank.trees c.rule_term_grown.new.bank) c.loop-term.invariant.grows c.rule_term_grown.ensures.grows
