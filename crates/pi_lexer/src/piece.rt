@@ -2,8 +2,8 @@
 
 ghost use Rattle.std.specs.Prelude.{◌≡◌, ◌<◌, ◌≤◌, length, drop};
 ghost use Rattle.std.specs.List.{prefix_len};
-ghost use Rattle.protocol_tokens.specs.Bytes.{is_in_word, symbols};
-ghost use Rattle.protocol_tokens.specs.Piece.{piece, word_of, word_kind, number_of, comment_of, symbol_of, longest_front, closed_after};
+ghost use Rattle.protocol_tokens.specs.Bytes.{is_in_word};
+ghost use Rattle.protocol_tokens.specs.Piece.{piece, piece_from, word_of, word_kind, number_of, comment_of, symbol_of, closed_after};
 ghost use Rattle.protocol_tokens.specs.Laws.{FitsIn};
 ghost use Rattle.pi_lexer.specs.Token.{kind_of};
 ghost use Rattle.pi_lexer.specs.Piece.{piece_of};
@@ -81,14 +81,10 @@ fn symbol(size: usize) -> Piece
     }
 }
 
-/// What stands at the front of some bytes, as long as it goes.
-#[tactic(auto, using(protocol_tokens::proofs::Sizes::piece_first, protocol_tokens::proofs::Sizes::piece_fits_in))]
-pub fn first_piece(bytes: &[u8]) -> Piece
-    requires { 0 < length bytes.now }
-    ensures found { piece_of result ≡ piece bytes.now }
-    ensures within { FitsIn (length bytes.now) (piece_of result) }
+/// What stands at the front of these bytes, the first of which is this one.
+fn piece_from(byte: u8, bytes: &[u8]) -> Piece
+    ensures { piece_of result ≡ piece_from byte bytes.now }
 {
-    let byte = bytes[0];
     if is_blank(byte) {
         Piece::Blank
     } else if begins_word(byte) {
@@ -100,4 +96,13 @@ pub fn first_piece(bytes: &[u8]) -> Piece
     } else {
         symbol(symbol_len(bytes))
     }
+}
+
+/// What stands at the front of some bytes, as long as it goes.
+pub fn first_piece(bytes: &[u8]) -> Piece
+    requires { 0 < length bytes.now }
+    ensures found { piece_of result ≡ piece bytes.now }
+    ensures within { FitsIn (length bytes.now) (piece_of result) }
+{
+    piece_from(bytes[0], bytes)
 }

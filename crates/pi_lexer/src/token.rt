@@ -3,7 +3,7 @@
 use std::marker::Model;
 
 /// What kind of token.
-#[derive(Clone, Copy, Debug, PartialEq, Eq)]
+#[derive(Clone, Copy, Debug)]
 pub enum TokenKind {
     /// A name.
     Ident,
@@ -16,7 +16,7 @@ pub enum TokenKind {
 }
 
 /// A token: its kind, and its span of the bytes. Its text is that slice of them.
-#[derive(Clone, Copy, Debug, PartialEq, Eq)]
+#[derive(Clone, Copy)]
 pub struct Token {
     /// What kind of token.
     pub kind: TokenKind,
@@ -27,7 +27,7 @@ pub struct Token {
 }
 
 /// The tokens of a file, in the order of their places.
-#[derive(Debug, Drop)]
+#[derive(Drop)]
 pub struct Tokens {
     /// The tokens.
     pub items: Vec<Token>,
