@@ -1,5 +1,6 @@
 -- Before the first declaration no name is declared.
-use Rattle.std.proofs.Common.{map, ap}
+use Rattle.std.proofs.Common.{map, ap, arith}
+use Rattle.std.proofs.lemmas.Grind.{common_steps}
 use Rattle.protocol_scope.specs.Names as own
 use Rattle.protocol_scope.specs.Declarations.{declare_all}
 use Rattle.scope_check.specs.Text.{texts_of}
@@ -13,3 +14,12 @@ loop-declaration-init c =
       rest = ap (λ (names : own.Names). declare_all text names (map declaration_of c.args.declarations.now)) c.new-names.ensures.none;
       kept = c.new-names.ensures.kept text;
     }
+
+pub loop-declaration-preserved : goal.loop-declaration-preserved
+loop-declaration-preserved c = grind (arith, common_steps)
+
+pub returns-in_err-declare-clause-read : goal.returns-in_err-declare-clause-read
+returns-in_err-declare-clause-read c = grind (arith, common_steps)
+
+pub returns-clause-read : goal.returns-clause-read
+returns-clause-read c = grind (arith, common_steps)
