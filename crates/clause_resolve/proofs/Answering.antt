@@ -162,5 +162,8 @@ pub clause_at-later : (a b : List Term) (c : Clause Id) → Grows a b → IsClau
 clause_at-later a b c grows known = let names : NamesClause b c (clause_at a c) = NamesClause-grows a b c (clause_at a c) grows record { known = known; is = refl } in names.is
 
 -- a bank that grew and is taken back
+pub as_before : (old now new : List Term) (n : ℕ) → Grows old now → n ≡ length old → new ≡ take n now → new ≡ old
+as_before old now new n grows mark back = back ∙ (ap (λ k. take k now) mark ∙ take-grows old now grows)
+
 pub taken_back : (old now new : List Term) (n : ℕ) → Grows old now → n ≡ length old → new ≡ take n now → Grows old new
-taken_back old now new n grows mark back = Grows_same old new (back ∙ (ap (λ k. take k now) mark ∙ take-grows old now grows))
+taken_back old now new n grows mark back = Grows_same old new (as_before old now new n grows mark back)

@@ -21,7 +21,7 @@ use unify_match::shifted;
 const OFFSET: u32 = 4096;
 
 /// An unsolved clause set apart: its selected hypothesis, and the clause of the others and the conclusion.
-#[derive(Debug, Drop)]
+#[derive(Drop)]
 pub struct Apart {
     pub selected: Fact,
     pub rest: Clause,

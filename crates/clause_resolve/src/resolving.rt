@@ -28,7 +28,7 @@ use term_tree::Bank;
 use unify_match::Binds;
 
 /// What a pair of clauses gives.
-#[derive(Debug, Drop)]
+#[derive(Drop)]
 pub enum Resolved {
     /// The solved clause's conclusion and the selected hypothesis have no unifier.
     NoUnifier,

@@ -6,7 +6,7 @@ ghost use Rattle.clause_resolve.specs.declared.stop.Stop.TheVariants.{Memory};
 use std::alloc::{AllocError, AllocFailed};
 
 /// Why no clause was made of a pair.
-#[derive(Clone, Copy, Debug)]
+#[derive(Clone, Copy)]
 pub enum Stop {
     /// It would have more symbols than the limit.
     Large,

@@ -3,6 +3,7 @@ use Rattle.calculus.specs.Bounds.{most_symbols}
 use Rattle.clause_form.specs.Facts.{fact_of}
 use Rattle.clause_form.proofs.Renumber.{facts_renumbered_on, facts_renumbered}
 use Rattle.clause_resolve.proofs.Shifting.{fact_low_at, fact_known_low, IsLowFact-grows}
+use Rattle.term_tree.proofs.BankLaws.{Grows_trans}
 use Rattle.clause_resolve.proofs.apart.shifted_facts.Goals as goal
 
 pub shifted_fact-requires : goal.shifted_fact-requires
@@ -18,3 +19,9 @@ each-preserved g c =
 
 pub returns-clause-names : goal.returns-clause-names
 returns-clause-names g c = facts_renumbered (g.B.Bank.trees c.args.bank.now) (g.B.Bank.trees c.each.bank) (moved most_symbols) c.args.facts.now c.each.fact-index c.each.items.items c.each.invariant c.each-test.false
+
+pub returns-in_err-next-clause-grows : goal.returns-in_err-next-clause-grows
+returns-in_err-next-clause-grows g c = Grows_trans (g.B.Bank.trees c.args.bank.now) (g.B.Bank.trees c.each.bank) (g.B.Bank.trees c.shifted_fact.new.bank) c.each.invariant.grows c.shifted_fact.ensures.grows
+
+pub returns-in_err-push-clause-grows : goal.returns-in_err-push-clause-grows
+returns-in_err-push-clause-grows g c = Grows_trans (g.B.Bank.trees c.args.bank.now) (g.B.Bank.trees c.each.bank) (g.B.Bank.trees c.shifted_fact.new.bank) c.each.invariant.grows c.shifted_fact.ensures.grows

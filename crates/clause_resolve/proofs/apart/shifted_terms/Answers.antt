@@ -1,7 +1,7 @@
 use Rattle.std.proofs.Common.{get_or}
 use Rattle.terms.specs.Unifier.{moved}
 use Rattle.calculus.specs.Bounds.{most_symbols}
-use Rattle.term_tree.proofs.BankLaws.{tree_at-grows}
+use Rattle.term_tree.proofs.BankLaws.{tree_at-grows, Grows_trans}
 use Rattle.clause_form.proofs.Renumber.{renumbered_on, renumbered_all}
 use Rattle.clause_resolve.proofs.Shifting.{low_at, low_fits, IsLow-grows}
 use Rattle.clause_resolve.proofs.apart.shifted_terms.Goals as goal
@@ -27,3 +27,9 @@ each-preserved g c =
 
 pub returns-clause-names : goal.returns-clause-names
 returns-clause-names g c = renumbered_all (g.B.Bank.trees c.args.bank.now) (g.B.Bank.trees c.each.bank) (moved most_symbols) c.args.terms.now c.each.term-index c.each.items.items c.each.invariant c.each-test.false
+
+pub returns-in_err-next-clause-grows : goal.returns-in_err-next-clause-grows
+returns-in_err-next-clause-grows g c = Grows_trans (g.B.Bank.trees c.args.bank.now) (g.B.Bank.trees c.each.bank) (g.B.Bank.trees c.shifted.new.bank) c.each.invariant.grows c.shifted.ensures.grows
+
+pub returns-in_err-push-clause-grows : goal.returns-in_err-push-clause-grows
+returns-in_err-push-clause-grows g c = Grows_trans (g.B.Bank.trees c.args.bank.now) (g.B.Bank.trees c.each.bank) (g.B.Bank.trees c.shifted.new.bank) c.each.invariant.grows c.shifted.ensures.grows

@@ -9,6 +9,7 @@ use Rattle.clause_form.proofs.Copying.{AreFactsIn-grows}
 use Rattle.clause_form.proofs.Flattening.{with_hypotheses}
 use Rattle.clause_resolve.proofs.Stopping.{stops_as}
 use Rattle.clause_resolve.proofs.Spending.{clause_applied_as, clause_short_as}
+use Rattle.term_tree.proofs.BankLaws.{Grows_trans}
 use Rattle.clause_resolve.proofs.applying.applied_clause.Goals as goal
 
 pub applied_facts-requires-clause-known : goal.applied_facts-requires-clause-known
@@ -36,3 +37,9 @@ returns-clause-outcome g c =
     let is : with_hypotheses (map fact_of c.deref.result.now) (fact_of c.clause-inside.inside.0.1.0) ≡ c.args.clause.now = search rules in
     clause_applied_as old now (g.B.Bank.trees c.applied_facts.new.bank) c.args.binds.now.pairs (map fact_of c.deref.result.now) (fact_of c.clause-inside.inside.0.1.0) c.args.clause.now c.applied_fact.new.left c.applied_facts.new.left c.in_ok-hyps.hyps (fact_of c.in_ok-concl.concl)
     is c.requires.ready c.applied_fact.ensures.grows c.requires.known c.applied_facts.ensures.grows c.in_ok-concl.ensures.outcome c.in_ok-hyps.ensures.outcome
+
+pub returns-in_err-hyps-clause-grows : goal.returns-in_err-hyps-clause-grows
+returns-in_err-hyps-clause-grows g c = Grows_trans (g.B.Bank.trees c.args.bank.now) (g.B.Bank.trees c.applied_fact.new.bank) (g.B.Bank.trees c.applied_facts.new.bank) c.applied_fact.ensures.grows c.applied_facts.ensures.grows
+
+pub returns-clause-grows : goal.returns-clause-grows
+returns-clause-grows g c = Grows_trans (g.B.Bank.trees c.args.bank.now) (g.B.Bank.trees c.applied_fact.new.bank) (g.B.Bank.trees c.applied_facts.new.bank) c.applied_fact.ensures.grows c.applied_facts.ensures.grows

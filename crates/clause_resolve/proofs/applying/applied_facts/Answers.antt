@@ -6,6 +6,7 @@ use Rattle.clause_form.specs.Facts.{fact_of}
 use Rattle.clause_form.proofs.Walks.{fact_known_at}
 use Rattle.clause_form.proofs.Copying.{IsFactIn-grows}
 use Rattle.clause_resolve.proofs.Spending.{standing, facts_applied_on, facts_short, facts_applied}
+use Rattle.term_tree.proofs.BankLaws.{Grows_trans}
 use Rattle.clause_resolve.proofs.applying.applied_facts.Goals as goal
 
 pub applied_fact-requires-clause-known : goal.applied_fact-requires-clause-known
@@ -34,3 +35,9 @@ returns-in_err-next-clause-outcome g c =
     let p = err_from_is_err_and c.from_residual-in_err-next.result c.from_residual-in_err-next.ensures.1 in
     rw (p.1, p.2) (stops_as c.in_err-next.field-0.0 _ _ (facts_short old (g.B.Bank.trees c.each.bank) c.args.binds.now.pairs c.args.facts.now c.each.fact-index c.fact-item.result c.each.items.items c.args.left.now c.each.left c.requires.ready c.each.invariant c.each-test.true c.fact-item.is
     (fact_known_at old c.args.facts.now c.each.fact-index c.fact-item.result c.fact-item.is c.requires.known c.each-test.true)) c.in_err-next.ensures.outcome)
+
+pub returns-in_err-next-clause-grows : goal.returns-in_err-next-clause-grows
+returns-in_err-next-clause-grows g c = Grows_trans (g.B.Bank.trees c.args.bank.now) (g.B.Bank.trees c.each.bank) (g.B.Bank.trees c.applied_fact.new.bank) c.each.invariant.done.grows c.applied_fact.ensures.grows
+
+pub returns-in_err-push-clause-grows : goal.returns-in_err-push-clause-grows
+returns-in_err-push-clause-grows g c = Grows_trans (g.B.Bank.trees c.args.bank.now) (g.B.Bank.trees c.each.bank) (g.B.Bank.trees c.applied_fact.new.bank) c.each.invariant.done.grows c.applied_fact.ensures.grows

@@ -4,6 +4,7 @@ use Rattle.clause_resolve.proofs.Stopping.{stops_as}
 use Rattle.unify_match.proofs.SeenLemmas.{IsReady-grows}
 use Rattle.clause_form.proofs.Walks.{known_later}
 use Rattle.clause_resolve.proofs.Spending.{standing, applied_on, applied_short, applied_all}
+use Rattle.term_tree.proofs.BankLaws.{Grows_trans}
 use Rattle.clause_resolve.proofs.applying.applied_terms.Goals as goal
 
 pub applied-requires-clause-known : goal.applied-requires-clause-known
@@ -33,3 +34,9 @@ returns-in_err-next-clause-outcome g c =
     let at = known_later old now c.args.terms.now c.each.term-index record { index = 0 } c.each.invariant.done.grows c.requires.known c.each-test.true in
     let p = err_from_is_err_and c.from_residual-in_err-next.result c.from_residual-in_err-next.ensures.1 in
     rw (p.1, p.2) (stops_as c.in_err-next.field-0.0 _ _ (applied_short old now c.args.binds.now.pairs c.args.terms.now c.each.term-index record { index = 0 } c.each.items.items c.args.left.now c.each.left c.requires.ready c.each.invariant c.each-test.true at.1) c.in_err-next.ensures.outcome)
+
+pub returns-in_err-next-clause-grows : goal.returns-in_err-next-clause-grows
+returns-in_err-next-clause-grows g c = Grows_trans (g.B.Bank.trees c.args.bank.now) (g.B.Bank.trees c.each.bank) (g.B.Bank.trees c.applied.new.bank) c.each.invariant.done.grows c.applied.ensures.grows
+
+pub returns-in_err-push-clause-grows : goal.returns-in_err-push-clause-grows
+returns-in_err-push-clause-grows g c = Grows_trans (g.B.Bank.trees c.args.bank.now) (g.B.Bank.trees c.each.bank) (g.B.Bank.trees c.applied.new.bank) c.each.invariant.done.grows c.applied.ensures.grows

@@ -4,6 +4,7 @@ use Rattle.clauses.specs.Norm.{norm}
 use Rattle.clause_form.specs.Seen.{clause_at}
 use Rattle.clause_form.proofs.Walks.{clause_known_at}
 use Rattle.clause_resolve.proofs.Answering.{IsClauseIn-later, clause_at-later, norms_on, norms_all}
+use Rattle.term_tree.proofs.BankLaws.{Grows_trans}
 use Rattle.clause_resolve.proofs.resolving.norms_of.Goals as goal
 
 pub add_norm-requires : goal.add_norm-requires
@@ -21,3 +22,6 @@ each-preserved g c =
 
 pub returns-clause-names : goal.returns-clause-names
 returns-clause-names g c = norms_all (g.B.Bank.trees c.args.bank.now) (g.B.Bank.trees c.each.bank) c.args.parts.now c.each.part-index c.each.made c.each.invariant c.each-test.false
+
+pub returns-in_err-add_norm-clause-grows : goal.returns-in_err-add_norm-clause-grows
+returns-in_err-add_norm-clause-grows g c = Grows_trans (g.B.Bank.trees c.args.bank.now) (g.B.Bank.trees c.each.bank) (g.B.Bank.trees c.add_norm.new.bank) c.each.invariant.grows c.add_norm.ensures.grows

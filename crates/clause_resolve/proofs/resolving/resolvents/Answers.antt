@@ -5,7 +5,7 @@ use Rattle.clause_form.specs.Facts.{fact_of}
 use Rattle.clause_form.specs.Seen.{fact_at, clause_at, AreFactsIn}
 use Rattle.clause_form.proofs.Walks.{fact_known_at}
 use Rattle.clause_resolve.proofs.Shifting.{selected_within, selected_fact}
-use Rattle.clause_resolve.proofs.Answering.{clashing, taken_back}
+use Rattle.clause_resolve.proofs.Answering.{clashing, taken_back, as_before}
 use Rattle.clause_resolve.proofs.resolving.resolvents.Goals as goal
 
 pub bounds-facts-at : goal.bounds-facts-at
@@ -43,3 +43,12 @@ returns-in-Ok-Large-clause-grows g c = taken_back (g.B.Bank.trees c.args.bank.no
 
 pub returns-in-Err-clause-grows : goal.returns-in-Err-clause-grows
 returns-in-Err-clause-grows g c = taken_back (g.B.Bank.trees c.args.bank.now) (g.B.Bank.trees c.resolvents_grown.new.bank) (g.B.Bank.trees c.back-in-Err.new.self) _ c.resolvents_grown.ensures.grows c.mark-mark.ensures c.back-in-Err.ensures
+
+pub returns-in-Ok-NoUnifier-clause-as_before : goal.returns-in-Ok-NoUnifier-clause-as_before
+returns-in-Ok-NoUnifier-clause-as_before g c = as_before (g.B.Bank.trees c.args.bank.now) (g.B.Bank.trees c.resolvents_grown.new.bank) (g.B.Bank.trees c.back.new.self) _ c.resolvents_grown.ensures.grows c.mark-mark.ensures c.back.ensures
+
+pub returns-in-Ok-Large-clause-as_before : goal.returns-in-Ok-Large-clause-as_before
+returns-in-Ok-Large-clause-as_before g c = as_before (g.B.Bank.trees c.args.bank.now) (g.B.Bank.trees c.resolvents_grown.new.bank) (g.B.Bank.trees c.back-in-Ok-Large.new.self) _ c.resolvents_grown.ensures.grows c.mark-mark.ensures c.back-in-Ok-Large.ensures
+
+pub returns-in-Err-clause-err : goal.returns-in-Err-clause-err
+returns-in-Err-clause-err g c = as_before (g.B.Bank.trees c.args.bank.now) (g.B.Bank.trees c.resolvents_grown.new.bank) (g.B.Bank.trees c.back-in-Err.new.self) _ c.resolvents_grown.ensures.grows c.mark-mark.ensures c.back-in-Err.ensures

@@ -5,6 +5,7 @@ use Rattle.clause_form.specs.Seen.{clause_at}
 use Rattle.clause_resolve.specs.Low.{HasLowVariables}
 use Rattle.clause_resolve.specs.Answers.{IsAnswerOf}
 use Rattle.clause_resolve.proofs.Answering.{IsClauseIn-later, clause_at-later}
+use Rattle.term_tree.proofs.BankLaws.{Grows_trans}
 use Rattle.clause_resolve.proofs.resolving.resolvents_grown.Goals as goal
 
 pub resolve_apart-requires-clause-solved : goal.resolve_apart-requires-clause-solved
@@ -21,3 +22,6 @@ returns-clause-answer g c =
     let new = g.B.Bank.trees c.resolve_apart.new.bank in
     let unsolved = clause_at old c.args.unsolved.now in
     subst (λ (k : Clause Term). IfOk c.resolve_apart.result (λ found. IsAnswerOf new k unsolved found)) (clause_at-later old now c.args.solved.now c.set_apart.ensures.grows c.requires.solved) (c.resolve_apart.ensures.answer unsolved c.in_ok-apart.ensures.apart)
+
+pub returns-clause-grows : goal.returns-clause-grows
+returns-clause-grows g c = Grows_trans (g.B.Bank.trees c.args.bank.now) (g.B.Bank.trees c.set_apart.new.bank) (g.B.Bank.trees c.resolve_apart.new.bank) c.set_apart.ensures.grows c.resolve_apart.ensures.grows
