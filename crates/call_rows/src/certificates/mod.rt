@@ -1,0 +1,8 @@
+//! Rows about the texts of certificates and reports, and what comes of reading them.
+
+mod lines;
+mod protocol;
+mod reading;
+mod rows;
+pub mod settings;
+mod texts;

@@ -1,0 +1,14 @@
+//! Rows about clauses, and what comes of them.
+//!
+//! A row is `clause ; expected`, or `clause ; clause ; expected` in a table of pairs, or begins with a query or with
+//! declarations. What a row shows is said in `tables`, `pairs`, `term_lists`, `goals` and `declarations`, so a new table is
+//! a variant there, its file's name, and a function from clauses to a text.
+
+mod asking;
+mod declarations;
+mod goals;
+mod pairs;
+pub mod rows;
+mod table;
+mod tables;
+mod term_lists;

@@ -1,0 +1,5 @@
+//! Rows about logs, entry by entry, and how they end.
+
+pub mod rows;
+mod saturated;
+mod texts;
