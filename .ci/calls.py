@@ -49,7 +49,7 @@ def rows_of(table, reader):
         try:
             if end is not None:
                 raise Unreadable
-            if word == "rows_in_all":
+            if word == "total":
                 end = int(text)
                 continue
             row = reader(word, text)
