@@ -1,4 +1,5 @@
 use Rattle.std.proofs.Common.{◌+◌, map, ap, sym, ◌∙◌, subst, arith, append-nil}
+use Rattle.std.proofs.lemmas.Grind.{common_steps}
 use Rattle.std.proofs.lemmas.List.{map-append}
 use Rattle.protocol_tokens.specs.Piece.{Blank, Comment, Lexeme, BadByte, OpenComment, LongNumber}
 use Rattle.pi_lexer.specs.Token.{token_of, kind_of}
@@ -27,17 +28,26 @@ loop-at-preserved c =
     let pushed = ap (map token_of) c.in_ok-push-in-Lexeme.ensures.items ∙ map-append token_of c.loop-at.items.items _ in
     subst (λ tokens. IsSoFar c.args.source.now (c.loop-at.at + c.in-Lexeme.size) tokens) (sym pushed) next
 
+pub returns-in-BadByte-clause-refused : goal.returns-in-BadByte-clause-refused
+returns-in-BadByte-clause-refused c = grind (arith, common_steps)
+
 pub returns-in-BadByte-clause-accepts : goal.returns-in-BadByte-clause-accepts
 returns-in-BadByte-clause-accepts c = λ tokens lexed. absurd (none_lexed _ _ _ BadByte c.loop-at.invariant c.in-BadByte.ensures.found tokens lexed)
 
 pub returns-in-BadByte-clause-refuses : goal.returns-in-BadByte-clause-refuses
 returns-in-BadByte-clause-refuses c = once_refused _ _ _ BadByte c.loop-at.invariant c.in-BadByte.ensures.found
 
+pub returns-in-OpenComment-clause-refused : goal.returns-in-OpenComment-clause-refused
+returns-in-OpenComment-clause-refused c = grind (arith, common_steps)
+
 pub returns-in-OpenComment-clause-accepts : goal.returns-in-OpenComment-clause-accepts
 returns-in-OpenComment-clause-accepts c = λ tokens lexed. absurd (none_lexed _ _ _ OpenComment c.loop-at.invariant c.in-OpenComment.ensures.found tokens lexed)
 
 pub returns-in-OpenComment-clause-refuses : goal.returns-in-OpenComment-clause-refuses
 returns-in-OpenComment-clause-refuses c = once_refused _ _ _ OpenComment c.loop-at.invariant c.in-OpenComment.ensures.found
+
+pub returns-in-LongNumber-clause-refused : goal.returns-in-LongNumber-clause-refused
+returns-in-LongNumber-clause-refused c = grind (arith, common_steps)
 
 pub returns-in-LongNumber-clause-accepts : goal.returns-in-LongNumber-clause-accepts
 returns-in-LongNumber-clause-accepts c = λ tokens lexed. absurd (none_lexed _ _ _ LongNumber c.loop-at.invariant c.in-LongNumber.ensures.found tokens lexed)
