@@ -27,6 +27,7 @@ pub fn build(run: &Run, constructor: u32, numbers: &Numbers) -> Result<Change, A
     }
     let value = built(constructor, values);
     if is_large(&value) {
+        drop(value);
         return Err(ApplyError::Refused(StepError::Large));
     }
     Ok(Change::Learn(value))
@@ -56,6 +57,7 @@ pub fn reduce(
         Some(value) => value,
     };
     if is_large(&value) {
+        drop(value);
         return Err(ApplyError::Refused(StepError::Large));
     }
     Ok(Change::Learn(value))

@@ -30,10 +30,11 @@ pub fn take(run: &Run, number: u32, label: u32) -> Result<Change, ApplyError>
             let value = value_at(run.alloc, run.protocol, at.environment, expression, label)?.ok_or(
                 StepError::NoRule,
             )?;
-            let bindings = matched(run.alloc, at.environment, pattern, &value)?.ok_or(
-                StepError::NoRule,
-            )?;
-            if some_large_at(at.process, at.environment) || is_large(&value) {
+            let matching = matched(run.alloc, at.environment, pattern, &value);
+            let large = is_large(&value);
+            drop(value);
+            let bindings = matching?.ok_or(StepError::NoRule)?;
+            if some_large_at(at.process, at.environment) || large {
                 return Err(ApplyError::Refused(StepError::Large));
             }
             let environment = at.environment.extended(run.alloc, bindings)?;

@@ -97,7 +97,9 @@ fn meet(
         Process::Output(channel, message, _) => match to.process {
             Process::Input(on, pattern, _) => {
                 let channel = evaluate(channel, run.alloc, from.environment)?;
-                if !is_value_of(on, &channel, &Bound::All(to.environment)) {
+                let same = is_value_of(on, &channel, &Bound::All(to.environment));
+                drop(channel);
+                if !same {
                     return Err(ApplyError::Refused(StepError::ChannelsDiffer));
                 }
                 if some_large_at_either(from, to) {

@@ -17,15 +17,15 @@ use Rattle.pi_model.specs.Plans.{Stands, IsPossible}
 use Rattle.pi_model.proofs.Passing.{pass-differ, pass-large, pass-possible}
 use Rattle.pi_model.proofs.receiving.meet.Goals as goal
 
-pub returns-then-not-is_value_of-clause-refused : goal.returns-then-not-is_value_of-clause-refused
-returns-then-not-is_value_of-clause-refused c =
+pub returns-then-not-same-clause-refused : goal.returns-then-not-same-clause-refused
+returns-then-not-same-clause-refused c =
     let from = c.args.from.now in
     let to = c.args.to.now in
     pass-differ (protocol_of c.args.run.now.protocol.now) (configuration_of c.args.run.now.conf.now) c.args.sender c.args.receiver from.point to.point from.environment.now to.environment.now
     (term_of c.in-Output.channel) (term_of c.in-Output.message) (term_of c.in-Input.on) (pattern_of c.in-Input.pattern) (process_of c.in-Output.field-2.value) (process_of c.in-Input.field-2.value)
     (subst (λ q. Stands (protocol_of c.args.run.now.protocol.now) (configuration_of c.args.run.now.conf.now) c.args.sender from.point from.environment.now (process_of q)) c.in-Output.is c.requires.sends)
     (subst (λ q. Stands (protocol_of c.args.run.now.protocol.now) (configuration_of c.args.run.now.conf.now) c.args.receiver to.point to.environment.now (process_of q)) c.in-Input.is c.requires.receives)
-    (ap (same_value (values.value_of to.environment.now (term_of c.in-Input.on))) (sym c.in_ok-channel-in-Input.ensures) ∙ sym c.is_value_of.ensures ∙ c.if-not-is_value_of.true)
+    (ap (same_value (values.value_of to.environment.now (term_of c.in-Input.on))) (sym c.in_ok-channel-in-Input.ensures) ∙ sym c.is_value_of-same.ensures ∙ c.if-not-same.true)
 
 pub returns-then-some_large_at_either-clause-refused : goal.returns-then-some_large_at_either-clause-refused
 returns-then-some_large_at_either-clause-refused c =
@@ -35,7 +35,7 @@ returns-then-some_large_at_either-clause-refused c =
     (term_of c.in-Output.channel) (term_of c.in-Output.message) (term_of c.in-Input.on) (pattern_of c.in-Input.pattern) (process_of c.in-Output.field-2.value) (process_of c.in-Input.field-2.value)
     (subst (λ q. Stands (protocol_of c.args.run.now.protocol.now) (configuration_of c.args.run.now.conf.now) c.args.sender from.point from.environment.now (process_of q)) c.in-Output.is c.requires.sends)
     (subst (λ q. Stands (protocol_of c.args.run.now.protocol.now) (configuration_of c.args.run.now.conf.now) c.args.receiver to.point to.environment.now (process_of q)) c.in-Input.is c.requires.receives)
-    (ap (same_value (values.value_of to.environment.now (term_of c.in-Input.on))) (sym c.in_ok-channel-in-Input.ensures) ∙ sym c.is_value_of.ensures ∙ c.if-not-is_value_of.false)
+    (ap (same_value (values.value_of to.environment.now (term_of c.in-Input.on))) (sym c.in_ok-channel-in-Input.ensures) ∙ sym c.is_value_of-same.ensures ∙ c.if-not-same.false)
     (ap (λ q. list_any is_large (values_of from.environment.now (terms_at (process_of q))) || list_any is_large (values_of to.environment.now (terms_at (process_of (Input c.in-Input.on c.in-Input.pattern c.in-Input.field-2))))) (sym c.in-Output.is)
     ∙ ap (λ q. list_any is_large (values_of from.environment.now (terms_at (process_of from.process.now))) || list_any is_large (values_of to.environment.now (terms_at (process_of q)))) (sym c.in-Input.is)
     ∙ sym c.some_large_at_either.ensures ∙ c.if-some_large_at_either.true)
@@ -50,7 +50,7 @@ returns-in_ok-thread-in-Input-clause-possible c =
     (term_of c.in-Output.channel) (term_of c.in-Output.message) (term_of c.in-Input.on) (pattern_of c.in-Input.pattern) (process_of c.in-Output.field-2.value) (process_of c.in-Input.field-2.value)
     (subst (λ q. Stands (protocol_of c.args.run.now.protocol.now) (configuration_of c.args.run.now.conf.now) c.args.sender from.point from.environment.now (process_of q)) c.in-Output.is c.requires.sends)
     (subst (λ q. Stands (protocol_of c.args.run.now.protocol.now) (configuration_of c.args.run.now.conf.now) c.args.receiver to.point to.environment.now (process_of q)) c.in-Input.is c.requires.receives)
-    (ap (same_value (values.value_of to.environment.now (term_of c.in-Input.on))) (sym c.in_ok-channel-in-Input.ensures) ∙ sym c.is_value_of.ensures ∙ c.if-not-is_value_of.false)
+    (ap (same_value (values.value_of to.environment.now (term_of c.in-Input.on))) (sym c.in_ok-channel-in-Input.ensures) ∙ sym c.is_value_of-same.ensures ∙ c.if-not-same.false)
     (ap (λ q. list_any is_large (values_of from.environment.now (terms_at (process_of q))) || list_any is_large (values_of to.environment.now (terms_at (process_of (Input c.in-Input.on c.in-Input.pattern c.in-Input.field-2))))) (sym c.in-Output.is)
     ∙ ap (λ q. list_any is_large (values_of from.environment.now (terms_at (process_of from.process.now))) || list_any is_large (values_of to.environment.now (terms_at (process_of q)))) (sym c.in-Input.is)
     ∙ sym c.some_large_at_either.ensures ∙ c.if-some_large_at_either.false))
