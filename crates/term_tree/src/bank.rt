@@ -5,13 +5,13 @@ ghost use Rattle.std.specs.Prelude.{◌≡◌, ◌≤◌, ◌<◌, List, length,
 use std::alloc::AllocError;
 
 /// The name of a term in a bank: its place in the list of the bank's trees, from 0.
-#[derive(Clone, Copy, PartialEq, Eq, Hash, Debug)]
+#[derive(Clone, Copy, PartialEq, Eq, Debug)]
 pub struct Id {
     pub index: usize,
 }
 
 /// A symbol of a term.
-#[derive(Clone, Copy, PartialEq, Eq, Hash, Debug)]
+#[derive(Clone, Copy, PartialEq, Eq, Debug)]
 pub enum Sym {
     /// A constructor that is no data constructor, by its number.
     Ctor(u32),
@@ -28,14 +28,14 @@ pub enum Sym {
 }
 
 /// The root of a term: a variable, or a symbol over the ids of its arguments.
-#[derive(Clone, Copy, Debug)]
+#[derive(Clone, Copy)]
 pub enum Node<'a> {
     Var(u32),
     App(Sym, &'a [Id]),
 }
 
 /// A state of a bank that `back` can return to: how many trees it had.
-#[derive(Clone, Copy, PartialEq, Eq, Debug)]
+#[derive(Clone, Copy, PartialEq, Eq)]
 pub struct Mark {
     pub len: usize,
 }

@@ -27,33 +27,48 @@ fn is_doubled<B: Bank>(bank: &B, id: Id, constructor: u32, arg: Id) -> bool
     }
 }
 
+/// Whether ids keep their terms as the bank is cut back to where they were, and grows again.
+fn earlier_ids_keep_their_nodes(bank: &mut TreeBank) -> Result<bool, AllocError> {
+    let x = bank.var(7)?;
+    let first = doubled(bank, 1, x)?;
+    let mark = bank.mark();
+    let cut = doubled(bank, 2, x)?;
+    let was_there = is_doubled(bank, cut, 2, x);
+    bank.back(mark);
+    let third = doubled(bank, 3, x)?;
+    let is_variable = matches!(bank.node(x), Node::Var(7));
+    let is_first = is_doubled(bank, first, 1, x) && bank.size(first) == 3;
+    Ok(was_there && is_variable && is_first && is_doubled(bank, third, 3, x))
+}
+
 #[test]
 fn an_earlier_id_keeps_its_node(rt: HostRuntime) -> Result<(), Fail> {
     let mut bank = TreeBank::new(rt.alloc())?;
-    let x = bank.var(7)?;
-    let first = doubled(&mut bank, 1, x)?;
-    let mark = bank.mark();
-    let cut = doubled(&mut bank, 2, x)?;
-    assert!(rt; is_doubled(&bank, cut, 2, x));
-    bank.back(mark);
-    let third = doubled(&mut bank, 3, x)?;
-    assert!(rt; matches!(bank.node(x), Node::Var(7)));
-    assert!(rt; is_doubled(&bank, first, 1, x));
-    assert!(rt; is_doubled(&bank, third, 3, x));
-    assert_eq!(rt; bank.size(first), 3);
+    assert!(rt; earlier_ids_keep_their_nodes(&mut bank)?);
     Ok(())
 }
 
-// A variable doubled k times has 2^(k+1) - 1 symbols.
+/// A variable doubled so many times: k times give 2^(k+1) - 1 symbols.
+fn tower(bank: &mut TreeBank, times: usize) -> Result<Id, AllocError>
+    ensures { IfOk result (λ id. id.index < length bank.new) }
+{
+    let mut id = bank.var(0)?;
+    for _ in 0..times {
+        id = doubled(bank, 1, id)?;
+    }
+    Ok(id)
+}
+
+/// Whether the size of the last tower below the limit is told exactly, and that of the next one as the limit.
+fn sizes_stop(bank: &mut TreeBank) -> Result<bool, AllocError> {
+    let last = tower(bank, 62)?;
+    let next = doubled(bank, 1, last)?;
+    Ok(bank.size(last) == SIZE_LIMIT - 1 && bank.size(next) == SIZE_LIMIT)
+}
+
 #[test]
 fn sizes_stop_at_the_limit(rt: HostRuntime) -> Result<(), Fail> {
     let mut bank = TreeBank::new(rt.alloc())?;
-    let mut id = bank.var(0)?;
-    for _ in 0..62 {
-        id = doubled(&mut bank, 1, id)?;
-    }
-    assert_eq!(rt; bank.size(id), SIZE_LIMIT - 1);
-    id = doubled(&mut bank, 1, id)?;
-    assert_eq!(rt; bank.size(id), SIZE_LIMIT);
+    assert!(rt; sizes_stop(&mut bank)?);
     Ok(())
 }

@@ -7,21 +7,21 @@ use std::alloc::{AllocError, Global};
 use std::marker::Model;
 
 /// What stands at a place of the bank: a variable, or a symbol over earlier places.
-#[derive(Drop, Debug)]
+#[derive(Drop)]
 pub enum Shape {
     Var(u32),
     App(Sym, Vec<Id>),
 }
 
 /// A place of the bank: its shape, and the size of its tree as it is told.
-#[derive(Drop, Debug)]
+#[derive(Drop)]
 pub struct Entry {
     pub size: u64,
     pub shape: Shape,
 }
 
 /// The plain bank, where each call of `var` or `app` makes one more tree.
-#[derive(Drop, Debug)]
+#[derive(Drop)]
 pub struct TreeBank {
     entries: Vec<Entry>,
     alloc: Global,
