@@ -1,5 +1,6 @@
 use Rattle.std.proofs.Common.{ap, length, arith}
 use Rattle.clause_norms.proofs.Norms.{part_known, normed_on}
+use Rattle.term_tree.proofs.BankLaws.{Grows_trans}
 use Rattle.clause_norms.proofs.norms_of_all.Goals as goal
 
 pub add_norm-requires : goal.add_norm-requires
@@ -14,3 +15,6 @@ loop-part-preserved g c =
           c.loop-part.invariant.normed first c.add_norm.ensures.grows c.in_ok-add_norm.ensures.names;
       counted = omega (arith, c.in-Some.ensures.steps.1, c.loop-part.invariant.counted, ap length first);
     }
+
+pub returns-in_err-add_norm-clause-grows : goal.returns-in_err-add_norm-clause-grows
+returns-in_err-add_norm-clause-grows g c = Grows_trans (g.B.Bank.trees c.args.bank.now) (g.B.Bank.trees c.loop-part.bank) (g.B.Bank.trees c.add_norm.new.bank) c.loop-part.invariant.normed.grows c.add_norm.ensures.grows
