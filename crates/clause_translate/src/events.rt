@@ -54,7 +54,7 @@ fn event_below<B: Bank>(
         (below_event (visit_at (B.trees bank.now) visit.now) event
         (map (tree_at (B.trees bank.now)) arguments)) found) }
 {
-    let made = visit.with_hypothesis(alloc, Fact::Mev(event, arguments))?;
+    let made = visit.with_event(alloc, event, arguments)?;
     if is_large_visit(bank, &made) {
         return Ok(None);
     }
@@ -81,7 +81,7 @@ pub fn add_event<B: Bank>(
     }
     let arguments = terms_in(place.alloc, bank, place.protocol, &visit.scope, &atom.args)?;
     let raw = event_clause(place.alloc, visit, atom.event, &arguments)?;
-    let added = listing.add(place.alloc, bank, &raw)?;
+    let added = listing.add(place.alloc, bank, raw)?;
     if added {
         return event_below(place.alloc, bank, visit, atom.event, arguments);
     }

@@ -103,7 +103,7 @@ fn received<B: Bank>(
     let channel = term_in(place.alloc, bank, place.protocol, &visit.scope, channel)?;
     let (bound, message) = with_pattern(place, bank, visit, visit.next, pattern)?;
     let fact = sent(bank, place.protocol, channel, message);
-    bound.with_message(place.alloc, fact, message)
+    bound.with_message(fact, message)
 }
 
 /// The visit below an input; none where it is too large. On `Err` the bank may have grown.

@@ -42,7 +42,7 @@ impl Listing {
 
     /// Adds the norms of the flat parts of a raw clause, if they are kept, unless it is too large, and tells whether it is
     /// not. On `Err` the bank may have grown.
-    pub fn add<B: Bank>(
+    fn add_norms<B: Bank>(
         &mut self,
         alloc: Global,
         bank: &mut B,
@@ -66,5 +66,25 @@ impl Listing {
         let norms = norms_of(alloc, bank, raw)?;
         self.append(norms)?;
         Ok(true)
+    }
+
+    /// Adds what a raw clause adds, unless it is too large, and tells whether it is not. On `Err` the bank may have grown.
+    pub fn add<B: Bank>(
+        &mut self,
+        alloc: Global,
+        bank: &mut B,
+        raw: Clause,
+    ) -> Result<bool, AllocError>
+        requires { IsClauseIn (B.trees bank.old) raw }
+        ensures grows { Grows (B.trees bank.old) (B.trees bank.new) }
+        ensures adds { IfOk result (λ added. MatchBool added
+            (Adds (B.trees bank.new) self.old self.new (norms (clause_at (B.trees bank.old) raw)))
+            (is_large_raw (clause_at (B.trees bank.old) raw) ≡ true)) }
+        ensures small { IfOk result (λ added. added ≡ true
+            → is_large_raw (clause_at (B.trees bank.old) raw) ≡ false) }
+    {
+        let added = self.add_norms(alloc, bank, &raw);
+        drop(raw);
+        added
     }
 }

@@ -65,8 +65,8 @@ fn output_clause<B: Bank>(
         (output_raw (protocol_at place.now) (visit_at (B.trees bank.old) visit.now)
         (term_of channel.now) (term_of message.now))) }
 {
-    let concl = sent_in(place, bank, &visit.scope, channel, message)?;
     let hyps = visit.hypotheses.copy(place.alloc)?;
+    let concl = sent_in(place, bank, &visit.scope, channel, message)?;
     Ok(Clause { hyps, concl })
 }
 
@@ -99,5 +99,5 @@ pub fn add_output<B: Bank>(
         return Ok(false);
     }
     let raw = output_clause(place, bank, visit, output.channel, output.message)?;
-    listing.add(place.alloc, bank, &raw)
+    listing.add(place.alloc, bank, raw)
 }

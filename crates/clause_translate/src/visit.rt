@@ -1,6 +1,7 @@
 //! Visits: what is known where a point is visited.
 
 ghost use Rattle.std.specs.Prelude.{◌≡◌, [], ◌∷◌, ◌++◌, IfOk};
+ghost use Rattle.clauses.specs.Fact.{Mev};
 ghost use Rattle.clause_form.specs.Facts.{fact_of};
 ghost use Rattle.clause_terms.specs.Slots.{held_of};
 
@@ -77,13 +78,13 @@ impl Visit {
         Ok(made)
     }
 
-    /// A copy with one more hypothesis.
-    pub fn with_hypothesis(&self, alloc: Global, fact: Fact) -> Result<Visit, AllocError>
+    /// A copy with one more hypothesis, that an event must have run.
+    pub fn with_event(&self, alloc: Global, event: u32, arguments: Ids) -> Result<Visit, AllocError>
         ensures { IfOk result (λ made. made ≡
-            record self.now { hypotheses = self.now.hypotheses ++ fact_of fact ∷ [] }) }
+            record self.now { hypotheses = self.now.hypotheses ++ Mev event arguments ∷ [] }) }
     {
         let mut made = self.copy(alloc)?;
-        made.hypotheses.push(fact)?;
+        made.hypotheses.push(Fact::Mev(event, arguments))?;
         Ok(made)
     }
 
@@ -112,17 +113,16 @@ impl Visit {
         })
     }
 
-    /// A copy with one more message, and the hypothesis that it was sent.
-    pub fn with_message(&self, alloc: Global, fact: Fact, message: Id) -> Result<Visit, AllocError>
+    /// The visit with one more message, and the hypothesis that it was sent.
+    pub fn with_message(mut self, fact: Fact, message: Id) -> Result<Visit, AllocError>
         ensures { IfOk result (λ made. made ≡
-            record self.now {
-              hypotheses = self.now.hypotheses ++ fact_of fact ∷ [];
-              messages = self.now.messages ++ message ∷ [];
+            record self {
+              hypotheses = self.hypotheses ++ fact_of fact ∷ [];
+              messages = self.messages ++ message ∷ [];
             }) }
     {
-        let mut made = self.copy(alloc)?;
-        made.hypotheses.push(fact)?;
-        made.messages.items.push(message)?;
-        Ok(made)
+        self.hypotheses.push(fact)?;
+        self.messages.items.push(message)?;
+        Ok(self)
     }
 }

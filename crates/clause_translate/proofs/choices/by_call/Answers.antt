@@ -11,6 +11,7 @@ use Rattle.clause_translate.specs.Visits.{visit_at}
 use Rattle.clause_translate.proofs.Named.{visit_later, below_parts}
 use Rattle.clause_translate.proofs.Below.{terms_in_below}
 use Rattle.clause_translate.proofs.Calling.{called}
+use Rattle.term_tree.proofs.BankLaws.{Grows_trans}
 use Rattle.clause_translate.proofs.choices.by_call.Goals as goal
 
 pub by_rules-requires-clause-visit : goal.by_rules-requires-clause-visit
@@ -40,3 +41,6 @@ returns-clause-go g c =
     let P = protocol_at c.args.choosing.now.place.now in
     called P (visit_at old w) (pattern_of c.args.choosing.now.pattern.now) c.args.arguments.now c.by_rules.result c.args.destructor (visit_at mid w) (map (tree_at mid) c.deref.result.now) (map rule_of c.rules_of-rules.result.now) new
     (visit_later old mid w c.terms_in.ensures.grows c.requires.visit).is (ap (map (tree_at mid)) (c.deref.ensures.value ∙ c.arguments.view_is) ∙ c.in_ok-arguments.ensures.names.are) c.rules_of-rules.ensures c.by_rules.ensures.go
+
+pub returns-clause-grows : goal.returns-clause-grows
+returns-clause-grows g c = Grows_trans (g.B.Bank.trees c.args.bank.now) (g.B.Bank.trees c.terms_in.new.bank) (g.B.Bank.trees c.by_rules.new.bank) c.terms_in.ensures.grows c.by_rules.ensures.grows

@@ -94,3 +94,12 @@ returns-clause-way g c =
     (λ (way : Way). (out : Option Visit) × GoesOn record { arguments = map (tree_at new) c.args.arguments.now; sides = map (tree_at new) c.deref.result.now; value = tree_at new c.in_ok-value.value; target = tree_at new c.in_ok-made.target; visit = visit_at new made } out × IsWay last way out)
     (λ (way : Way). (out : Option Visit) × ByRule P v pattern values rule out × IsWay last way out)
     (λ way h. (h.0, by_rule_goes P v pattern values rule w.next end new made c.args.arguments.now c.deref.result.now c.in_ok-value.value c.in_ok-made.target h.0 c.requires.visit.below apart bound (trees_at-grow old new c.args.arguments.now to_new c.requires.arguments) (ap (map (tree_at new)) same_sides ∙ sides.are) value h.1, h.2)) c.way_of.ensures.way
+
+pub returns-in_err-value-clause-grows : goal.returns-in_err-value-clause-grows
+returns-in_err-value-clause-grows g c = Grows_trans (g.B.Bank.trees c.args.bank.now) (g.B.Bank.trees c.rule_terms.new.bank) (g.B.Bank.trees c.rule_term.new.bank) c.rule_terms.ensures.grows c.rule_term.ensures.grows
+
+pub returns-in_err-made-clause-grows : goal.returns-in_err-made-clause-grows
+returns-in_err-made-clause-grows g c = Grows_trans (g.B.Bank.trees c.args.bank.now) (g.B.Bank.trees c.rule_term.new.bank) (g.B.Bank.trees c.with_pattern.new.bank) (Grows_trans (g.B.Bank.trees c.args.bank.now) (g.B.Bank.trees c.rule_terms.new.bank) (g.B.Bank.trees c.rule_term.new.bank) c.rule_terms.ensures.grows c.rule_term.ensures.grows) c.with_pattern.ensures.grows
+
+pub returns-clause-grows : goal.returns-clause-grows
+returns-clause-grows g c = Grows_trans (g.B.Bank.trees c.args.bank.now) (g.B.Bank.trees c.with_pattern.new.bank) (g.B.Bank.trees c.way_of.new.bank) (Grows_trans (g.B.Bank.trees c.args.bank.now) (g.B.Bank.trees c.rule_term.new.bank) (g.B.Bank.trees c.with_pattern.new.bank) (Grows_trans (g.B.Bank.trees c.args.bank.now) (g.B.Bank.trees c.rule_terms.new.bank) (g.B.Bank.trees c.rule_term.new.bank) c.rule_terms.ensures.grows c.rule_term.ensures.grows) c.with_pattern.ensures.grows) c.way_of.ensures.grows

@@ -3,7 +3,7 @@ use Rattle.pi_tree.specs.Terms.{term_of}
 use Rattle.pi_tree.specs.Patterns.{pattern_of}
 use Rattle.clauses.specs.Variables.{IsBelow}
 use Rattle.term_tree.specs.Bank.{tree_at}
-use Rattle.term_tree.proofs.BankLaws.{Names-grows}
+use Rattle.term_tree.proofs.BankLaws.{Names-grows, Grows_trans}
 use Rattle.translation.specs.Conversion.{term_in}
 use Rattle.translation.specs.Visit.{Visit}
 use Rattle.translation.specs.Choice.{GoesOn, TermGoesOn}
@@ -70,3 +70,9 @@ returns-clause-way g c =
     (λ (way : Way). (out : Option Visit) × GoesOn record { arguments = []; sides = []; value = tree_at new c.in_ok-value.value; target = tree_at new c.in_ok-made.target; visit = visit_at new made } out × IsWay last way out)
     (λ (way : Way). (out : Option Visit) × TermGoesOn P v pattern term out × IsWay last way out)
     (λ way h. (h.0, by_term_goes P v pattern term w.next new made c.in_ok-value.value c.in_ok-made.target h.0 bound names h.1, h.2)) c.way_of.ensures.way
+
+pub returns-in_err-made-clause-grows : goal.returns-in_err-made-clause-grows
+returns-in_err-made-clause-grows g c = Grows_trans (g.B.Bank.trees c.args.bank.now) (g.B.Bank.trees c.term_in.new.bank) (g.B.Bank.trees c.with_pattern.new.bank) c.term_in.ensures.grows c.with_pattern.ensures.grows
+
+pub returns-clause-grows : goal.returns-clause-grows
+returns-clause-grows g c = Grows_trans (g.B.Bank.trees c.args.bank.now) (g.B.Bank.trees c.with_pattern.new.bank) (g.B.Bank.trees c.way_of.new.bank) (Grows_trans (g.B.Bank.trees c.args.bank.now) (g.B.Bank.trees c.term_in.new.bank) (g.B.Bank.trees c.with_pattern.new.bank) c.term_in.ensures.grows c.with_pattern.ensures.grows) c.way_of.ensures.grows

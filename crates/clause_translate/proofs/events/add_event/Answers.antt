@@ -86,3 +86,12 @@ returns-clause-adds g c =
     let raw_is : clause_at mid c.in_ok-raw.raw ≡ event_raw P v e = named.is ∙ (λ i. raw_event (at_mid.is i) e.event (names.are i)) in
     event_second P v e
     (sym (ap is_large_raw raw_is) ∙ if_false c.in_ok-added.added (Adds new c.args.listing.now c.add.new.self (norms (clause_at mid c.in_ok-raw.raw))) (is_large_raw (clause_at mid c.in_ok-raw.raw) ≡ true) c.if-added.false c.in_ok-added.ensures.adds)
+
+pub returns-in_err-added-clause-grows : goal.returns-in_err-added-clause-grows
+returns-in_err-added-clause-grows g c = Grows_trans (g.B.Bank.trees c.args.bank.now) (g.B.Bank.trees c.terms_in.new.bank) (g.B.Bank.trees c.add.new.bank) c.terms_in.ensures.grows c.add.ensures.grows
+
+pub returns-then-added-clause-grows : goal.returns-then-added-clause-grows
+returns-then-added-clause-grows g c = Grows_trans (g.B.Bank.trees c.args.bank.now) (g.B.Bank.trees c.terms_in.new.bank) (g.B.Bank.trees c.add.new.bank) c.terms_in.ensures.grows c.add.ensures.grows
+
+pub returns-clause-grows : goal.returns-clause-grows
+returns-clause-grows g c = Grows_trans (g.B.Bank.trees c.args.bank.now) (g.B.Bank.trees c.terms_in.new.bank) (g.B.Bank.trees c.add.new.bank) c.terms_in.ensures.grows c.add.ensures.grows

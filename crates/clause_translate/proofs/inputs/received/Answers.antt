@@ -9,6 +9,7 @@ use Rattle.clause_translate.specs.Places.{protocol_at}
 use Rattle.clause_translate.specs.Visits.{visit_at, NamesVisit}
 use Rattle.clause_translate.proofs.Named.{if_ok, visit_later}
 use Rattle.clause_translate.proofs.Receiving.{received_named}
+use Rattle.term_tree.proofs.BankLaws.{Grows_trans}
 use Rattle.clause_translate.proofs.inputs.received.Goals as goal
 
 pub with_pattern-requires-clause-visit : goal.with_pattern-requires-clause-visit
@@ -28,3 +29,9 @@ returns-clause-names g c =
     (λ (made : Visit). (at : Fresh) × IsFresh (visit_at old v) pattern at × NamesVisit new made (after_input P (visit_at old v) channel pattern at))
     (λ made e. received_named P old mid new v w made channel pattern c.in_ok-channel.channel c.in_ok-bound.message (fact_of c.sent-fact.result) c.term_in.ensures.grows c.with_pattern.ensures.grows c.requires.visit c.in_ok-bound.ensures.names c.in_ok-channel.ensures.names c.sent-fact.ensures e)
     c.with_message.ensures
+
+pub returns-in_err-bound-clause-grows : goal.returns-in_err-bound-clause-grows
+returns-in_err-bound-clause-grows g c = Grows_trans (g.B.Bank.trees c.args.bank.now) (g.B.Bank.trees c.term_in.new.bank) (g.B.Bank.trees c.with_pattern.new.bank) c.term_in.ensures.grows c.with_pattern.ensures.grows
+
+pub returns-clause-grows : goal.returns-clause-grows
+returns-clause-grows g c = Grows_trans (g.B.Bank.trees c.args.bank.now) (g.B.Bank.trees c.term_in.new.bank) (g.B.Bank.trees c.with_pattern.new.bank) c.term_in.ensures.grows c.with_pattern.ensures.grows

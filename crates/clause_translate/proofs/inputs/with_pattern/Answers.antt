@@ -2,6 +2,7 @@ use Rattle.pi_tree.specs.Patterns.{pattern_of}
 use Rattle.clause_translate.specs.Places.{protocol_at}
 use Rattle.clause_translate.proofs.Named.{visit_later}
 use Rattle.clause_translate.proofs.Receiving.{pattern_named}
+use Rattle.term_tree.proofs.BankLaws.{Grows_trans}
 use Rattle.clause_translate.proofs.inputs.with_pattern.Goals as goal
 
 pub with_bound-requires-clause-visit : goal.with_bound-requires-clause-visit
@@ -11,3 +12,9 @@ pub returns-clause-names : goal.returns-clause-names
 returns-clause-names g c =
     pattern_named (protocol_at c.args.place.now) (g.B.Bank.trees c.args.bank.now) (g.B.Bank.trees c.pattern_term.new.bank) (g.B.Bank.trees c.with_bound.new.bank) c.args.visit.now c.in_ok-made.made c.args.base c.in_ok-span.span (pattern_of c.args.pattern.now) c.in_ok-term.term
     c.pattern_term.ensures.grows c.with_bound.ensures.grows c.requires.visit c.requires.up c.in_ok-span.ensures c.in_ok-term.ensures.names c.in_ok-made.ensures.names c.in_ok-made.ensures.next
+
+pub returns-in_err-made-clause-grows : goal.returns-in_err-made-clause-grows
+returns-in_err-made-clause-grows g c = Grows_trans (g.B.Bank.trees c.args.bank.now) (g.B.Bank.trees c.pattern_term.new.bank) (g.B.Bank.trees c.with_bound.new.bank) c.pattern_term.ensures.grows c.with_bound.ensures.grows
+
+pub returns-clause-grows : goal.returns-clause-grows
+returns-clause-grows g c = Grows_trans (g.B.Bank.trees c.args.bank.now) (g.B.Bank.trees c.pattern_term.new.bank) (g.B.Bank.trees c.with_bound.new.bank) c.pattern_term.ensures.grows c.with_bound.ensures.grows

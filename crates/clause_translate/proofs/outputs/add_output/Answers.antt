@@ -6,6 +6,7 @@ use Rattle.clause_translate.specs.Places.{protocol_at}
 use Rattle.clause_translate.specs.Forms.{output_raw, are_large_in}
 use Rattle.clause_translate.specs.Visits.{visit_at}
 use Rattle.clause_translate.proofs.Adding.{is_added, is_told, both_small}
+use Rattle.term_tree.proofs.BankLaws.{Grows_trans}
 use Rattle.clause_translate.proofs.outputs.add_output.Goals as goal
 
 pub returns-clause-large : goal.returns-clause-large
@@ -25,3 +26,6 @@ returns-clause-adds g c =
     let P = protocol_at c.args.place.now in
     let v = visit_at old c.args.visit.now in
     is_added c.add.result mid (g.B.Bank.trees c.add.new.bank) c.args.listing.now c.add.new.self c.in_ok-raw.raw (output_raw P v (term_of c.args.output.now.channel.now) (term_of c.args.output.now.message.now)) c.in_ok-raw.ensures.names c.add.ensures.adds c.add.ensures.small
+
+pub returns-clause-grows : goal.returns-clause-grows
+returns-clause-grows g c = Grows_trans (g.B.Bank.trees c.args.bank.now) (g.B.Bank.trees c.output_clause.new.bank) (g.B.Bank.trees c.add.new.bank) c.output_clause.ensures.grows c.add.ensures.grows

@@ -13,6 +13,7 @@ use Rattle.clause_terms.specs.Slots.{held_of}
 use Rattle.clause_translate.specs.declared.visit.Visit.{Visit}
 use Rattle.clause_translate.proofs.Scopes.{NamesScope-grows}
 use Rattle.clause_translate.proofs.Parts.{scope_is_over, facts_are_over, facts_same}
+use Rattle.term_tree.proofs.BankLaws.{Grows_trans}
 use Rattle.clause_translate.proofs.unified.known_under.Goals as goal
 
 pub returns-in-None-clause-under : goal.returns-in-None-clause-under
@@ -60,3 +61,12 @@ returns-in-Some-2-clause-under g c =
       hypotheses = subst (λ l. NameFacts new c.in-Some-2.hypotheses l) (facts_same old mid pairs c.scope_under.ensures.grows c.requires.ready v.hypotheses c.requires.visit.hypotheses)
           (subst (λ (l : List (Fact Id)). NameFacts new c.in-Some-2.hypotheses (map (fact_under (resolved (seen mid pairs))) (map (fact_at mid) l))) same_facts facts);
     }
+
+pub returns-in_err-facts_under-in-Some-clause-grows : goal.returns-in_err-facts_under-in-Some-clause-grows
+returns-in_err-facts_under-in-Some-clause-grows g c = Grows_trans (g.B.Bank.trees c.args.bank.now) (g.B.Bank.trees c.scope_under.new.bank) (g.B.Bank.trees c.facts_under.new.bank) c.scope_under.ensures.grows c.facts_under.ensures.grows
+
+pub returns-in-None-2-clause-grows : goal.returns-in-None-2-clause-grows
+returns-in-None-2-clause-grows g c = Grows_trans (g.B.Bank.trees c.args.bank.now) (g.B.Bank.trees c.scope_under.new.bank) (g.B.Bank.trees c.facts_under.new.bank) c.scope_under.ensures.grows c.facts_under.ensures.grows
+
+pub returns-in-Some-2-clause-grows : goal.returns-in-Some-2-clause-grows
+returns-in-Some-2-clause-grows g c = Grows_trans (g.B.Bank.trees c.args.bank.now) (g.B.Bank.trees c.scope_under.new.bank) (g.B.Bank.trees c.facts_under.new.bank) c.scope_under.ensures.grows c.facts_under.ensures.grows

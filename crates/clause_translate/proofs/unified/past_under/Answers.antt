@@ -3,7 +3,7 @@ use Rattle.trees.specs.Tree.{bind}
 use Rattle.terms.specs.Binding.{resolved}
 use Rattle.term_tree.specs.Bank.{tree_at, AreKnown}
 use Rattle.term_tree.specs.declared.bank.Id.{Id}
-use Rattle.term_tree.proofs.BankLaws.{AreKnown-grows}
+use Rattle.term_tree.proofs.BankLaws.{AreKnown-grows, Grows_trans}
 use Rattle.unify_match.specs.Seen.{seen}
 use Rattle.unify_match.proofs.SeenLemmas.{IsReady-grows}
 use Rattle.clause_form.specs.Seen.{NameTerms}
@@ -40,3 +40,9 @@ returns-clause-sessions g c =
     let same = c.deref-2.ensures.value ∙ ap (λ (w : Visit). w.sessions) c.visit.view_is in
     subst (λ l. NameTerms new c.in_ok-sessions.sessions l) (terms_same old mid pairs c.all_terms_under.ensures.grows c.requires.ready c.args.visit.now.sessions c.requires.visit.sessions)
     (subst (λ (l : List Id). NameTerms new c.in_ok-sessions.sessions (map (bind (resolved (seen mid pairs))) (map (tree_at mid) l))) same c.in_ok-sessions.ensures.names)
+
+pub returns-in_err-sessions-clause-grows : goal.returns-in_err-sessions-clause-grows
+returns-in_err-sessions-clause-grows g c = Grows_trans (g.B.Bank.trees c.args.bank.now) (g.B.Bank.trees c.all_terms_under.new.bank) (g.B.Bank.trees c.all_terms_under-2.new.bank) c.all_terms_under.ensures.grows c.all_terms_under-2.ensures.grows
+
+pub returns-clause-grows : goal.returns-clause-grows
+returns-clause-grows g c = Grows_trans (g.B.Bank.trees c.args.bank.now) (g.B.Bank.trees c.all_terms_under.new.bank) (g.B.Bank.trees c.all_terms_under-2.new.bank) c.all_terms_under.ensures.grows c.all_terms_under-2.ensures.grows

@@ -8,6 +8,7 @@ use Rattle.clause_form.proofs.Copying.{NameFacts-grows}
 use Rattle.clause_translate.specs.declared.visit.Visit.{Visit}
 use Rattle.clause_translate.proofs.Named.{visit_later}
 use Rattle.clause_translate.proofs.Parts.{terms_same, visit_under_named}
+use Rattle.term_tree.proofs.BankLaws.{Grows_trans}
 use Rattle.clause_translate.proofs.unified.visit_under.Goals as goal
 
 pub known_under-requires-clause-built : goal.known_under-requires-clause-built
@@ -33,3 +34,9 @@ returns-clause-under g c =
     (subst (λ l. NameTerms new made.messages l) (terms_same old mid pairs c.known_under.ensures.grows c.requires.ready v.messages c.requires.visit.messages) c.in_ok-messages-in-Some.ensures.messages)
     (subst (λ l. NameTerms new made.sessions l) (terms_same old mid pairs c.known_under.ensures.grows c.requires.ready v.sessions c.requires.visit.sessions) c.in_ok-messages-in-Some.ensures.sessions)
     (NameFacts-grows mid new made.hypotheses (map (fact_under s) (map (fact_at old) v.hypotheses)) c.past_under.ensures.grows parts.hypotheses)
+
+pub returns-in_err-messages-in-Some-clause-grows : goal.returns-in_err-messages-in-Some-clause-grows
+returns-in_err-messages-in-Some-clause-grows g c = Grows_trans (g.B.Bank.trees c.args.bank.now) (g.B.Bank.trees c.known_under.new.bank) (g.B.Bank.trees c.past_under.new.bank) c.known_under.ensures.grows c.past_under.ensures.grows
+
+pub returns-clause-grows : goal.returns-clause-grows
+returns-clause-grows g c = Grows_trans (g.B.Bank.trees c.args.bank.now) (g.B.Bank.trees c.known_under.new.bank) (g.B.Bank.trees c.past_under.new.bank) c.known_under.ensures.grows c.past_under.ensures.grows

@@ -4,6 +4,7 @@ use Rattle.clause_translate.specs.declared.whole.Translated.{Translated}
 use Rattle.clause_translate.specs.Whole.{IsVisited}
 use Rattle.clause_translate.proofs.Reading.{main_short, has_short_rules}
 use Rattle.clause_translate.proofs.Translating.{ends_at, translates_to}
+use Rattle.term_tree.proofs.BankLaws.{Grows_trans}
 use Rattle.clause_translate.proofs.whole.translate_grown.Goals as goal
 
 pub visited-requires-clause-short : goal.visited-requires-clause-short
@@ -27,3 +28,15 @@ returns-in_ok-all-in-Clauses-clause-translates g c =
     let P = protocol_of c.args.protocol.now in
     translates_to P c.args.query first mid last c.in_ok-clauses.clauses c.in-Clauses.known c.in_ok-all-in-Clauses.all c.requires.there c.in_ok-clauses.ensures.names
     (subst (λ (t : Translated). IsVisited P first mid c.in_ok-clauses.clauses t) c.in-Clauses.is c.in_ok-point.ensures.visits) c.in_ok-all-in-Clauses.ensures.names
+
+pub returns-in_err-point-clause-grows : goal.returns-in_err-point-clause-grows
+returns-in_err-point-clause-grows g c = Grows_trans (g.B.Bank.trees c.args.bank.now) (g.B.Bank.trees c.attacker_list.new.bank) (g.B.Bank.trees c.visited.new.bank) c.attacker_list.ensures.grows c.visited.ensures.grows
+
+pub returns-in-Large-clause-grows : goal.returns-in-Large-clause-grows
+returns-in-Large-clause-grows g c = Grows_trans (g.B.Bank.trees c.args.bank.now) (g.B.Bank.trees c.attacker_list.new.bank) (g.B.Bank.trees c.visited.new.bank) c.attacker_list.ensures.grows c.visited.ensures.grows
+
+pub returns-in_err-all-in-Clauses-clause-grows : goal.returns-in_err-all-in-Clauses-clause-grows
+returns-in_err-all-in-Clauses-clause-grows g c = Grows_trans (g.B.Bank.trees c.args.bank.now) (g.B.Bank.trees c.visited.new.bank) (g.B.Bank.trees c.with_goal.new.bank) (Grows_trans (g.B.Bank.trees c.args.bank.now) (g.B.Bank.trees c.attacker_list.new.bank) (g.B.Bank.trees c.visited.new.bank) c.attacker_list.ensures.grows c.visited.ensures.grows) c.with_goal.ensures.grows
+
+pub returns-in_ok-all-in-Clauses-clause-grows : goal.returns-in_ok-all-in-Clauses-clause-grows
+returns-in_ok-all-in-Clauses-clause-grows g c = Grows_trans (g.B.Bank.trees c.args.bank.now) (g.B.Bank.trees c.visited.new.bank) (g.B.Bank.trees c.with_goal.new.bank) (Grows_trans (g.B.Bank.trees c.args.bank.now) (g.B.Bank.trees c.attacker_list.new.bank) (g.B.Bank.trees c.visited.new.bank) c.attacker_list.ensures.grows c.visited.ensures.grows) c.with_goal.ensures.grows

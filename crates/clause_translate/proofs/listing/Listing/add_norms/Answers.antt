@@ -1,7 +1,7 @@
 use Rattle.clauses.specs.Norm.{norms}
 use Rattle.clause_form.specs.Seen.{clause_at}
 use Rattle.clause_translate.proofs.Listings.{appended, counted_alone}
-use Rattle.clause_translate.proofs.listing.Listing.add.Goals as goal
+use Rattle.clause_translate.proofs.listing.Listing.add_norms.Goals as goal
 
 pub returns-then-not-self-clause-adds : goal.returns-then-not-self-clause-adds
 returns-then-not-self-clause-adds g c =
