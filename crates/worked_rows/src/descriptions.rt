@@ -5,8 +5,6 @@ ghost use Rattle.pi_tree.specs.Protocols.{protocol_of};
 ghost use Rattle.pi_tree.specs.Accessors.{IsThere};
 ghost use Rattle.pi_tree.specs.declared.accessors.Kind.TheVariants.{Free, Ctor, Dtor, Event, Point};
 
-use crate::reading::protocol;
-use crate::settings::Setting;
 use pi_tree::{Kind, Process, Protocol, Query};
 use std::alloc::{AllocError, Global};
 
@@ -139,18 +137,10 @@ fn all_told(alloc: Global, protocol: &Protocol, kind: Kind) -> Result<String, Al
 }
 
 /// All that the protocol tells.
-fn protocol_text(alloc: Global, protocol: &Protocol) -> Result<String, AllocError> {
+pub fn description(alloc: Global, protocol: &Protocol) -> Result<String, AllocError> {
     let mut text = String::new(alloc);
     for kind in KINDS {
         text.push_str(all_told(alloc, protocol, kind)?.as_str())?;
     }
     Ok(text)
-}
-
-/// All that the protocol tells that the source spells, if it spells one.
-pub fn description(alloc: Global, setting: &Setting) -> Result<String, AllocError> {
-    match protocol(alloc, setting.source()) {
-        Some(protocol) => protocol_text(alloc, &protocol),
-        None => String::from_str(alloc, "no protocol"),
-    }
 }

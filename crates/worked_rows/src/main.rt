@@ -1,21 +1,22 @@
-//! Tables of worked rows: what comes of whole calls of the verifier, and of the calls below it, worked out by hand.
+//! Tables of worked rows that look at what no command line shows: calls of the verifier with faults of the outside and with
+//! sinks of their own, and values of the calls below it, worked out by hand. The rows of whole command lines stand in `rows/`
+//! at the top of the repository.
 //!
 //! The program reads each table that its words name, does what the rows say on files in memory, and compares what they
 //! show with what is expected. It writes each row that shows something else, and how many rows a table has.
 #![tactic(auto)]
 
-mod absences;
-mod beginnings;
 mod calls;
 mod descriptions;
 mod ends;
-mod reading;
-mod rows;
-mod settings;
+mod protocols;
+mod setting;
+mod table;
 mod texts;
+mod values;
 
 use row_tables::check;
-use settings::Setting;
+use setting::Setting;
 use std::process::ExitCode;
 
 fn main(rt: HostRuntime) -> ExitCode {
