@@ -1,20 +1,30 @@
 use super::*;
 use hv_io::{Files, LoadError, put_all};
-use std::test::Fail;
+
+/// Whether a load gives these bytes, which are five at most.
+fn gives(files: &mut DiskFiles, name: &str, bytes: &[u8]) -> bool {
+    files
+        .load(name, 5)
+        .is_ok_and(|loaded| loaded.as_slice() == bytes)
+}
+
+/// Whether a load fails, and not for want of memory.
+fn fails(files: &mut DiskFiles, name: &str) -> bool {
+    matches!(files.load(name, 5), Err(LoadError::Failed))
+}
 
 #[test]
-fn loads_from_the_disk(rt: HostRuntime) -> Result<(), Fail> {
+fn loads_from_the_disk(rt: HostRuntime) {
     let mut files = DiskFiles::new(rt);
-    assert_eq!(rt; files.load("/dev/zero", 5)?.as_slice(), [0; 5].as_slice());
-    assert_eq!(rt; files.load("/dev/null", 5)?.len(), 0);
+    assert!(rt; gives(&mut files, "/dev/zero", &[0; 5]));
+    assert!(rt; gives(&mut files, "/dev/null", b""));
     assert_eq!(rt; files.faults(), 0);
-    assert!(rt; matches!(files.load("/dev/null/none", 5), Err(LoadError::Failed)));
+    assert!(rt; fails(&mut files, "/dev/null/none"));
     assert_eq!(rt; files.faults(), 1);
-    Ok(())
 }
 
 #[test]
 fn writes_to_standard_output(rt: HostRuntime) {
     let mut out = StdSink::new(rt);
-    assert_eq!(rt; put_all(&mut out, b"query 1 proved\n"), Ok(()));
+    assert!(rt; put_all(&mut out, b"query 1 proved\n").is_ok());
 }
