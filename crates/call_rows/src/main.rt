@@ -3,14 +3,14 @@
 //! The program reads each table that its words name, and compares what the rows show with what they expect. It writes
 //! each row that shows something else, and how many rows a table has.
 //!
-//! What a table is about is told by its name (`tables`): files and what they spell (`files`), clauses and what comes of them
-//! (`clauses`), the logs of saturation (`logs`), and the texts of certificates and reports (`certificates`).
+//! What a table is about is told by its name (`tables`): files and what they spell (`file_rows`), clauses and what comes of them
+//! (`clause_rows`), the logs of saturation (`log_rows`), and the texts of certificates and reports (`certificate_rows`).
 #![tactic(auto)]
 
-mod certificates;
-mod clauses;
-mod files;
-mod logs;
+mod certificate_rows;
+mod clause_rows;
+mod file_rows;
+mod log_rows;
 mod tables;
 
 use row_tables::check;

@@ -1,9 +1,9 @@
 //! The tables, by the names of their files.
 
-use crate::certificates::settings::Setting;
-use crate::clauses::rows::ClauseRows;
-use crate::files::FileRows;
-use crate::logs::rows::LogRows;
+use crate::certificate_rows::settings::Setting;
+use crate::clause_rows::rows::ClauseRows;
+use crate::file_rows::FileRows;
+use crate::log_rows::rows::LogRows;
 use row_tables::{Line, Rows, named};
 use std::alloc::{AllocError, Global};
 

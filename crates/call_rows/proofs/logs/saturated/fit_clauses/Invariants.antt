@@ -1,5 +1,0 @@
-use Rattle.clause_saturate.specs.Fit.{AreFit}
-use Rattle.call_rows.proofs.logs.saturated.fit_clauses.Given as goal
-
-abbrev pub invariant-each : goal.invariant-each
-invariant-each l = AreFit l.bank l.given
