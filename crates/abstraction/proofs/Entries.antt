@@ -9,14 +9,13 @@ use Rattle.trees.proofs.Equality.{and_true}
 use Rattle.trees.proofs.Occurrence.{or_true}
 use Rattle.calculus.specs.Syntax.{Made, Process, New, Declared, Protocol}
 use Rattle.calculus.specs.Points.{numbered}
-use Rattle.calculus.specs.Values.{Atom, FreeName, MadeName, AttackerName, Value, Binding, Environment}
-use Rattle.calculus.specs.Runs.{Thread, At, Ended, Configuration, Step, Build, Reduce, Part, Fresh, Split, Copy, Make, Pass, Hear, Say, Take, Fail, Mark, goes_on, after_make, public_name, start, acting, after_step, after_steps, run}
+use Rattle.calculus.specs.Values.{Atom, FreeName, MadeName, AttackerName, Binding, Environment}
+use Rattle.calculus.specs.Runs.{At, Configuration, Step, Build, Reduce, Part, Fresh, Split, Copy, Make, Pass, Hear, Say, Take, Fail, Mark, goes_on, after_make, public_name, start, acting, after_step, after_steps, run}
 use Rattle.calculus.specs.Runs as runs
-use Rattle.calculus.specs.Standing.{Lacks, EnvironmentLacks, ThreadLacks, EventLacks, IsLacking}
-use Rattle.calculus.proofs.Items.{each-append, each-replaced, each-weaker, each-numbered, if_some-is}
-use Rattle.calculus.proofs.Leaves.{some_leaf-weaker}
+use Rattle.calculus.specs.Standing.{Lacks, EnvironmentLacks, ThreadLacks, IsLacking}
+use Rattle.calculus.proofs.Items.{each-append, each-replaced, each-numbered, if_some-is}
 use Rattle.calculus.proofs.Lacking.{MakesNone, step_lacks}
-use Rattle.calculus.proofs.Freshness.{none_passes}
+use Rattle.calculus.proofs.Freshness.{none_passes, lacking_weaker}
 use Rattle.clauses.specs.Inclusion.{here, there, Has}
 use Rattle.abstraction.specs.Trace.{MadeAt, Trace, start_trace, past_of, message_at, point_of, standing_at, after_trace, trace_from, trace_of}
 pub use Rattle.abstraction.specs.OneToOne.{is_entry, is_foreign}
@@ -31,21 +30,6 @@ more_entries e made (MadeName point number) h = go (is_entry point number e) (li
   go true b k = refl
   go false b k = k
 more_entries e made (AttackerName n) h = refl
-
-module _ (p q : Atom → Bool) (weaker : (x : Atom) → p x ≡ false → q x ≡ false) where
-  value_weaker : (v : Value) → Lacks p v → Lacks q v
-  value_weaker v h = some_leaf-weaker p q weaker v h
-
-  thread_weaker : (thread : Thread) → ThreadLacks p thread → ThreadLacks q thread
-  thread_weaker (At point environment) h = each-weaker (λ b. Lacks p b.value) (λ b. Lacks q b.value) (λ b k. value_weaker b.value k) environment h
-  thread_weaker Ended h = tt
-
-  lacking_weaker : (c : Configuration) → IsLacking p c → IsLacking q c
-  lacking_weaker c h = record {
-    known = each-weaker (Lacks p) (Lacks q) value_weaker c.known h.known;
-    threads = each-weaker (ThreadLacks p) (ThreadLacks q) thread_weaker c.threads h.threads;
-    events = each-weaker (EventLacks p) (EventLacks q) (λ e k. each-weaker (Lacks p) (Lacks q) value_weaker e.arguments k) c.events h.events;
-  }
 
 module _ (P : Protocol) where
   -- a step that makes no name of a restriction

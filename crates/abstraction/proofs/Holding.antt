@@ -5,6 +5,7 @@ use Rattle.std.specs.Option.{IfSome}
 use Rattle.std.specs.List.{AllByRecursion}
 use Rattle.calculus.specs.Syntax.{Process, Nil, Output, Input, Parallel, Replication, New, Let, Event, Query, Protocol}
 use Rattle.calculus.specs.Points.{point_after}
+use Rattle.calculus.specs.Bounds.{most_visits}
 use Rattle.terms.specs.Term.{Term}
 use Rattle.clauses.specs.Fact.{Ev, Clause}
 use Rattle.clauses.specs.Variables.{AreBelow}
@@ -18,7 +19,7 @@ use Rattle.translation.specs.Visit.{Visit, visit_terms, first_visit, is_large_vi
 use Rattle.translation.specs.Choice.{AllGoOn}
 use Rattle.translation.specs.Course.{Outcome, Done, TooLarge, Course, Counted, Unless, preceded, After, Then, Adds}
 use Rattle.translation.specs.Visited.{some_large, EachThen, Copied, Received, Chosen, Visited}
-use Rattle.translation.specs.Translation.{Clauses, attacker_clauses, goal_clauses, whole, most_visits, IsTranslation}
+use Rattle.translation.specs.Translation.{Clauses, attacker_clauses, goal_clauses, whole, IsTranslation}
 use Rattle.abstraction.specs.Taken.{IsTaken, HasVisit, HoldsAll}
 
 -- each clause of the one list stands in the other

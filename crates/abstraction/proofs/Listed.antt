@@ -6,20 +6,13 @@ use Rattle.terms.specs.Term.{Term}
 use Rattle.clauses.specs.Fact.{Fact, Clause, fact_under}
 use Rattle.clauses.specs.Flat.{flat, flat_under, flat_parts}
 use Rattle.clauses.specs.Norm.{norm, norms}
-use Rattle.clauses.specs.Inclusion.{Picks, here, there, Has}
-use Rattle.clauses.proofs.Inclusion.{Has-filter_map, Has-flat_map_source, pick-map}
+use Rattle.clauses.specs.Inclusion.{Has}
+use Rattle.clauses.proofs.Inclusion.{all_has, Has-filter_map, Has-flat_map_source, pick-map}
 use Rattle.clauses.proofs.FlatUnder.{flat_parts-flat, flat_under-flat, flat_under-flats}
 use Rattle.derivations.specs.Derivation.{Instance, AreDerived, nothing, allowed, by_clause, Derive}
 use Rattle.derivations.proofs.Forest.{cut, join, less}
 use Rattle.derivations.proofs.NormLaw.{norm_law}
 use Rattle.abstraction.specs.Taken.{IsTaken}
-
--- what holds of each item holds of one that the list has
-pub all_has : {X : Type 0} (P : X → Type 0) (xs : List X) (x : X) → AllByRecursion P xs → Has xs x → P x
-all_has {X} P xs x all h = of_pick h.1 all where
-  of_pick : {ys rest : List X} {y : X} → Picks ys y rest → AllByRecursion P ys → P y
-  of_pick here all = all.0
-  of_pick (there p) all = of_pick p all.1
 
 -- a derived fact beside derived facts
 pub beside : (IsRule : Clause Term → Type 0) (events fs gs : List (Fact Term)) → AreDerived IsRule events fs → AreDerived IsRule events gs → AreDerived IsRule events (fs ++ gs)

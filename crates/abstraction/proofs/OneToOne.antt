@@ -15,7 +15,7 @@ use Rattle.translation.specs.Conversion.{name_term, row_length, symbol_over, con
 use Rattle.abstraction.specs.Trace.{MadeAt, trace_of}
 use Rattle.abstraction.specs.Naming.{atom_term, abstracted, made_term, Names, naming}
 use Rattle.abstraction.specs.OneToOne.{is_foreign, AreOnce, IsOneToOne}
-use Rattle.abstraction.proofs.Listed.{all_has}
+use Rattle.clauses.proofs.Inclusion.{all_has}
 use Rattle.abstraction.proofs.Older.{runs_are_named}
 use Rattle.abstraction.proofs.Entries.{found_entry}
 use Rattle.abstraction.proofs.Once.{runs_make_once}

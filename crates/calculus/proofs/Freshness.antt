@@ -24,7 +24,7 @@ module _ (p q : Atom → Bool) (weaker : (x : Atom) → p x ≡ false → q x �
   thread_weaker (At point environment) h = each-weaker (λ b. Lacks p b.value) (λ b. Lacks q b.value) (λ b k. value_weaker b.value k) environment h
   thread_weaker Ended h = tt
 
-  lacking_weaker : (c : Configuration) → IsLacking p c → IsLacking q c
+  pub lacking_weaker : (c : Configuration) → IsLacking p c → IsLacking q c
   lacking_weaker c h = record {
     known = each-weaker (Lacks p) (Lacks q) value_weaker c.known h.known;
     threads = each-weaker (ThreadLacks p) (ThreadLacks q) thread_weaker c.threads h.threads;

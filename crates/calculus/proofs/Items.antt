@@ -67,3 +67,11 @@ each-numbered P xs (suc k) h = each-slice_get P xs k h
 pub each-replaced : {A : Type 0} (P : A → Type 0) (xs : List A) (n : ℕ) (x : A) → P x → AllByRecursion P xs → AllByRecursion P (replaced xs n x)
 each-replaced P xs zero x here h = h
 each-replaced P xs (suc k) x here h = each-slice_set P xs k x here h
+
+-- past the end of a list there is no item
+pub numbered-past : {A : Type 0} (xs : List A) (number : ℕ) → length xs < number → numbered xs number ≡ None
+numbered-past xs zero past = absurd (omega (arith, past))
+numbered-past [] (suc zero) past = refl
+numbered-past [] (suc (suc n)) past = refl
+numbered-past (x ∷ xs) (suc zero) past = absurd (omega (arith, past))
+numbered-past (x ∷ xs) (suc (suc n)) past = numbered-past xs (suc n) (omega (arith, past))

@@ -1,5 +1,6 @@
 -- Leaves that pass a test.
 use Rattle.std.proofs.Common.{◌≡◌, Bool, true, false, ◌||◌, refl, inl, inr}
+use Rattle.std.proofs.lemmas.Bool.{or_left, or_right}
 use Rattle.trees.specs.Tree.{Tree, Trees, Leaf, Node, none, more, some_leaf, some_leaves}
 use Rattle.trees.proofs.Occurrence.{or_false, or_true}
 
@@ -24,14 +25,6 @@ StandsIn {L} x t = (q : L → Bool) → q x ≡ true → some_leaf q t ≡ true
 
 abbrev pub StandsAmong : {L S : Type 0} → L → Trees L S → Type 0
 StandsAmong {L} x ts = (q : L → Bool) → q x ≡ true → some_leaves q ts ≡ true
-
-or_left : (a b : Bool) → a ≡ true → (a || b) ≡ true
-or_left true b h = refl
-or_left false b h = cc
-
-or_right : (a b : Bool) → b ≡ true → (a || b) ≡ true
-or_right true b h = refl
-or_right false b h = h
 
 -- where a test finds a leaf, a leaf that passes it stands in the tree
 mutual

@@ -20,7 +20,7 @@ same_values-sound vs ws h = trees-injective vs ws (same_trees-sound same_atom sa
 pub same_values-refl : (vs : List Value) → same_values vs vs ≡ true
 same_values-refl vs = same_trees-refl same_atom same_symbol same_atom-refl same_symbol-refl (trees vs)
 
-same_name-sound : (x y : Name) → same_name x y ≡ true → x ≡ y
+pub same_name-sound : (x y : Name) → same_name x y ≡ true → x ≡ y
 same_name-sound (Free m) (Free n) h = ap Free (eqb-true m n h)
 same_name-sound (Free m) (Made q) h = cc
 same_name-sound (Free m) (Variable j) h = cc

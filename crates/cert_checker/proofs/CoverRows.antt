@@ -10,7 +10,7 @@ use Rattle.clauses.specs.Subsumption.{RowHolds}
 use Rattle.certificates.specs.Certificate.{CoverRowHolds}
 use Rattle.term_tree.specs.declared.bank.Id.{Id}
 use Rattle.clause_form.specs.Seen.{clause_at}
-use Rattle.cert_checker.specs.Answers.{clauses_at}
+use Rattle.clause_form.specs.Fit.{clauses_at}
 use Rattle.cert_checker.proofs.Fitting.{clause_at_index}
 
 numbered_at_index : {A : Type 0} (xs : List A) (number index : ℕ) → number ≡ index + 1 → numbered xs number ≡ slice_get xs index

@@ -14,7 +14,7 @@ use Rattle.term_tree.specs.declared.bank.Id.{Id}
 use Rattle.clause_form.specs.Seen.{clause_at}
 use Rattle.clause_resolve.specs.Low.{HasLowVariables}
 use Rattle.clause_resolve.specs.Answers.{Gives}
-use Rattle.cert_checker.specs.Answers.{IsFit}
+use Rattle.clause_form.specs.Fit.{IsFit}
 use Rattle.cert_checker.specs.Stages.{AreShown, FirstUnshown, AreClosed, FirstOpen}
 
 module _ (clauses : List (Clause Term)) (i j : Numbered) where

@@ -20,14 +20,15 @@ use Rattle.clause_resolve.specs.declared.resolving.Resolved.{Resolved}
 use Rattle.clause_resolve.specs.declared.resolving.Resolved.TheVariants as resolved_so
 use Rattle.cert_checker.specs.Stages.{AreShown, FirstUnshown, AreClosed, FirstOpen}
 use Rattle.cert_checker.specs.Rulings.{ruling_of}
-use Rattle.cert_checker.specs.Answers.{AreFit, clauses_at, numbered_at, where_shown, IsShownSo, IsClosedSo, pairs_of_two, pairs_with_all, pairs_if_solved, pair_at, pairs_at, pairs_at_solved}
+use Rattle.clause_form.specs.Fit.{AreFit, clauses_at}
+use Rattle.cert_checker.specs.Answers.{numbered_at, where_shown, IsShownSo, IsClosedSo, pairs_of_two, pairs_with_all, pairs_if_solved, pair_at, pairs_at, pairs_at_solved}
 use Rattle.cert_checker.specs.declared.ruling.Ruling.{Ruling}
 use Rattle.cert_checker.specs.declared.ruling.Ruling.TheVariants as rulings
 use Rattle.cert_checker.specs.declared.ruling.Shown as shown
 use Rattle.cert_checker.specs.declared.ruling.Shown.TheVariants as shown_so
 use Rattle.cert_checker.specs.declared.ruling.Closed as closed
 use Rattle.cert_checker.specs.declared.ruling.Closed.TheVariants as closed_so
-use Rattle.cert_checker.proofs.Fitting.{resolvents_fit}
+use Rattle.clause_form.proofs.Fit.{resolvents_fit}
 use Rattle.cert_checker.proofs.Pairing.{none_due, no_unifier, too_large, all_covered, one_uncovered}
 use Rattle.cert_checker.proofs.Walking.{with_number, clause_at_place, none_ahead, IsPassed, pass_begins, pass_goes_on, pass_fails, pass_ends}
 

@@ -5,7 +5,7 @@ use Rattle.calculus.specs.Points.{numbered}
 use Rattle.well_formed.specs.Rules.{HasProperRules}
 use Rattle.well_formed.specs.Queries.{HasQueryLeaves, HasProperQueries}
 use Rattle.well_formed.specs.WellFormed.{IsWellScoped}
-use Rattle.soundness.specs.Shown.{IsProper}
+use Rattle.certificates.specs.Shown.{IsProper}
 use Rattle.query_derive.proofs.Deciding.{query_has}
 use Rattle.clause_translate.proofs.Linear.{linear_patterns}
 

@@ -22,7 +22,8 @@ use Rattle.cert_checker.specs.Stages.{AreInShape, FirstMisshapen}
 use Rattle.cert_checker.specs.Reached.{clauses_of, HasShapes, IsTranslatedTo, HasCovered, HasClosed}
 use Rattle.cert_checker.specs.Rulings.{ruling_of}
 use Rattle.cert_checker.specs.Shaping.{AreShaped}
-use Rattle.cert_checker.specs.Answers.{AreFit, clauses_at, numbered_at, IsShownSo, IsClosedSo}
+use Rattle.clause_form.specs.Fit.{AreFit, clauses_at}
+use Rattle.cert_checker.specs.Answers.{numbered_at, IsShownSo, IsClosedSo}
 use Rattle.cert_checker.specs.declared.ruling.Ruling.{Ruling}
 use Rattle.cert_checker.specs.declared.ruling.Shown as shown
 use Rattle.cert_checker.specs.declared.ruling.Shown.TheVariants as shown_so
@@ -31,7 +32,8 @@ use Rattle.cert_checker.specs.declared.ruling.Closed.TheVariants as closed_so
 use Rattle.cert_checker.specs.declared.shaping.Shaped.{Shaped}
 use Rattle.cert_checker.specs.declared.shaping.Shaped.TheVariants as shaped_so
 use Rattle.cert_checker.proofs.Composing.{shape_fails, translation_large, cover_fails, closure_fails}
-use Rattle.cert_checker.proofs.Fitting.{named_fit, shaped_fit}
+use Rattle.clause_form.proofs.Fit.{named_fit}
+use Rattle.cert_checker.proofs.Fitting.{shaped_fit}
 
 -- The clauses of a certificate over a bank.
 module _ (P : Protocol) (q : Query) (cert : Certificate) (all : List Term) (cs : List (Clause Id)) (are : clauses_at all cs ≡ cert.clauses) where

@@ -2,12 +2,10 @@
 use Rattle.std.specs.Prelude.{ℕ, ◌+◌, Option, Some, None, List, [], ◌∷◌, map, drop, slice_get, flat_map}
 use Rattle.terms.specs.Term.{Term}
 use Rattle.clauses.specs.Fact.{Clause}
-use Rattle.clauses.specs.Norm.{IsNormal}
-use Rattle.clauses.specs.Limits.{IsWithinLimit}
 use Rattle.clauses.specs.Selection.{select}
 use Rattle.certificates.specs.Certificate.{Numbered, numbered_from, Pair, pairs_with, pairs_of_solved}
 use Rattle.term_tree.specs.declared.bank.Id.{Id}
-use Rattle.clause_form.specs.Seen.{clause_at, IsClauseIn}
+use Rattle.clause_form.specs.Fit.{clauses_at}
 use Rattle.cert_checker.specs.Stages.{Shows, AreShown, FirstUnshown, AreClosed, FirstOpen}
 use Rattle.cert_checker.specs.Rulings.{ruling_of}
 use Rattle.cert_checker.specs.declared.ruling.Ruling.TheVariants as rulings
@@ -15,20 +13,6 @@ use Rattle.cert_checker.specs.declared.ruling.Shown as shown
 use Rattle.cert_checker.specs.declared.ruling.Shown.TheVariants as shown_so
 use Rattle.cert_checker.specs.declared.ruling.Closed as closed
 use Rattle.cert_checker.specs.declared.ruling.Closed.TheVariants as closed_so
-
--- the ids name a clause that is its own norm within the limit of size
-pub record IsFit (all : List Term) (c : Clause Id) : Type 0 where
-  pub known : IsClauseIn all c
-  pub normal : IsNormal (clause_at all c)
-  pub small : IsWithinLimit (clause_at all c)
-
-abbrev pub AreFit : List Term → List (Clause Id) → Type 0
-AreFit all [] = Unit {0}
-AreFit all (c ∷ cs) = IsFit all c × AreFit all cs
-
--- the clauses that the ids name
-abbrev pub clauses_at : List Term → List (Clause Id) → List (Clause Term)
-clauses_at all cs = map (clause_at all) cs
 
 -- with their numbers
 abbrev pub numbered_at : List Term → List (Clause Id) → List Numbered

@@ -14,7 +14,7 @@ ghost use Rattle.query_derive.specs.GoalRows.{OfQuery};
 ghost use Rattle.cert_checker.specs.Reached.{HasShapes};
 ghost use Rattle.cert_checker.specs.declared.ruling.Ruling.TheVariants.{Accepted};
 ghost use Rattle.cert_checker.specs.Rulings.{ruling_of};
-ghost use Rattle.cert_checker.specs.Answers.{AreFit, clauses_at};
+ghost use Rattle.clause_form.specs.Fit.{AreFit, clauses_at};
 ghost use Rattle.cert_checker.specs.Sufficing.{SolvedOnesSuffice};
 
 use crate::accepted_certificates_suffice;
@@ -24,7 +24,7 @@ use crate::judging::judge;
 use crate::ruling::Ruling;
 use crate::shaping::{Shaped, look_at_shapes};
 use cert_text::Cert;
-use certificates::accepted_queries_hold;
+use soundness::accepted_queries_hold;
 use clause_translate::{Translated, translate};
 use pi_tree::Protocol;
 use std::alloc::{AllocError, Global};

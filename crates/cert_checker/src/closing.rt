@@ -7,7 +7,8 @@ ghost use Rattle.term_tree.specs.declared.bank.Id.{Id};
 ghost use Rattle.clause_resolve.specs.Apart.{IsSelectedAt};
 ghost use Rattle.clause_form.specs.Seen.{clause_at};
 ghost use Rattle.cert_checker.specs.declared.ruling.Shown.TheVariants as shown_so;
-ghost use Rattle.cert_checker.specs.Answers.{AreFit, clauses_at, numbered_at, where_shown};
+ghost use Rattle.clause_form.specs.Fit.{AreFit, clauses_at};
+ghost use Rattle.cert_checker.specs.Answers.{numbered_at, where_shown};
 ghost use Rattle.cert_checker.specs.Answers.{IsClosedSo, pair_at, pairs_at, pairs_at_solved};
 
 use crate::checker::Checker;
@@ -19,7 +20,7 @@ use std::alloc::AllocError;
 use term_tree::Bank;
 
 /// The places, from 0, of a solved clause and of an unsolved one.
-#[derive(Clone, Copy, Debug)]
+#[derive(Clone, Copy)]
 pub(crate) struct Pair {
     pub solved: usize,
     pub unsolved: usize,

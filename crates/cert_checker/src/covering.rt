@@ -5,7 +5,8 @@ ghost use Rattle.certificates.specs.Certificate.{CoverRowHolds, numbered_from};
 ghost use Rattle.clauses.specs.Limits.{IsWithinLimit};
 ghost use Rattle.clause_form.specs.Seen.{clause_at, IsClauseIn};
 ghost use Rattle.cert_checker.specs.Stages.{NextShows};
-ghost use Rattle.cert_checker.specs.Answers.{AreFit, clauses_at, IsShownSo};
+ghost use Rattle.clause_form.specs.Fit.{AreFit, clauses_at};
+ghost use Rattle.cert_checker.specs.Answers.{IsShownSo};
 
 use crate::checker::Checker;
 use crate::ruling::Shown;

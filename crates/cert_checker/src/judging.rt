@@ -11,7 +11,7 @@ ghost use Rattle.pi_tree.specs.declared.accessors.Kind.TheVariants.{Query as OfQ
 ghost use Rattle.query_derive.specs.GoalRows.{OfQuery};
 ghost use Rattle.cert_checker.specs.Reached.{IsTranslatedTo, HasCovered, HasClosed};
 ghost use Rattle.cert_checker.specs.Rulings.{ruling_of};
-ghost use Rattle.cert_checker.specs.Answers.{AreFit, clauses_at};
+ghost use Rattle.clause_form.specs.Fit.{AreFit, clauses_at};
 
 use crate::checker::Checker;
 use crate::closing::are_closed;

@@ -2,7 +2,7 @@
 
 /// What is ruled of a certificate: that it is accepted, or the first obligation that isn't met. Clauses, resolvents and rows
 /// are numbered from 1.
-#[derive(Clone, Copy, PartialEq, Eq, Debug)]
+#[derive(Clone, Copy)]
 pub enum Ruling {
     /// All obligations are met, and no row is left.
     Accepted,
@@ -23,7 +23,7 @@ pub enum Ruling {
 }
 
 /// What rows show of clauses.
-#[derive(Clone, Copy, Debug)]
+#[derive(Clone, Copy)]
 pub(crate) enum Shown {
     /// Each clause is shown by a row, and the rows from this place on are left.
     All(usize),
@@ -32,7 +32,7 @@ pub(crate) enum Shown {
 }
 
 /// What rows show of pairs of clauses.
-#[derive(Clone, Copy, Debug)]
+#[derive(Clone, Copy)]
 pub(crate) enum Closed {
     /// The resolvents of each pair are covered, and the rows from this place on are left.
     All(usize),

@@ -13,7 +13,8 @@ ghost use Rattle.clause_form.specs.Facts.{fact_of};
 ghost use Rattle.clause_form.specs.Seen.{fact_at, clause_at, IsClauseIn};
 ghost use Rattle.query_derive.specs.GoalRows.{OfQuery};
 ghost use Rattle.cert_checker.specs.Stages.{NextShows};
-ghost use Rattle.cert_checker.specs.Answers.{AreFit, numbered_at, IsShownSo};
+ghost use Rattle.clause_form.specs.Fit.{AreFit};
+ghost use Rattle.cert_checker.specs.Answers.{numbered_at, IsShownSo};
 
 use crate::checker::Checker;
 use crate::ruling::Shown;

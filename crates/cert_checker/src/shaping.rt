@@ -64,6 +64,7 @@ pub(crate) fn look_at_shapes<B: Bank>(
     'each: for (k, plain) in clauses.items.iter().enumerate() {
         let clause = copy_into(alloc, bank, plain)?;
         if !is_shaped(bank, &clause, arguments) {
+            drop(clause);
             return Ok(Shaped::Except(k as u64 + 1));
         }
         made.push(clause)?;

@@ -15,7 +15,7 @@ use pi_tree::Protocol;
 use std::alloc::Global;
 
 /// What a report claims of a query.
-#[derive(Debug, Drop)]
+#[derive(Drop)]
 pub enum Claim {
     /// It is proved, as this certificate is to show.
     Proved(Cert),
@@ -26,7 +26,7 @@ pub enum Claim {
 }
 
 /// Claims in order, one for each query.
-#[derive(Debug, Drop)]
+#[derive(Drop)]
 pub struct Claims {
     pub items: Vec<Claim>,
 }

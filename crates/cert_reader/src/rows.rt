@@ -11,7 +11,7 @@ use fact_reader::{CertError, fixed, front, number_at};
 use std::alloc::Global;
 
 /// The numbers of a row.
-#[derive(Debug, Drop)]
+#[derive(Drop)]
 struct Numbers {
     items: Vec<u32>,
 }

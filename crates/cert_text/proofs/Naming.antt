@@ -3,6 +3,7 @@ use Rattle.std.proofs.Common.{◌≡◌, ℕ, zero, suc, ◌+◌, ◌<◌, List,
 use Rattle.std.proofs.lemmas.Option.{slice_get-map, slice_get_read}
 use Rattle.calculus.specs.Syntax as calculus
 use Rattle.calculus.specs.Points.{numbered, nodes}
+use Rattle.calculus.proofs.Items.{numbered-past}
 use Rattle.pi_tree.specs.declared.names.Declared.{Declared}
 use Rattle.pi_tree.specs.Names.{declared_of}
 use Rattle.certificate_text.specs.Words.{declared_word, word_at, word_of_process}
@@ -27,13 +28,6 @@ pub ruleset by_number = (declared_at, declared_past)
 -- the word at a node
 pub at_node : (P : calculus.Protocol) (point : ℕ) (node : calculus.Process) (word : List ℕ) → numbered (nodes P.main) point ≡ Some node → word ≡ word_of_process node → word ≡ word_at P point
 at_node P point node word there is = is ∙ sym (ap (λ o. unwrap_or (option_map word_of_process o) []) there)
-
-numbered-past : {A : Type 0} (xs : List A) (number : ℕ) → length xs < number → numbered xs number ≡ None
-numbered-past xs zero past = absurd (omega (arith, past))
-numbered-past [] (suc zero) past = refl
-numbered-past [] (suc (suc n)) past = refl
-numbered-past (x ∷ xs) (suc zero) past = absurd (omega (arith, past))
-numbered-past (x ∷ xs) (suc (suc n)) past = numbered-past xs (suc n) (omega (arith, past))
 
 pub past_nodes : (P : calculus.Protocol) (point : ℕ) → length (nodes P.main) < point → [] ≡ word_at P point
 past_nodes P point past = sym (ap (λ o. unwrap_or (option_map word_of_process o) []) (numbered-past (nodes P.main) point past))

@@ -12,11 +12,10 @@ use Rattle.clauses.specs.Fact.{Clause}
 use Rattle.clause_form.specs.Seen.{AreClausesIn}
 use Rattle.query_derive.specs.GoalRows.{OfQuery}
 use Rattle.clause_saturate.specs.declared.log.Entry.{Entry}
-use Rattle.clause_saturate.specs.Fit.{AreFit}
+use Rattle.clause_form.specs.Fit.{AreFit, clauses_at}
 use Rattle.clause_saturate.specs.Logs.{IsClosedLog}
 use Rattle.clause_saturate.specs.Beating.{clauses_of}
 use Rattle.cert_writer.specs.Living.{live_ids}
-use Rattle.cert_writer.specs.Adding.{clauses_at}
 use Rattle.cert_writer.proofs.Telling.{translation_fit, log_fit, live_fit}
 use Rattle.cert_writer.proofs.Verdicts.{query_there, query_small}
 

@@ -1,5 +1,5 @@
 -- The clauses that ids name, place by place.
-use Rattle.std.proofs.Common.{◌≡◌, ℕ, suc, ◌<◌, ◌≤◌, Option, Some, None, List, [], ◌∷◌, length, get_or, map, subst, arith}
+use Rattle.std.proofs.Common.{◌≡◌, ℕ, suc, ◌<◌, ◌≤◌, Option, Some, None, List, [], ◌∷◌, length, get_or, subst, arith}
 use Rattle.std.specs.Prelude.{slice_get, MatchOption}
 use Rattle.std.proofs.lemmas.List.{length-map}
 use Rattle.terms.specs.Term.{Term}
@@ -11,9 +11,8 @@ use Rattle.saturation.proofs.Pairs.{has_numbered}
 use Rattle.verdicts.proofs.Building.{numbers_length}
 use Rattle.term_tree.specs.declared.bank.Id.{Id}
 use Rattle.clause_form.specs.Seen.{clause_at}
-use Rattle.clause_saturate.specs.Fit.{AreFit}
+use Rattle.clause_form.specs.Fit.{AreFit, clauses_at}
 use Rattle.clause_saturate.proofs.Fitting.{numbered_given}
-use Rattle.cert_writer.specs.Adding.{clauses_at}
 
 module _ (all : List Term) (cs : List (Clause Id)) where
   pub item_at : (i : ℕ) (c : Clause Id) → c ≡ get_or cs i c → i < length cs → slice_get (clauses_at all cs) i ≡ Some (clause_at all c)

@@ -1,20 +1,18 @@
 -- What a pair of live clauses gives, in a bank that goes back.
-use Rattle.std.proofs.Common.{◌≡◌, ◌∙◌, ℕ, true, Some, None, List, length, map, take, refl, ap, sym, subst}
+use Rattle.std.proofs.Common.{◌≡◌, ℕ, true, List, refl, subst}
 use Rattle.terms.specs.Term.{Term}
 use Rattle.clauses.specs.Fact as horn
-use Rattle.clauses.specs.Selection.{select, is_solved}
+use Rattle.clauses.specs.Selection.{is_solved}
 use Rattle.clauses.specs.Resolvents as answer
 use Rattle.clauses.specs.Inclusion.{Has}
 use Rattle.saturation.specs.Live.{MustBeCovered}
-use Rattle.term_tree.specs.Bank.{Grows}
 use Rattle.term_tree.specs.declared.bank.Id.{Id}
-use Rattle.clause_form.specs.Seen.{clause_at, NameClauses}
-use Rattle.clause_resolve.specs.Answers.{Gives, IsAnswerOf}
+use Rattle.clause_resolve.specs.Answers.{IsAnswerOf}
 use Rattle.clause_resolve.specs.declared.resolving.Resolved.{Resolved}
 use Rattle.clause_resolve.specs.declared.resolving.Resolved.TheVariants.{NoUnifier, Large, Clauses}
-use Rattle.clause_saturate.specs.Fit.{AreFit}
-use Rattle.clause_saturate.proofs.Fitting.{resolvents_fit}
-use Rattle.cert_writer.specs.Adding.{clauses_at, AddsRows, AddsPairs, pairs_of_two, MustClose}
+use Rattle.clause_form.specs.Fit.{AreFit, clauses_at}
+use Rattle.clause_form.proofs.Fit.{resolvents_fit}
+use Rattle.cert_writer.specs.Adding.{AddsRows, AddsPairs, pairs_of_two, MustClose}
 use Rattle.cert_writer.proofs.Adding.{pair_adds, pair_apart, pair_large}
 
 module _ (now : List Term) (clauses : List (horn.Clause Term)) (solved unsolved : horn.Clause Term) (found : Resolved) (told : IsAnswerOf now solved unsolved found) where

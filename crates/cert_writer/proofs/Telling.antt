@@ -1,5 +1,5 @@
 -- What entries that tell a closed log have of it: fit clauses, its live clauses, and the first entry that is unmet.
-use Rattle.std.proofs.Common.{◌≡◌, ◌∙◌, ◌⊎◌, ℕ, zero, suc, ◌+◌, ◌<◌, ◌≤◌, ◌^◌, Bool, true, false, ◌&&◌, cond, Option, Some, None, List, [], ◌∷◌, map, length, refl, ap, sym, subst, inl, inr, arith}
+use Rattle.std.proofs.Common.{◌≡◌, ◌∙◌, ℕ, zero, suc, ◌<◌, ◌≤◌, Bool, true, false, ◌&&◌, cond, Option, Some, None, List, [], ◌∷◌, map, length, refl, ap, sym, subst, arith}
 use Rattle.std.specs.Prelude.{slice_get, drop, filter}
 use Rattle.std.proofs.lemmas.List.{length-map}
 use Rattle.std.proofs.lemmas.Simd.{map-map}
@@ -17,7 +17,7 @@ use Rattle.translation.specs.Satisfied.{is_bad, IsSatisfied}
 use Rattle.translation.specs.Translation.{Clauses, IsTranslation}
 use Rattle.certificates.specs.Certificate.{IsInShape}
 use Rattle.saturation.specs.Key as offered
-use Rattle.saturation.specs.Log.{IsBeaten, IsLive}
+use Rattle.saturation.specs.Log.{IsBeaten}
 use Rattle.saturation.specs.End as ending
 use Rattle.saturation.specs.End.{IsLog}
 use Rattle.verdicts.specs.Verdict.{IsUnmet, IsFirstUnmet}
@@ -25,12 +25,11 @@ use Rattle.verdicts.proofs.Entries.{given_shape, entries_shape}
 use Rattle.term_tree.specs.declared.bank.Id.{Id}
 use Rattle.clause_form.specs.Seen.{clause_at, AreClausesIn}
 use Rattle.clause_saturate.specs.declared.log.Entry.{Entry}
-use Rattle.clause_saturate.specs.Fit.{IsFit, AreFit}
+use Rattle.clause_form.specs.Fit.{AreFit}
 use Rattle.clause_saturate.specs.Logs.{TellsEntry, TellEntries, TellLog, IsFirstSubsumer, is_unbeaten, live_clauses}
 use Rattle.clause_saturate.specs.Beating.{clauses_of}
 use Rattle.clause_saturate.proofs.Telling.{unbeaten_none, none_unbeaten}
 use Rattle.cert_writer.specs.Living.{live_ids}
-use Rattle.cert_writer.specs.Adding.{clauses_at}
 use Rattle.cert_writer.specs.Goals.{is_due_at, IsUnmetEntry, IsFirstUnmetEntry}
 
 module _ (all : List Term) where

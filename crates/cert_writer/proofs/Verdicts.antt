@@ -1,5 +1,5 @@
 -- What is written of a closed log is its verdict.
-use Rattle.std.proofs.Common.{◌≡◌, ◌∙◌, ℕ, zero, suc, ◌<◌, ◌≤◌, Some, List, [], ◌∷◌, length, refl, ap, sym, subst, inl, inr, arith}
+use Rattle.std.proofs.Common.{◌≡◌, ◌∙◌, ℕ, zero, suc, ◌<◌, ◌≤◌, Some, List, [], ◌∷◌, length, refl, sym, subst, inr, arith}
 use Rattle.std.specs.Prelude.{slice_get}
 use Rattle.std.specs.List.{AllByRecursion}
 use Rattle.calculus.specs.Syntax.{Query, Protocol}
@@ -13,17 +13,16 @@ use Rattle.translation.proofs.Goal.{clauses_normal}
 use Rattle.certificates.specs.Certificate.{Certificate}
 use Rattle.saturation.specs.Key as offered
 use Rattle.saturation.specs.Live.{AreLive, MustBeCovered, MeetsCovers}
-use Rattle.saturation.specs.End as ending
-use Rattle.saturation.specs.End.{IsLog}
 use Rattle.saturation.proofs.Pairs.{closed_covers}
 use Rattle.verdicts.specs.FirstRows.{AreFirstGoals, bad_clauses}
-use Rattle.verdicts.specs.Verdict.{Proved, Unmet, IsProved, IsVerdict}
+use Rattle.verdicts.specs.Verdict.{Proved, Unmet, IsVerdict}
 use Rattle.term_tree.specs.declared.bank.Id.{Id}
 use Rattle.clause_saturate.specs.declared.log.Entry.{Entry}
 use Rattle.clause_saturate.specs.Logs.{TellLog, IsClosedLog, live_clauses}
 use Rattle.clause_saturate.proofs.Living.{tell_live}
 use Rattle.cert_writer.specs.Living.{live_ids}
-use Rattle.cert_writer.specs.Adding.{clauses_at, MustClose, AreRowsOf}
+use Rattle.clause_form.specs.Fit.{clauses_at}
+use Rattle.cert_writer.specs.Adding.{MustClose, AreRowsOf}
 use Rattle.cert_writer.specs.Goals.{IsFirstUnmetEntry}
 use Rattle.cert_writer.specs.Certifying.{IsWritten}
 use Rattle.cert_writer.proofs.Telling.{live_named, first_unmet_told}

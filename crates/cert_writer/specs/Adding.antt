@@ -9,12 +9,6 @@ use Rattle.certificates.specs.Certificate.{Numbered, Pair, pairs_with, pairs_of_
 use Rattle.saturation.specs.Live.{MustBeAnswered}
 use Rattle.verdicts.specs.FirstRows.{AreFirstCovers}
 use Rattle.verdicts.specs.First.{AllGive, all_pairs}
-use Rattle.term_tree.specs.declared.bank.Id.{Id}
-use Rattle.clause_form.specs.Seen.{clause_at}
-
--- the clauses that the ids name
-abbrev pub clauses_at : List Term → List (Clause Id) → List (Clause Term)
-clauses_at all cs = map (clause_at all) cs
 
 -- the rows after are those before, and then the first rows of these clauses
 pub record AddsRows (clauses cs : List (Clause Term)) (before after : List (List ℕ)) : Type 0 where

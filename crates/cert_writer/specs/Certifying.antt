@@ -4,7 +4,7 @@ use Rattle.calculus.specs.Syntax.{Query, Protocol}
 use Rattle.calculus.specs.Secrecy.{Holds}
 use Rattle.terms.specs.Term.{Term}
 use Rattle.clauses.specs.Fact.{Clause}
-use Rattle.soundness.specs.Shown.{IsProper}
+use Rattle.certificates.specs.Shown.{IsProper}
 use Rattle.certificates.specs.Certificate.{Certificate}
 use Rattle.certificates.specs.Ruling.{Accepted, IsRuled}
 use Rattle.saturation.specs.Key as offered

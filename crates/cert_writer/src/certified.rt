@@ -3,7 +3,7 @@
 use cert_text::Cert;
 
 /// A certificate, or that there is none.
-#[derive(Debug, Drop)]
+#[derive(Drop)]
 pub enum Certified {
     /// The certificate of the log.
     Cert(Cert),

@@ -12,9 +12,9 @@ ghost use Rattle.pi_tree.specs.Accessors.{IsThere};
 ghost use Rattle.pi_tree.specs.declared.accessors.Kind.TheVariants.{Query as OfQueries};
 ghost use Rattle.clause_form.specs.Seen.{AreClausesIn};
 ghost use Rattle.query_derive.specs.GoalRows.{OfQuery};
-ghost use Rattle.clause_saturate.specs.Fit.{AreFit};
+ghost use Rattle.clause_form.specs.Fit.{AreFit, clauses_at};
 ghost use Rattle.clause_saturate.specs.Logs.{IsClosedLog};
-ghost use Rattle.cert_writer.specs.Adding.{clauses_at, MustClose, AreRowsOf};
+ghost use Rattle.cert_writer.specs.Adding.{MustClose, AreRowsOf};
 ghost use Rattle.cert_writer.specs.Certifying.{IsWritten, IsVerdictOf, IsAcceptedIfCert, HoldsIfCert};
 
 use crate::certified::Certified;

@@ -8,8 +8,8 @@ ghost use Rattle.clauses.specs.Inclusion.{Has};
 ghost use Rattle.saturation.specs.Live.{MustBeCovered};
 ghost use Rattle.certificates.specs.Certificate.{numbered_from, pairs_of};
 ghost use Rattle.clause_form.specs.Seen.{clause_at};
-ghost use Rattle.clause_saturate.specs.Fit.{IsFit, AreFit};
-ghost use Rattle.cert_writer.specs.Adding.{clauses_at, AddsRows, AddsPairs, MustClose};
+ghost use Rattle.clause_form.specs.Fit.{IsFit, AreFit, clauses_at};
+ghost use Rattle.cert_writer.specs.Adding.{AddsRows, AddsPairs, MustClose};
 ghost use Rattle.cert_writer.specs.Adding.{pairs_of_two, pairs_of_one, pairs_if_solved};
 
 use crate::covering::cover_all;

@@ -8,8 +8,8 @@ ghost use Rattle.clauses.specs.Inclusion.{Has};
 ghost use Rattle.saturation.specs.Live.{MustBeCovered};
 ghost use Rattle.verdicts.specs.FirstRows.{IsFirstCover};
 ghost use Rattle.clause_form.specs.Seen.{clause_at, IsClauseIn};
-ghost use Rattle.clause_saturate.specs.Fit.{AreFit};
-ghost use Rattle.cert_writer.specs.Adding.{clauses_at, AddsRows};
+ghost use Rattle.clause_form.specs.Fit.{AreFit, clauses_at};
+ghost use Rattle.cert_writer.specs.Adding.{AddsRows};
 
 use crate::writer::Writer;
 use cert_text::Rows;

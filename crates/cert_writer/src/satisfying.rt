@@ -11,7 +11,7 @@ ghost use Rattle.pi_tree.specs.declared.accessors.Kind.TheVariants.{Query as OfQ
 ghost use Rattle.clause_form.specs.Facts.{fact_of};
 ghost use Rattle.clause_form.specs.Seen.{fact_at, clause_at, IsClauseIn};
 ghost use Rattle.query_derive.specs.GoalRows.{OfQuery};
-ghost use Rattle.clause_saturate.specs.Fit.{IsFit, AreFit};
+ghost use Rattle.clause_form.specs.Fit.{IsFit, AreFit};
 ghost use Rattle.clause_saturate.specs.Beating.{clauses_of};
 ghost use Rattle.cert_writer.specs.Goals.{is_due_at, AddsGoal, IsUnmetEntry, AreGoalsOf};
 
@@ -25,7 +25,7 @@ use std::alloc::AllocError;
 use term_tree::Bank;
 
 /// The goal rows of a log, or the number of the first entry that has none.
-#[derive(Debug, Drop)]
+#[derive(Drop)]
 pub(crate) enum Goals {
     Rows(Rows),
     Unsatisfied(usize),

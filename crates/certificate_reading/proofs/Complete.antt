@@ -6,6 +6,7 @@ use Rattle.std.specs.Char.{is_ascii_digit}
 use Rattle.std.specs.Fmt.{decimal}
 use Rattle.std.specs.List.{list_all}
 use Rattle.trees.specs.Tree.{Leaf, node}
+use Rattle.trees.proofs.Occurrence.{or_false}
 use Rattle.calculus.specs.Syntax.{Protocol}
 use Rattle.protocol_tokens.specs.Bytes.{begins_word, is_in_word}
 use Rattle.terms.specs.Term.{Term}
@@ -105,21 +106,13 @@ word_start P (c ∷ w) k at heads n from word room =
 pub same_step : (P : Protocol) (b : ℕ) (k : List ℕ) (at : ℕ) (r q : Reading) → step P at r b ≡ step P at q b → read_on P (b ∷ k) at r ≡ read_on P (b ∷ k) at q
 same_step P b k at r q e = ap (followed (read_on P k (at + 1)) at (b ∷ k)) e
 
-or_left : (a b : Bool) → (a || b) ≡ false → a ≡ false
-or_left true b e = e
-or_left false b e = refl
-
-or_right : (a b : Bool) → (a || b) ≡ false → b ≡ false
-or_right true b e = absurd (cc)
-or_right false b e = e
-
 -- a word alone ends
 word_alone : (P : Protocol) (w : List ℕ) (t : Term) (b : ℕ) (at : ℕ) (heads : List Open) (from : ℕ) → goes_on b ≡ false → after_word P at heads from w b ≡ after_term at t heads from b → step P at (reading heads (InWord w) from) b ≡ step P at (reading heads (Ended t) from) b
 word_alone P w t b at heads from ends e =
-    let first = or_left (is_in_word b || (b == 40)) (b == 64) ends in
-    passed (is_in_word b) _ _ _ (or_left (is_in_word b) (b == 40) first)
-    (passed (b == 40) (apply heads from (symbol_called P w)) _ _ (or_right (is_in_word b) (b == 40) first)
-    (passed (b == 64) (goes heads (InDigits w []) from) _ _ (or_right (is_in_word b || (b == 40)) (b == 64) ends) e))
+    let first = (or_false (is_in_word b || (b == 40)) (b == 64) ends).0 in
+    passed (is_in_word b) _ _ _ (or_false (is_in_word b) (b == 40) first).0
+    (passed (b == 40) (apply heads from (symbol_called P w)) _ _ (or_false (is_in_word b) (b == 40) first).1
+    (passed (b == 64) (goes heads (InDigits w []) from) _ _ (or_false (is_in_word b || (b == 40)) (b == 64) ends).1 e))
 
 -- what was read up to the end of a term
 pub record Reaches (P : Protocol) (bytes : List ℕ) (at : ℕ) (r : Reading) (rest : List ℕ) (heads : List Open) (t : Term) : Type 0 where

@@ -92,7 +92,7 @@ pub record LinesBehind {A : Type 0} (one : A → List ℕ → List ℕ) (Is : A 
   pub each : AllByRecursion Is others
   pub few : length others ≤ most
 
-lines_full : {A : Type 0} (letter : ℕ) (r : Reader A) (xs : List A) (bytes : List ℕ) (at : ℕ) → lines_from letter r 0 xs bytes at ≡ (if front bytes == letter then Faulty at Count else Found xs at bytes)
+pub lines_full : {A : Type 0} (letter : ℕ) (r : Reader A) (xs : List A) (bytes : List ℕ) (at : ℕ) → lines_from letter r 0 xs bytes at ≡ (if front bytes == letter then Faulty at Count else Found xs at bytes)
 unfolding lines_from
 lines_full letter r xs bytes at = refl
 

@@ -3,6 +3,7 @@ use Rattle.std.proofs.Common.{◌≡◌, ℕ, Bool, true, false, ◌==◌, ◌||
 use Rattle.std.specs.Char.{is_ascii_digit}
 use Rattle.std.specs.List.{list_all}
 use Rattle.trees.specs.Tree.{Leaf, Node, none, more}
+use Rattle.trees.proofs.Occurrence.{or_false}
 use Rattle.protocol_tokens.specs.Bytes.{is_in_word}
 use Rattle.certificate_text.specs.Loose.{Head, Applied, Tupled, Made, Attackers, Loose, LooseRow, opening, closing, onto, row, behind}
 use Rattle.certificate_text.specs.Spelled.{IsWord, IsHead, IsLoose, AreLoose, Stops, goes_on, EndsBehind}
@@ -79,13 +80,9 @@ heads_apart h i x y is_h is_i e =
     let parts = run_apart is_in_word (front h) (front i) (tail h x) (tail i y) (front_is_word h is_h) (front_is_word i is_i) (tail_stops h x) (tail_stops i y) (sym (opening-front h x) ∙ (e ∙ opening-front i y)) in
     by_parts h i x y is_h is_i parts.run parts.rest
 
-or_left : (a b : Bool) → (a || b) ≡ false → a ≡ false
-or_left true b e = e
-or_left false b e = refl
-
 stops_word : (k : List ℕ) → Stops goes_on k → Stops is_in_word k
 stops_word [] stops = tt
-stops_word (b ∷ k) stops = or_left (is_in_word b) (b == 40) (or_left (is_in_word b || (b == 40)) (b == 64) stops)
+stops_word (b ∷ k) stops = (or_false (is_in_word b) (b == 40) (or_false (is_in_word b || (b == 40)) (b == 64) stops).0).0
 
 not_40 : (k x : List ℕ) → Stops goes_on k → k ≡ 40 ∷ x → ⊥
 not_40 k x stops e = let passes : true ≡ false = subst (Stops goes_on) e stops in cc

@@ -20,7 +20,7 @@ use Rattle.derivations.specs.Closed.{IsPairClosed}
 use Rattle.derivations.proofs.Closing.{none_closes, resolvents_close}
 use Rattle.translation.specs.Goal.{required}
 use Rattle.translation.specs.Satisfied.{is_bad, IsSatisfied}
-use Rattle.soundness.specs.Shown.{IsShown}
+use Rattle.certificates.specs.Shown.{IsShown}
 use Rattle.certificates.specs.Certificate.{Certificate, IsInShape, CoverRowHolds, GoalHolds, Numbered, numbered_from, Pair, pairs_with, pairs_of_solved, pairs_of}
 use Rattle.certificates.specs.Ruling.{Ruling, Accepted, Shape, Cover, Closure, Goal, Rest, Or, Shapes, Covers, Answered, Closures, Goals, NoneLeft, bad_ones, Obliged, IsRuled}
 
@@ -106,7 +106,7 @@ module _ (clauses : List (Clause Term)) (normal : (c : Clause Term) → Has clau
       ((first.0, more.0), more.1)
 
 -- the pair of a solved clause and an unsolved one is among all pairs
-pair_listed : (all : List Numbered) (is : List Numbered) (i j : Numbered) (at : Selection) → Has is i → Has all j → select i.clause.hypotheses ≡ None → select j.clause.hypotheses ≡ Some at → Has (pairs_of is all) (record { solved = i; unsolved = j; at = at })
+pub pair_listed : (all : List Numbered) (is : List Numbered) (i j : Numbered) (at : Selection) → Has is i → Has all j → select i.clause.hypotheses ≡ None → select j.clause.hypotheses ≡ Some at → Has (pairs_of is all) (record { solved = i; unsolved = j; at = at })
 pair_listed all is i j at hi hj none some = of_pick hi.1 none where
   with_one : (i : Numbered) → select i.clause.hypotheses ≡ None → Has (pairs_of_solved (select i.clause.hypotheses) i all) (record { solved = i; unsolved = j; at = at })
   with_one i none =

@@ -7,8 +7,8 @@ use Rattle.clauses.specs.Fact.{Clause}
 use Rattle.clauses.specs.Selection.{Selection}
 use Rattle.clauses.specs.Resolvents.{Resolvents}
 use Rattle.clauses.specs.Inclusion.{here}
-use Rattle.soundness.specs.Example.{announced, announcing, name, eight_clauses, nine_clauses}
-use Rattle.soundness.proofs.Example.{announcing_translated, begun, heard_name, ended, asked, shown, knows_channel, makes_names, listens, sends, listening, asking, echo, channel_listening, names_listening, begun_listening, heard_listening, ended_listening, shown_listening, channel_asking, names_asking, sends_asking, begun_asking, heard_asking, shown_asking, sends_listening, ended_asking}
+use Rattle.certificates.specs.Announcing.{announced, announcing, name, eight_clauses, nine_clauses}
+use Rattle.certificates.proofs.Announced.{announcing_translated, begun, heard_name, ended, asked, shown, knows_channel, makes_names, listens, sends, listening, asking, echo, channel_listening, names_listening, begun_listening, heard_listening, ended_listening, shown_listening, channel_asking, names_asking, sends_asking, begun_asking, heard_asking, shown_asking, sends_listening, ended_asking}
 use Rattle.certificates.specs.Certificate.{IsInShape, CoverRowHolds, GoalHolds, Numbered, numbered_from, Pair, pairs_of}
 use Rattle.certificates.specs.Ruling.{Ruling, Accepted, Closure, Goal, Rest, Cover, Obliged, Covers, Closures, Goals, NoneLeft, bad_ones, IsRuled}
 use Rattle.certificates.specs.Example.{announced_by, nine_rows, without_row, without_goal}

@@ -16,9 +16,9 @@ use Rattle.clauses.specs.Inclusion.{here}
 use Rattle.translation.specs.Course.{Done}
 use Rattle.translation.specs.Translation.{Clauses, IsTranslation}
 use Rattle.translation.proofs.OneTranslation.{one_translation}
-use Rattle.soundness.specs.Shown.{IsProper, IsShown}
-use Rattle.soundness.specs.Example.{clause}
-use Rattle.soundness.proofs.Example.{knows_channel, makes_names, listens, sends, listening, echo, channel_listening, names_listening, sends_listening}
+use Rattle.certificates.specs.Shown.{IsProper, IsShown}
+use Rattle.certificates.specs.Announcing.{clause}
+use Rattle.certificates.proofs.Announced.{knows_channel, makes_names, listens, sends, listening, echo, channel_listening, names_listening, sends_listening}
 use Rattle.certificates.specs.Certificate.{IsInShape, numbered_from, pairs_of}
 use Rattle.certificates.specs.Ruling.{Accepted, Rest, Cover, Obliged, Closures, Goals, NoneLeft, bad_ones, IsRuled}
 use Rattle.certificates.specs.Example.{kept_key, encrypting, one_answer, told, encrypted, key, eight, eight_rows}

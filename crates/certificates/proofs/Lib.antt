@@ -1,5 +1,6 @@
 pub mod OneRuling
 pub mod Accepting
 mod Ruled
+pub mod Announced
 mod Encrypting
 mod Announcing

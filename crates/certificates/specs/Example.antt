@@ -6,7 +6,7 @@ use Rattle.calculus.specs.Syntax as calculus
 use Rattle.calculus.specs.Runs.{Step, Build, Part, Copy, Hear, Say}
 use Rattle.terms.specs.Term.{Ctor, Free, Attacker, Term}
 use Rattle.clauses.specs.Fact.{Att, Mess, Bad, Clause}
-use Rattle.soundness.specs.Example.{clause, nine_clauses}
+use Rattle.certificates.specs.Announcing.{clause, nine_clauses}
 use Rattle.certificates.specs.Certificate.{Certificate}
 
 -- `dec(enc(x,y),y) -> x`

@@ -1,3 +1,5 @@
+pub mod Shown
 pub mod Certificate
 pub mod Ruling
+pub mod Announcing
 pub mod Example

@@ -6,12 +6,6 @@ use Rattle.terms.specs.Term.{Term}
 use Rattle.clauses.specs.Fact.{Fact, Clause, terms_of, facts_of, clause_terms}
 use Rattle.clauses.specs.Variables.{leaves, fact_variables, clause_variables, AreBelow}
 use Rattle.clauses.proofs.Lists.{all-flat_map, all-from_flat_map}
-use Rattle.term_tree.specs.Bank.{tree_at}
-use Rattle.term_tree.specs.declared.bank.Id.{Id}
-use Rattle.clause_form.specs.declared.facts.Fact as declared
-use Rattle.clause_form.specs.declared.facts.Fact.TheVariants as variants
-use Rattle.clause_form.specs.Facts.{fact_of}
-use Rattle.clause_form.specs.Seen.{fact_at}
 use Rattle.clause_form.specs.Bounds.{above}
 use Rattle.clause_form.proofs.Lists.{flat_map_more, flat_map_all}
 
@@ -51,10 +45,3 @@ clause_least c n h = above_least n (clause_variables c) (subst (λ (l : List ℕ
 -- the conclusion's, then the hypotheses'
 pub above_clause : (c : Clause Term) (first all : ℕ) → first ≡ max 0 (above (fact_variables c.conclusion)) → all ≡ max first (above (flat_map fact_variables c.hypotheses)) → all ≡ above (clause_variables c)
 above_clause c first all e f = omega (arith, above-append (fact_variables c.conclusion) (flat_map fact_variables c.hypotheses))
-
-pub above_message : (all : List Term) (f : declared.Fact) (t u : Id) (least first second : ℕ) → f ≡ variants.Mess t u → first ≡ max least (above (leaves (tree_at all t))) → second ≡ max first (above (leaves (tree_at all u)))
-    → second ≡ max least (above (fact_variables (fact_at all (fact_of f))))
-above_message all f t u least first second is e g =
-    let all_of = ap (λ h. above (fact_variables (fact_at all (fact_of h)))) is in
-    let both = above-append (leaves (tree_at all t)) (leaves (tree_at all u) ++ []) in
-    let last = above-append (leaves (tree_at all u)) [] in omega arith

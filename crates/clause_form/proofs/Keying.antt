@@ -1,5 +1,5 @@
 -- Keys of facts of a bank; and facts that are looked for by their keys.
-use Rattle.std.proofs.Common.{◌≡◌, ℕ, zero, suc, ◌+◌, ◌<◌, ◌≤◌, Bool, true, false, ◌||◌, cond, nat_eq, Option, Some, None, List, [], ◌∷◌, ◌++◌, length, map, flat_map, take, get_or, refl, ap, sym, ◌∙◌, append-nil, eq-eqb, arith}
+use Rattle.std.proofs.Common.{◌≡◌, ℕ, zero, suc, ◌+◌, ◌<◌, ◌≤◌, Bool, true, false, ◌||◌, cond, nat_eq, Option, Some, None, List, [], ◌∷◌, ◌++◌, length, map, flat_map, take, get_or, refl, ap, sym, ◌∙◌, eq-eqb, arith}
 use Rattle.std.proofs.lemmas.Bool.{false≢true}
 use Rattle.std.proofs.lemmas.List.{map-append}
 use Rattle.std.specs.List.{list_any}
@@ -13,7 +13,6 @@ use Rattle.clauses.proofs.Equality.{same_fact-decides}
 use Rattle.term_tree.specs.Bank.{tree_at}
 use Rattle.term_tree.specs.declared.bank.Id.{Id}
 use Rattle.clause_form.specs.declared.facts.Fact as declared
-use Rattle.clause_form.specs.declared.facts.Fact.TheVariants as variants
 use Rattle.clause_form.specs.Facts.{fact_of}
 use Rattle.clause_form.specs.Seen.{fact_at}
 use Rattle.clause_form.specs.Tables.{HaveKeys}
@@ -44,16 +43,6 @@ keyed_all f xs i first found past was = was ∙ ap (keyed first) (flat_map_all f
 
 pub node_key : (all : List Term) (id : Id) (f : Sym) (ids : List Id) (i : ℕ) (key found : ℕ) → tree_at all id ≡ node f (map (tree_at all) ids) → length ids ≤ i → found ≡ keyed (mixed key (symbol_number f)) (flat_map (numbers_at all) (take i ids)) → found ≡ keyed key (term_numbers (tree_at all id))
 node_key all id f ids i key found is past was = keyed_all (numbers_at all) ids i (mixed key (symbol_number f)) found past was ∙ ap (keyed key) (sym (node_numbers all id f ids is))
-
--- of the term of `att`, and of the terms of a message, one after the other
-pub key_of_known : (all : List Term) (f : declared.Fact) (t : Id) (key : ℕ) → f ≡ variants.Att t → key ≡ keyed 0 (term_numbers (tree_at all t)) → key ≡ fact_key (fact_at all (fact_of f))
-key_of_known all f t key is e = e ∙ (ap (keyed 0) (sym (append-nil (term_numbers (tree_at all t)))) ∙ ap (λ h. fact_key (fact_at all (fact_of h))) (sym is))
-
-pub key_of_message : (all : List Term) (f : declared.Fact) (t u : Id) (first second : ℕ) → f ≡ variants.Mess t u → first ≡ keyed 1 (term_numbers (tree_at all t)) → second ≡ keyed first (term_numbers (tree_at all u)) → second ≡ fact_key (fact_at all (fact_of f))
-key_of_message all f t u first second is e g =
-    g ∙ (ap (λ k. keyed k (term_numbers (tree_at all u))) e
-    ∙ (sym (keyed-append 1 (term_numbers (tree_at all t)) (term_numbers (tree_at all u)))
-    ∙ (ap (λ l. keyed 1 (term_numbers (tree_at all t) ++ l)) (sym (append-nil (term_numbers (tree_at all u)))) ∙ ap (λ h. fact_key (fact_at all (fact_of h))) (sym is))))
 
 or_true : (a b : Bool) → b ≡ true → (a || b) ≡ true
 or_true true b e = refl

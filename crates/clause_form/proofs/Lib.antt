@@ -2,6 +2,7 @@ pub mod Walks
 pub mod Lists
 pub mod Flattening
 pub mod Copying
+pub mod Fit
 pub mod Comparing
 pub mod Counting
 pub mod Tables
@@ -14,3 +15,4 @@ pub mod Testing
 pub mod Marking
 pub mod Told
 pub mod Keeping
+pub mod Made

@@ -1,17 +1,11 @@
 -- Tables of how often variables occur, item by item; and what they tell.
-use Rattle.std.proofs.Common.{◌≡◌, ℕ, ◌+◌, ◌<◌, ◌≤◌, min, Bool, true, false, cond, nat_eq, nat_lt, List, [], ◌∷◌, ◌++◌, length, flat_map, take, get_or, replicate, slice_index, slice_set, refl, ap, sym, ◌∙◌, append-nil, eqb-true, eq-eqb, arith}
+use Rattle.std.proofs.Common.{◌≡◌, ℕ, ◌+◌, ◌<◌, ◌≤◌, min, Bool, true, false, cond, nat_eq, nat_lt, List, [], ◌∷◌, ◌++◌, length, flat_map, take, get_or, replicate, slice_index, slice_set, refl, ap, sym, ◌∙◌, eqb-true, eq-eqb, arith}
 use Rattle.std.proofs.lemmas.Bool.{false≢true, lt-ltb}
 use Rattle.std.proofs.lemmas.List.{length-set, length-replicate, get_or-replicate, get_or-set_other}
 use Rattle.std.proofs.lemmas.Grind.{get_or-set_at}
 use Rattle.terms.specs.Term.{Term}
 use Rattle.clauses.specs.Fact.{Clause}
-use Rattle.clauses.specs.Variables.{leaves, fact_variables, clause_variables, times}
-use Rattle.term_tree.specs.Bank.{tree_at}
-use Rattle.term_tree.specs.declared.bank.Id.{Id}
-use Rattle.clause_form.specs.declared.facts.Fact as declared
-use Rattle.clause_form.specs.declared.facts.Fact.TheVariants as variants
-use Rattle.clause_form.specs.Facts.{fact_of}
-use Rattle.clause_form.specs.Seen.{fact_at}
+use Rattle.clauses.specs.Variables.{fact_variables, clause_variables, times}
 use Rattle.clause_form.specs.Occurrences.{counted_one, counted, TellsTimes}
 use Rattle.clause_form.proofs.Lists.{flat_map_more, flat_map_all}
 
@@ -28,15 +22,6 @@ counted_more f xs i d first found next within was e =
 
 pub counted_all : {X : Type 0} (f : X → List ℕ) (xs : List X) (i : ℕ) (first found : List ℕ) → length xs ≤ i → found ≡ counted first (flat_map f (take i xs)) → found ≡ counted first (flat_map f xs)
 counted_all f xs i first found past was = was ∙ ap (counted first) (flat_map_all f xs i past)
-
--- of the terms of a message, one after the other; of the conclusion, then of the hypotheses
-pub counted_message : (all : List Term) (f : declared.Fact) (t u : Id) (table first second : List ℕ) → f ≡ variants.Mess t u → first ≡ counted table (leaves (tree_at all t)) → second ≡ counted first (leaves (tree_at all u))
-    → second ≡ counted table (fact_variables (fact_at all (fact_of f)))
-counted_message all f t u table first second is e g =
-    g ∙ (ap (λ o. counted o (leaves (tree_at all u))) e
-    ∙ (sym (counted-append table (leaves (tree_at all t)) (leaves (tree_at all u)))
-    ∙ ap (λ l. counted table (leaves (tree_at all t) ++ l)) (sym (append-nil (leaves (tree_at all u))))
-    ∙ ap (λ h. counted table (fact_variables (fact_at all (fact_of h)))) (sym is)))
 
 pub counted_clause : (c : Clause Term) (table first all : List ℕ) → first ≡ counted table (fact_variables c.conclusion) → all ≡ counted first (flat_map fact_variables c.hypotheses) → all ≡ counted table (clause_variables c)
 counted_clause c table first all e f = f ∙ (ap (λ o. counted o (flat_map fact_variables c.hypotheses)) e ∙ sym (counted-append table (fact_variables c.conclusion) (flat_map fact_variables c.hypotheses)))

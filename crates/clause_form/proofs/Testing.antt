@@ -1,14 +1,11 @@
 -- The tests of a clause that is its own norm, item by item, and what they tell.
-use Rattle.std.proofs.Common.{◌≡◌, ℕ, zero, suc, ◌+◌, ◌-◌, ◌^◌, ◌<◌, ◌≤◌, min, Bool, not, ◌&&◌, Option, Some, List, [], ◌∷◌, ◌++◌, length, map, flat_map, take, drop, get_or, refl, ap, sym, ◌∙◌, append-nil, subst, arith}
+use Rattle.std.proofs.Common.{◌≡◌, ℕ, zero, suc, ◌+◌, ◌-◌, ◌^◌, ◌<◌, ◌≤◌, min, Bool, not, ◌&&◌, Option, Some, List, [], ◌∷◌, ◌++◌, length, map, flat_map, take, drop, get_or, refl, ap, sym, ◌∙◌, subst, arith}
 use Rattle.terms.specs.Term.{Term}
 use Rattle.clauses.specs.Fact.{Fact, Clause, is_among}
-use Rattle.term_tree.specs.Bank.{tree_at}
-use Rattle.term_tree.specs.declared.bank.Id.{Id}
 use Rattle.clause_form.specs.declared.facts.Fact as declared
-use Rattle.clause_form.specs.declared.facts.Fact.TheVariants as variants
 use Rattle.clause_form.specs.Facts.{fact_of}
 use Rattle.clause_form.specs.Seen.{fact_at, AreFactsIn}
-use Rattle.clauses.specs.Variables.{leaves, fact_variables, clause_variables, times}
+use Rattle.clauses.specs.Variables.{fact_variables, clause_variables, times}
 use Rattle.clause_form.specs.Normality.{are_different, number_after, numbers_after}
 use Rattle.std.proofs.lemmas.List.{take_rest}
 use Rattle.std.proofs.lemmas.Simd.{map-map}
@@ -41,22 +38,6 @@ after_more f xs i d first found next within was e =
 
 pub after_all : {X : Type 0} (f : X → List ℕ) (xs : List X) (i : ℕ) (first found : Option ℕ) → length xs ≤ i → found ≡ numbers_after first (flat_map f (take i xs)) → found ≡ numbers_after first (flat_map f xs)
 after_all f xs i first found past was = was ∙ ap (numbers_after first) (flat_map_all f xs i past)
-
--- of the terms of a message, one after the other
-pub times_message : (all : List Term) (x : ℕ) (f : declared.Fact) (t u : Id) (least first second : ℕ) → f ≡ variants.Mess t u → first ≡ min (least + times x (leaves (tree_at all t))) (2 ^ 64 - 1) → second ≡ min (first + times x (leaves (tree_at all u))) (2 ^ 64 - 1)
-    → second ≡ min (least + times x (fact_variables (fact_at all (fact_of f)))) (2 ^ 64 - 1)
-times_message all x f t u least first second is e g =
-    let all_of = ap (λ h. times x (fact_variables (fact_at all (fact_of h)))) is in
-    let both = times-append x (leaves (tree_at all t)) (leaves (tree_at all u) ++ []) in
-    let last = times-append x (leaves (tree_at all u)) [] in omega arith
-
-pub after_message : (all : List Term) (f : declared.Fact) (t u : Id) (next first second : Option ℕ) → f ≡ variants.Mess t u → first ≡ numbers_after next (leaves (tree_at all t)) → second ≡ numbers_after first (leaves (tree_at all u))
-    → second ≡ numbers_after next (fact_variables (fact_at all (fact_of f)))
-after_message all f t u next first second is e g =
-    g ∙ (ap (λ o. numbers_after o (leaves (tree_at all u))) e
-    ∙ (sym (numbers_after-append next (leaves (tree_at all t)) (leaves (tree_at all u)))
-    ∙ ap (λ l. numbers_after next (leaves (tree_at all t) ++ l)) (sym (append-nil (leaves (tree_at all u))))
-    ∙ ap (λ h. numbers_after next (fact_variables (fact_at all (fact_of h)))) (sym is)))
 
 -- of the conclusion, then of the hypotheses
 pub times_clause : (x : ℕ) (c : Clause Term) (first all : ℕ) → first ≡ min (0 + times x (fact_variables c.conclusion)) (2 ^ 64 - 1) → all ≡ min (first + times x (flat_map fact_variables c.hypotheses)) (2 ^ 64 - 1) → all ≡ min (times x (clause_variables c)) (2 ^ 64 - 1)

@@ -3,7 +3,8 @@
 use Rattle.std.specs.Prelude.{ℕ, ◌+◌, ◌*◌, ◌%◌, ◌^◌, List, [], ◌∷◌, ◌++◌, flat_map}
 use Rattle.trees.specs.Tree.{Trees, Leaf, Node, none, more}
 use Rattle.terms.specs.Term.{Sym, Ctor, Data, Tuple, Free, Point, Attacker, Term}
-use Rattle.clauses.specs.Fact.{Fact, Att, Mess, Ev, Mev, Bad, terms_of}
+use Rattle.clauses.specs.Fact.{Fact, terms_of}
+use Rattle.clauses.specs.Head.{Head, Att, Mess, Ev, Mev, Bad, head_of}
 
 -- the number of a symbol; those of variables are 7, 15, 23 and so on
 abbrev pub symbol_number : Sym → ℕ
@@ -24,13 +25,13 @@ abbrev mutual
   row_numbers none = []
   row_numbers (more t ts) = term_numbers t ++ row_numbers ts
 
--- the number of a fact's predicate and event
-abbrev pub predicate_number : Fact Term → ℕ
-predicate_number (Att t) = 0
-predicate_number (Mess t u) = 1
-predicate_number (Ev e ts) = 8 * e + 2
-predicate_number (Mev e ts) = 8 * e + 3
-predicate_number (Bad ts) = 4
+-- the number of a head
+abbrev pub head_number : Head → ℕ
+head_number Att = 0
+head_number Mess = 1
+head_number (Ev e) = 8 * e + 2
+head_number (Mev e) = 8 * e + 3
+head_number Bad = 4
 
 -- a key with one number more, and with more of them
 unfoldable pub mixed : ℕ → ℕ → ℕ
@@ -42,4 +43,4 @@ keyed key (n ∷ ns) = keyed (mixed key n) ns
 
 -- the key of a fact
 abbrev pub fact_key : Fact Term → ℕ
-fact_key f = keyed (predicate_number f) (flat_map term_numbers (terms_of f))
+fact_key f = keyed (head_number (head_of f)) (flat_map term_numbers (terms_of f))

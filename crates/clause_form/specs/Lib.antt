@@ -1,5 +1,6 @@
 pub mod Codes
 pub mod Facts
+pub mod Heads
 pub mod Seen
 pub mod Plain
 pub mod PlainDepths
@@ -12,3 +13,4 @@ pub mod Normals
 pub mod Normality
 pub mod Occurrences
 pub mod Marks
+pub mod Fit

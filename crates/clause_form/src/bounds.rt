@@ -47,15 +47,8 @@ fn above_fact<B: Bank>(bank: &B, fact: &Fact, least: u64) -> u64
     ensures { result ≡ max least (above (fact_variables
         (fact_at (B.trees bank.now) (fact_of fact.now)))) }
 {
-    match fact {
-        Fact::Att(term) => above_term(bank, *term, least),
-        Fact::Mess(channel, message) => {
-            above_term(bank, *message, above_term(bank, *channel, least))
-        }
-        Fact::Ev(_, arguments) => above_terms(bank, &arguments.items, least),
-        Fact::Mev(_, arguments) => above_terms(bank, &arguments.items, least),
-        Fact::Bad(arguments) => above_terms(bank, &arguments.items, least),
-    }
+    let terms = fact.terms();
+    above_terms(bank, terms.as_slice(), least)
 }
 
 /// The same of facts.

@@ -115,13 +115,9 @@ impl Fact {
     pub fn copy(&self, alloc: Global) -> Result<Fact, AllocError>
         ensures { IfOk result (λ copied. copied ≡ self.now) }
     {
-        match self {
-            Fact::Att(term) => Ok(Fact::Att(*term)),
-            Fact::Mess(channel, message) => Ok(Fact::Mess(*channel, *message)),
-            Fact::Ev(event, arguments) => Ok(Fact::Ev(*event, arguments.copy(alloc)?)),
-            Fact::Mev(event, arguments) => Ok(Fact::Mev(*event, arguments.copy(alloc)?)),
-            Fact::Bad(arguments) => Ok(Fact::Bad(arguments.copy(alloc)?)),
-        }
+        let terms = self.terms();
+        let items = terms.as_slice().to_vec(alloc)?;
+        Ok(Fact::made_of(self.head(), Ids { items }))
     }
 }
 

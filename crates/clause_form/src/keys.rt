@@ -3,10 +3,12 @@
 ghost use Rattle.std.specs.Prelude.{◌≡◌, ◌<◌, length, map, flat_map};
 ghost use Rattle.term_tree.specs.Bank.{symbol_of, tree_at, AreKnown};
 ghost use Rattle.clause_form.specs.Facts.{fact_of};
+ghost use Rattle.clause_form.specs.Heads.{head_seen};
 ghost use Rattle.clause_form.specs.Seen.{fact_at, IsFactIn};
-ghost use Rattle.clause_form.specs.Keys.{symbol_number as number_of, term_numbers, mixed as mixed_key, keyed, fact_key};
+ghost use Rattle.clause_form.specs.Keys.{symbol_number as number_of, term_numbers, mixed as mixed_key, keyed, fact_key, head_number as number_of_head};
 
 use crate::facts::Fact;
+use crate::heads::Head;
 use term_tree::{Bank, Id, Node, Sym};
 
 /// What a key is multiplied by before a number is added: 2^64 over the golden ratio.
@@ -64,23 +66,24 @@ fn key_of_terms<B: Bank>(bank: &B, terms: &[Id], key: u64) -> u64
     found
 }
 
+/// The number of a head.
+fn head_number(head: Head) -> u64
+    ensures { result ≡ number_of_head (head_seen head) }
+{
+    match head {
+        Head::Att => 0,
+        Head::Mess => 1,
+        Head::Ev(event) => 8 * u64::from(event) + 2,
+        Head::Mev(event) => 8 * u64::from(event) + 3,
+        Head::Bad => 4,
+    }
+}
+
 /// The key of a fact. Takes no memory.
 pub(crate) fn key_of_fact<B: Bank>(bank: &B, fact: &Fact) -> u64
     requires { IsFactIn (B.trees bank.now) (fact_of fact.now) }
     ensures { result ≡ fact_key (fact_at (B.trees bank.now) (fact_of fact.now)) }
 {
-    match fact {
-        Fact::Att(term) => key_of_term(bank, *term, 0),
-        Fact::Mess(channel, message) => {
-            let first = key_of_term(bank, *channel, 1);
-            key_of_term(bank, *message, first)
-        }
-        Fact::Ev(event, arguments) => {
-            key_of_terms(bank, &arguments.items, 8 * u64::from(*event) + 2)
-        }
-        Fact::Mev(event, arguments) => {
-            key_of_terms(bank, &arguments.items, 8 * u64::from(*event) + 3)
-        }
-        Fact::Bad(arguments) => key_of_terms(bank, &arguments.items, 4),
-    }
+    let terms = fact.terms();
+    key_of_terms(bank, terms.as_slice(), head_number(fact.head()))
 }

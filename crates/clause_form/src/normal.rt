@@ -40,7 +40,7 @@ fn is_lonely<B: Bank>(bank: &B, numbers: &Counts, fact: &Fact) -> bool
             Node::Var(number) => numbers.count(number) == 1,
             Node::App(_, _) => false,
         },
-        Fact::Mess(..) | Fact::Ev(..) | Fact::Mev(..) | Fact::Bad(_) => false,
+        _ => false,
     }
 }
 

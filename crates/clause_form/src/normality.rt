@@ -40,7 +40,7 @@ fn is_flat<B: Bank>(bank: &B, fact: &Fact) -> bool
             Node::Var(_) => true,
             Node::App(symbol, _) => !is_data_symbol(symbol),
         },
-        Fact::Mess(..) | Fact::Ev(..) | Fact::Mev(..) | Fact::Bad(_) => true,
+        _ => true,
     }
 }
 
@@ -147,16 +147,8 @@ fn times_in_fact<B: Bank>(bank: &B, number: u32, fact: &Fact, found: u64) -> u64
     ensures { result ≡ min (found + times number
         (fact_variables (fact_at (B.trees bank.now) (fact_of fact.now)))) (2 ^ 64 - 1) }
 {
-    match fact {
-        Fact::Att(term) => times_in_term(bank, number, *term, found),
-        Fact::Mess(channel, message) => {
-            let first = times_in_term(bank, number, *channel, found);
-            times_in_term(bank, number, *message, first)
-        }
-        Fact::Ev(_, arguments) => times_in_terms(bank, number, &arguments.items, found),
-        Fact::Mev(_, arguments) => times_in_terms(bank, number, &arguments.items, found),
-        Fact::Bad(arguments) => times_in_terms(bank, number, &arguments.items, found),
-    }
+    let terms = fact.terms();
+    times_in_terms(bank, number, terms.as_slice(), found)
 }
 
 /// The same of facts.
@@ -212,7 +204,7 @@ fn is_lonely<B: Bank>(bank: &B, clause: &Clause, table: &[u8], fact: &Fact) -> b
             Node::Var(number) => occurs_once(bank, clause, table, number),
             Node::App(_, _) => false,
         },
-        Fact::Mess(..) | Fact::Ev(..) | Fact::Mev(..) | Fact::Bad(_) => false,
+        _ => false,
     }
 }
 
@@ -283,7 +275,7 @@ fn is_first_variable_known<B: Bank>(bank: &B, fact: &Fact) -> bool
             Node::Var(number) => number == 0,
             Node::App(_, _) => false,
         },
-        Fact::Mess(..) | Fact::Ev(..) | Fact::Mev(..) | Fact::Bad(_) => false,
+        _ => false,
     }
 }
 
@@ -355,16 +347,8 @@ fn after_fact<B: Bank>(bank: &B, fact: &Fact, next: Option<u64>) -> Option<u64>
     ensures { result ≡ numbers_after next (fact_variables
         (fact_at (B.trees bank.now) (fact_of fact.now))) }
 {
-    match fact {
-        Fact::Att(term) => after_term(bank, *term, next),
-        Fact::Mess(channel, message) => {
-            let first = after_term(bank, *channel, next);
-            after_term(bank, *message, first)
-        }
-        Fact::Ev(_, arguments) => after_terms(bank, &arguments.items, next),
-        Fact::Mev(_, arguments) => after_terms(bank, &arguments.items, next),
-        Fact::Bad(arguments) => after_terms(bank, &arguments.items, next),
-    }
+    let terms = fact.terms();
+    after_terms(bank, terms.as_slice(), next)
 }
 
 /// The same of facts.

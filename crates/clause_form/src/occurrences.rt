@@ -52,16 +52,8 @@ fn count_in_fact<B: Bank>(bank: &B, fact: &Fact, table: &mut [u8])
     ensures { table.new ≡ counted table.old (fact_variables
         (fact_at (B.trees bank.now) (fact_of fact.now))) }
 {
-    match fact {
-        Fact::Att(term) => count_in_term(bank, *term, table),
-        Fact::Mess(channel, message) => {
-            count_in_term(bank, *channel, table);
-            count_in_term(bank, *message, table);
-        }
-        Fact::Ev(_, arguments) => count_in_terms(bank, &arguments.items, table),
-        Fact::Mev(_, arguments) => count_in_terms(bank, &arguments.items, table),
-        Fact::Bad(arguments) => count_in_terms(bank, &arguments.items, table),
-    }
+    let terms = fact.terms();
+    count_in_terms(bank, terms.as_slice(), table)
 }
 
 /// The same of facts.

@@ -149,26 +149,9 @@ fn renumbered_fact<B: Bank>(
     ensures names { IfOk result (λ made. NamesFact (B.trees bank.new) (fact_of made)
         (fact_under (placed order.now) (fact_at (B.trees bank.old) (fact_of fact.now)))) }
 {
-    match fact {
-        Fact::Att(term) => Ok(Fact::Att(renumbered(bank, order, stack, *term)?)),
-        Fact::Mess(channel, message) => {
-            let channel = renumbered(bank, order, stack, *channel)?;
-            let message = renumbered(bank, order, stack, *message)?;
-            Ok(Fact::Mess(channel, message))
-        }
-        Fact::Ev(event, arguments) => {
-            let made = renumbered_terms(alloc, bank, order, stack, &arguments.items)?;
-            Ok(Fact::Ev(*event, made))
-        }
-        Fact::Mev(event, arguments) => {
-            let made = renumbered_terms(alloc, bank, order, stack, &arguments.items)?;
-            Ok(Fact::Mev(*event, made))
-        }
-        Fact::Bad(arguments) => {
-            let made = renumbered_terms(alloc, bank, order, stack, &arguments.items)?;
-            Ok(Fact::Bad(made))
-        }
-    }
+    let terms = fact.terms();
+    let made = renumbered_terms(alloc, bank, order, stack, terms.as_slice())?;
+    Ok(Fact::made_of(fact.head(), made))
 }
 
 /// The facts renumbered.

@@ -48,28 +48,8 @@ pub fn same_fact<B: Bank>(bank: &B, left: &Fact, right: &Fact) -> bool
     ensures { result ≡ is_same_fact (fact_at (B.trees bank.now) (fact_of left.now))
         (fact_at (B.trees bank.now) (fact_of right.now)) }
 {
-    match left {
-        Fact::Att(t) => match right {
-            Fact::Att(u) => is_same_term(bank, *t, *u),
-            Fact::Mess(..) | Fact::Ev(..) | Fact::Mev(..) | Fact::Bad(_) => false,
-        },
-        Fact::Mess(t, u) => match right {
-            Fact::Mess(v, w) => is_same_term(bank, *t, *v) && is_same_term(bank, *u, *w),
-            Fact::Att(_) | Fact::Ev(..) | Fact::Mev(..) | Fact::Bad(_) => false,
-        },
-        Fact::Ev(e, ts) => match right {
-            Fact::Ev(g, us) => e == g && are_same_terms(bank, &ts.items, &us.items),
-            Fact::Att(_) | Fact::Mess(..) | Fact::Mev(..) | Fact::Bad(_) => false,
-        },
-        Fact::Mev(e, ts) => match right {
-            Fact::Mev(g, us) => e == g && are_same_terms(bank, &ts.items, &us.items),
-            Fact::Att(_) | Fact::Mess(..) | Fact::Ev(..) | Fact::Bad(_) => false,
-        },
-        Fact::Bad(ts) => match right {
-            Fact::Bad(us) => are_same_terms(bank, &ts.items, &us.items),
-            Fact::Att(_) | Fact::Mess(..) | Fact::Ev(..) | Fact::Mev(..) => false,
-        },
-    }
+    let (lefts, rights) = (left.terms(), right.terms());
+    left.head() == right.head() && are_same_terms(bank, lefts.as_slice(), rights.as_slice())
 }
 
 /// Whether a fact is among facts. Takes no memory.

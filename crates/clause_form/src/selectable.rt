@@ -19,7 +19,7 @@ pub fn is_variable_known<B: Bank>(bank: &B, fact: &Fact) -> bool
             Node::Var(_) => true,
             Node::App(_, _) => false,
         },
-        Fact::Mess(..) | Fact::Ev(..) | Fact::Mev(..) | Fact::Bad(_) => false,
+        _ => false,
     }
 }
 
@@ -34,7 +34,7 @@ pub fn is_selectable<B: Bank>(bank: &B, fact: &Fact) -> bool
             Node::App(_, _) => true,
         },
         Fact::Mev(..) => false,
-        Fact::Mess(..) | Fact::Ev(..) | Fact::Bad(_) => true,
+        _ => true,
     }
 }
 

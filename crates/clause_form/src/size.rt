@@ -5,9 +5,12 @@ ghost use Rattle.trees.specs.Tree.{size};
 ghost use Rattle.clauses.specs.Fact.{total, fact_size, clause_size};
 ghost use Rattle.term_tree.specs.Bank.{tree_at, AreKnown, capped};
 ghost use Rattle.clause_form.specs.Facts.{fact_of};
+ghost use Rattle.clauses.specs.Head.{head_size};
+ghost use Rattle.clause_form.specs.Heads.{head_seen};
 ghost use Rattle.clause_form.specs.Seen.{fact_at, clause_at, IsFactIn, AreFactsIn, IsClauseIn};
 
 use crate::facts::{Clause, Fact};
+use crate::heads::Head;
 use term_tree::{Bank, Id, SIZE_LIMIT};
 
 /// So many symbols more, as they are told.
@@ -29,20 +32,26 @@ fn size_of_terms<B: Bank>(bank: &B, terms: &[Id]) -> u64
     symbols
 }
 
+/// The symbols of a head: its predicate, and the event's name.
+pub fn head_symbols(head: Head) -> u64
+    ensures { result ≡ head_size (head_seen head) }
+{
+    match head {
+        Head::Att | Head::Mess | Head::Bad => 1,
+        Head::Ev(_) | Head::Mev(_) => 2,
+    }
+}
+
 /// The size of a fact, or `SIZE_LIMIT` where it is greater. Takes no memory.
 pub fn size_of_fact<B: Bank>(bank: &B, fact: &Fact) -> u64
     requires { IsFactIn (B.trees bank.now) (fact_of fact.now) }
     ensures { result ≡ capped (fact_size (fact_at (B.trees bank.now) (fact_of fact.now))) }
 {
-    match fact {
-        Fact::Att(term) => add_symbols(1, bank.size(*term)),
-        Fact::Mess(channel, message) => {
-            add_symbols(1, add_symbols(bank.size(*channel), bank.size(*message)))
-        }
-        Fact::Ev(_, arguments) => add_symbols(2, size_of_terms(bank, &arguments.items)),
-        Fact::Mev(_, arguments) => add_symbols(2, size_of_terms(bank, &arguments.items)),
-        Fact::Bad(arguments) => add_symbols(1, size_of_terms(bank, &arguments.items)),
-    }
+    let terms = fact.terms();
+    add_symbols(
+        head_symbols(fact.head()),
+        size_of_terms(bank, terms.as_slice()),
+    )
 }
 
 /// The size of facts together.

@@ -56,16 +56,8 @@ fn add_fact_variables<B: Bank>(
     ensures { OnOk result (numbers.new.items ≡
         numbers.old.items ++ fact_variables (fact_at (B.trees bank.now) (fact_of fact.now))) }
 {
-    match fact {
-        Fact::Att(term) => add_variables(bank, *term, numbers),
-        Fact::Mess(channel, message) => {
-            add_variables(bank, *channel, numbers)?;
-            add_variables(bank, *message, numbers)
-        }
-        Fact::Ev(_, arguments) => add_terms_variables(bank, &arguments.items, numbers),
-        Fact::Mev(_, arguments) => add_terms_variables(bank, &arguments.items, numbers),
-        Fact::Bad(arguments) => add_terms_variables(bank, &arguments.items, numbers),
-    }
+    let terms = fact.terms();
+    add_terms_variables(bank, terms.as_slice(), numbers)
 }
 
 /// Adds the variables of facts.

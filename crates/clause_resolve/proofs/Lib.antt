@@ -1,5 +1,6 @@
 pub mod Stopping
 pub mod Clashing
+pub mod ByParts
 pub mod Spending
 pub mod Parting
 pub mod Shifting

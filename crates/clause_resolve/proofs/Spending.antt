@@ -6,11 +6,13 @@ use Rattle.trees.specs.Tree.{bind, size}
 use Rattle.terms.specs.Term.{Term, Subst}
 use Rattle.terms.specs.Binding.{resolved}
 use Rattle.calculus.specs.Bounds.{most_symbols}
-use Rattle.clauses.specs.Fact.{Fact, Mess, Clause, total, fact_size, clause_size, fact_under, clause_under}
+use Rattle.clauses.specs.Fact.{Fact, Clause, terms_of, total, fact_size, clause_size, fact_under, clause_under}
+use Rattle.clauses.specs.Head.{head_of, made_of, head_size}
 use Rattle.clauses.specs.Limits.{IsWithinLimit}
+use Rattle.clauses.proofs.Parts.{fact_size-parts}
 use Rattle.term_tree.specs.Bank.{tree_at, Names, Grows}
 use Rattle.term_tree.specs.declared.bank.Id.{Id}
-use Rattle.term_tree.proofs.BankLaws.{Grows_refl, tree_at-grows, Names-grows}
+use Rattle.term_tree.proofs.BankLaws.{Grows_refl}
 use Rattle.unify_match.specs.declared.bound.Bound.{Bound}
 use Rattle.unify_match.specs.Seen.{seen, IsReady}
 use Rattle.unify_match.proofs.SeenLemmas.{seen-grows}
@@ -20,8 +22,9 @@ use Rattle.clause_form.specs.Seen.{fact_at, clause_at, IsFactIn, IsClauseIn, Nam
 use Rattle.clause_form.proofs.Lists.{total_more, total-map}
 use Rattle.clause_form.proofs.Copying.{fact_at-grows, facts_at-grow, NamesFact-grows, clause_named}
 use Rattle.clause_form.proofs.Flattening.{with_hypotheses}
+use Rattle.clause_form.proofs.Made.{made_names}
 use Rattle.clause_form.proofs.Renumber.{under_at, IsRenumbered, renumbered_on, renumbered_all, AreRenumbered, facts_renumbered_on, facts_renumbered}
-use Rattle.clause_resolve.specs.Budget.{outline_size}
+use Rattle.clause_resolve.proofs.ByParts.{head_under, terms_under}
 
 -- what the bindings stand for stays the same as the bank grows
 abbrev pub standing : List Term → List Bound → Subst
@@ -109,26 +112,25 @@ pub facts_applied : (old now : List Term) (s : Subst) (fs : List declared.Fact) 
 facts_applied old now s fs i made first left was past =
     (facts_renumbered old now s fs i made was.done past, omega (arith, was.spent, facts_whole old s fs, ap (total (λ x. fact_size (fact_under_at s old x))) (take_all i fs past)))
 
--- a message after its channel
-module _ (old now : List Term) (pairs : List Bound) (t u : Id) (first left : ℕ) (ready : IsReady old pairs) (grows : Grows old now) (known : u.index < length old) where
-  message_stands : bind (standing now pairs) (tree_at now u) ≡ bind (standing old pairs) (tree_at old u)
-  message_stands = λ i. bind (stands old now pairs grows ready i) (tree_at-grows old now u grows known i)
+-- the size of a fact under a substitution: that of its head, and those of its terms
+size_under : (old : List Term) (s : Subst) (f : Fact Id) → fact_size (fact_under s (fact_at old f)) ≡ head_size (head_of f) + total size (map (bind s) (map (tree_at old) (terms_of f)))
+size_under old s f =
+    fact_size-parts (fact_under s (fact_at old f)) ∙ (λ i. head_size (head_under old s f i) + total size (terms_under old s f i))
 
-  pub message_applied : (next : List Term) (channel message : Id) (then : ℕ) → Grows now next → Names now channel (bind (standing old pairs) (tree_at old t)) × (left + size (bind (standing old pairs) (tree_at old t)) ≡ first)
-      → Names next message (bind (standing now pairs) (tree_at now u)) × (then + size (bind (standing now pairs) (tree_at now u)) ≡ left)
-      → NamesFact next (Mess channel message) (fact_under (standing old pairs) (Mess (tree_at old t) (tree_at old u))) × (then + fact_size (fact_under (standing old pairs) (Mess (tree_at old t) (tree_at old u))) ≡ first + 1)
-  message_applied next channel message then further one two =
-      let channel_named = Names-grows now next channel (bind (standing old pairs) (tree_at old t)) further one.0 in
-      let message_named = two.0 in (
-        record {
-          known = (channel_named.known, (message_named.known, tt));
-          is = λ i. Mess (channel_named.is i) ((message_named.is ∙ message_stands) i);
-        },
-        omega (arith, one.1, two.1, ap size message_stands),
-      )
+-- a fact that is made of its head and of its terms under a substitution, and what is left of the limit
+pub fact_applied : (old now : List Term) (s : Subst) (f : Fact Id) (ids : List Id) (first left then : ℕ) → left + head_size (head_of f) ≡ first
+    → NameTerms now ids (map (bind s) (map (tree_at old) (terms_of f))) × (then + total size (map (bind s) (map (tree_at old) (terms_of f))) ≡ left)
+    → NamesFact now (made_of (head_of f) ids) (fact_under s (fact_at old f)) × (then + fact_size (fact_under s (fact_at old f)) ≡ first)
+fact_applied old now s f ids first left then spent (names, rest) =
+    (made_names old now (bind s) f ids names, (let e = size_under old s f in omega (arith, spent, rest, e)))
 
-  pub message_short : left + size (bind (standing old pairs) (tree_at old t)) ≡ first → left < size (bind (standing now pairs) (tree_at now u)) → first + 1 < fact_size (fact_under (standing old pairs) (Mess (tree_at old t) (tree_at old u)))
-  message_short spent short = omega (arith, spent, short, ap size message_stands)
+-- too little is left for its terms, or for its head
+pub fact_short : (old : List Term) (s : Subst) (f : Fact Id) (first left : ℕ) → left + head_size (head_of f) ≡ first
+    → left < total size (map (bind s) (map (tree_at old) (terms_of f))) → first < fact_size (fact_under s (fact_at old f))
+fact_short old s f first left spent short = let e = size_under old s f in omega (arith, spent, short, e)
+
+pub head_short : (old : List Term) (s : Subst) (f : Fact Id) (first : ℕ) → first < head_size (head_of f) → first < fact_size (fact_under s (fact_at old f))
+head_short old s f first short = let e = size_under old s f in omega (arith, short, e)
 
 -- hypotheses after a conclusion
 module _ (old now : List Term) (pairs : List Bound) (c : Clause Id) (left : ℕ) (ready : IsReady old pairs) (grows : Grows old now) (known : IsClauseIn old c) where
@@ -160,18 +162,3 @@ pub clause_short_as : (old now : List Term) (pairs : List Bound) (h : List (Fact
     → left < total fact_size (map (fact_under (standing now pairs)) (map (fact_at now) h)) → most_symbols < clause_size (clause_under (standing old pairs) (clause_at old c))
 clause_short_as old now pairs h k c left is ready grows known spent short =
     subst (λ (d : Clause Id). most_symbols < clause_size (clause_under (standing old pairs) (clause_at old d))) is (clause_short old now pairs (with_hypotheses h k) left ready grows (subst (λ (d : Clause Id). IsClauseIn old d) (sym is) known) spent short)
-
--- the same of a message that is given as a fact
-pub message_applied_as : (old now next : List Term) (pairs : List Bound) (f : Fact Id) (t u channel message : Id) (first left then : ℕ) → Mess t u ≡ f → IsReady old pairs → Grows old now → IsFactIn old f → Grows now next → Names now channel (bind (standing old pairs) (tree_at old t)) × (left + size (bind (standing old pairs) (tree_at old t)) ≡ first)
-    → Names next message (bind (standing now pairs) (tree_at now u)) × (then + size (bind (standing now pairs) (tree_at now u)) ≡ left)
-    → NamesFact next (Mess channel message) (fact_under (standing old pairs) (fact_at old f)) × (then + fact_size (fact_under (standing old pairs) (fact_at old f)) ≡ first + outline_size (fact_under (standing old pairs) (fact_at old f)))
-message_applied_as old now next pairs f t u channel message first left then is ready grows known further one two =
-    let both : IsFactIn old (Mess t u) = subst (λ (k : Fact Id). IsFactIn old k) (sym is) known in
-    subst (λ (k : Fact Id). NamesFact next (Mess channel message) (fact_under (standing old pairs) (fact_at old k)) × (then + fact_size (fact_under (standing old pairs) (fact_at old k)) ≡ first + outline_size (fact_under (standing old pairs) (fact_at old k)))) is
-    (message_applied old now pairs t u first left ready grows both.1.0 next channel message then further one two)
-
-pub message_short_as : (old now : List Term) (pairs : List Bound) (f : Fact Id) (t u : Id) (first left : ℕ) → Mess t u ≡ f → IsReady old pairs → Grows old now → IsFactIn old f → left + size (bind (standing old pairs) (tree_at old t)) ≡ first → left < size (bind (standing now pairs) (tree_at now u))
-    → first + outline_size (fact_under (standing old pairs) (fact_at old f)) < fact_size (fact_under (standing old pairs) (fact_at old f))
-message_short_as old now pairs f t u first left is ready grows known spent short =
-    let both : IsFactIn old (Mess t u) = subst (λ (k : Fact Id). IsFactIn old k) (sym is) known in
-    subst (λ (k : Fact Id). first + outline_size (fact_under (standing old pairs) (fact_at old k)) < fact_size (fact_under (standing old pairs) (fact_at old k))) is (message_short old now pairs t u first left ready grows both.1.0 spent short)

@@ -1,17 +1,9 @@
--- The symbols of facts beside those of their terms.
+-- What is over the limit of size.
 use Rattle.std.specs.Prelude.{ℕ, ◌+◌, Bool, not, nat_le, List}
 use Rattle.std.specs.List.{list_any}
 use Rattle.terms.specs.Term.{Term}
 use Rattle.calculus.specs.Bounds.{most_symbols}
-use Rattle.clauses.specs.Fact.{Fact, Att, Mess, Ev, Mev, Bad, fact_size}
-
--- one for the predicate, and one for an event
-abbrev pub outline_size : {X : Type 0} → Fact X → ℕ
-outline_size (Att t) = 1
-outline_size (Mess t u) = 1
-outline_size (Ev e ts) = 2
-outline_size (Mev e ts) = 2
-outline_size (Bad ts) = 1
+use Rattle.clauses.specs.Fact.{Fact, fact_size}
 
 -- whether so many symbols are over the limit
 abbrev pub is_over : ℕ → Bool

@@ -5,10 +5,10 @@ ghost use Rattle.trees.specs.Tree.{bind};
 ghost use Rattle.terms.specs.Unifier.{moved};
 ghost use Rattle.calculus.specs.Bounds.{most_symbols};
 ghost use Rattle.clauses.specs.Fact.{fact_under};
-ghost use Rattle.term_tree.specs.Bank.{tree_at, Grows, Names};
+ghost use Rattle.term_tree.specs.Bank.{tree_at, Grows};
 ghost use Rattle.clause_form.specs.Facts.{fact_of};
 ghost use Rattle.clause_form.specs.Seen.{fact_at, clause_at, IsClauseIn, NameTerms, NamesFact, NameFacts};
-ghost use Rattle.clause_resolve.specs.Low.{IsLow, AreLow, IsLowFact, AreLowFacts, HasLowVariables};
+ghost use Rattle.clause_resolve.specs.Low.{AreLow, IsLowFact, AreLowFacts, HasLowVariables};
 ghost use Rattle.clause_resolve.specs.Apart.{IsSelectedAt, IsApart};
 
 use clause_form::{Clause, Fact, Facts, Ids};
@@ -42,16 +42,6 @@ fn shifted_terms<B: Bank>(alloc: Global, bank: &mut B, terms: &[Id]) -> Result<I
     Ok(Ids { items })
 }
 
-/// A term set apart. On `Err` the bank may have grown.
-fn shifted_term<B: Bank>(alloc: Global, bank: &mut B, term: Id) -> Result<Id, AllocError>
-    requires { IsLow (B.trees bank.old) term }
-    ensures grows { Grows (B.trees bank.old) (B.trees bank.new) }
-    ensures names { IfOk result (λ made. Names (B.trees bank.new) made
-        (bind (moved most_symbols) (tree_at (B.trees bank.old) term))) }
-{
-    shifted(alloc, bank, term, OFFSET)
-}
-
 /// A fact set apart. On `Err` the bank may have grown.
 fn shifted_fact<B: Bank>(alloc: Global, bank: &mut B, fact: &Fact) -> Result<Fact, AllocError>
     requires { IsLowFact (B.trees bank.old) (fact_of fact.now) }
@@ -59,26 +49,9 @@ fn shifted_fact<B: Bank>(alloc: Global, bank: &mut B, fact: &Fact) -> Result<Fac
     ensures names { IfOk result (λ made. NamesFact (B.trees bank.new) (fact_of made)
         (fact_under (moved most_symbols) (fact_at (B.trees bank.old) (fact_of fact.now)))) }
 {
-    match fact {
-        Fact::Att(term) => Ok(Fact::Att(shifted_term(alloc, bank, *term)?)),
-        Fact::Mess(channel, message) => {
-            let channel = shifted_term(alloc, bank, *channel)?;
-            let message = shifted_term(alloc, bank, *message)?;
-            Ok(Fact::Mess(channel, message))
-        }
-        Fact::Ev(event, arguments) => {
-            let made = shifted_terms(alloc, bank, &arguments.items)?;
-            Ok(Fact::Ev(*event, made))
-        }
-        Fact::Mev(event, arguments) => {
-            let made = shifted_terms(alloc, bank, &arguments.items)?;
-            Ok(Fact::Mev(*event, made))
-        }
-        Fact::Bad(arguments) => {
-            let made = shifted_terms(alloc, bank, &arguments.items)?;
-            Ok(Fact::Bad(made))
-        }
-    }
+    let terms = fact.terms();
+    let made = shifted_terms(alloc, bank, terms.as_slice())?;
+    Ok(Fact::made_of(fact.head(), made))
 }
 
 /// The facts set apart. On `Err` the bank may have grown.

@@ -11,27 +11,16 @@ ghost use Rattle.term_tree.specs.Bank.{tree_at, AreKnown, Names, Grows};
 ghost use Rattle.unify_match.specs.Seen.{seen, IsReady};
 ghost use Rattle.clause_form.specs.Facts.{fact_of};
 ghost use Rattle.clause_form.specs.Seen.{fact_at, clause_at, IsFactIn, AreFactsIn, IsClauseIn, NameTerms, NamesFact, NameFacts, NamesClause};
-ghost use Rattle.clause_resolve.specs.Budget.{outline_size};
 ghost use Rattle.clause_resolve.specs.Stops.{StopsAt};
 
 use crate::stop::Stop;
-use clause_form::{Clause, Fact, Facts, Ids};
+use clause_form::{Clause, Fact, Facts, Ids, head_symbols};
 use std::alloc::Global;
 use term_tree::{Bank, Id};
 use unify_match::{Binds, apply_bound};
 
 /// The most symbols of a clause.
 const MOST_SYMBOLS: u64 = 4096;
-
-/// The symbols of a fact beside those of its terms.
-fn outline_symbols(fact: &Fact) -> u64
-    ensures { result ≡ outline_size (fact_of fact.now) }
-{
-    match fact {
-        Fact::Ev(..) | Fact::Mev(..) => 2,
-        Fact::Att(_) | Fact::Mess(..) | Fact::Bad(_) => 1,
-    }
-}
 
 /// Takes symbols from those that are left.
 fn spend(symbols: u64, left: &mut u64) -> Result<(), Stop>
@@ -96,48 +85,6 @@ fn applied_terms<B: Bank>(
     Ok(Ids { items })
 }
 
-/// A fact under the bindings, its outline not counted. On `Err` the bank may have grown.
-fn applied_outlined<B: Bank>(
-    alloc: Global,
-    bank: &mut B,
-    binds: &Binds,
-    fact: &Fact,
-    left: &mut u64,
-) -> Result<Fact, Stop>
-    requires known { IsFactIn (B.trees bank.old) (fact_of fact.now) }
-    requires ready { IsReady (B.trees bank.old) binds.now.pairs }
-    requires small { left.old ≤ most_symbols }
-    ensures grows { Grows (B.trees bank.old) (B.trees bank.new) }
-    ensures at_most { left.new ≤ left.old }
-    ensures outcome { let tree = fact_under (resolved (seen (B.trees bank.old) binds.now.pairs))
-        (fact_at (B.trees bank.old) (fact_of fact.now)) in
-        MatchResult result
-        (λ made. NamesFact (B.trees bank.new) (fact_of made) tree ×
-        (left.new + fact_size tree ≡ left.old + outline_size tree))
-        (λ stop. StopsAt stop (left.old + outline_size tree < fact_size tree)) }
-{
-    match fact {
-        Fact::Att(term) => Ok(Fact::Att(applied(bank, binds, *term, left)?)),
-        Fact::Mess(channel, message) => {
-            let channel = applied(bank, binds, *channel, left)?;
-            let message = applied(bank, binds, *message, left)?;
-            Ok(Fact::Mess(channel, message))
-        }
-        Fact::Ev(event, arguments) => {
-            let made = applied_terms(alloc, bank, binds, &arguments.items, left)?;
-            Ok(Fact::Ev(*event, made))
-        }
-        Fact::Mev(event, arguments) => {
-            let made = applied_terms(alloc, bank, binds, &arguments.items, left)?;
-            Ok(Fact::Mev(*event, made))
-        }
-        Fact::Bad(arguments) => {
-            let made = applied_terms(alloc, bank, binds, &arguments.items, left)?;
-            Ok(Fact::Bad(made))
-        }
-    }
-}
-
 /// A fact under the bindings. On `Err` the bank may have grown.
 fn applied_fact<B: Bank>(
     alloc: Global,
@@ -158,8 +105,10 @@ fn applied_fact<B: Bank>(
         (left.new + fact_size tree ≡ left.old))
         (λ stop. StopsAt stop (left.old < fact_size tree)) }
 {
-    spend(outline_symbols(fact), left)?;
-    applied_outlined(alloc, bank, binds, fact, left)
+    spend(head_symbols(fact.head()), left)?;
+    let terms = fact.terms();
+    let made = applied_terms(alloc, bank, binds, terms.as_slice(), left)?;
+    Ok(Fact::made_of(fact.head(), made))
 }
 
 /// The facts under the bindings. On `Err` the bank may have grown.

@@ -66,26 +66,9 @@ pub(crate) fn clash<B: Bank>(bank: &B, left: &Fact, right: &Fact) -> bool
     ensures { result ≡ true → NeverMeet (fact_at (B.trees bank.now) (fact_of left.now))
         (fact_at (B.trees bank.now) (fact_of right.now)) }
 {
-    match left {
-        Fact::Att(t) => match right {
-            Fact::Att(u) => roots_differ(bank, *t, *u),
-            Fact::Mess(..) | Fact::Ev(..) | Fact::Mev(..) | Fact::Bad(_) => true,
-        },
-        Fact::Mess(t, u) => match right {
-            Fact::Mess(v, w) => roots_differ(bank, *t, *v) || roots_differ(bank, *u, *w),
-            Fact::Att(_) | Fact::Ev(..) | Fact::Mev(..) | Fact::Bad(_) => true,
-        },
-        Fact::Ev(e, ts) => match right {
-            Fact::Ev(g, us) => e != g || some_roots_differ(bank, &ts.items, &us.items),
-            Fact::Att(_) | Fact::Mess(..) | Fact::Mev(..) | Fact::Bad(_) => true,
-        },
-        Fact::Mev(e, ts) => match right {
-            Fact::Mev(g, us) => e != g || some_roots_differ(bank, &ts.items, &us.items),
-            Fact::Att(_) | Fact::Mess(..) | Fact::Ev(..) | Fact::Bad(_) => true,
-        },
-        Fact::Bad(ts) => match right {
-            Fact::Bad(us) => some_roots_differ(bank, &ts.items, &us.items),
-            Fact::Att(_) | Fact::Mess(..) | Fact::Ev(..) | Fact::Mev(..) => true,
-        },
+    if left.head() != right.head() {
+        return true;
     }
+    let (lefts, rights) = (left.terms(), right.terms());
+    some_roots_differ(bank, lefts.as_slice(), rights.as_slice())
 }

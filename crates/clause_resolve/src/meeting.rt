@@ -58,30 +58,9 @@ pub(crate) fn unify_facts<B: Bank>(
         (IsMguOfFacts f g (resolved (seen (B.trees bank.now) binds.new.pairs)))
         (HaveNoUnifier f g)) }
 {
-    match left {
-        Fact::Att(t) => match right {
-            Fact::Att(u) => unify_lists(bank, &[*t], &[*u], binds),
-            Fact::Mess(..) | Fact::Ev(..) | Fact::Mev(..) | Fact::Bad(_) => Ok(false),
-        },
-        Fact::Mess(t, u) => match right {
-            Fact::Mess(v, w) => unify_lists(bank, &[*t, *u], &[*v, *w], binds),
-            Fact::Att(_) | Fact::Ev(..) | Fact::Mev(..) | Fact::Bad(_) => Ok(false),
-        },
-        Fact::Ev(e, ts) => match right {
-            Fact::Ev(g, us) if e == g => unify_lists(bank, &ts.items, &us.items, binds),
-            Fact::Att(_) | Fact::Mess(..) | Fact::Ev(..) | Fact::Mev(..) | Fact::Bad(_) => Ok(
-                false,
-            ),
-        },
-        Fact::Mev(e, ts) => match right {
-            Fact::Mev(g, us) if e == g => unify_lists(bank, &ts.items, &us.items, binds),
-            Fact::Att(_) | Fact::Mess(..) | Fact::Ev(..) | Fact::Mev(..) | Fact::Bad(_) => Ok(
-                false,
-            ),
-        },
-        Fact::Bad(ts) => match right {
-            Fact::Bad(us) => unify_lists(bank, &ts.items, &us.items, binds),
-            Fact::Att(_) | Fact::Mess(..) | Fact::Ev(..) | Fact::Mev(..) => Ok(false),
-        },
+    if left.head() != right.head() {
+        return Ok(false);
     }
+    let (lefts, rights) = (left.terms(), right.terms());
+    unify_lists(bank, lefts.as_slice(), rights.as_slice(), binds)
 }

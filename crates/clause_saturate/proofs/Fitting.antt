@@ -6,13 +6,11 @@ use Rattle.calculus.specs.Bounds.{most_symbols}
 use Rattle.calculus.specs.Points.{numbered}
 use Rattle.clauses.specs.Fact.{Clause, clause_terms, clause_size}
 use Rattle.clauses.specs.Variables.{leaves, IsBelow}
-use Rattle.clauses.specs.Norm.{IsNormal, norms}
-use Rattle.clauses.specs.Limits.{IsWithinLimit, is_large_raw}
-use Rattle.clauses.specs.Resolvents.{Large, Resolvents, resolved}
+use Rattle.clauses.specs.Norm.{IsNormal}
+use Rattle.clauses.specs.Limits.{IsWithinLimit}
 use Rattle.clauses.specs.Inclusion.{here, there, Has}
-use Rattle.clauses.proofs.Limits.{norms-within_limit}
+use Rattle.clauses.proofs.Made.{made_small}
 use Rattle.clauses.proofs.Lists.{all_weaker}
-use Rattle.clauses.proofs.NormAnswers.{norms-normal}
 use Rattle.clauses.proofs.NormNumbers.{norm-below}
 use Rattle.saturation.specs.Key.{Key, below}
 use Rattle.saturation.specs.Key as offered
@@ -20,12 +18,11 @@ use Rattle.saturation.specs.Log.{IsOffered}
 use Rattle.saturation.proofs.Pairs.{has_numbered, offers_normal}
 use Rattle.term_tree.specs.Bank.{Grows}
 use Rattle.term_tree.specs.declared.bank.Id.{Id}
-use Rattle.clause_form.specs.Seen.{clause_at, IsClauseIn, NamesClause, AreClausesIn, NameClauses}
-use Rattle.clause_form.proofs.Copying.{NamesClause-grows}
+use Rattle.clause_form.specs.Seen.{clause_at}
 use Rattle.clause_resolve.specs.Low.{HasLowVariables}
 use Rattle.clause_saturate.specs.declared.log.Entry.{Entry}
 use Rattle.clause_saturate.specs.declared.walk.Walk.{Walk}
-use Rattle.clause_saturate.specs.Fit.{IsFit, AreFit}
+use Rattle.clause_form.specs.Fit.{IsFit, AreFit}
 use Rattle.clause_saturate.specs.Logs.{TellEntries, TellLog}
 use Rattle.clause_saturate.specs.Beating.{clauses_of}
 use Rattle.clause_saturate.specs.Live.{AreListed}
@@ -33,69 +30,11 @@ use Rattle.clause_saturate.specs.Walked.{Task, IsTask, IsWalked}
 use Rattle.clause_saturate.proofs.Listing.{listed_grows, listed_back}
 use Rattle.clause_saturate.proofs.Telling.{TellLog-grows, TellLog-back, log_length}
 
--- a clause's ids name what they name
-named_itself : (all : List Term) (c : Clause Id) → IsClauseIn all c → NamesClause all c (clause_at all c)
-named_itself all c known = record { known = known; is = refl }
-
-pub IsFit-grows : (a b : List Term) (c : Clause Id) → Grows a b → IsFit a c → IsFit b c
-IsFit-grows a b c grows fit =
-    let later = NamesClause-grows a b c (clause_at a c) grows (named_itself a c fit.known) in
-    record { known = later.known; normal = subst IsNormal (sym later.is) fit.normal; small = subst IsWithinLimit (sym later.is) fit.small }
-
-pub AreFit-grow : (a b : List Term) (cs : List (Clause Id)) → Grows a b → AreFit a cs → AreFit b cs
-AreFit-grow a b [] grows fit = tt
-AreFit-grow a b (c ∷ cs) grows fit = (IsFit-grows a b c grows fit.0, AreFit-grow a b cs grows fit.1)
-
--- and name it as the bank grows
-pub given_grow : (a b : List Term) (cs : List (Clause Id)) → Grows a b → AreFit a cs → map (clause_at b) cs ≡ map (clause_at a) cs
-given_grow a b [] grows fit = refl
-given_grow a b (c ∷ cs) grows fit = cc ((NamesClause-grows a b c (clause_at a c) grows (named_itself a c fit.0.known)).is, given_grow a b cs grows fit.1)
-
-fit_in : (all : List Term) (cs : List (Clause Id)) (i : ℕ) (d : Clause Id) → AreFit all cs → i < length cs → IsFit all (get_or cs i d)
-fit_in all [] i d fit within = absurd (omega arith)
-fit_in all (c ∷ cs) zero d fit within = fit.0
-fit_in all (c ∷ cs) (suc i) d fit within = fit_in all cs i d fit.1 (omega arith)
-
--- a clause among fit ones is fit
-pub clause_fit_at : (all : List Term) (cs : List (Clause Id)) (i : ℕ) (c : Clause Id) → c ≡ get_or cs i c → AreFit all cs → i < length cs → IsFit all c
-clause_fit_at all cs i c is fit within = subst (λ (x : Clause Id). IsFit all x) (sym is) (fit_in all cs i c fit within)
-
 -- the clause at a place has the number behind it
 pub numbered_given : (all : List Term) (cs : List (Clause Id)) (i : ℕ) (c : Clause Id) → c ≡ get_or cs i c → i < length cs → numbered (map (clause_at all) cs) (suc i) ≡ Some (clause_at all c)
 numbered_given all [] i c is within = absurd (omega arith)
 numbered_given all (d ∷ cs) zero c is within = ap (λ x. Some (clause_at all x)) (sym is)
 numbered_given all (d ∷ cs) (suc i) c is within = numbered_given all cs i c is (omega arith)
-
--- resolvents are within the limit
-made_small : (raw : Option (Clause Term)) (cs : List (Clause Term)) (c : Clause Term) → Resolvents cs ≡ resolved raw → Has cs c → IsWithinLimit c
-made_small None cs c e h = cc
-made_small (Some raw) cs c e h = go (is_large_raw raw) refl e
-  where
-    go : (b : Bool) → is_large_raw raw ≡ b → Resolvents cs ≡ cond b Large (Resolvents (norms raw)) → IsWithinLimit c
-    go true p e = cc
-    go false p e = let same : cs ≡ norms raw = cc in norms-within_limit raw c p (subst (λ xs. Has xs c) same h)
-
-made_normal : (raw : Option (Clause Term)) (cs : List (Clause Term)) (c : Clause Term) → Resolvents cs ≡ resolved raw → Has cs c → IsNormal c
-made_normal None cs c e h = cc
-made_normal (Some raw) cs c e h = go (is_large_raw raw) refl e
-  where
-    go : (b : Bool) → is_large_raw raw ≡ b → Resolvents cs ≡ cond b Large (Resolvents (norms raw)) → IsNormal c
-    go true p e = cc
-    go false p e = let same : cs ≡ norms raw = cc in norms-normal raw c (subst (λ xs. Has xs c) same h)
-
--- what names resolvents is fit
-pub resolvents_fit : (all : List Term) (clauses : List (Clause Id)) (raw : Option (Clause Term)) (cs : List (Clause Term)) → Resolvents cs ≡ resolved raw → NameClauses all clauses cs → AreFit all clauses
-resolvents_fit all clauses raw cs e names = go clauses cs names.known names.are (λ c h. made_normal raw cs c e h) (λ c h. made_small raw cs c e h)
-  where
-    go : (clauses : List (Clause Id)) (ds : List (Clause Term)) → AreClausesIn all clauses → map (clause_at all) clauses ≡ ds → ((c : Clause Term) → Has ds c → IsNormal c) → ((c : Clause Term) → Has ds c → IsWithinLimit c) → AreFit all clauses
-    go [] ds known are normal small = tt
-    go (c ∷ clauses) [] known are normal small = cc
-    go (c ∷ clauses) (d ∷ ds) known are normal small =
-        let first : clause_at all c ≡ d = cc in
-        let rest : map (clause_at all) clauses ≡ ds = cc in (
-          record { known = known.0; normal = subst IsNormal (sym first) (normal d (ds, here)); small = subst IsWithinLimit (sym first) (small d (ds, here)) },
-          go clauses ds known.1 rest (λ x h. normal x (d ∷ h.0, there h.1)) (λ x h. small x (d ∷ h.0, there h.1)),
-        )
 
 -- what is offered is within the limit
 offers_small : (task : Task) → IsTask task → (log : List offered.Entry) (e : offered.Entry) → IsOffered task.given log e → IsWithinLimit e.clause

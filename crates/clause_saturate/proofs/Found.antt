@@ -14,7 +14,7 @@ use Rattle.clause_resolve.specs.Answers.{Gives, IsAnswerOf}
 use Rattle.clause_form.specs.Seen.{clause_at, IsClauseIn}
 use Rattle.clause_saturate.specs.declared.log.Entry.{Entry}
 use Rattle.clause_saturate.specs.declared.walk.Pair.{Pair}
-use Rattle.clause_saturate.specs.Fit.{IsFit, AreFit}
+use Rattle.clause_form.specs.Fit.{IsFit, AreFit}
 use Rattle.clause_saturate.specs.Beating.{clauses_of}
 use Rattle.clause_saturate.specs.Pairs.{major, minor, IsDuePair, GivesAnswer, IsFoundFor}
 use Rattle.clause_saturate.proofs.Marking.{fit_at}

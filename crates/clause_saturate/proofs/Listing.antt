@@ -11,7 +11,7 @@ use Rattle.clause_form.specs.Seen.{clause_at}
 use Rattle.clause_form.proofs.Copying.{NamesClause-grows}
 use Rattle.clause_saturate.specs.declared.log.Entry.{Entry}
 use Rattle.clause_saturate.specs.declared.walk.Live.{Live}
-use Rattle.clause_saturate.specs.Fit.{AreFit}
+use Rattle.clause_form.specs.Fit.{AreFit}
 use Rattle.clause_saturate.specs.Logs.{is_unbeaten}
 use Rattle.clause_saturate.specs.Beating.{clauses_of, IsMarked, AreMarked}
 use Rattle.clause_saturate.specs.Live.{IsAmong, IsAscending, IsLiveAt, AreNumbersOf, AreListed, is_live_entry, is_live_at, IsNumberListed}

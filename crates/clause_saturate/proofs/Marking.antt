@@ -4,7 +4,7 @@ use Rattle.terms.specs.Term.{Term}
 use Rattle.clauses.specs.Fact.{Clause}
 use Rattle.clause_form.specs.Seen.{IsClauseIn, AreClausesIn}
 use Rattle.clause_saturate.specs.declared.log.Entry.{Entry}
-use Rattle.clause_saturate.specs.Fit.{IsFit, AreFit}
+use Rattle.clause_form.specs.Fit.{IsFit, AreFit}
 use Rattle.clause_saturate.specs.Beating.{clauses_of, IsMarked, AreMarked}
 
 -- what a test tells

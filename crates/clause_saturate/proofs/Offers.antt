@@ -9,7 +9,7 @@ use Rattle.term_tree.specs.declared.bank.Id.{Id}
 use Rattle.clause_form.specs.Seen.{clause_at}
 use Rattle.clause_saturate.specs.declared.log.Origin.{Origin}
 use Rattle.clause_saturate.specs.declared.log.Entry.{Entry}
-use Rattle.clause_saturate.specs.Fit.{IsFit}
+use Rattle.clause_form.specs.Fit.{IsFit}
 use Rattle.clause_saturate.specs.Logs.{IsOrigin, TellsEntry, TellLog}
 use Rattle.clause_saturate.specs.Beating.{SomeLiveCovers, IsPushed, IsAdded, IsDueEntry}
 use Rattle.clause_saturate.proofs.Marking.{when_true, when_false}
@@ -40,12 +40,12 @@ due_offer all items clause copied origin budget found fit same refused h full lo
   unbeaten = refl;
 }
 
-pub new_offer : (all : List Term) (items new : List Entry) (clause copied : Clause Id) (origin : Origin) (budget : ℕ) (found : Bool) → IsFit all clause → copied ≡ clause → found ≡ false → MatchBool found (SomeLiveCovers all items (clause_at all clause)) (SomeLiveCovers all items (clause_at all clause) → ⊥) → length items < budget
-    → IsPushed all items (record { clause = copied; origin = origin; by = None }) new → (log : List offered.Entry) (at : Key) → TellLog all items log → IsOrigin log origin at → IsAdded all log new budget (record { key = at; clause = clause_at all clause })
-new_offer all items new clause copied origin budget found fit same refused h room pushed log at tell is_origin =
+pub new_offer : (all : List Term) (items new : List Entry) (clause : Clause Id) (origin : Origin) (budget : ℕ) (found : Bool) → IsFit all clause → found ≡ false → MatchBool found (SomeLiveCovers all items (clause_at all clause)) (SomeLiveCovers all items (clause_at all clause) → ⊥) → length items < budget
+    → IsPushed all items (record { clause = clause; origin = origin; by = None }) new → (log : List offered.Entry) (at : Key) → TellLog all items log → IsOrigin log origin at → IsAdded all log new budget (record { key = at; clause = clause_at all clause })
+new_offer all items new clause origin budget found fit refused h room pushed log at tell is_origin =
     let count = log_length all items log tell in
     record {
       uncovered = uncovered_offer all items (clause_at all clause) found refused h log tell;
       room = omega (arith, count, room);
-      tell = pushed_tells all log items new (record { clause = copied; origin = origin; by = None }) (record { key = at; clause = clause_at all clause }) tell pushed (ap (clause_at all) same) (told all log clause copied origin at fit same is_origin) refl;
+      tell = pushed_tells all log items new (record { clause = clause; origin = origin; by = None }) (record { key = at; clause = clause_at all clause }) tell pushed refl (told all log clause clause origin at fit refl is_origin) refl;
     }

@@ -8,7 +8,7 @@ use Rattle.calculus.specs.Points.{numbered}
 use Rattle.clauses.specs.Fact.{Clause}
 use Rattle.clauses.specs.Selection.{select, is_solved}
 use Rattle.clauses.specs.Resolvents.{Answer, NoUnifier, Large, Resolvents, Resolves}
-use Rattle.saturation.specs.Key.{Key, key, is_before, below}
+use Rattle.saturation.specs.Key.{Key, key, is_before}
 use Rattle.saturation.specs.Key as offered
 use Rattle.saturation.specs.Log.{IsBeaten, IsLive, IsDue, Gives, IsOffered, goal_key}
 use Rattle.saturation.specs.End.{IsLogUpTo}
@@ -27,7 +27,7 @@ use Rattle.clause_saturate.specs.declared.log.Origin.TheVariants.{Resolvent}
 use Rattle.clause_saturate.specs.declared.walk.Walk.{Walk}
 use Rattle.clause_saturate.specs.declared.walk.Pair.{Pair}
 use Rattle.clause_saturate.specs.Logs.{IsSolvedAt, IsOrigin, TellEntries, TellLog, IsSpentLog, IsLargeLog}
-use Rattle.clause_saturate.specs.Fit.{AreFit}
+use Rattle.clause_form.specs.Fit.{AreFit}
 use Rattle.clause_saturate.specs.Beating.{clauses_of, IsOfferMade}
 use Rattle.clause_saturate.proofs.Fitting.{walked_grows}
 use Rattle.clause_saturate.specs.Live.{AreListed}

@@ -1,6 +1,6 @@
 -- What is found by the lists of live entries: a partner, a due pair, and what covers a clause.
-use Rattle.std.proofs.Common.{◌≡◌, ◌⊎◌, ◌∙◌, ℕ, zero, suc, ◌+◌, ◌<◌, ◌≤◌, Bool, true, false, not, Some, None, List, [], ◌∷◌, length, drop, get_or, MatchBool, ltb, ltb-true, ltb-false, refl, ap, sym, subst, inl, inr, arith}
-use Rattle.std.specs.Prelude.{slice_get}
+use Rattle.std.proofs.Common.{◌≡◌, ◌⊎◌, ◌∙◌, ℕ, zero, suc, ◌+◌, ◌<◌, ◌≤◌, Bool, true, false, not, true≢false, Some, None, List, [], ◌∷◌, length, drop, get_or, MatchBool, ltb, ltb-true, ltb-false, refl, ap, sym, subst, inl, inr, arith}
+use Rattle.std.specs.Prelude.{slice_get, is_some}
 use Rattle.std.specs.List.Sorted.{IsPartitionPoint}
 use Rattle.std.proofs.lemmas.Bool.{cases_lt}
 use Rattle.terms.specs.Term.{Term}
@@ -81,6 +81,12 @@ undue all es later earlier x b p kind none = λ last first at there live too. (
 
 pub no_next : (all : List Term) (es : List Entry) (later from : ℕ) (x : Entry) (b : Bool) (ns : List ℕ) → numbered es later ≡ Some x → is_solved (clause_at all x.clause).hypotheses ≡ b → AreNumbersOf all es (not b) ns → IsPartner ns later from None → NoDuePairs all es later from later
 no_next all es later from x b ns p kind numbers none = λ earlier least order. undue all es later earlier x b p kind (λ there. none earlier (numbers.every earlier there) least order)
+
+-- an entry that isn't live is in none
+pub none_dead : (all : List Term) (es : List Entry) (later from : ℕ) (x : Entry) → numbered es later ≡ Some x → is_some x.by ≡ true → NoDuePairs all es later from later
+none_dead all es later from x p dead = λ earlier least order last first last_at first_at live first_live.
+    let same = one_entry es later x last p last_at in
+    absurd (true≢false (sym dead ∙ (ap (λ (y : Entry). is_some y.by) same ∙ ap is_some live)))
 
 -- the first partner makes the first due pair
 first_pair : (all : List Term) (es : List Entry) (later from n : ℕ) (x : Entry) (b : Bool) (ns : List ℕ) (pair : Pair) → IsDuePair all es later n pair → numbered es later ≡ Some x → is_solved (clause_at all x.clause).hypotheses ≡ b → AreNumbersOf all es (not b) ns → IsPartner ns later from (Some n) → IsFirstPair all es later from pair

@@ -1,5 +1,4 @@
 pub mod Codes
-pub mod Fit
 pub mod Logs
 pub mod Beating
 pub mod Live

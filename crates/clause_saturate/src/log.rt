@@ -4,7 +4,7 @@ use clause_form::{Clause, PlainClause};
 use std::marker::Model;
 
 /// Where a clause comes from. Given clauses, resolvents and entries are counted from 1.
-#[derive(Clone, Copy, PartialEq, Eq, Debug)]
+#[derive(Clone, Copy)]
 pub enum Origin {
     /// The given clause of this number.
     Given(usize),
@@ -17,7 +17,7 @@ pub enum Origin {
 }
 
 /// An entry of a log: its clause, where that comes from, and the first later entry that subsumes it, if one does.
-#[derive(Debug, Drop)]
+#[derive(Drop)]
 pub struct Entry {
     pub clause: Clause,
     pub origin: Origin,
@@ -25,7 +25,7 @@ pub struct Entry {
 }
 
 /// Entries in order.
-#[derive(Debug, Drop)]
+#[derive(Drop)]
 pub struct Log {
     pub items: Vec<Entry>,
 }
@@ -43,7 +43,7 @@ impl Model for Log {
 }
 
 /// An entry with its clause over owned trees.
-#[derive(Debug, Drop)]
+#[derive(Drop)]
 pub struct PlainEntry {
     pub clause: PlainClause,
     pub origin: Origin,
@@ -51,7 +51,7 @@ pub struct PlainEntry {
 }
 
 /// Entries over owned trees, in order.
-#[derive(Debug, Drop)]
+#[derive(Drop)]
 pub struct PlainLog {
     pub items: Vec<PlainEntry>,
 }
@@ -69,7 +69,7 @@ impl Model for PlainLog {
 }
 
 /// The log of given clauses and a budget, and how it ends.
-#[derive(Debug, Drop)]
+#[derive(Drop)]
 pub enum Saturated {
     /// All that is new is there.
     Closed(Log),

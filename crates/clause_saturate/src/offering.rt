@@ -5,7 +5,7 @@ ghost use Rattle.clauses.specs.Selection.{is_solved as is_solved_list};
 ghost use Rattle.clauses.specs.Subsumption.{Subsumes};
 ghost use Rattle.saturation.specs.Key.{Key, Entry as EntryOf};
 ghost use Rattle.clause_form.specs.Seen.{clause_at, IsClauseIn};
-ghost use Rattle.clause_saturate.specs.Fit.{IsFit, AreFit};
+ghost use Rattle.clause_form.specs.Fit.{IsFit, AreFit};
 ghost use Rattle.clause_saturate.specs.Logs.{TellLog, IsOrigin};
 ghost use Rattle.clause_saturate.specs.Beating.{clauses_of, LiveCovers, SomeLiveCovers, BeatsLive, IsMarked, AreMarked, IsPushed, IsOfferMade};
 ghost use Rattle.clause_saturate.specs.Live.{IsAmong, AreListed, is_live_at, IsNumberListed, CoversAmong};
@@ -227,23 +227,32 @@ fn list<B: Bank>(
     Ok(())
 }
 
-/// Adds an entry to the log and to the list of its kind, and marks those that its clause subsumes.
-fn add<B: Bank>(walk: &mut Walk, bank: &B, entry: Entry) -> Result<(), AllocError>
+/// Adds an entry of the clause to the log and to the list of its kind, and marks those that the clause subsumes.
+fn add<B: Bank>(
+    walk: &mut Walk,
+    bank: &B,
+    clause: &Clause,
+    origin: Origin,
+) -> Result<(), AllocError>
     requires entries { AreFit (B.trees bank.now) (clauses_of walk.old.items.items) }
     requires listed { AreListed (B.trees bank.now) walk.old.items.items walk.old.live }
-    requires entry { IsFit (B.trees bank.now) entry.clause }
-    requires live { entry.by ≡ None }
+    requires clause { IsFit (B.trees bank.now) clause.now }
     ensures kept { (walk.new.budget ≡ walk.old.budget) × (walk.new.asked ≡ walk.old.asked) }
-    ensures pushed { OnOk result (IsPushed (B.trees bank.now) walk.old.items.items entry
-        walk.new.items.items) }
+    ensures pushed { OnOk result (IsPushed (B.trees bank.now) walk.old.items.items record
+        { clause = clause.now; origin = origin; by = None } walk.new.items.items) }
     ensures listed { OnOk result (AreListed (B.trees bank.now) walk.new.items.items
         walk.new.live) }
 {
     let number = walk.items.len() + 1;
-    mark_items(walk.alloc, bank, &entry.clause, number, &mut walk.items)?;
+    mark_items(walk.alloc, bank, clause, number, &mut walk.items)?;
     drop_all(&walk.items, &mut walk.live);
-    list(&mut walk.live, bank, &entry.clause, number)?;
-    walk.items.push(entry)?;
+    list(&mut walk.live, bank, clause, number)?;
+    let clause = clause.copy(walk.alloc)?;
+    walk.items.push(Entry {
+        clause,
+        origin,
+        by: None,
+    })?;
     Ok(())
 }
 
@@ -271,15 +280,14 @@ pub(crate) fn offer<B: Bank>(
     if is_covered(walk, bank, clause)? {
         return Ok(None);
     }
-    let clause = clause.copy(walk.alloc)?;
-    let entry = Entry {
-        clause,
-        origin,
-        by: None,
-    };
     if walk.items.len() as u64 == walk.budget {
-        return Ok(Some(entry));
+        let clause = clause.copy(walk.alloc)?;
+        return Ok(Some(Entry {
+            clause,
+            origin,
+            by: None,
+        }));
     }
-    add(walk, bank, entry)?;
+    add(walk, bank, clause, origin)?;
     Ok(None)
 }

@@ -4,7 +4,7 @@ ghost use Rattle.std.specs.Prelude.{◌+◌, ◌<◌, ◌≤◌, length, take, I
 ghost use Rattle.saturation.specs.Key.{key};
 ghost use Rattle.term_tree.specs.Bank.{Grows};
 ghost use Rattle.clause_resolve.specs.Answers.{LeavesBank};
-ghost use Rattle.clause_saturate.specs.Fit.{AreFit};
+ghost use Rattle.clause_form.specs.Fit.{AreFit};
 ghost use Rattle.clause_saturate.specs.Beating.{clauses_of};
 ghost use Rattle.clause_saturate.specs.Live.{IsAscending, AreListed, IsPartner};
 ghost use Rattle.clause_saturate.specs.Pairs.{major, minor, IsNextPair, IsDuePair, IsMadeBy, IsFoundFor, AreSameOrMore, IsTidy};

@@ -7,7 +7,7 @@ ghost use Rattle.saturation.specs.Key.{key};
 ghost use Rattle.saturation.specs.Log.{goal_key};
 ghost use Rattle.term_tree.specs.Bank.{Grows};
 ghost use Rattle.clause_form.specs.Seen.{clause_at};
-ghost use Rattle.clause_saturate.specs.Fit.{AreFit};
+ghost use Rattle.clause_form.specs.Fit.{AreFit};
 ghost use Rattle.clause_saturate.specs.Logs.{IsLogOf};
 ghost use Rattle.clause_saturate.specs.Walked.{Task, IsWalked, HasOffered, HasPassed, HasEnded, behind_goal};
 

@@ -3,6 +3,7 @@ use Rattle.std.proofs.Common.{◌≡◌, ℕ, zero, suc, ◌<◌, ◌≤◌, Som
 use Rattle.std.proofs.lemmas.Option.{slice_get-get_or}
 use Rattle.calculus.specs.Syntax.{Query, Protocol}
 use Rattle.calculus.specs.Points.{numbered}
+use Rattle.calculus.specs.Bounds.{most_visits}
 use Rattle.terms.specs.Term.{Term}
 use Rattle.clauses.specs.Fact.{Clause}
 use Rattle.term_tree.specs.Bank.{Grows}
@@ -10,7 +11,7 @@ use Rattle.term_tree.specs.declared.bank.Id.{Id}
 use Rattle.translation.specs.Visit.{first_visit}
 use Rattle.translation.specs.Course.{Done, TooLarge}
 use Rattle.translation.specs.Visited.{Visited}
-use Rattle.translation.specs.Translation.{attacker_clauses, goal_clauses, most_visits}
+use Rattle.translation.specs.Translation.{attacker_clauses, goal_clauses}
 use Rattle.clause_form.specs.Seen.{clause_at, AreClausesIn, NameClauses}
 use Rattle.query_derive.specs.GoalRows.{OfQuery}
 use Rattle.clause_translate.specs.declared.listing.Listing.{Listing}

@@ -12,13 +12,25 @@ use term_tree::Id;
 
 /// What is known where a point is visited: what the leaves stand for, the hypotheses so far, the messages received
 /// above the point, and the numbers of the copies that were taken above it. All variables are below `next`.
-#[derive(Drop)]
 pub struct Visit {
     pub scope: Scope,
     pub hypotheses: Facts,
     pub messages: Ids,
     pub sessions: Ids,
     pub next: u32,
+}
+
+/// Written out, so that a visit is let go of by one call.
+impl Drop for Visit {
+    fn drop(self) {
+        let Visit {
+            scope: _,
+            hypotheses: _,
+            messages: _,
+            sessions: _,
+            next: _,
+        } = self;
+    }
 }
 
 /// Visits in order.

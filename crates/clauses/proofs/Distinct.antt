@@ -3,7 +3,8 @@ use Rattle.std.proofs.Common.{◌≡◌, ◌↔◌, ℕ, suc, ◌+◌, Bool, tru
 use Rattle.std.specs.Prelude.{filter}
 use Rattle.std.specs.List.{AllByRecursion, IsDistinct, list_any, range_with_len}
 use Rattle.clauses.specs.Norm.{distinct, place_of}
-use Rattle.terms.proofs.Replace.{eqb_self, eqb_sym, or_left, or_right}
+use Rattle.std.proofs.lemmas.Bool.{or_left, or_right}
+use Rattle.terms.proofs.Replace.{eqb_self, eqb_sym}
 use Rattle.clauses.proofs.Lists.{all_filter, all_weaker, map_same}
 
 -- what passes a test

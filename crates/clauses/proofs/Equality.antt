@@ -3,7 +3,8 @@ use Rattle.std.proofs.Common.{◌≡◌, ◌↔◌, Bool, true, false, nat_eq, L
 use Rattle.trees.proofs.Equality.{and_true, same_tree-decides}
 use Rattle.trees.proofs.Occurrence.{or_true}
 use Rattle.terms.specs.Term.{Sym, Ctor, Data, Tuple, Free, Point, Attacker, Term, same_symbol}
-use Rattle.terms.proofs.Replace.{eqb_self, or_left, or_right}
+use Rattle.std.proofs.lemmas.Bool.{or_left, or_right}
+use Rattle.terms.proofs.Replace.{eqb_self}
 use Rattle.clauses.specs.Fact.{Fact, Att, Mess, Ev, Mev, Bad, same_term, same_terms, same_fact, is_among}
 use Rattle.clauses.specs.Inclusion.{Picks, here, there, Has}
 

@@ -1,7 +1,7 @@
 -- Inclusion of lists as multisets: what may be picked, and what is included.
 use Rattle.std.proofs.Common.{◌≡◌, ℕ, zero, suc, ◌<◌, ◌⊎◌, Bool, true, false, cond, List, [], ◌∷◌, ◌++◌, map, length, get_or, refl, inl, inr, ⊎_elim, ◌↔◌, arith}
 use Rattle.std.specs.Prelude.{Contains, Option, Some, None, filter, filter_map, flat_map}
-use Rattle.std.specs.List.{cons_option}
+use Rattle.std.specs.List.{AllByRecursion, cons_option}
 use Rattle.clauses.specs.Inclusion.{Picks, here, there, Has, IsWithin}
 
 module _ {X : Type 0} where
@@ -199,3 +199,10 @@ Has-one {X} h = of_pick h.1 where
 
 pub Has-map : {X Y : Type 0} (f : X → Y) (xs : List X) (x : X) → Has xs x → Has (map f xs) (f x)
 Has-map f xs x h = (map f h.0, pick-map f h.1)
+
+-- what holds of each item holds of one that the list has
+pub all_has : {X : Type 0} (P : X → Type 0) (xs : List X) (x : X) → AllByRecursion P xs → Has xs x → P x
+all_has {X} P xs x all h = of_pick h.1 all where
+  of_pick : {ys rest : List X} {y : X} → Picks ys y rest → AllByRecursion P ys → P y
+  of_pick here all = all.0
+  of_pick (there p) all = of_pick p all.1

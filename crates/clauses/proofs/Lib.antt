@@ -1,6 +1,7 @@
 pub mod Lists
 pub mod Facts
 pub mod Equality
+pub mod Parts
 pub mod Renaming
 pub mod Flat
 pub mod NormRenaming
@@ -22,5 +23,6 @@ pub mod FactUnifiers
 pub mod Answers
 pub mod NormNumbers
 pub mod Limits
+pub mod Made
 pub mod Examples
 pub mod RowExamples

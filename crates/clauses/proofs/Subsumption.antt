@@ -76,10 +76,10 @@ row_length general special row h =
     sym (length-map row (hypothesis_at special.hypotheses)) ∙ (sym (ap length h.firmly) ∙ length-map (firm general.hypotheses) (λ f. Some (fact_under h.by f)))
 
 -- of two rows of one length one comes first, or they are the same
-abbrev Order : List ℕ → List ℕ → Type 0
+abbrev pub Order : List ℕ → List ℕ → Type 0
 Order ps qs = (ps ≡ qs) ⊎ (ComesBefore ps qs ⊎ ComesBefore qs ps)
 
-order : (ps qs : List ℕ) → length ps ≡ length qs → Order ps qs
+pub order : (ps qs : List ℕ) → length ps ≡ length qs → Order ps qs
 order [] [] e = inl refl
 order [] (q ∷ qs) e = absurd (omega arith)
 order (p ∷ ps) [] e = absurd (omega arith)

@@ -1,4 +1,5 @@
 pub mod Fact
+pub mod Head
 pub mod Variables
 pub mod Renaming
 pub mod Flat

@@ -3,14 +3,15 @@
 //! holds of the definitions.
 #![tactic(auto)]
 
-ghost use Rattle.std.specs.Prelude.{◌≡◌, ◌↔◌, ◌⊎◌, ℕ, ◌+◌, ◌*◌, ◌≤◌, nat_eq, true, false, Some, None};
+ghost use Rattle.std.specs.Prelude.{◌≡◌, ◌↔◌, ◌⊎◌, ℕ, ◌+◌, ◌*◌, ◌≤◌, ◌&&◌, nat_eq, true, false, Some, None};
 ghost use Rattle.std.specs.Prelude.{List, [], ◌∷◌, ◌++◌, length, map, flat_map, option_map, slice_get, Contains};
 ghost use Rattle.std.specs.List.{AllByRecursion, list_all, range_with_len};
-ghost use Rattle.trees.specs.Tree.{Leaf, after};
+ghost use Rattle.trees.specs.Tree.{Leaf, after, size};
 ghost use Rattle.terms.specs.Term.{Sym, Term, Subst, same_symbol};
-ghost use Rattle.clauses.specs.Fact.{Fact, Clause, clause_terms, map_fact, map_clause, outline, fact_under};
+ghost use Rattle.clauses.specs.Fact.{Fact, Clause, terms_of, clause_terms, map_fact, map_clause, outline, fact_under};
 ghost use Rattle.clauses.specs.Fact.{clause_under, total, fact_size, clause_size, same_term, same_terms};
 ghost use Rattle.clauses.specs.Fact.{same_fact, is_among};
+ghost use Rattle.clauses.specs.Head.{Head, head_of, made_of, same_head, head_size};
 ghost use Rattle.clauses.specs.Variables.{fact_variables, clause_variables, AreBelow};
 ghost use Rattle.clauses.specs.Flat.{flat, flat_under, flat_parts, is_flat, is_flat_clause};
 ghost use Rattle.clauses.specs.Selection.{Selection, is_solved, select, selection_under, IsFirstOfLargest};
@@ -29,6 +30,18 @@ pub fn equality_is_decided()
     ensures lists { (ts us : List Term) → (same_terms ts us ≡ true) ↔ (ts ≡ us) }
     ensures facts { (f g : Fact Term) → (same_fact f g ≡ true) ↔ (f ≡ g) }
     ensures among { (fs : List (Fact Term)) (f : Fact Term) → (is_among fs f ≡ true) ↔ Has fs f }
+{}
+
+/// A fact is its head and its terms in order: it is made again of both, what is done with each term keeps the head, and the
+/// test of equality and the size go by the parts.
+pub fn facts_are_their_parts<X, Y>()
+    ensures made { (f : Fact X) → made_of (head_of f) (terms_of f) ≡ f }
+    ensures head { (h : X → Y) (f : Fact X) → head_of (map_fact h f) ≡ head_of f }
+    ensures terms { (h : X → Y) (f : Fact X) → terms_of (map_fact h f) ≡ map h (terms_of f) }
+    ensures heads { (h k : Head) → (same_head h k ≡ true) ↔ (h ≡ k) }
+    ensures same { (f g : Fact Term) → same_fact f g ≡
+        (same_head (head_of f) (head_of g) && same_terms (terms_of f) (terms_of g)) }
+    ensures size { (f : Fact Term) → fact_size f ≡ head_size (head_of f) + total size (terms_of f) }
 {}
 
 /// A function of terms, of each term of a fact or a clause: one after another is their composition, that of each

@@ -99,19 +99,19 @@ help_fits = record {
 abbrev program : App
 program = built program_app
 
-abbrev verify : Shape
+abbrev pub verify : Shape
 verify = unwrap_or (slice_get program.subs 0) program.top
 
-abbrev check : Shape
+abbrev pub check : Shape
 check = unwrap_or (slice_get program.subs 1) program.top
 
-abbrev list : Shape
+abbrev pub list : Shape
 list = unwrap_or (slice_get program.subs 2) program.top
 
-abbrev replay : Shape
+abbrev pub replay : Shape
 replay = unwrap_or (slice_get program.subs 3) program.top
 
-abbrev ring : Shape
+abbrev pub ring : Shape
 ring = unwrap_or (slice_get program.subs 4) program.top
 
 verify_fits : AllFit good verify.rules

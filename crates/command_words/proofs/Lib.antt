@@ -3,3 +3,4 @@ mod Walking
 mod Stopping
 pub mod Rows
 pub mod Complete
+pub mod Plain

@@ -58,7 +58,7 @@ number_read f id r none value = ap (option_and_then number_of) (sym (one_text-ro
     go (Some t) absent present = read t r (present t refl)
 
 -- a request is made where there is no fault
-chosen : (faults : Kinds) (request : Option Request) → faults ≡ [] → cond (is_empty faults) request None ≡ request
+pub chosen : (faults : Kinds) (request : Option Request) → faults ≡ [] → cond (is_empty faults) request None ≡ request
 chosen faults request none = rw none refl
 
 unchosen : (faults : Kinds) (request : Option Request) (k : ErrorKind) → IsAmong k faults → cond (is_empty faults) request None ≡ None

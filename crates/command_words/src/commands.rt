@@ -1,6 +1,6 @@
 //! The program's commands, as `clap` reads them.
 ghost use Rattle.std.specs.Prelude.{◌≡◌, IfOk, false};
-ghost use Rattle.clap.specs.Words.{app_of, rule_of, shape_of};
+ghost use Rattle.clap.specs.Words.{Shape, app_of, rule_of, shape_of, with_subcommand};
 ghost use Rattle.clap.specs.declared.builder.command.Command.TheViews.{out-Command as fields_of};
 ghost use Rattle.command_words.specs.Commands.{check_shape, list_shape, name_rule, program_app};
 ghost use Rattle.command_words.specs.Commands.{replay_shape, ring_shape, verdicts_app, verify_shape};
@@ -45,20 +45,37 @@ const MOST_STAGES: u64 = 400;
 pub fn program<'a>(alloc: Global) -> Result<Command<'a>, AllocError>
     ensures { IfOk result (λ c. app_of c ≡ program_app) }
 {
-    commands_on_verdicts(alloc)?
-        .subcommand(list(alloc)?)?
-        .subcommand(replay(alloc)?)?
-        .subcommand(ring(alloc)?)
+    let verdicts = commands_on_verdicts(alloc)?;
+    let listing = with_command(verdicts, list(alloc))?;
+    let replaying = with_command(listing, replay(alloc))?;
+    with_command(replaying, ring(alloc))
 }
 
 /// The program with the commands about verdicts.
 fn commands_on_verdicts<'a>(alloc: Global) -> Result<Command<'a>, AllocError>
     ensures { IfOk result (λ c. app_of c ≡ verdicts_app) }
 {
-    Command::new(alloc, "hv")
-        .subcommand_required(true)
-        .subcommand(verify(alloc)?)?
-        .subcommand(check(alloc)?)
+    let bare = Command::new(alloc, "hv").subcommand_required(true);
+    let verifying = with_command(bare, verify(alloc))?;
+    with_command(verifying, check(alloc))
+}
+
+/// The program with one more command, where there was memory for that.
+fn with_command<'a>(
+    program: Command<'a>,
+    command: Result<Command<'a>, AllocError>,
+) -> Result<Command<'a>, AllocError>
+    ensures { (s : Shape) → IfOk command.entry (λ c. shape_of c ≡ s) →
+        IfOk command.entry (λ c. (fields_of c).has_globals ≡ false) →
+        IfOk result (λ c. app_of c ≡ with_subcommand (app_of program.entry) s) }
+{
+    match command {
+        Ok(command) => program.subcommand(command),
+        Err(error) => {
+            drop(program);
+            Err(error)
+        }
+    }
 }
 
 /// `verify FILE [--budget N]`
@@ -66,13 +83,12 @@ fn verify<'a>(alloc: Global) -> Result<Command<'a>, AllocError>
     ensures shape { IfOk result (λ c. shape_of c ≡ verify_shape) }
     ensures local { IfOk result (λ c. (fields_of c).has_globals ≡ false) }
 {
+    let named = Command::new(alloc, VERIFY).arg(required_name(alloc, FILE))?;
     let budget = Arg::new(alloc, BUDGET)
         .long(BUDGET)
         .value_parser(ValueParser::unsigned(0, MOST_BUDGET))
         .default_value(DEFAULT_BUDGET);
-    Command::new(alloc, VERIFY)
-        .arg(required_name(alloc, FILE))?
-        .arg(budget)
+    named.arg(budget)
 }
 
 /// `check FILE REPORT`
@@ -90,12 +106,11 @@ fn list<'a>(alloc: Global) -> Result<Command<'a>, AllocError>
     ensures shape { IfOk result (λ c. shape_of c ≡ list_shape) }
     ensures local { IfOk result (λ c. (fields_of c).has_globals ≡ false) }
 {
+    let named = Command::new(alloc, LIST).arg(required_name(alloc, FILE))?;
     let query = Arg::new(alloc, QUERY)
         .required(true)
         .value_parser(ValueParser::unsigned(1, MOST_QUERIES));
-    Command::new(alloc, LIST)
-        .arg(required_name(alloc, FILE))?
-        .arg(query)
+    named.arg(query)
 }
 
 /// `replay FILE RUN`

@@ -113,14 +113,13 @@ unfolding telling
 sends_telling = record { offset = 2; apart = ((omega arith, tt), ((omega arith, tt), ((omega arith, tt), ((omega arith, tt), tt)))); unified = λ s e. cc }
 
 -- What is sent and heard is known already: `att(v0), att(v1), att(v0) => att(v1)`.
-heard : Subst
+abbrev pub heard : Subst
 heard x = cond (nat_eq x 3) (Leaf 0) (cond (nat_eq x 2) (Leaf 1) (Leaf x))
 
 echo : Clause Term
 echo = record { hypotheses = Att (Leaf 0) ∷ Att (Leaf 1) ∷ Att (Leaf 0) ∷ []; conclusion = Att (Leaf 1) }
 
-heard_most : (r : Subst) → r 0 ≡ r 3 → r 1 ≡ r 2 → (x : ℕ) → after r heard x ≡ r x
-unfolding heard
+pub heard_most : (r : Subst) → r 0 ≡ r 3 → r 1 ≡ r 2 → (x : ℕ) → after r heard x ≡ r x
 heard_most r channels messages x = go (nat_eq x 3) (nat_eq x 2) refl refl where
   go : (a b : Bool) → nat_eq x 3 ≡ a → nat_eq x 2 ≡ b → bind r (cond a (Leaf 0) (cond b (Leaf 1) (Leaf x))) ≡ r x
   go true b e f = channels ∙ ap r (sym (eqb-true x 3 e))
@@ -128,7 +127,7 @@ heard_most r channels messages x = go (nat_eq x 3) (nat_eq x 2) refl refl where
   go false false e f = refl
 
 sends_listening : IsRawResolvent sends listens listening (Some echo)
-unfolding listening echo heard
+unfolding listening echo
 sends_listening = record {
   offset = 2;
   apart = ((omega arith, tt), ((omega arith, tt), ((omega arith, tt), ((omega arith, tt), tt))));

@@ -8,7 +8,7 @@ ghost use Rattle.certificate_reading.specs.Outcomes.{read_fixed, read_number};
 ghost use Rattle.fact_reader.specs.Gives.{Gives, GivesPlace, StopsWithin, PlaceWithin, same};
 
 use crate::error::CertError;
-use term_reader::number;
+use numerals::number;
 
 /// The byte at the place; 0 at the end.
 #[tactic(auto, using(crate::proofs::Places::bytes))]

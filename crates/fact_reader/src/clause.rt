@@ -30,11 +30,22 @@ fn one_hypothesis(
 {
     let (found, behind) = read_hypothesis(alloc, protocol, bytes, at)?;
     if front(bytes, behind) == b',' {
-        let next = fixed(b", ", bytes, behind)?;
-        return Ok(((found, true), next));
+        match fixed(b", ", bytes, behind) {
+            Ok(next) => Ok(((found, true), next)),
+            Err(error) => {
+                drop(found);
+                Err(error)
+            }
+        }
+    } else {
+        match fixed(b" => ", bytes, behind) {
+            Ok(end) => Ok(((found, false), end)),
+            Err(error) => {
+                drop(found);
+                Err(error)
+            }
+        }
     }
-    let end = fixed(b" => ", bytes, behind)?;
-    Ok(((found, false), end))
 }
 
 /// Hypotheses, a comma and a space between each two, and ` => ` behind the last.

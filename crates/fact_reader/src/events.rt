@@ -20,7 +20,7 @@ use std::alloc::Global;
 use term_reader::{CalledEvent, begins_word, event_called, is_in_word};
 
 /// An event over terms.
-#[derive(Debug, Drop)]
+#[derive(Drop)]
 pub struct Performed {
     pub event: u32,
     pub arguments: Trees,
@@ -63,7 +63,7 @@ fn with_arguments(
 }
 
 /// A place where a word begins, and the place behind it.
-#[derive(Clone, Copy, Debug)]
+#[derive(Clone, Copy)]
 struct Word {
     from: usize,
     behind: usize,

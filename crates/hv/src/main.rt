@@ -25,7 +25,10 @@ fn main(rt: HostRuntime) -> ExitCode {
     };
     let mut files = DiskFiles::new(rt);
     let mut out = StdSink::new(rt);
-    ExitCode::from(top(rt.alloc(), &words, &mut files, &mut out).status)
+    let answer = top(rt.alloc(), &words, &mut files, &mut out);
+    let status = answer.status;
+    drop(answer);
+    ExitCode::from(status)
 }
 
 /// The words of the command, of which the first is the program's name.

@@ -21,7 +21,7 @@ pub fn is_solved<B: Bank>(bank: &B, clause: &Clause) -> bool
 }
 
 /// A fact that can be selected: its place and its size.
-#[derive(Clone, Copy, Debug)]
+#[derive(Clone, Copy)]
 struct Best {
     place: usize,
     size: u64,

@@ -7,10 +7,11 @@ use Rattle.std.proofs.lemmas.Simd.{map-map}
 use Rattle.trees.specs.Tree.{bind, node}
 use Rattle.terms.specs.Term.{Sym, Term, Subst}
 use Rattle.clauses.specs.Fact as horn
-use Rattle.clauses.specs.Fact.{Clause, fact_under, is_variable_known}
+use Rattle.clauses.specs.Fact.{Clause, terms_of, fact_under, is_variable_known}
 use Rattle.clauses.specs.Inclusion.{Picks, here, there, IsWithin}
 use Rattle.clauses.specs.Subsumption.{firm, RowHolds}
 use Rattle.clauses.proofs.Inclusion.{Has-filter, Has-map, Has-within, Has-from_Contains, Contains-from_Has}
+use Rattle.clauses.proofs.Parts.{terms_of-map}
 use Rattle.clauses.proofs.Rows.{takes_within}
 use Rattle.term_tree.specs.Bank.{tree_at}
 use Rattle.term_tree.specs.declared.bank.Id.{Id}
@@ -26,6 +27,20 @@ use Rattle.multiset_subsume.proofs.Putting.{there_at}
 pub roots_apart : (all : List Term) (general special : Id) (f g : Sym) (xs ys : List Id) → tree_at all general ≡ node f (map (tree_at all) xs) → tree_at all special ≡ node g (map (tree_at all) ys) → ((f ≡ g) × (length xs ≡ length ys) → ⊥)
     → (s : Subst) → bind s (tree_at all general) ≡ tree_at all special → ⊥
 roots_apart all general special f g xs ys is_general is_special never s e = match_applications_fail all [] general special f g xs ys is_general is_special (λ r agrees parts. never (parts.0, parts.2)) s tt e
+
+-- lists with such terms at a place, and facts with such lists of terms
+pub lists_apart_at : (all : List Term) (xs ys : List Id) (i : ℕ) (d : Id) → i < length xs → i < length ys → ((s : Subst) → bind s (tree_at all (get_or xs i d)) ≡ tree_at all (get_or ys i d) → ⊥) → (s : Subst) → map (bind s) (map (tree_at all) xs) ≡ map (tree_at all) ys → ⊥
+lists_apart_at all [] ys i d in_xs in_ys never s e = absurd (omega arith)
+lists_apart_at all (x ∷ xs) [] i d in_xs in_ys never s e = absurd (omega arith)
+lists_apart_at all (x ∷ xs) (y ∷ ys) zero d in_xs in_ys never s e = let here : bind s (tree_at all x) ≡ tree_at all y = cc in never s here
+lists_apart_at all (x ∷ xs) (y ∷ ys) (suc i) d in_xs in_ys never s e =
+    let others : map (bind s) (map (tree_at all) xs) ≡ map (tree_at all) ys = cc in
+    lists_apart_at all xs ys i d (omega arith) (omega arith) never s others
+
+pub terms_apart : (all : List Term) (f h : horn.Fact Id) → ((s : Subst) → map (bind s) (map (tree_at all) (terms_of f)) ≡ map (tree_at all) (terms_of h) → ⊥) → AreApart all f h
+terms_apart all f h never s e =
+    let generals : terms_of (fact_under s (fact_at all f)) ≡ map (bind s) (map (tree_at all) (terms_of f)) = terms_of-map (bind s) (fact_at all f) ∙ ap (map (bind s)) (terms_of-map (tree_at all) f) in
+    never s (sym generals ∙ (ap terms_of e ∙ terms_of-map (tree_at all) h))
 
 -- what stands at no position before the end stands nowhere
 pub nowhere : (all : List Term) (fact : horn.Fact Id) (hyps : List (horn.Fact Id)) (n : ℕ) → length (facts_at all hyps) ≤ n → ((q : ℕ) → q < n → (s : Subst) → slice_get (facts_at all hyps) q ≡ Some (fact_under s (fact_at all fact)) → ⊥) → StandsNowhere all fact hyps

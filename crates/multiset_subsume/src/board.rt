@@ -71,7 +71,7 @@ fn known_variable<B: Bank>(bank: &B, fact: &Fact) -> Option<u32>
             Node::Var(variable) => Some(variable),
             Node::App(_, _) => None,
         },
-        Fact::Mess(..) | Fact::Ev(..) | Fact::Mev(..) | Fact::Bad(_) => None,
+        _ => None,
     }
 }
 

@@ -163,16 +163,8 @@ fn meet_fact<B: Bank>(
 ) -> Result<(), AllocError>
     requires { IsFactIn (B.trees bank.now) (fact_of fact.now) }
 {
-    match fact {
-        Fact::Att(term) => meet_variables(bank, binds, *term, i, meetings),
-        Fact::Mess(channel, message) => {
-            meet_variables(bank, binds, *channel, i, meetings)?;
-            meet_variables(bank, binds, *message, i, meetings)
-        }
-        Fact::Ev(_, arguments) => meet_all_variables(bank, binds, &arguments.items, i, meetings),
-        Fact::Mev(_, arguments) => meet_all_variables(bank, binds, &arguments.items, i, meetings),
-        Fact::Bad(arguments) => meet_all_variables(bank, binds, &arguments.items, i, meetings),
-    }
+    let terms = fact.terms();
+    meet_all_variables(bank, binds, terms.as_slice(), i, meetings)
 }
 
 /// The number of each fact's part. Facts that share a variable that isn't bound are in one part.

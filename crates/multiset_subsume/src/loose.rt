@@ -30,7 +30,7 @@ fn is_known<B: Bank>(bank: &B, fact: &Fact, term: Id) -> bool
 {
     match fact {
         Fact::Att(known) => same_term(bank, *known, term),
-        Fact::Mess(..) | Fact::Ev(..) | Fact::Mev(..) | Fact::Bad(_) => false,
+        _ => false,
     }
 }
 

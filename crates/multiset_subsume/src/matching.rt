@@ -14,8 +14,8 @@ use std::alloc::AllocError;
 use term_tree::{Bank, Id};
 use unify_match::{Binds, match_all_onto};
 
-/// Matches the arguments of an event or of `bad`; where their numbers differ there is no match.
-fn match_arguments<B: Bank>(
+/// Matches lists of terms, item by item; where their lengths differ there is no match.
+fn match_lists<B: Bank>(
     bank: &B,
     generals: &[Id],
     specials: &[Id],
@@ -62,36 +62,9 @@ pub(crate) fn match_fact<B: Bank>(
     ensures no_match { IfOk result (λ yes. yes ≡ false → binds.new.pairs ≡ binds.old.pairs) }
     ensures err { OnErr result (binds.new.pairs ≡ binds.old.pairs) }
 {
-    match general {
-        Fact::Att(t) => match special {
-            Fact::Att(u) => match_all_onto(bank, &[*t], &[*u], binds),
-            Fact::Mess(..) | Fact::Ev(..) | Fact::Mev(..) | Fact::Bad(_) => Ok(false),
-        },
-        Fact::Mess(t, u) => match special {
-            Fact::Mess(v, w) => match_all_onto(bank, &[*t, *u], &[*v, *w], binds),
-            Fact::Att(_) | Fact::Ev(..) | Fact::Mev(..) | Fact::Bad(_) => Ok(false),
-        },
-        Fact::Ev(e, ts) => match special {
-            Fact::Ev(g, us) => {
-                if e != g {
-                    return Ok(false);
-                }
-                match_arguments(bank, &ts.items, &us.items, binds)
-            }
-            Fact::Att(_) | Fact::Mess(..) | Fact::Mev(..) | Fact::Bad(_) => Ok(false),
-        },
-        Fact::Mev(e, ts) => match special {
-            Fact::Mev(g, us) => {
-                if e != g {
-                    return Ok(false);
-                }
-                match_arguments(bank, &ts.items, &us.items, binds)
-            }
-            Fact::Att(_) | Fact::Mess(..) | Fact::Ev(..) | Fact::Bad(_) => Ok(false),
-        },
-        Fact::Bad(ts) => match special {
-            Fact::Bad(us) => match_arguments(bank, &ts.items, &us.items, binds),
-            Fact::Att(_) | Fact::Mess(..) | Fact::Ev(..) | Fact::Mev(..) => Ok(false),
-        },
+    if general.head() != special.head() {
+        return Ok(false);
     }
+    let (generals, specials) = (general.terms(), special.terms());
+    match_lists(bank, generals.as_slice(), specials.as_slice(), binds)
 }

@@ -6,7 +6,7 @@ ghost use Rattle.trees.specs.Tree.{bind};
 ghost use Rattle.terms.specs.Term.{Subst};
 ghost use Rattle.clauses.specs.Fact.{is_variable_known as is_variable_known_fact};
 ghost use Rattle.clauses.specs.Subsumption.{firm, RowHolds};
-ghost use Rattle.term_tree.specs.Bank.{tree_at};
+ghost use Rattle.term_tree.specs.Bank.{tree_at, AreKnown};
 ghost use Rattle.clause_form.specs.Facts.{fact_of};
 ghost use Rattle.clause_form.specs.Seen.{fact_at, clause_at, IsFactIn, AreFactsIn, IsClauseIn};
 ghost use Rattle.multiset_subsume.specs.Boards.{facts_at};
@@ -43,6 +43,25 @@ fn roots_match<B: Bank>(bank: &B, general: Id, special: Id) -> bool
     }
 }
 
+/// Whether a substitution may make the general terms the special ones, item by item.
+fn all_roots_match<B: Bank>(bank: &B, generals: &[Id], specials: &[Id]) -> bool
+    requires generals { AreKnown (B.trees bank.now) generals.now }
+    requires specials { AreKnown (B.trees bank.now) specials.now }
+    ensures { let all = B.trees bank.now in
+        result ≡ false → (s : Subst) → map (bind s) (map (tree_at all) generals.now) ≡
+        map (tree_at all) specials.now → ⊥ }
+{
+    if generals.len() != specials.len() {
+        return false;
+    }
+    'each: for (i, general) in generals.iter().enumerate() {
+        if !roots_match(bank, *general, specials[i]) {
+            return false;
+        }
+    }
+    true
+}
+
 /// Whether a substitution may make the general fact the special one: by predicates, events, numbers of terms, and what is
 /// at the roots of terms.
 fn may_match<B: Bank>(bank: &B, general: &Fact, special: &Fact) -> bool
@@ -51,43 +70,11 @@ fn may_match<B: Bank>(bank: &B, general: &Fact, special: &Fact) -> bool
     ensures { result ≡ false →
         AreApart (B.trees bank.now) (fact_of general.now) (fact_of special.now) }
 {
-    match general {
-        Fact::Att(t) => match special {
-            Fact::Att(u) => roots_match(bank, *t, *u),
-            Fact::Mess(..) | Fact::Ev(..) | Fact::Mev(..) | Fact::Bad(_) => false,
-        },
-        Fact::Mess(t, u) => match special {
-            Fact::Mess(v, w) => {
-                if !roots_match(bank, *t, *v) {
-                    return false;
-                }
-                roots_match(bank, *u, *w)
-            }
-            Fact::Att(_) | Fact::Ev(..) | Fact::Mev(..) | Fact::Bad(_) => false,
-        },
-        Fact::Ev(e, ts) => match special {
-            Fact::Ev(g, us) => {
-                if e != g {
-                    return false;
-                }
-                ts.items.len() == us.items.len()
-            }
-            Fact::Att(_) | Fact::Mess(..) | Fact::Mev(..) | Fact::Bad(_) => false,
-        },
-        Fact::Mev(e, ts) => match special {
-            Fact::Mev(g, us) => {
-                if e != g {
-                    return false;
-                }
-                ts.items.len() == us.items.len()
-            }
-            Fact::Att(_) | Fact::Mess(..) | Fact::Ev(..) | Fact::Bad(_) => false,
-        },
-        Fact::Bad(ts) => match special {
-            Fact::Bad(us) => ts.items.len() == us.items.len(),
-            Fact::Att(_) | Fact::Mess(..) | Fact::Ev(..) | Fact::Mev(..) => false,
-        },
+    if general.head() != special.head() {
+        return false;
     }
+    let (generals, specials) = (general.terms(), special.terms());
+    all_roots_match(bank, generals.as_slice(), specials.as_slice())
 }
 
 /// Whether the fact may match one of the hypotheses.

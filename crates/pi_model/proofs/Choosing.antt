@@ -1,5 +1,5 @@
 -- The event that the fewest performed ones fit, as events are gone through.
-use Rattle.std.proofs.Common.{◌≡◌, ℕ, zero, suc, ◌+◌, ◌<◌, ◌≤◌, true, false, List, length, get_or, map, Option, None, Some, sym, ap, ◌∙◌, subst, arith}
+use Rattle.std.proofs.Common.{◌≡◌, ℕ, zero, ◌+◌, ◌<◌, ◌≤◌, true, false, List, length, get_or, map, Option, None, Some, ap, arith}
 use Rattle.std.specs.Option.{option_map_or}
 use Rattle.calculus.specs.Syntax.{EventTerm}
 use Rattle.pi_tree.specs.declared.syntax.Atom.{Atom}

@@ -1,6 +1,6 @@
 -- The decision of queries is right.
-use Rattle.std.proofs.Common.{◌≡◌, ℕ, zero, suc, Bool, true, false, not, ◌&&◌, ◌||◌, nat_eq, cond, List, [], ◌∷◌, ◌++◌, length, take, slice_get, Option, Some, is_some, unwrap_or, IsTrue, Contains, ◌↔◌, inl, inr, refl, sym, ap, ◌∙◌, subst, append_assoc, arith}
-use Rattle.std.proofs.lemmas.Bool.{eq-eqb, eqb-true}
+use Rattle.std.proofs.Common.{◌≡◌, ℕ, zero, suc, Bool, true, false, not, ◌&&◌, ◌||◌, nat_eq, cond, List, [], ◌∷◌, ◌++◌, length, take, slice_get, Option, Some, is_some, unwrap_or, IsTrue, Contains, ◌↔◌, inl, inr, refl, sym, ap, ◌∙◌, subst, append_assoc}
+use Rattle.std.proofs.lemmas.Bool.{eq-eqb, eqb-true, or_left, or_right}
 use Rattle.std.specs.List.{AllByRecursion, list_any}
 use Rattle.trees.specs.Tree.{Trees, Leaf, Node, binds, trees, some_leaves}
 use Rattle.trees.proofs.Occurrence.{or_true}
@@ -190,14 +190,6 @@ some-sound left alternatives before (p ∷ after) h =
       | inl here ↦ (length before, at-index left alternatives before after p (unpreceded-sound left alternatives before p here))
       | inr there ↦ subst (λ (ps : List Performed). (index : ℕ) × IsUnpreceded left alternatives ps index) (regroup before after p) (some-sound left alternatives (before ++ p ∷ []) after there)
     ]
-
-or_left : (a b : Bool) → a ≡ true → (a || b) ≡ true
-or_left true b h = refl
-or_left false b h = cc
-
-or_right : (a b : Bool) → b ≡ true → (a || b) ≡ true
-or_right true b h = refl
-or_right false b h = h
 
 -- the event at an index counted from the first that is looked at
 some-complete : (left : EventTerm) (alternatives : List (List EventTerm)) (before after : List Performed) (k : ℕ) (p : Performed) → slice_get after k ≡ Some p → Unpreceded left alternatives (before ++ take k after) p → some_unpreceded left alternatives before after ≡ true

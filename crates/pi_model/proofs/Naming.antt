@@ -1,5 +1,5 @@
 -- Names that different steps make differ: a later one has a greater number.
-use Rattle.std.proofs.Common.{◌≡◌, ℕ, ◌+◌, ◌<◌, ◌≤◌, List, Some, IfSome, arith}
+use Rattle.std.proofs.Common.{◌≡◌, ◌<◌, ◌≤◌, List, Some, IfSome, arith}
 use Rattle.calculus.specs.Syntax.{Protocol}
 use Rattle.calculus.specs.Runs.{Configuration, Step, after_step, after_steps}
 use Rattle.calculus.specs.Standing.{names_made}

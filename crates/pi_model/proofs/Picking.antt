@@ -3,10 +3,10 @@ use Rattle.std.proofs.Common.{◌≡◌, Bool, true, false, cond, ◌&&◌, nat_
 use Rattle.std.specs.List.{AllByRecursion, list_any}
 use Rattle.trees.specs.Tree.{trees}
 use Rattle.calculus.specs.Syntax.{Name, Free, Made, Variable, EventTerm}
-use Rattle.calculus.specs.Values.{Value, Binding, Environment, same_name, same_values, bound_to, value_of_name, values_of}
+use Rattle.calculus.specs.Values.{Value, Binding, Environment, same_values, bound_to, value_of_name, values_of}
 use Rattle.calculus.specs.Matching.{places_row}
 use Rattle.calculus.specs.Runs.{Performed}
-use Rattle.calculus.specs.Secrecy.{instance, AllPerformed}
+use Rattle.calculus.specs.Secrecy.{instance}
 use Rattle.calculus.proofs.Items.{each-weaker}
 use Rattle.calculus.proofs.Rules.{same_values-sound, same_name-refl, bound_right}
 use Rattle.pi_model.proofs.Members.{any-contains, any-of}

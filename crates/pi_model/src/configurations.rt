@@ -18,7 +18,7 @@ use term_values::Environment;
 
 /// Where a run stands: its threads, what the attacker knows, the events that were performed, the number of
 /// the next name, and how many steps were applied.
-#[derive(Debug, Drop)]
+#[derive(Drop)]
 pub struct Conf {
     pub threads: Threads,
     pub known: Known,

@@ -4,14 +4,14 @@ use pi_tree::Values;
 use std::marker::Model;
 
 /// An event that was performed, numbered from 1, with the values of its arguments.
-#[derive(Debug, Drop)]
+#[derive(Drop)]
 pub struct Happened {
     pub event: u32,
     pub args: Values,
 }
 
 /// Events in the order in which they were performed.
-#[derive(Debug, Drop)]
+#[derive(Drop)]
 pub struct Happenings {
     pub items: Vec<Happened>,
 }

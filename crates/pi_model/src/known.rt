@@ -13,7 +13,7 @@ use std::marker::Model;
 ///
 /// Beside it stands where a value of each hash was added last. It only tells where to look first: nothing rests on it,
 /// and what isn't found there is looked for in all of the list.
-#[derive(Debug, Drop)]
+#[derive(Drop)]
 pub struct Known {
     pub items: Vec<Value>,
     latest: HashMap<u64, usize>,

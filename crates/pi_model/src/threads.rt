@@ -10,14 +10,14 @@ use std::marker::Model;
 use term_values::Environment;
 
 /// A thread: it stands at a point of the main process with what it has bound, or it has ended.
-#[derive(Debug, Drop)]
+#[derive(Drop)]
 pub enum Thread {
     At(u32, Environment),
     Ended,
 }
 
 /// Threads in order; they are numbered from 1.
-#[derive(Debug, Drop)]
+#[derive(Drop)]
 pub struct Threads {
     pub items: Vec<Thread>,
 }

@@ -1,16 +1,28 @@
 //! What the grammar makes of a file: one variant for each alternative that it has, with the number of its first token
 //! and its parts in source order. Identifiers and numbers are the numbers of their tokens, from 0.
+//!
+//! Terms, patterns and units have a `drop` that is written out: so it is one call wherever one of them is let go.
 
 use std::marker::Model;
 
 /// A term.
 #[cycle(term)]
-#[derive(Debug, Drop)]
+#[derive(Debug)]
 pub enum TermSketch {
     /// `name(arguments)`, or `name` alone where there are no arguments.
     Named(usize, TermsSketch),
     /// `(parts)`: a term in parentheses, or a tuple.
     Grouped(usize, TermsSketch),
+}
+
+impl Drop for TermSketch {
+    #[cycle(term_drop)]
+    fn drop(self) {
+        match self {
+            TermSketch::Named(_, arguments) => drop(arguments),
+            TermSketch::Grouped(_, parts) => drop(parts),
+        }
+    }
 }
 
 /// Terms in a row.
@@ -42,7 +54,7 @@ impl Model for TermsSketch {
 
 /// A pattern.
 #[cycle(pattern)]
-#[derive(Debug, Drop)]
+#[derive(Debug)]
 pub enum PatternSketch {
     /// `name(arguments)`, or `name` alone where there are no arguments.
     Named(usize, PatternsSketch),
@@ -50,6 +62,17 @@ pub enum PatternSketch {
     Equal(usize, TermSketch),
     /// `(parts)`: a pattern in parentheses, or a tuple.
     Grouped(usize, PatternsSketch),
+}
+
+impl Drop for PatternSketch {
+    #[cycle(pattern_drop)]
+    fn drop(self) {
+        match self {
+            PatternSketch::Named(_, arguments) => drop(arguments),
+            PatternSketch::Equal(_, term) => drop(term),
+            PatternSketch::Grouped(_, parts) => drop(parts),
+        }
+    }
 }
 
 /// Patterns in a row.
@@ -98,7 +121,7 @@ pub enum ProcessSketch {
 
 /// A unit of a process.
 #[cycle(process)]
-#[derive(Debug, Drop)]
+#[derive(Debug)]
 pub enum UnitSketch {
     /// `0`.
     Zero(usize),
@@ -120,6 +143,44 @@ pub enum UnitSketch {
     Let(usize, PatternSketch, TermSketch, Box<UnitSketch>, NextSketch),
     /// `if left = right then unit`, and its else branch.
     If(usize, TermSketch, TermSketch, Box<UnitSketch>, NextSketch),
+}
+
+impl Drop for UnitSketch {
+    #[cycle(process_drop)]
+    fn drop(self) {
+        match self {
+            UnitSketch::Zero(_) | UnitSketch::Macro(_) => {}
+            UnitSketch::Inner(_, process) => drop(process),
+            UnitSketch::Replicated(_, unit) => drop(unit),
+            UnitSketch::New(_, _, next) => drop(next),
+            UnitSketch::Output(_, channel, message, next) => {
+                drop(channel);
+                drop(message);
+                drop(next);
+            }
+            UnitSketch::Input(_, channel, pattern, next) => {
+                drop(channel);
+                drop(pattern);
+                drop(next);
+            }
+            UnitSketch::Happens(_, atom, next) => {
+                drop(atom);
+                drop(next);
+            }
+            UnitSketch::Let(_, pattern, term, unit, otherwise) => {
+                drop(pattern);
+                drop(term);
+                drop(unit);
+                drop(otherwise);
+            }
+            UnitSketch::If(_, left, right, unit, otherwise) => {
+                drop(left);
+                drop(right);
+                drop(unit);
+                drop(otherwise);
+            }
+        }
+    }
 }
 
 /// A continuation, or an else branch.

@@ -2,6 +2,7 @@
 
 ghost use Rattle.std.specs.Prelude.{◌≡◌, IfOk};
 ghost use Rattle.trees.specs.Tree.{some_leaf, some_leaves, trees};
+ghost use Rattle.calculus.specs.Syntax as calculus;
 ghost use Rattle.calculus.specs.Absence.{term_holds, some_term, some_pattern, some_hole, some_expression, process_holds, is_free};
 ghost use Rattle.pi_tree.specs.Terms.{term_of};
 ghost use Rattle.pi_tree.specs.Patterns.{pattern_of, expression_of};
@@ -364,40 +365,99 @@ impl Process {
         Ok(Box::into_inner(copied))
     }
 
-    /// A copy in a box. The children are copied first, since a box is all that is let go where then a term's copy
-    /// finds no memory.
+    /// A copy in a box. The children are copied first, so that boxes are all that is let go where a further copy finds
+    /// no memory.
     fn boxed_copy(&self, alloc: Global) -> Result<Box<Process>, AllocError>
         ensures { IfOk result (λ copied. process_of copied.value ≡ process_of self.now) }
     {
-        let copied = match self {
-            Process::Nil => Process::Nil,
+        match self {
+            Process::Nil => boxed(alloc, Process::Nil),
             Process::Output(channel, message, next) => {
                 let next = next.boxed_copy(alloc)?;
-                Process::Output(channel.copy(alloc)?, message.copy(alloc)?, next)
+                output_copy(alloc, channel, message, next)
             }
             Process::Input(channel, pattern, next) => {
                 let next = next.boxed_copy(alloc)?;
-                Process::Input(channel.copy(alloc)?, pattern.copy(alloc)?, next)
+                input_copy(alloc, channel, pattern, next)
             }
             Process::Par(left, right) => {
-                Process::Par(left.boxed_copy(alloc)?, right.boxed_copy(alloc)?)
+                let left = left.boxed_copy(alloc)?;
+                let right = right.boxed_copy(alloc)?;
+                boxed(alloc, Process::Par(left, right))
             }
-            Process::Copies(copied) => Process::Copies(copied.boxed_copy(alloc)?),
+            Process::Copies(copied) => {
+                let copied = copied.boxed_copy(alloc)?;
+                boxed(alloc, Process::Copies(copied))
+            }
             Process::New(word, next) => {
                 let next = next.boxed_copy(alloc)?;
-                Process::New(word.copy(alloc)?, next)
+                let word = word.copy(alloc)?;
+                boxed(alloc, Process::New(word, next))
             }
             Process::Let(pattern, expression, next, otherwise) => {
                 let next = next.boxed_copy(alloc)?;
                 let otherwise = otherwise.boxed_copy(alloc)?;
-                let expression = expression.copy(alloc)?;
-                Process::Let(pattern.copy(alloc)?, expression, next, otherwise)
+                let_copy(alloc, pattern, expression, next, otherwise)
             }
             Process::Event(atom, next) => {
                 let next = next.boxed_copy(alloc)?;
-                Process::Event(atom.copy(alloc)?, next)
+                let atom = atom.copy(alloc)?;
+                boxed(alloc, Process::Event(atom, next))
             }
-        };
-        Ok(Box::new(alloc, copied)?)
+        }
     }
+}
+
+/// A process in a box.
+fn boxed(alloc: Global, process: Process) -> Result<Box<Process>, AllocError>
+    ensures { IfOk result (λ made. process_of made.value ≡ process_of process) }
+{
+    Ok(Box::new(alloc, process)?)
+}
+
+/// An output of copies of these terms, in front of this process.
+fn output_copy(
+    alloc: Global,
+    channel: &Term,
+    message: &Term,
+    next: Box<Process>,
+) -> Result<Box<Process>, AllocError>
+    ensures { IfOk result (λ copied. process_of copied.value ≡
+        calculus.Output (term_of channel.now) (term_of message.now) (process_of next.value)) }
+{
+    let channel = channel.copy(alloc)?;
+    let message = message.copy(alloc)?;
+    boxed(alloc, Process::Output(channel, message, next))
+}
+
+/// An input of copies of these, in front of this process.
+fn input_copy(
+    alloc: Global,
+    channel: &Term,
+    pattern: &Pat,
+    next: Box<Process>,
+) -> Result<Box<Process>, AllocError>
+    ensures { IfOk result (λ copied. process_of copied.value ≡
+        calculus.Input (term_of channel.now) (pattern_of pattern.now) (process_of next.value)) }
+{
+    let channel = channel.copy(alloc)?;
+    let pattern = pattern.copy(alloc)?;
+    boxed(alloc, Process::Input(channel, pattern, next))
+}
+
+/// A choice by copies of these, between these processes.
+fn let_copy(
+    alloc: Global,
+    pattern: &Pat,
+    expression: &Expr,
+    next: Box<Process>,
+    otherwise: Box<Process>,
+) -> Result<Box<Process>, AllocError>
+    ensures { IfOk result (λ copied. process_of copied.value ≡
+        calculus.Let (pattern_of pattern.now) (expression_of expression.now)
+        (process_of next.value) (process_of otherwise.value)) }
+{
+    let pattern = pattern.copy(alloc)?;
+    let expression = expression.copy(alloc)?;
+    boxed(alloc, Process::Let(pattern, expression, next, otherwise))
 }

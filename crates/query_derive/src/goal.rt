@@ -88,7 +88,9 @@ fn norms_grown<B: Bank>(
     ensures names { IfOk result (λ made. NameClauses (B.trees bank.new) made (norms raw.now)) }
 {
     let clause = copy_into(alloc, bank, raw)?;
-    norms_of(alloc, bank, &clause)
+    let made = norms_of(alloc, bank, &clause);
+    drop(clause);
+    made
 }
 
 /// The norms of a clause's flat parts. On `Err` the bank is as before.
@@ -130,5 +132,7 @@ pub fn goal_clause<B: Bank>(
     ensures err { OnErr result (B.trees bank.new ≡ B.trees bank.old) }
 {
     let raw = raw_goal(alloc, protocol, protocol.query(query))?;
-    norms_into(alloc, bank, &raw)
+    let made = norms_into(alloc, bank, &raw);
+    drop(raw);
+    made
 }

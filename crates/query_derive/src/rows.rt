@@ -4,7 +4,7 @@ use std::alloc::AllocError;
 use std::marker::Model;
 
 /// Positions of hypotheses, from 1, one for each event of an alternative.
-#[derive(Debug, Drop)]
+#[derive(Drop)]
 pub struct Positions {
     pub items: Vec<u32>,
 }
@@ -21,7 +21,7 @@ impl Model for Positions {
 }
 
 /// The number of an alternative, from 1, and for each of its events the position of a hypothesis.
-#[derive(Debug, Drop)]
+#[derive(Drop)]
 pub struct QueryRow {
     pub alternative: u32,
     pub positions: Positions,

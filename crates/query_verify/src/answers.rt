@@ -5,7 +5,7 @@ use clause_saturate::{PlainEntry, PlainLog};
 use std::marker::Model;
 
 /// The verdict of a query. Entries of logs are counted from 1.
-#[derive(Debug, Drop)]
+#[derive(Drop)]
 pub enum Verdict {
     /// No run violates the query; this certificate shows it.
     Proved(Cert),
@@ -21,7 +21,7 @@ pub enum Verdict {
 }
 
 /// Verdicts in order.
-#[derive(Debug, Drop)]
+#[derive(Drop)]
 pub struct Verdicts {
     pub items: Vec<Verdict>,
 }

@@ -100,7 +100,9 @@ fn decided<B: Bank>(
     translations_are_within_the_limit();
     translations_have_one_goal();
     let saturated = saturate(question.alloc, bank, given, question.budget)?;
-    ended(question, bank, given, &saturated)
+    let answer = ended(question, bank, given, &saturated);
+    drop(saturated);
+    answer
 }
 
 /// The verdict of the query of that number with the budget: exactly the one that the definitions give. A new bank is made

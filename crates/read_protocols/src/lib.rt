@@ -16,7 +16,7 @@ ghost use Rattle.clauses.specs.Fact.{Clause};
 ghost use Rattle.clauses.specs.Limits.{IsWithinLimit};
 ghost use Rattle.clauses.specs.Inclusion.{Has};
 ghost use Rattle.translation.specs.Translation.{Clauses, IsTranslation};
-ghost use Rattle.soundness.specs.Shown.{IsProper, IsShown};
+ghost use Rattle.certificates.specs.Shown.{IsProper, IsShown};
 ghost use Rattle.read_protocols.specs.Patterns.{IsPatternAt};
 
 use protocol_scope::{linear_patterns, proper_rules, query_leaves, within_limits};

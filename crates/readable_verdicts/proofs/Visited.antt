@@ -6,6 +6,7 @@ use Rattle.trees.specs.Tree.{Leaf}
 use Rattle.calculus.specs.Syntax.{Name, Made, Process, Nil, Output, Input, Parallel, Replication, New, Let, Event, Pattern, EventTerm, Query, Protocol}
 use Rattle.calculus.specs.Syntax as calculus
 use Rattle.calculus.specs.Points.{point_after}
+use Rattle.calculus.specs.Bounds.{most_visits}
 use Rattle.well_formed.specs.Signature.{signature_of}
 use Rattle.well_formed.specs.Terms.{IsTermBelow, IsPatternBelow, IsKnown, IsEventOver, bound_by}
 use Rattle.well_formed.specs.Limits.{IsWithinLimits}
@@ -24,7 +25,7 @@ use Rattle.translation.specs.Course.{Outcome, Done, TooLarge, Course, Finished, 
 use Rattle.translation.specs.Visited.{some_large, EachThen, Copied, Received, Chosen, Visited}
 use Rattle.translation.specs.Goal.{goal_raw}
 use Rattle.translation.specs.Attacker.{attacker_raw}
-use Rattle.translation.specs.Translation.{Clauses, attacker_clauses, goal_clauses, whole, most_visits, IsTranslation}
+use Rattle.translation.specs.Translation.{Clauses, attacker_clauses, goal_clauses, whole, IsTranslation}
 use Rattle.translation.proofs.Goal.{all_of_each}
 use Rattle.abstraction.proofs.Standing.{Stands, whole_stands, stands_numbered, stands_counted, output_next, input_next, parallel_left, parallel_right, replication_next, new_next, let_next, let_otherwise, event_next}
 use Rattle.certificate_text.specs.OfProtocol.{IsRestriction, IsSymbolOf}

@@ -7,6 +7,7 @@ use Rattle.std.specs.List.{prefix_len}
 use Rattle.run_text.specs.Reading.{numeral}
 use Rattle.certificate_reading.specs.Terms.{Syntax, Number, Count}
 use Rattle.certificate_reading.specs.Outcomes.{Outcome, Found, Faulty, next, Reader, front, read_fixed, as_number, read_number, things_from, things, lines_from}
+use Rattle.certificate_reading.proofs.Things.{lines_full}
 use Rattle.reading_faults.proofs.Shared.{Shares, shares_less, shares_drop, shares_some, Passed, IsLocal, Moves, passed_on, as_told, next_local, choice_local, found_local, never_local, other_local}
 
 -- a reader that answers the same is as local
@@ -303,10 +304,6 @@ things_local r local moves = record {
 }
 
 -- Lines that begin with a letter.
-
-lines_full : {A : Type 0} (letter : ℕ) (r : Reader A) (xs : List A) (bytes : List ℕ) (at : ℕ) → lines_from letter r 0 xs bytes at ≡ (if front bytes == letter then Faulty at Count else Found xs at bytes)
-unfolding lines_from
-lines_full letter r xs bytes at = refl
 
 lines_more : {A : Type 0} (letter : ℕ) (r : Reader A) (most : ℕ) (xs : List A) (bytes : List ℕ) (at : ℕ)
     → lines_from letter r (suc most) xs bytes at ≡ (if front bytes == letter then next (r bytes at) (λ x p k. lines_from letter r most (xs ++ x ∷ []) k p) else Found xs at bytes)

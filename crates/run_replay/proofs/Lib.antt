@@ -1,6 +1,5 @@
 -- Lemmas about cutting bytes, about digits and about what is left to read.
 pub mod Cutting
-pub mod Digits
 pub mod Fields
 pub mod Reading
 pub mod OneLine

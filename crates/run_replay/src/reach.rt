@@ -11,7 +11,7 @@ use pi_tree::Protocol;
 use std::alloc::{AllocError, Global};
 
 /// What steps reach.
-#[derive(Debug, Drop)]
+#[derive(Drop)]
 pub enum Reached {
     /// Their end.
     End(Conf),

@@ -18,7 +18,7 @@ use std::marker::Model;
 
 /// For each query in order the least number of steps after which it is violated, 0 where it is at the start,
 /// or `None` where it never is.
-#[derive(Debug, Drop)]
+#[derive(Drop)]
 pub struct Firsts {
     pub items: Vec<Option<u64>>,
 }
@@ -32,7 +32,7 @@ impl Model for Firsts {
 }
 
 /// What a replay shows.
-#[derive(Debug, Drop)]
+#[derive(Drop)]
 pub enum Replayed {
     /// The run's end, and since when each query is violated.
     Done(Conf, Firsts),

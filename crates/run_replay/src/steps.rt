@@ -4,7 +4,7 @@ use pi_model::Step;
 use std::marker::Model;
 
 /// Steps in order.
-#[derive(Debug, Drop)]
+#[derive(Drop)]
 pub struct Steps {
     pub items: Vec<Step>,
 }

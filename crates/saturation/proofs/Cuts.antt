@@ -15,13 +15,6 @@ AreBefore k entries = AllByRecursion (λ e. is_before e.key k ≡ true) entries
 abbrev pub AreAfter : Key → List Entry → Type 0
 AreAfter k entries = AllByRecursion (λ e. is_before k e.key ≡ true) entries
 
--- what holds of each item holds of one
-pub all_has : {X : Type 0} (P : X → Type 0) (xs : List X) (x : X) → AllByRecursion P xs → Has xs x → P x
-all_has {X} P xs x all h = of_pick h.1 all where
-  of_pick : {ys rest : List X} {y : X} → Picks ys y rest → AllByRecursion P ys → P y
-  of_pick here all = all.0
-  of_pick (there p) all = of_pick p all.1
-
 -- a key that is after another isn't before it
 pub after_not_before : (a b : Key) → is_before a b ≡ true → is_before b a ≡ false
 after_not_before a b h = go (is_before b a) refl where

@@ -8,13 +8,12 @@ use Rattle.terms.specs.Term.{Term}
 use Rattle.calculus.specs.Points.{numbered}
 use Rattle.clauses.specs.Fact.{Fact, Clause}
 use Rattle.clauses.specs.Selection.{Selection, select, is_solved}
-use Rattle.clauses.specs.Norm.{IsNormal, norms}
-use Rattle.clauses.specs.Resolvents.{Answer, NoUnifier, Large, Resolvents, Resolves, resolved}
-use Rattle.clauses.specs.Limits.{is_large_raw}
+use Rattle.clauses.specs.Norm.{IsNormal}
+use Rattle.clauses.specs.Resolvents.{Answer, NoUnifier, Large, Resolvents, Resolves}
 use Rattle.clauses.specs.Inclusion.{Picks, here, there, Has}
 use Rattle.clauses.proofs.Inclusion.{Has-filter_source}
 use Rattle.clauses.proofs.Selection.{select-none}
-use Rattle.clauses.proofs.NormAnswers.{norms-normal}
+use Rattle.clauses.proofs.Made.{made_normal}
 use Rattle.saturation.specs.Key.{Key, key, is_before, Entry, below}
 use Rattle.saturation.specs.Log.{IsBeaten, IsLive, Gives, IsOffered}
 use Rattle.saturation.specs.End.{AreSorted, Closed, IsLogUpTo, IsLog}
@@ -147,15 +146,6 @@ major_before e m i n lt = grind (arith, nat_tests)
 
 first_before : (m i k : ℕ) (j : Key) → is_before j (key m i 1) ≡ true → is_before j (key m i (suc k)) ≡ true
 first_before m i k j h = grind (arith, nat_tests)
-
--- resolvents are normal
-made_normal : (raw : Option (Clause Term)) (cs : List (Clause Term)) (c : Clause Term) → Resolvents cs ≡ resolved raw → Has cs c → IsNormal c
-made_normal None cs c e h = cc
-made_normal (Some raw) cs c e h = go (is_large_raw raw) refl e
-  where
-    go : (b : Bool) → is_large_raw raw ≡ b → Resolvents cs ≡ cond b Large (Resolvents (norms raw)) → IsNormal c
-    go true p e = cc
-    go false p e = let same : cs ≡ norms raw = cc in norms-normal raw c (subst (λ xs. Has xs c) same h)
 
 module _ (given : List (Clause Term)) (normal : (c : Clause Term) → Has given c → IsNormal c) where
   given_has : (n : ℕ) (c : Clause Term) → numbered given n ≡ Some c → IsNormal c

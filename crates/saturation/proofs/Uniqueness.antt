@@ -7,13 +7,13 @@ use Rattle.clauses.specs.Selection.{Selection}
 use Rattle.clauses.specs.Resolvents.{Answer, Large, Resolvents, Resolves}
 use Rattle.clauses.specs.Inclusion.{here, Has}
 use Rattle.clauses.proofs.Lists.{all_append, all_weaker}
-use Rattle.clauses.proofs.Inclusion.{Has-append_right, Has-filter, Has-filter_source}
+use Rattle.clauses.proofs.Inclusion.{all_has, Has-append_right, Has-filter, Has-filter_source}
 use Rattle.saturation.specs.Key.{Key, key, is_before, Entry, below}
 use Rattle.saturation.specs.Log.{IsCoveredBy, IsDue, Gives, IsOffered, IsNew}
 use Rattle.saturation.specs.End.{End, Closed, Spent, TooLarge, end_key, IsBeforeEnd, AreSorted, IsLogUpTo, IsCause, IsLog}
 use Rattle.saturation.proofs.Keys.{never_before_itself, before_trans, compared, parts_of_key}
 use Rattle.saturation.proofs.Offers.{gives_once, offered_once}
-use Rattle.saturation.proofs.Cuts.{AreAfter, all_has, below_front, below_entry, sorted_front, sorted_rest, sorted_below, below_below, fewer_below}
+use Rattle.saturation.proofs.Cuts.{AreAfter, below_front, below_entry, sorted_front, sorted_rest, sorted_below, below_below, fewer_below}
 
 -- an entry is new over the entries below its key
 abbrev NewOver : List (Clause Term) → List Entry → Entry → Type 0

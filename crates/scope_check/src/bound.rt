@@ -28,11 +28,19 @@ pub struct Binding {
     pub name: BoundName,
 }
 
-/// What a pattern binds, in order, and what each identifier is bound to, found by the hash of its word.
-#[derive(Drop)]
+/// What a pattern binds, in order, and what each identifier is bound to, found by the hash of its word. Its `drop` is
+/// written out, so that it is one call wherever bindings are let go.
 pub struct Bindings {
     pub items: Vec<Binding>,
     pub names: HashMap<Vec<u8>, BoundName>,
+}
+
+impl Drop for Bindings {
+    fn drop(self) {
+        let Bindings { items, names } = self;
+        drop(items);
+        drop(names);
+    }
 }
 
 impl Bindings {

@@ -171,6 +171,7 @@ fn rule(alloc: Global, scope: &Scope, sketch: &RuleSketch) -> Result<Rule, Stop>
     )?;
     let symbols = plus(plus(1, of_left), of_right);
     if count_of_terms(&sketch.arguments) > MOST_ARGUMENTS || symbols > MOST_WRITTEN_SYMBOLS {
+        drop(right);
         return Err(Stop::Fault(Code::TooMany, sketch.first));
     }
     Ok(Rule { left, right })

@@ -120,7 +120,10 @@ fn pattern(
             let arguments = patterns(arguments, alloc, place, first, found)?;
             Ok(Pat::App(number, arguments))
         }
-        PatternSketch::Equal(_, term) => Ok(Pat::Equal(process_term(term, alloc, place)?)),
+        PatternSketch::Equal(_, term) => {
+            let term = process_term(term, alloc, place)?;
+            Ok(Pat::Equal(Box::into_inner(term)))
+        }
         PatternSketch::Grouped(token, parts) => {
             grouped(*token, patterns(parts, alloc, place, first, found)?)
         }

@@ -215,6 +215,8 @@ fn output(
     let channel = process_term(channel, site.alloc, &site.place)?;
     let message = process_term(message, site.alloc, &site.place)?;
     let (rest, after) = continuation(next, first, &below(site, after))?;
+    let channel = Box::into_inner(channel);
+    let message = Box::into_inner(message);
     numbered(site.alloc, Process::Output(channel, message, rest), after)
 }
 
@@ -237,6 +239,7 @@ fn input(
     let after = with_variables(after, &site.place.scope.text, &found);
     let bound = Bound::Inside(&found, site.place.bound);
     let (rest, after) = continuation(next, first, &binding(site, &bound, after))?;
+    let channel = Box::into_inner(channel);
     let received = Box::into_inner(received);
     numbered(site.alloc, Process::Input(channel, received, rest), after)
 }
@@ -315,10 +318,11 @@ fn comparison(
     let right = process_term(right, site.alloc, &site.place)?;
     let (done, after) = process(Form::Unit(branches.unit), &below(site, after))?;
     let (rest, after) = continuation(branches.otherwise, first, &below(site, after))?;
-    let matched = Pat::Equal(right);
+    let matched = Pat::Equal(Box::into_inner(right));
+    let evaluated = Expr::Term(Box::into_inner(left));
     numbered(
         site.alloc,
-        Process::Let(matched, Expr::Term(left), done, rest),
+        Process::Let(matched, evaluated, done, rest),
         after,
     )
 }

@@ -177,7 +177,7 @@ fn question(
                 bound: &Bound::Nothing,
             };
             let message = process_term(message, alloc, &place)?;
-            Ok(Query::Secret(message))
+            Ok(Query::Secret(Box::into_inner(message)))
         }
         QuerySketch::Correspondence(_, atom, others) => {
             let mut variables = Variables::new(alloc);

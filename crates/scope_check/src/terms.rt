@@ -153,10 +153,10 @@ pub fn terms(
     Ok((Terms { items }, symbols))
 }
 
-/// A term of a process, at this place.
-pub fn process_term(sketch: &TermSketch, alloc: Global, place: &Place) -> Result<Term, Stop>
-    ensures { Gives term_of result (rules.process_term (scope_of place.now.scope)
-        (bound_of place.now.bound.now) (sketched.term_of sketch.now)) }
+/// A term of a process, at this place, in a box.
+pub fn process_term(sketch: &TermSketch, alloc: Global, place: &Place) -> Result<Box<Term>, Stop>
+    ensures { Gives (λ read. term_of read.value) result (rules.process_term
+        (scope_of place.now.scope) (bound_of place.now.bound.now) (sketched.term_of sketch.now)) }
 {
     let mut variables = Variables::new(alloc);
     let (read, _) = term(
@@ -166,7 +166,7 @@ pub fn process_term(sketch: &TermSketch, alloc: Global, place: &Place) -> Result
         &Setting::Process(place.bound),
         &mut variables,
     )?;
-    Ok(read)
+    Ok(Box::new(alloc, read)?)
 }
 
 /// A sketch without the parentheses round the whole of it.
@@ -207,7 +207,8 @@ fn plain(sketch: &TermSketch, alloc: Global, place: &Place) -> Result<Expr, Stop
     ensures { Gives expression_of result (rules.plain (scope_of place.now.scope)
         (bound_of place.now.bound.now) (sketched.term_of sketch.now)) }
 {
-    Ok(Expr::Term(process_term(sketch, alloc, place)?))
+    let read = process_term(sketch, alloc, place)?;
+    Ok(Expr::Term(Box::into_inner(read)))
 }
 
 /// What a `let` evaluates, without the parentheses round it.

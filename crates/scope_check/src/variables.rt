@@ -13,11 +13,18 @@ use std::alloc::{AllocError, Global};
 use std::collections::HashMap;
 
 /// The variables of a rule or query, each by the token where it stands first, and their numbers, found by the hash of
-/// their words.
-#[derive(Drop)]
+/// their words. Its `drop` is written out, so that it is one call wherever variables are let go.
 pub struct Variables {
     pub items: Vec<usize>,
     pub numbers: HashMap<Vec<u8>, u32>,
+}
+
+impl Drop for Variables {
+    fn drop(self) {
+        let Variables { items, numbers } = self;
+        drop(items);
+        drop(numbers);
+    }
 }
 
 impl Variables {

@@ -22,7 +22,7 @@ use Rattle.clauses.specs.Fact.{Fact, Ev, Mev, Bad, Clause, fact_under}
 use Rattle.clauses.specs.Flat.{flat}
 use Rattle.clauses.specs.Selection.{is_solved}
 use Rattle.clauses.specs.Inclusion.{here, Has}
-use Rattle.clauses.proofs.Inclusion.{Contains-from_Has, Has-map_source, Has-flat_map, Has-filter_source, Has-one}
+use Rattle.clauses.proofs.Inclusion.{all_has, Contains-from_Has, Has-map_source, Has-flat_map, Has-filter_source, Has-one}
 use Rattle.clauses.proofs.Lists.{all_append, all_first, all_weaker}
 use Rattle.derivations.specs.Derivation.{Instance, Derive}
 use Rattle.derivations.specs.Closed.{Closes, solved_of}
@@ -37,7 +37,7 @@ use Rattle.abstraction.specs.Trace.{MadeAt, trace_of}
 use Rattle.abstraction.specs.Naming.{atom_term, abstracted, performed_fact, event_fact, event_facts, naming}
 use Rattle.abstraction.specs.OneToOne.{is_foreign, IsOneToOne}
 use Rattle.abstraction.proofs.Holding.{translations_hold_all}
-use Rattle.abstraction.proofs.Listed.{all_has, concluded}
+use Rattle.abstraction.proofs.Listed.{concluded}
 use Rattle.abstraction.proofs.Values.{converted_row-trees}
 use Rattle.abstraction.proofs.Runs.{held_runs_are_derived}
 use Rattle.abstraction.proofs.Older.{runs_are_named}

@@ -14,6 +14,7 @@ use Rattle.calculus.specs.Matching.{places, places_row}
 use Rattle.calculus.specs.Runs.{Performed}
 use Rattle.calculus.specs.Secrecy.{instance, AllPerformed}
 use Rattle.calculus.specs.Standing.{Lacks, EnvironmentLacks}
+use Rattle.calculus.proofs.Rules.{same_name-sound, same_name-refl}
 use Rattle.calculus.proofs.Lacking.{row_lacks, values_lack}
 use Rattle.well_formed.specs.Leaves.{leaves, row_leaves}
 use Rattle.terms.specs.Term.{Term, Subst}
@@ -28,23 +29,6 @@ use Rattle.abstraction.specs.Naming.{atom_term, abstracted, naming}
 use Rattle.abstraction.specs.OneToOne.{is_foreign, IsOneToOne}
 use Rattle.abstraction.proofs.Values.{converted_row-of_binds}
 use Rattle.abstraction.proofs.OneToOne.{no_atom}
-
--- the same names are told to be, and only they
-same_name-sound : (x y : Name) → same_name x y ≡ true → x ≡ y
-same_name-sound (Free m) (Free n) h = ap Free (eqb-true m n h)
-same_name-sound (Free m) (Made q) h = cc
-same_name-sound (Free m) (Variable j) h = cc
-same_name-sound (Made p) (Free n) h = cc
-same_name-sound (Made p) (Made q) h = ap Made (eqb-true p q h)
-same_name-sound (Made p) (Variable j) h = cc
-same_name-sound (Variable i) (Free n) h = cc
-same_name-sound (Variable i) (Made q) h = cc
-same_name-sound (Variable i) (Variable j) h = ap Variable (eqb-true i j h)
-
-same_name-self : (x : Name) → same_name x x ≡ true
-same_name-self (Free n) = eq-eqb n n refl
-same_name-self (Made p) = eq-eqb p p refl
-same_name-self (Variable i) = eq-eqb i i refl
 
 -- whether the environment binds the leaf
 abbrev pub is_bound : Environment → Name → Bool
@@ -105,7 +89,7 @@ module _ (P : Protocol) (made : List MadeAt) (one : IsOneToOne P (naming P made)
 
   mutual
     places_bound : (t : calculus.Term) (v : Value) → converted P (leaf_under r s) t ≡ abstracted P (naming P made) v → AllByRecursion (λ x. is_bound (places t v) x ≡ true) (leaves t)
-    places_bound (Leaf x) v e = (rw (same_name-self x) refl, tt)
+    places_bound (Leaf x) v e = (rw (same_name-refl x) refl, tt)
     places_bound (Node f ts) (Leaf y) e = absurd (no_atom P made f (row_length ts) (converted_row P (leaf_under r s) ts) y e)
     places_bound (Node f ts) (Node g vs) e =
         let rows : converted_row P (leaf_under r s) ts ≡ converted_row P (atom_term (naming P made)) vs = cc in places_row_bound ts vs rows

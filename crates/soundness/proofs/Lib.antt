@@ -4,5 +4,4 @@ pub mod Plain
 pub mod Extension
 pub mod Instances
 pub mod Correspondences
-pub mod Example
 pub mod GoalRows

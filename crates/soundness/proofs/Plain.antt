@@ -16,7 +16,7 @@ use Rattle.clauses.specs.Norm.{without_repeats, is_tautology, without_lonely, ev
 use Rattle.clauses.specs.Resolvents.{IsRawResolvent, joined}
 use Rattle.clauses.specs.Inclusion.{Has}
 use Rattle.clauses.specs.Subsumption.{IsCovered}
-use Rattle.clauses.proofs.Inclusion.{Has-filter, Has-filter_source}
+use Rattle.clauses.proofs.Inclusion.{all_has, Has-filter, Has-filter_source}
 use Rattle.clauses.proofs.Lists.{all_append, all_weaker}
 use Rattle.derivations.specs.Closed.{IsAnswered, Closes}
 use Rattle.derivations.specs.Laws.{is_required_event}
@@ -25,7 +25,6 @@ use Rattle.translation.specs.Attacker.{variables_from, name_known, fresh_known, 
 use Rattle.translation.specs.Goal.{goal_raw}
 use Rattle.translation.specs.Visit.{Visit, is_public_channel, sent, raw_clause, after_input, after_copy, after_new, event_terms, after_event, first_visit}
 use Rattle.abstraction.specs.Taken.{IsTaken, HasVisit, HoldsAll}
-use Rattle.abstraction.proofs.Listed.{all_has}
 use Rattle.abstraction.proofs.Steps.{of_some}
 use Rattle.abstraction.proofs.Older.{all_both}
 

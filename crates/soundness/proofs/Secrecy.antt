@@ -21,7 +21,7 @@ use Rattle.clauses.specs.Fact.{Fact, Att, Bad, Clause}
 use Rattle.clauses.specs.Flat.{flat, flat_under}
 use Rattle.clauses.specs.Selection.{is_solved}
 use Rattle.clauses.specs.Inclusion.{here, Has}
-use Rattle.clauses.proofs.Inclusion.{Has-filter_source}
+use Rattle.clauses.proofs.Inclusion.{all_has, Has-filter_source}
 use Rattle.derivations.specs.Derivation.{Instance, Derive}
 use Rattle.derivations.specs.Closed.{Closes, solved_of}
 use Rattle.derivations.specs.Laws.{SolvedClausesSuffice}
@@ -35,7 +35,7 @@ use Rattle.abstraction.specs.Trace.{past_count, trace_of}
 use Rattle.abstraction.specs.Naming.{Naming, abstracted, made_term, event_facts, naming}
 use Rattle.abstraction.specs.Taken.{IsTaken}
 use Rattle.abstraction.proofs.Holding.{translations_hold_all}
-use Rattle.abstraction.proofs.Listed.{all_has, concluded}
+use Rattle.abstraction.proofs.Listed.{concluded}
 use Rattle.abstraction.proofs.Values.{abstracted-value}
 use Rattle.abstraction.proofs.Conclusions.{nth, nth_fills}
 use Rattle.abstraction.proofs.Runs.{runs_are_derived}

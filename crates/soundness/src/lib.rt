@@ -1,19 +1,21 @@
-//! Soundness: where a closed list of clauses shows no violation, no run of the protocol violates the query. The functions here have
-//! empty bodies, and say in their contracts what holds of the definitions below.
+//! Soundness: where a closed list of clauses shows no violation, no run of the protocol violates the query, and so where a certificate
+//! is accepted. The functions here have empty bodies, and say in their contracts what holds of the definitions below.
 #![tactic(auto)]
 
-ghost use Rattle.std.specs.Prelude.{◌≡◌, ◌↔◌, ℕ, Some, List, [], ◌∷◌};
+ghost use Rattle.std.specs.Prelude.{◌↔◌, ℕ, List};
 ghost use Rattle.calculus.specs.Syntax.{Query, Secret, SecretNew, Correspondence, Protocol};
 ghost use Rattle.calculus.specs.Syntax.{Term as Message, EventTerm};
-ghost use Rattle.calculus.specs.Runs.{Configuration, run};
 ghost use Rattle.calculus.specs.Secrecy.{Holds};
 ghost use Rattle.terms.specs.Term.{Term};
 ghost use Rattle.clauses.specs.Fact.{Clause};
 ghost use Rattle.translation.specs.Satisfied.{IsSatisfied, GoalRowHolds};
-ghost use Rattle.soundness.specs.Shown.{IsProper, IsShown};
-ghost use Rattle.soundness.specs.Example.{announced, reversed, announcing, one_copy, performed_by};
-ghost use Rattle.soundness.specs.Example.{eight_clauses, nine_clauses};
+ghost use Rattle.certificates.specs.Shown.{IsProper, IsShown};
+ghost use Rattle.certificates.specs.Certificate.{Certificate};
+ghost use Rattle.certificates.specs.Ruling.{Accepted, IsRuled};
+ghost use Rattle.certificates.specs.Announcing.{announced, announcing};
+ghost use Rattle.certificates.specs.Example.{kept_key, encrypting};
 
+use certificates::{a_key_is_certified, accepted_certificates_show, names_are_certified};
 use derivations::solved_clauses_suffice;
 
 /// Secrets are kept: where it is shown of a message, or of the names of a restriction, no run of the protocol beside
@@ -58,15 +60,21 @@ pub fn goal_rows_tell()
         ((number : ℕ) × (row : List ℕ) × GoalRowHolds P left alternatives c number row) }
 {}
 
-/// The worked example: all that is to be shown of it is so. One run performs both events; so in each
-/// run the one at the end is preceded by the one that announces its name, and not the other way round.
-pub fn names_are_announced()
-    ensures proper { IsProper announcing announced }
-    ensures shown { IsShown announcing announced eight_clauses nine_clauses }
-    ensures runs { (c : Configuration) × (run announcing one_copy ≡ Some c) ×
-        (c.events ≡ performed_by 1 ∷ performed_by 2 ∷ []) }
-    ensures holds { Holds announcing announced }
-    ensures reversed { Holds announcing reversed → ⊥ }
+/// Where a certificate of a query is accepted, no run of the protocol beside the attacker violates the query.
+pub fn accepted_queries_hold()
+    ensures { (P : Protocol) (q : Query) (cert : Certificate) →
+        IsProper P q → IsRuled P q cert Accepted → Holds P q }
+{
+    accepted_certificates_show();
+    queries_hold();
+}
+
+/// The worked examples: no run makes the key known, and each end is preceded by what announces its name.
+pub fn certified_queries_hold()
+    ensures secret { Holds encrypting kept_key }
+    ensures correspondence { Holds announcing announced }
 {
     queries_hold();
+    a_key_is_certified();
+    names_are_certified();
 }

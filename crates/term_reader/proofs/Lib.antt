@@ -1,4 +1,3 @@
-pub mod Digits
 pub mod Stack
 pub mod Points
 pub mod Variables

@@ -2,15 +2,9 @@
 use Rattle.std.proofs.Common.{◌≡◌, ℕ, zero, suc, ◌<◌, true, false, List, [], ◌∷◌, length, Some, None, option_and_then, refl, sym, ◌∙◌, ap, arith}
 use Rattle.calculus.specs.Syntax as calculus
 use Rattle.calculus.specs.Points.{numbered, nodes, name_arguments}
+use Rattle.calculus.proofs.Items.{numbered-past}
 use Rattle.terms.specs.Term.{Point}
 use Rattle.certificate_reading.specs.Names.{Named, is_restriction_of, if_restriction, name_called}
-
-numbered-past : {A : Type 0} (xs : List A) (number : ℕ) → length xs < number → numbered xs number ≡ None
-numbered-past xs zero past = absurd (omega (arith, past))
-numbered-past [] (suc zero) past = refl
-numbered-past [] (suc (suc n)) past = refl
-numbered-past (x ∷ xs) (suc zero) past = absurd (omega (arith, past))
-numbered-past (x ∷ xs) (suc (suc n)) past = numbered-past xs (suc n) (omega (arith, past))
 
 pub past_nodes : (P : calculus.Protocol) (word : List ℕ) (point : ℕ) → length (nodes P.main) < point → None ≡ name_called P word point
 past_nodes P word point past = sym (ap (option_and_then (λ node. if_restriction word point node (numbered (name_arguments 0 P.main) point))) (numbered-past (nodes P.main) point past))

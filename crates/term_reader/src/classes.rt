@@ -6,8 +6,8 @@ ghost use Rattle.protocol_scope.specs.Names.{is_variable};
 ghost use Rattle.term_tree.specs.Bank.{symbol_of};
 ghost use Rattle.certificate_reading.specs.Steps.{with_parts, has_arity, closing_byte, may_close, may_go_on, may_be_empty};
 
-use crate::numbers::all_digits;
 use clause_form::Trees;
+use numerals::all_digits;
 use term_tree::Sym;
 
 /// Whether a word may begin with the byte.

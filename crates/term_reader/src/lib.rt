@@ -3,13 +3,11 @@
 
 mod classes;
 mod names;
-mod numbers;
 mod reading;
 mod state;
 mod steps;
 
 pub use crate::classes::{begins_word, is_in_word};
 pub use crate::names::{CalledEvent, event_called, has_few_names};
-pub use crate::numbers::number;
 pub use crate::reading::{Read, read_term};
 pub use crate::state::Code;

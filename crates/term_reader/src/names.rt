@@ -12,14 +12,14 @@ use pi_tree::{Declared, Kind, Process, Protocol};
 use term_tree::Sym;
 
 /// A symbol, and how many arguments it takes.
-#[derive(Clone, Copy, Debug)]
+#[derive(Clone, Copy)]
 pub struct Named {
     pub symbol: Sym,
     pub arity: u32,
 }
 
 /// An event, and how many arguments it takes.
-#[derive(Clone, Copy, Debug)]
+#[derive(Clone, Copy)]
 pub struct CalledEvent {
     pub number: u32,
     pub arity: u32,

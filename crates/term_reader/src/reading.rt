@@ -13,7 +13,7 @@ use pi_tree::Protocol;
 use std::alloc::{AllocError, Global};
 
 /// What came of reading: a term, with the place behind it; or the place and the code of a refusal.
-#[derive(Debug, Drop)]
+#[derive(Drop)]
 pub enum Read {
     Done(Tree, usize),
     Refused(usize, Code),

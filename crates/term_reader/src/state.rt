@@ -10,7 +10,7 @@ use std::alloc::{AllocError, Global};
 use term_tree::Sym;
 
 /// Why a text is refused.
-#[derive(Clone, Copy, Debug)]
+#[derive(Clone, Copy)]
 pub enum Code {
     /// The text can't go on with this byte.
     Syntax,
@@ -25,7 +25,7 @@ pub enum Code {
 }
 
 /// A symbol whose arguments are being read: how many it takes, where it stands, and those that were read.
-#[derive(Debug, Drop)]
+#[derive(Drop)]
 pub struct Open {
     pub symbol: Sym,
     pub arity: u32,
@@ -34,20 +34,20 @@ pub struct Open {
 }
 
 /// The symbols whose arguments are being read, the innermost last.
-#[derive(Debug, Drop)]
+#[derive(Drop)]
 pub struct Heads {
     pub items: Vec<Open>,
 }
 
 /// A word, and the digits behind it and `@`.
-#[derive(Debug, Drop)]
+#[derive(Drop)]
 pub struct Pointed {
     pub word: Vec<u8>,
     pub digits: Vec<u8>,
 }
 
 /// What was read of the innermost term.
-#[derive(Debug, Drop)]
+#[derive(Drop)]
 pub enum Mode {
     Begins,
     InWord(Vec<u8>),
@@ -57,7 +57,7 @@ pub enum Mode {
 }
 
 /// The symbols whose arguments are being read, the innermost term, and where its word began.
-#[derive(Debug, Drop)]
+#[derive(Drop)]
 pub struct Reading {
     pub heads: Heads,
     pub mode: Mode,
@@ -65,7 +65,7 @@ pub struct Reading {
 }
 
 /// What a byte does: reading goes on behind it, a term ended before it, or the text is refused at a place.
-#[derive(Debug, Drop)]
+#[derive(Drop)]
 pub enum Step {
     Goes(Reading),
     Ends(Tree),
@@ -73,7 +73,7 @@ pub enum Step {
 }
 
 /// The innermost symbol, if there is one, and the others.
-#[derive(Debug, Drop)]
+#[derive(Drop)]
 pub enum Popped {
     Empty(Heads),
     Top(Open, Heads),

@@ -17,17 +17,17 @@ use crate::classes::{
     may_close, may_go_on, with_parts,
 };
 use crate::names::{Named, name_called, symbol_called};
-use crate::numbers::number;
 use crate::state::{
     Code, Heads, Mode, Open, Pointed, Popped, Reading, Step, is_deep, pop_head, push_head,
 };
 use clause_form::{Tree, Trees};
+use numerals::number;
 use pi_tree::Protocol;
 use std::alloc::{AllocError, Global};
 use term_tree::Sym;
 
 /// A byte, the place where it stands, and where the word before it began.
-#[derive(Clone, Copy, Debug)]
+#[derive(Clone, Copy)]
 pub struct Here {
     pub at: usize,
     pub byte: u8,

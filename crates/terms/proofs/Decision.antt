@@ -11,7 +11,8 @@ use Rattle.trees.proofs.Occurrence.{or_true}
 use Rattle.terms.specs.Term.{Sym, Term, Subst, has_var, same_symbol}
 use Rattle.terms.specs.Unifier.{Unifies, IsMgu}
 use Rattle.terms.specs.Binding.{only}
-use Rattle.terms.proofs.Replace.{is_there, or_left, or_right, eqb_self, eqb_sym, only-self, only-other, only-absent, var_source}
+use Rattle.std.proofs.lemmas.Bool.{or_left, or_right}
+use Rattle.terms.proofs.Replace.{is_there, eqb_self, eqb_sym, only-self, only-other, only-absent, var_source}
 use Rattle.terms.proofs.Matches.{same_symbol-sound, same_symbol-refl}
 use Rattle.terms.proofs.Existence.{UnifiesAll, total, replaced, replaced-solved, after-solved, pairs, AreEven, even_rows, pairs-solved, solved-pairs, pairs-total, never_within, mgu_exists}
 

@@ -5,7 +5,8 @@ use Rattle.trees.proofs.Occurrence.{or_true}
 use Rattle.terms.specs.Term.{Sym, Term, has_var}
 use Rattle.terms.specs.Binding.{Binding, bound_to, Leads, directly, by_way_of, resolved}
 use Rattle.terms.specs.Rank.{height, heights, ranks}
-use Rattle.terms.proofs.Replace.{some_none, some_same, eqb_self, is_there, var_reaches, or_left, or_right}
+use Rattle.std.proofs.lemmas.Bool.{or_left, or_right}
+use Rattle.terms.proofs.Replace.{some_none, some_same, eqb_self, is_there, var_reaches}
 use Rattle.terms.proofs.Resolve.{IsSound, bound_to-newest, bound_to-other, resolved-unbound, resolved-solves, Solves-at}
 
 -- a variable is no higher than a term in which it stands

@@ -1,5 +1,6 @@
 -- Replacing one variable, and where variables stand.
 use Rattle.std.proofs.Common.{◌≡◌, ℕ, ◌⊎◌, Bool, true, false, ◌||◌, cond, nat_eq, Some, None, refl, sym, ap, ◌∙◌, inl, inr, eqb-true, eq-eqb, ne_eqb}
+use Rattle.std.proofs.lemmas.Bool.{or_left, or_right}
 use Rattle.trees.specs.Tree.{Trees, Leaf, Node, none, more, bind, binds, after, some_leaves}
 use Rattle.trees.proofs.Substitution.{bind-Leaf, bind-agree}
 use Rattle.trees.proofs.Occurrence.{or_true}
@@ -17,14 +18,6 @@ some_same e = cc
 pub is_there : (b : Bool) → (b ≡ true) ⊎ (b ≡ false)
 is_there true = inl refl
 is_there false = inr refl
-
-pub or_left : (a b : Bool) → a ≡ true → (a || b) ≡ true
-or_left true b h = refl
-or_left false b h = cc
-
-pub or_right : (a b : Bool) → b ≡ true → (a || b) ≡ true
-or_right true b h = refl
-or_right false b h = h
 
 pub eqb_self : (x : ℕ) → nat_eq x x ≡ true
 eqb_self x = eq-eqb x x refl

@@ -5,6 +5,7 @@ use Rattle.calculus.specs.Syntax.{Process, Nil, Output, Input, Parallel, Replica
 use Rattle.calculus.specs.Syntax as calculus
 use Rattle.calculus.specs.Points.{point_after}
 use Rattle.calculus.specs.Matching.{rules_of}
+use Rattle.calculus.specs.Bounds.{most_visits}
 use Rattle.trees.specs.Tree.{node, bind}
 use Rattle.terms.specs.Term.{Attacker, Term, Subst}
 use Rattle.terms.specs.Unifier.{Unifies, UnifiesAll, IsMgu}
@@ -21,7 +22,7 @@ use Rattle.translation.specs.Visit.{Visit, first_visit, visit_terms, visit_under
 use Rattle.translation.specs.Choice.{Choice, choice_under, IsUnified, term_choice, rule_choice, GoesOn, TermGoesOn, RuleGoesOn, RulesGoOn, AllGoOn}
 use Rattle.translation.specs.Course.{Outcome, Done, TooLarge, Course, Finished, Counted, Unless, preceded, After, Then, Adds}
 use Rattle.translation.specs.Visited.{some_large, EachThen, Copied, Received, Chosen, Visited}
-use Rattle.translation.specs.Translation.{Translated, whole, most_visits, IsTranslation}
+use Rattle.translation.specs.Translation.{Translated, whole, IsTranslation}
 
 -- a number above all variables of terms
 pub above_terms : (ts : List Term) → (n : ℕ) × AreBelow n ts

@@ -4,6 +4,7 @@ use Rattle.std.specs.Prelude.{flat_map, filter_map, not, ◌&&◌}
 use Rattle.std.specs.List.{AllByRecursion, list_all, cons_option, enumerate_from}
 use Rattle.std.proofs.lemmas.List.{append_assoc}
 use Rattle.calculus.specs.Syntax.{Rule, Declared, Query, Secret, SecretNew, Correspondence, Protocol}
+use Rattle.calculus.specs.Bounds.{most_visits}
 use Rattle.trees.specs.Tree.{node}
 use Rattle.terms.specs.Term.{Ctor, Term}
 use Rattle.clauses.specs.Fact.{Att, Clause, terms_of}
@@ -18,7 +19,7 @@ use Rattle.translation.specs.Goal.{goal_raw}
 use Rattle.translation.specs.Visit.{first_visit}
 use Rattle.translation.specs.Course.{Outcome, Done, TooLarge}
 use Rattle.translation.specs.Visited.{Visited}
-use Rattle.translation.specs.Translation.{Clauses, attacker_clauses, goal_clauses, whole, most_visits, IsTranslation}
+use Rattle.translation.specs.Translation.{Clauses, attacker_clauses, goal_clauses, whole, IsTranslation}
 use Rattle.translation.specs.Satisfied.{is_bad}
 use Rattle.translation.specs.Placement.{may_be_supposed, may_be_concluded, IsWellPlaced}
 use Rattle.translation.proofs.Placement.{known_supposed, norms-bad, norms-concluded, norms-supposed, norms_of_bad}

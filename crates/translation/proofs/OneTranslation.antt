@@ -4,6 +4,7 @@ use Rattle.trees.specs.Tree.{Leaf}
 use Rattle.calculus.specs.Syntax.{Process, Nil, Output, Input, Parallel, Replication, New, Let, Event, Pattern, Expression, EventTerm, Query, Protocol}
 use Rattle.calculus.specs.Syntax as calculus
 use Rattle.calculus.specs.Points.{point_after}
+use Rattle.calculus.specs.Bounds.{most_visits}
 use Rattle.terms.specs.Term.{Subst}
 use Rattle.clauses.specs.Fact.{Ev}
 use Rattle.clauses.specs.Norm.{norms}
@@ -14,7 +15,7 @@ use Rattle.translation.specs.Conversion.{term_in}
 use Rattle.translation.specs.Visit.{Visit, first_visit, standing_under, visit_under, is_large_visit, evaluates_large, sent, raw_clause, after_input, after_copy, after_new, event_terms, after_event}
 use Rattle.translation.specs.Course.{Outcome, Course, Finished, Unless, Then, Adds}
 use Rattle.translation.specs.Visited.{some_large, EachThen, Copied, Received, Chosen, Visited}
-use Rattle.translation.specs.Translation.{Translated, whole, most_visits, IsTranslation}
+use Rattle.translation.specs.Translation.{Translated, whole, IsTranslation}
 use Rattle.translation.proofs.Conversions.{terms_in-under}
 use Rattle.translation.proofs.Visits.{IsLedBack, AreAlike, alike_led_back, led_there, channel_public, sent_there, large_visit-back, evaluates_large-back, raw_alike}
 use Rattle.translation.proofs.Fresh.{mixed, extended, after_input-under, after_copy-under, after_new-under, after_event-under}

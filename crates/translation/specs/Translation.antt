@@ -1,6 +1,7 @@
 -- The translation of a protocol and a query into clauses (Blanchet 2016, section 3.3).
 use Rattle.std.specs.Prelude.{◌≡◌, ℕ, List, ◌++◌, flat_map}
 use Rattle.calculus.specs.Syntax.{Query, Protocol}
+use Rattle.calculus.specs.Bounds.{most_visits}
 use Rattle.terms.specs.Term.{Term}
 use Rattle.clauses.specs.Fact.{Clause}
 use Rattle.clauses.specs.Norm.{norms}
@@ -14,10 +15,6 @@ use Rattle.translation.specs.Visited.{Visited}
 pub data Translated : Type 0 where
   Clauses : (clauses : List (Clause Term)) → Translated
   LargeAt : (point : ℕ) → Translated
-
--- the most visits of one translation
-abbrev pub most_visits : ℕ
-most_visits = 65536
 
 -- the clauses of the attacker
 abbrev pub attacker_clauses : Protocol → List (Clause Term)

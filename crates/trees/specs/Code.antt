@@ -5,12 +5,12 @@ use Rattle.std.specs.Coded.{Coded, coded_list}
 use base.Stored.{Gv, gnil, gnum, gcons}
 use Rattle.trees.specs.Tree.{Tree, Trees, Leaf, Node, none, more}
 
-abbrev head : Gv → Gv
+abbrev pub head : Gv → Gv
 head gnil = gnil
 head (gnum n) = gnil
 head (gcons a b) = a
 
-abbrev tail : Gv → Gv
+abbrev pub tail : Gv → Gv
 tail gnil = gnil
 tail (gnum n) = gnil
 tail (gcons a b) = b

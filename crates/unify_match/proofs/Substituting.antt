@@ -2,13 +2,13 @@
 use Rattle.std.proofs.Common.{◌≡◌, ◌↔◌, ℕ, zero, suc, ◌+◌, ◌≤◌, ◌<◌, Bool, true, false, ◌||◌, nat_eq, IsTrue, Option, Some, None, List, [], ◌∷◌, ◌++◌, length, map, take, drop, get_or, append_assoc, append-nil, add-one, refl, sym, ap, ◌∙◌, subst, arith}
 use Rattle.std.proofs.lemmas.List.{map-append, get_or-map, length-map}
 use Rattle.std.proofs.Math.Seq.{take-suc, take-length, drop-append_seam}
-use Rattle.std.proofs.lemmas.Bool.{false≢true}
+use Rattle.std.proofs.lemmas.Bool.{false≢true, or_left, or_right}
 use Rattle.trees.specs.Tree.{Trees, Leaf, Node, none, more, node, trees, bind, binds, some_leaves}
 use Rattle.trees.proofs.Rows.{items_of-trees, trees-items_of, bind-node, node-injective}
 use Rattle.terms.specs.Term.{Sym, Term, Subst, has_var}
 use Rattle.terms.specs.Binding.{resolved}
 use Rattle.terms.specs.Rank.{height, heights, ranks}
-use Rattle.terms.proofs.Replace.{or_left, or_right, eqb_self}
+use Rattle.terms.proofs.Replace.{eqb_self}
 use Rattle.terms.proofs.Resolve.{resolved-unbound, resolved-free}
 use Rattle.term_tree.specs.Bank.{tree_at, AreKnown, Grows, Names}
 use Rattle.term_tree.specs.declared.bank.Id.{Id}
@@ -20,7 +20,7 @@ use Rattle.unify_match.specs.Trail.{id_of}
 use Rattle.unify_match.specs.Seen.{seen, IsReady, IsWalked}
 use Rattle.unify_match.specs.Substitution.{subst_of, CanChange, Fits, rank_of, arguments}
 use Rattle.unify_match.proofs.SeenLemmas.{seen-grows, IsReady-grows, IsReady-sound, bound_to-seen, bound_to-seen_none}
-use Rattle.unify_match.proofs.Walking.{walked-resolved, known-at}
+use Rattle.unify_match.proofs.Walking.{known-at}
 
 pub arguments-node : (f : Sym) (ts : List Term) → arguments (node f ts) ≡ ts
 arguments-node f ts = items_of-trees ts

@@ -1,7 +1,7 @@
 -- The worked example: its translation, its log, which is closed, and its certificate.
 use Rattle.std.proofs.Common.{◌≡◌, ◌∙◌, ℕ, zero, suc, ◌<◌, ◌≤◌, Bool, true, false, cond, nat_eq, Some, None, List, [], ◌∷◌, ◌++◌, length, refl, ap, sym, subst, inl, inr, eqb-true, arith}
 use Rattle.std.specs.List.{AllByRecursion}
-use Rattle.trees.specs.Tree.{Leaf, node, bind, after}
+use Rattle.trees.specs.Tree.{Leaf, node}
 use Rattle.calculus.specs.Points.{numbered}
 use Rattle.terms.specs.Term.{Free, Term, Subst}
 use Rattle.terms.proofs.Replace.{some_same, some_none}
@@ -11,6 +11,7 @@ use Rattle.clauses.specs.Resolvents.{Answer, NoUnifier, Large, Resolvents, Resol
 use Rattle.clauses.specs.Inclusion.{Picks, here, there, Has}
 use Rattle.clauses.specs.Subsumption.{Subsumes, RowHolds, ComesBefore}
 use Rattle.clauses.proofs.Answers.{one_answer}
+use Rattle.derivations.proofs.Closing.{heard, heard_most}
 use Rattle.translation.specs.Course.{Done}
 use Rattle.translation.specs.Translation.{Clauses, IsTranslation}
 use Rattle.certificates.specs.Certificate.{CoverRowHolds}
@@ -19,10 +20,9 @@ use Rattle.saturation.specs.Log.{IsBeaten, IsLive, IsCoveredBy, Gives, EndsAt, I
 use Rattle.saturation.specs.Live.{AreLive}
 use Rattle.saturation.specs.End.{Closed, IsLog}
 use Rattle.saturation.proofs.Closing.{below_length}
-use Rattle.saturation.proofs.Cuts.{all_has}
 use Rattle.saturation.proofs.Pairs.{has_numbered}
 use Rattle.saturation.proofs.Uniqueness.{same_entry}
-use Rattle.clauses.proofs.Inclusion.{Has-filter_source}
+use Rattle.clauses.proofs.Inclusion.{all_has, Has-filter_source}
 use Rattle.verdicts.specs.FirstRows.{IsFirstCover, AreFirstCovers}
 use Rattle.verdicts.specs.First.{resolvents_of, AllGive, all_pairs}
 use Rattle.verdicts.specs.Verdict.{Proved, IsVerdict}
@@ -170,19 +170,8 @@ unfolding asking
 sends_asking = (None, record { offset = 2; apart = ((omega arith, tt), ((omega arith, tt), ((omega arith, tt), ((omega arith, tt), tt)))); unified = λ s e. cc }, refl)
 
 -- What is sent and heard is known already: `att(v0), att(v1), att(v0) => att(v1)`.
-heard : Subst
-heard x = cond (nat_eq x 3) (Leaf 0) (cond (nat_eq x 2) (Leaf 1) (Leaf x))
-
-heard_most : (r : Subst) → r 0 ≡ r 3 → r 1 ≡ r 2 → (x : ℕ) → after r heard x ≡ r x
-unfolding heard
-heard_most r channels messages x = go (nat_eq x 3) (nat_eq x 2) refl refl where
-  go : (a b : Bool) → nat_eq x 3 ≡ a → nat_eq x 2 ≡ b → bind r (cond a (Leaf 0) (cond b (Leaf 1) (Leaf x))) ≡ r x
-  go true b e f = channels ∙ ap r (sym (eqb-true x 3 e))
-  go false true e f = messages ∙ ap r (sym (eqb-true x 2 f))
-  go false false e f = refl
-
 sends_listening : Resolves sends listens listening (Resolvents [])
-unfolding listening heard
+unfolding listening
 sends_listening = (
   Some (clause (Att (Leaf 0) ∷ Att (Leaf 1) ∷ Att (Leaf 0) ∷ []) (Att (Leaf 1))),
   record {

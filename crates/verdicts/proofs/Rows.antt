@@ -6,28 +6,12 @@ use Rattle.calculus.specs.Syntax.{EventTerm, Query, Secret, SecretNew, Correspon
 use Rattle.calculus.specs.Points.{numbered}
 use Rattle.terms.specs.Term.{Term}
 use Rattle.clauses.specs.Fact.{Clause, fact_under}
-use Rattle.clauses.specs.Subsumption.{hypothesis_at, ComesBefore, RowHolds}
-use Rattle.clauses.proofs.Subsumption.{row_length}
+use Rattle.clauses.specs.Subsumption.{hypothesis_at, RowHolds}
+use Rattle.clauses.proofs.Subsumption.{row_length, Order, order}
 use Rattle.translation.specs.Goal.{required}
 use Rattle.translation.specs.Satisfied.{GoalRowHolds}
 use Rattle.certificates.specs.Certificate.{CoverRowHolds, GoalHolds}
 use Rattle.verdicts.specs.FirstRows.{IsFirstCover, AreFirstCovers, IsFirstGoal, AreFirstGoals}
-
--- of two rows one comes first, or they are the same
-abbrev Order : List ℕ → List ℕ → Type 0
-Order ps qs = (ps ≡ qs) ⊎ (ComesBefore ps qs ⊎ ComesBefore qs ps)
-
-order : (ps qs : List ℕ) → length ps ≡ length qs → Order ps qs
-order [] [] e = inl refl
-order [] (q ∷ qs) e = absurd (omega arith)
-order (p ∷ ps) [] e = absurd (omega arith)
-order (p ∷ ps) (q ∷ qs) e = go (cases_order p q) (order ps qs (omega arith)) where
-  go : (p ≡ q) ⊎ ((p < q) ⊎ (q < p)) → Order ps qs → Order (p ∷ ps) (q ∷ qs)
-  go (inr (inl less)) others = inr (inl (inl less))
-  go (inr (inr more)) others = inr (inr (inl more))
-  go (inl same) (inl rest) = inl (λ i. same i ∷ rest i)
-  go (inl same) (inr (inl before)) = inr (inl (inr (same, before)))
-  go (inl same) (inr (inr after)) = inr (inr (inr (sym same, after)))
 
 -- rows with a number in front, which have one length where the number is the same
 order_numbered : (n m : ℕ) (ps qs : List ℕ) → (n ≡ m → length ps ≡ length qs) → Order (n ∷ ps) (m ∷ qs)

@@ -7,19 +7,19 @@ use Rattle.terms.specs.Term.{Term}
 use Rattle.clauses.specs.Fact.{Clause}
 use Rattle.clauses.specs.Flat.{is_flat}
 use Rattle.clauses.specs.Norm.{IsNormal}
-use Rattle.clauses.specs.Selection.{Selection, select}
 use Rattle.clauses.specs.Resolvents.{Answer, NoUnifier, Large, Resolvents, Resolves}
 use Rattle.clauses.specs.Inclusion.{Picks, here, there, Has}
 use Rattle.clauses.specs.Subsumption.{IsCovered}
-use Rattle.clauses.proofs.Inclusion.{Has-append_left, Has-append_right, Has-flat_map}
+use Rattle.clauses.proofs.Inclusion.{Has-append_left, Has-append_right}
 use Rattle.clauses.proofs.Selection.{select-none}
 use Rattle.clauses.proofs.Subsumption.{row_subsumes}
 use Rattle.derivations.specs.Closed.{IsPairClosed}
 use Rattle.derivations.proofs.Closing.{none_closes, resolvents_close}
 use Rattle.translation.specs.Translation.{Clauses, IsTranslation}
 use Rattle.translation.proofs.Goal.{clauses_normal}
-use Rattle.soundness.specs.Shown.{IsShown}
-use Rattle.certificates.specs.Certificate.{Certificate, CoverRowHolds, Numbered, numbered_from, Pair, pairs_with, pairs_of_solved, pairs_of}
+use Rattle.certificates.specs.Shown.{IsShown}
+use Rattle.certificates.specs.Certificate.{Certificate, CoverRowHolds, numbered_from, Pair}
+use Rattle.certificates.proofs.Accepting.{pair_listed}
 use Rattle.saturation.proofs.Pairs.{has_numbered, closed_covers}
 use Rattle.verdicts.specs.FirstRows.{AreFirstCovers}
 use Rattle.verdicts.specs.First.{resolvents_of, AllGive, all_pairs}
@@ -32,18 +32,6 @@ listed_numbered n cs c h = of_pick n h.1 where
   of_pick : (n : ℕ) {ds rest : List (Clause Term)} {d : Clause Term} → Picks ds d rest → (k : ℕ) × Has (numbered_from n ds) (record { number = k; clause = d })
   of_pick n (here {xs = ds}) = (n, (numbered_from (n + 1) ds, here))
   of_pick n (there {y = d} p) = let (k, found) = of_pick (n + 1) p in (k, (record { number = n; clause = d } ∷ found.0, there found.1))
-
--- the pair of a solved clause and an unsolved one is among all pairs
-pair_listed : (all is : List Numbered) (i j : Numbered) (at : Selection) → Has is i → Has all j → select i.clause.hypotheses ≡ None → select j.clause.hypotheses ≡ Some at → Has (pairs_of is all) (record { solved = i; unsolved = j; at = at })
-pair_listed all is i j at hi hj none some = of_pick hi.1 none where
-  with_one : (i : Numbered) → select i.clause.hypotheses ≡ None → Has (pairs_of_solved (select i.clause.hypotheses) i all) (record { solved = i; unsolved = j; at = at })
-  with_one i none =
-      let one : Has (pairs_with i (select j.clause.hypotheses) j) (record { solved = i; unsolved = j; at = at }) = rw some ([], here) in
-      rw none (Has-flat_map (λ k. pairs_with i (select k.clause.hypotheses) k) all j (record { solved = i; unsolved = j; at = at }) hj one)
-
-  of_pick : {ks rest : List Numbered} {k : Numbered} → Picks ks k rest → select k.clause.hypotheses ≡ None → Has (pairs_of ks all) (record { solved = k; unsolved = j; at = at })
-  of_pick (here {x = k} {xs = ks}) none = Has-append_left (pairs_of_solved (select k.clause.hypotheses) k all) (pairs_of ks all) (record { solved = k; unsolved = j; at = at }) (with_one k none)
-  of_pick (there {x = k} {y = l} {xs = ks} p) none = Has-append_right (pairs_of_solved (select l.clause.hypotheses) l all) (pairs_of ks all) (record { solved = k; unsolved = j; at = at }) (of_pick p none)
 
 module _ (clauses : List (Clause Term)) (normal : (c : Clause Term) → Has clauses c → IsNormal c) where
   -- a row that holds shows that the clause is covered

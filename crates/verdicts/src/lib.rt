@@ -7,7 +7,7 @@ ghost use Rattle.std.specs.Prelude.{◌≡◌, ℕ, List};
 ghost use Rattle.calculus.specs.Syntax.{Query, Protocol};
 ghost use Rattle.calculus.specs.Secrecy.{Holds};
 ghost use Rattle.well_formed.specs.Limits.{IsSmallQuery, IsWithinLimits};
-ghost use Rattle.soundness.specs.Shown.{IsProper};
+ghost use Rattle.certificates.specs.Shown.{IsProper};
 ghost use Rattle.certificates.specs.Certificate.{Certificate};
 ghost use Rattle.certificates.specs.Ruling.{Accepted, IsRuled};
 ghost use Rattle.verdicts.specs.Verdict.{Verdict, Proved, IsVerdict};

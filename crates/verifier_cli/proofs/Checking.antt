@@ -6,7 +6,7 @@ use Rattle.calculus.specs.Bounds.{most_report_bytes}
 use Rattle.calculus.specs.Syntax as syntax
 use Rattle.calculus.specs.Secrecy.{Holds}
 use Rattle.hv_io.specs.Place.{line_at}
-use Rattle.soundness.specs.Shown.{IsProper}
+use Rattle.certificates.specs.Shown.{IsProper}
 use Rattle.certificates.specs.Certificate.{Certificate}
 use Rattle.certificates.specs.Ruling as certificates
 use Rattle.certificates.specs.Ruling.{IsRuled}

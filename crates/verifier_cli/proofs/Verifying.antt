@@ -3,7 +3,7 @@ use Rattle.std.proofs.Common.{◌≡◌, ◌≢◌, arith, ℕ, zero, suc, List,
 use Rattle.std.specs.Prelude.{Contains}
 use Rattle.calculus.specs.Syntax as syntax
 use Rattle.calculus.specs.Secrecy.{Holds}
-use Rattle.soundness.specs.Shown.{IsProper}
+use Rattle.certificates.specs.Shown.{IsProper}
 use Rattle.certificates.specs.Certificate.{Certificate}
 use Rattle.verdicts.specs.Verdict as defined
 use Rattle.verdicts.specs.Verdict.{IsVerdict}

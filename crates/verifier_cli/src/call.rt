@@ -119,12 +119,15 @@ fn respond<S: Sink>(
         (outcome_bytes (words_of protocol.entry) (outcome_of result.outcome)) }
 {
     match outcome {
-        Outcome::Usage => finish(Outcome::Usage, USAGE, out),
-        Outcome::ReadFault => finish(Outcome::ReadFault, READ_FAULT, out),
-        Outcome::Memory => finish(Outcome::Memory, WANT_OF_MEMORY, out),
-        outcome => match outcome_text(alloc, protocol, &outcome) {
+        Outcome::Usage => finish(outcome, USAGE, out),
+        Outcome::ReadFault => finish(outcome, READ_FAULT, out),
+        Outcome::Memory => finish(outcome, WANT_OF_MEMORY, out),
+        _ => match outcome_text(alloc, protocol, &outcome) {
             Ok(text) => finish(outcome, &text, out),
-            Err(_) => finish(Outcome::Memory, WANT_OF_MEMORY, out),
+            Err(_) => {
+                drop(outcome);
+                finish(Outcome::Memory, WANT_OF_MEMORY, out)
+            }
         },
     }
 }
@@ -218,5 +221,7 @@ pub fn top<F: Files, S: Sink>(alloc: Global, words: &[String], files: &mut F, ou
     asked_budgets();
     verdicts_are_read_back();
     let Decision { protocol, outcome } = decide(alloc, words, files);
-    respond(alloc, protocol.as_ref(), outcome, out)
+    let answer = respond(alloc, protocol.as_ref(), outcome, out);
+    drop(protocol);
+    answer
 }

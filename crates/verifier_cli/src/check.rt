@@ -22,7 +22,7 @@ use crate::loading::{Unloaded, load_protocol, load_text};
 use crate::outcome::{Finding, Findings, Outcome, Refusal, ReportCode};
 use cert_checker::check_cert;
 use cert_reader::{CertError, Claim, Claims, read_report};
-use certificates::accepted_queries_hold;
+use soundness::accepted_queries_hold;
 use hv_io::{Files, place};
 use pi_tree::{MOST_REPORT_BYTES, Protocol};
 use protocol_scope::{never_both, one_protocol, one_refusal};
@@ -194,6 +194,10 @@ pub(crate) fn check_file<F: Files>(
     accepted_queries_hold();
     match load_protocol(alloc, file, files) {
         Err(outcome) => outcome,
-        Ok(protocol) => check_report(alloc, &protocol, report, files),
+        Ok(protocol) => {
+            let outcome = check_report(alloc, &protocol, report, files);
+            drop(protocol);
+            outcome
+        }
     }
 }

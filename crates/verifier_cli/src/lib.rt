@@ -5,6 +5,7 @@
 
 mod call;
 mod check;
+mod codes;
 mod list;
 mod loading;
 mod outcome;

@@ -8,7 +8,7 @@ use run_replay::Replayed;
 use std::marker::Model;
 
 /// Why the bytes of a protocol's file are refused. The printed code of each is its number here, from 1.
-#[derive(Clone, Copy, Debug, PartialEq, Eq)]
+#[derive(Clone, Copy)]
 pub enum ProtocolCode {
     /// No token begins with this byte.
     BadByte,
@@ -40,7 +40,7 @@ pub enum ProtocolCode {
 
 /// Why a report is refused. The printed code of each is its number here, from 1. The place is that of the line in which it
 /// stands; what begins there is told by the rules of docs/FORMATS.md.
-#[derive(Clone, Copy, Debug, PartialEq, Eq)]
+#[derive(Clone, Copy)]
 pub enum ReportCode {
     /// No report goes on with the byte that stands there, or ends there.
     Syntax,
@@ -57,7 +57,7 @@ pub enum ReportCode {
 }
 
 /// Why the text of a run is refused. The printed code of each is its number here, from 1.
-#[derive(Clone, Copy, Debug, PartialEq, Eq)]
+#[derive(Clone, Copy)]
 pub enum RunCode {
     /// The line's first word is that of no step.
     Word,
@@ -71,7 +71,7 @@ pub enum RunCode {
 }
 
 /// A text that is refused, why and where.
-#[derive(Clone, Copy, Debug, PartialEq, Eq)]
+#[derive(Clone, Copy)]
 pub enum Refusal {
     /// The protocol; line and column are counted from 1, in bytes.
     Protocol {
@@ -92,7 +92,7 @@ pub enum Refusal {
 }
 
 /// What is found of what a report claims of a query.
-#[derive(Clone, Copy, Debug, PartialEq, Eq)]
+#[derive(Clone, Copy)]
 pub enum Finding {
     /// That it is proved, with a certificate, of which this is ruled.
     Ruled(Ruling),
@@ -103,7 +103,7 @@ pub enum Finding {
 }
 
 /// Findings, one for each query, in order.
-#[derive(Debug, Drop)]
+#[derive(Drop)]
 pub struct Findings {
     pub items: Vec<Finding>,
 }
@@ -118,7 +118,7 @@ impl Model for Findings {
 }
 
 /// The summary of a ring that was made and verified.
-#[derive(Debug, Drop)]
+#[derive(Drop)]
 pub struct Ring {
     /// How many keys it has.
     pub stages: u64,
@@ -131,7 +131,7 @@ pub struct Ring {
 }
 
 /// What a call of the program comes to.
-#[derive(Debug, Drop)]
+#[derive(Drop)]
 pub enum Outcome {
     /// The words are no command.
     Usage,
@@ -158,14 +158,14 @@ pub enum Outcome {
 }
 
 /// What a command comes to, with the protocol in whose words clauses and certificates are printed, if there is one.
-#[derive(Debug, Drop)]
+#[derive(Drop)]
 pub(crate) struct Decision {
     pub(crate) protocol: Option<Protocol>,
     pub(crate) outcome: Outcome,
 }
 
 /// What a call ends with: the outcome, and the program's exit status.
-#[derive(Debug, Drop)]
+#[derive(Drop)]
 pub struct Answer {
     pub status: u8,
     pub outcome: Outcome,

@@ -103,5 +103,7 @@ pub(crate) fn read_protocol(alloc: Global, bytes: &[u8]) -> Result<Protocol, Sto
     ensures refused { IfErr result (λ stop. IsStopOf bytes.now stop) }
 {
     let sketch = read_sketch(alloc, bytes)?;
-    scoped(alloc, bytes, &sketch)
+    let protocol = scoped(alloc, bytes, &sketch);
+    drop(sketch);
+    protocol
 }

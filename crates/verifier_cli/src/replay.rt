@@ -122,6 +122,10 @@ pub(crate) fn replay_file<F: Files>(alloc: Global, file: &str, run: &str, files:
     never_both();
     match load_protocol(alloc, file, files) {
         Err(outcome) => outcome,
-        Ok(protocol) => replay_run(alloc, &protocol, run, files),
+        Ok(protocol) => {
+            let outcome = replay_run(alloc, &protocol, run, files);
+            drop(protocol);
+            outcome
+        }
     }
 }

@@ -16,6 +16,7 @@ ghost use Rattle.verifier_cli.specs.Text.{line, clause_lines, in_words, outcome_
 ghost use Rattle.verifier_cli.specs.Text.{ruling_text, finding_text, finding_lines, is_accepted};
 ghost use Rattle.verifier_cli.specs.Text.{summary_lines};
 
+use crate::codes::StepCode;
 use crate::outcome::{
     Finding, Findings, Outcome, ProtocolCode, Refusal, ReportCode, Ring, RunCode,
 };
@@ -28,7 +29,6 @@ use pi_tree::Protocol;
 use query_verify::{Verdict, Verdicts};
 use run_replay::{Firsts, Replayed};
 use std::alloc::{AllocError, Global};
-use std::fmt;
 use std::fmt::Write;
 
 /// What is written for words that are no command.
@@ -40,93 +40,6 @@ pub(crate) const READ_FAULT: &[u8] = b"read fault\n";
 
 /// What is written where there was no memory.
 pub(crate) const WANT_OF_MEMORY: &[u8] = b"want of memory\n";
-
-impl fmt::Display for ProtocolCode {
-    ghost use Rattle.std.specs.Prelude.{Some};
-    ghost use Rattle.verifier_cli.specs.Seen.{refusal_by};
-    ghost use Rattle.verifier_cli.specs.Text.{code_text};
-
-    ghost output = { λ c. Some (code_text (refusal_by c)) };
-
-    fn fmt<W: fmt::Write>(&self, f: &mut fmt::Formatter<W>) -> fmt::Result {
-        match self {
-            ProtocolCode::BadByte => f.write_str("1 BadByte"),
-            ProtocolCode::OpenComment => f.write_str("2 OpenComment"),
-            ProtocolCode::LongNumber => f.write_str("3 LongNumber"),
-            ProtocolCode::Unexpected => f.write_str("4 Unexpected"),
-            ProtocolCode::TooDeep => f.write_str("5 TooDeep"),
-            ProtocolCode::Unknown => f.write_str("6 Unknown"),
-            ProtocolCode::Twice => f.write_str("7 Twice"),
-            ProtocolCode::Arity => f.write_str("8 Arity"),
-            ProtocolCode::Kind => f.write_str("9 Kind"),
-            ProtocolCode::LooseVariable => f.write_str("10 LooseVariable"),
-            ProtocolCode::TooMany => f.write_str("11 TooMany"),
-            ProtocolCode::AmbiguousNew => f.write_str("12 AmbiguousNew"),
-            ProtocolCode::LongFile => f.write_str("13 LongFile"),
-        }
-    }
-}
-
-impl fmt::Display for ReportCode {
-    ghost use Rattle.std.specs.Prelude.{Some};
-    ghost use Rattle.verifier_cli.specs.Seen.{report_refusal_by};
-    ghost use Rattle.verifier_cli.specs.Text.{report_code_text};
-
-    ghost output = { λ c. Some (report_code_text (report_refusal_by c)) };
-
-    fn fmt<W: fmt::Write>(&self, f: &mut fmt::Formatter<W>) -> fmt::Result {
-        match self {
-            ReportCode::Syntax => f.write_str("1 Syntax"),
-            ReportCode::Number => f.write_str("2 Number"),
-            ReportCode::Symbol => f.write_str("3 Symbol"),
-            ReportCode::Arity => f.write_str("4 Arity"),
-            ReportCode::Count => f.write_str("5 Count"),
-            ReportCode::LongFile => f.write_str("6 LongFile"),
-        }
-    }
-}
-
-impl fmt::Display for RunCode {
-    ghost use Rattle.std.specs.Prelude.{Some};
-    ghost use Rattle.verifier_cli.specs.Seen.{run_refusal_by};
-    ghost use Rattle.verifier_cli.specs.Text.{run_code_text};
-
-    ghost output = { λ c. Some (run_code_text (run_refusal_by c)) };
-
-    fn fmt<W: fmt::Write>(&self, f: &mut fmt::Formatter<W>) -> fmt::Result {
-        match self {
-            RunCode::Word => f.write_str("1 Word"),
-            RunCode::Number => f.write_str("2 Number"),
-            RunCode::LongLine => f.write_str("3 LongLine"),
-            RunCode::LongFile => f.write_str("4 LongFile"),
-        }
-    }
-}
-
-/// The code of a refused step, and its name.
-#[derive(Clone, Copy)]
-struct StepCode(StepError);
-
-impl fmt::Display for StepCode {
-    ghost use Rattle.std.specs.Prelude.{Some};
-    ghost use Rattle.verifier_cli.specs.Text.{step_text};
-
-    ghost output = { λ c. Some (step_text (errors.refusal_of c.0)) };
-
-    fn fmt<W: fmt::Write>(&self, f: &mut fmt::Formatter<W>) -> fmt::Result {
-        match self.0 {
-            StepError::NoThread => f.write_str("1 NoThread"),
-            StepError::WrongForm => f.write_str("2 WrongForm"),
-            StepError::UnknownChannel => f.write_str("3 UnknownChannel"),
-            StepError::ChannelsDiffer => f.write_str("4 ChannelsDiffer"),
-            StepError::NoKnowledge => f.write_str("5 NoKnowledge"),
-            StepError::NoRule => f.write_str("6 NoRule"),
-            StepError::NotFailing => f.write_str("7 NotFailing"),
-            StepError::NotPublic => f.write_str("8 NotPublic"),
-            StepError::Large => f.write_str("9 Large"),
-        }
-    }
-}
 
 /// The entry of that number, counted from 1.
 fn entry_at(log: &PlainLog, number: usize) -> Option<&PlainEntry>
@@ -177,9 +90,7 @@ fn budget_line(alloc: Global, entries: usize) -> Result<String, AllocError>
     ensures { IfOk result (λ text. string_bytes text ≡
         line (codes "unknown budget " ++ decimal entries)) }
 {
-    let mut text = String::new(alloc);
-    writeln!(text, "unknown budget {entries}")?;
-    Ok(text)
+    format!(in alloc; "unknown budget {entries}\n")
 }
 
 /// The same where a pair of entries is too large.
@@ -187,10 +98,7 @@ fn pair_line(alloc: Global, solved: usize, unsolved: usize) -> Result<String, Al
     ensures { IfOk result (λ text. string_bytes text ≡
         line (codes "unknown size pair " ++ decimal solved ++ codes " " ++ decimal unsolved)) }
 {
-    let mut text = String::new(alloc);
-    write!(text, "unknown size pair {solved}")?;
-    writeln!(text, " {unsolved}")?;
-    Ok(text)
+    format!(in alloc; "unknown size pair {solved} {unsolved}\n")
 }
 
 /// The same where the visit of a point is too large.
@@ -198,9 +106,7 @@ fn visit_line(alloc: Global, point: u32) -> Result<String, AllocError>
     ensures { IfOk result (λ text. string_bytes text ≡
         line (codes "unknown size point " ++ decimal point)) }
 {
-    let mut text = String::new(alloc);
-    writeln!(text, "unknown size point {point}")?;
-    Ok(text)
+    format!(in alloc; "unknown size point {point}\n")
 }
 
 /// What is written behind the number of a query, its line and a certificate.
@@ -260,10 +166,7 @@ fn protocol_refusal(
     ensures { IfOk result (λ text. string_bytes text ≡
         line (refusal_text (own.Protocol row column (refusal_by code)))) }
 {
-    let mut text = String::new(alloc);
-    write!(text, "refused {row}:{column}")?;
-    writeln!(text, " {code}")?;
-    Ok(text)
+    format!(in alloc; "refused {row}:{column} {code}\n")
 }
 
 /// The line that refuses a report at one of its lines.
@@ -271,9 +174,7 @@ fn report_refusal(alloc: Global, row: u64, code: ReportCode) -> Result<String, A
     ensures { IfOk result (λ text.
         string_bytes text ≡ line (refusal_text (own.Report row (report_refusal_by code)))) }
 {
-    let mut text = String::new(alloc);
-    writeln!(text, "refused report {row} {code}")?;
-    Ok(text)
+    format!(in alloc; "refused report {row} {code}\n")
 }
 
 /// The line that refuses the text of a run at one of its lines.
@@ -281,9 +182,7 @@ fn run_refusal(alloc: Global, row: u64, code: RunCode) -> Result<String, AllocEr
     ensures { IfOk result (λ text. string_bytes text ≡
         line (refusal_text (own.Run row (run_refusal_by code)))) }
 {
-    let mut text = String::new(alloc);
-    writeln!(text, "refused run {row} {code}")?;
-    Ok(text)
+    format!(in alloc; "refused run {row} {code}\n")
 }
 
 /// The text of a refusal, one line.
@@ -307,11 +206,7 @@ fn closure_words(
     ensures { IfOk result (λ text.
         string_bytes text ≡ ruling_text (ruling.Closure solved unsolved resolvent)) }
 {
-    let mut text = String::new(alloc);
-    write!(text, "refused closure {solved}")?;
-    write!(text, " {unsolved}")?;
-    write!(text, " {resolvent}")?;
-    Ok(text)
+    format!(in alloc; "refused closure {solved} {unsolved} {resolvent}")
 }
 
 /// What is ruled of a certificate.
@@ -383,10 +278,7 @@ fn done_text(alloc: Global, steps: u64, firsts: &Firsts) -> Result<String, Alloc
     ensures { IfOk result (λ text. string_bytes text ≡ done_text steps firsts.now) }
 {
     let lines = firsts_text(alloc, firsts)?;
-    let mut text = String::new(alloc);
-    writeln!(text, "done {steps}")?;
-    write!(text, "{lines}")?;
-    Ok(text)
+    format!(in alloc; "done {steps}\n{lines}")
 }
 
 /// The text of a replay up to a step that is refused.
@@ -395,10 +287,7 @@ fn stuck_text(alloc: Global, number: u64, error: StepError) -> Result<String, Al
         replay_text (own.Stuck number (errors.refusal_of error))) }
 {
     let code = StepCode(error);
-    let mut text = String::new(alloc);
-    write!(text, "stuck {number}")?;
-    writeln!(text, " {code}")?;
-    Ok(text)
+    format!(in alloc; "stuck {number} {code}\n")
 }
 
 /// The text of a replay.
@@ -434,18 +323,14 @@ fn point_line(alloc: Global, point: u32) -> Result<String, AllocError>
     ensures { IfOk result (λ text. string_bytes text ≡
         line (codes "size point " ++ decimal point)) }
 {
-    let mut text = String::new(alloc);
-    writeln!(text, "size point {point}")?;
-    Ok(text)
+    format!(in alloc; "size point {point}\n")
 }
 
 /// The line that tells that there is no such query.
 fn query_line(alloc: Global, query: u64) -> Result<String, AllocError>
     ensures { IfOk result (λ text. string_bytes text ≡ line (codes "no query " ++ decimal query)) }
 {
-    let mut text = String::new(alloc);
-    writeln!(text, "no query {query}")?;
-    Ok(text)
+    format!(in alloc; "no query {query}\n")
 }
 
 /// The verdicts' text, where there is a protocol in whose words to write it.

@@ -3,7 +3,7 @@ use Rattle.std.proofs.Common.{List, [], ◌∷◌, ◌++◌}
 use Rattle.terms.specs.Term.{Term}
 use Rattle.clauses.specs.Fact.{Clause}
 use Rattle.term_tree.specs.declared.bank.Id.{Id}
-use Rattle.clause_saturate.specs.Fit.{IsFit, AreFit}
+use Rattle.clause_form.specs.Fit.{IsFit, AreFit}
 
 pub AreFit-push : (all : List Term) (cs : List (Clause Id)) (c : Clause Id) → AreFit all cs → IsFit all c → AreFit all (cs ++ c ∷ [])
 AreFit-push all [] c fit last = (last, tt)

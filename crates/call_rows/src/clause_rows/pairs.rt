@@ -3,7 +3,7 @@
 ghost use Rattle.std.specs.Prelude.{◌≡◌, true};
 ghost use Rattle.clauses.specs.Limits.{IsWithinLimit};
 ghost use Rattle.clause_form.specs.Seen.{clause_at, IsClauseIn, AreClausesIn};
-ghost use Rattle.call_rows.specs.Fit.{IsFit};
+ghost use Rattle.clause_form.specs.Fit.{IsFit};
 
 use crate::clause_rows::tables::texts_of;
 use clause_form::{Clause, is_normal, size_of};

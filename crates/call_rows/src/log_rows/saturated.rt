@@ -4,7 +4,7 @@ ghost use Rattle.std.specs.Prelude.{◌<◌, ◌≡◌, true, length, OnOk, IfOk
 ghost use Rattle.term_tree.specs.Bank.{Grows};
 ghost use Rattle.clauses.specs.Limits.{IsWithinLimit};
 ghost use Rattle.clause_form.specs.Seen.{clause_at, IsClauseIn, AreClausesIn};
-ghost use Rattle.clause_saturate.specs.Fit.{IsFit, AreFit};
+ghost use Rattle.clause_form.specs.Fit.{IsFit, AreFit};
 ghost use Rattle.clause_saturate.specs.Beating.{clauses_of};
 
 use crate::log_rows::texts::{add_due, add_entries, add_large};

@@ -1,4 +1,3 @@
-use Rattle.certificates.specs.Example.{kept_key, encrypting, eight_rows}
 use Rattle.certificates.proofs.Encrypting.{encrypting_proper, encrypting_accepted, encrypting_shown, encrypting_tells}
 use Rattle.certificates.proofs.a_key_is_certified.Goals as goal
 
@@ -10,9 +9,6 @@ returns-clause-accepted c = encrypting_accepted
 
 pub returns-clause-shown : goal.returns-clause-shown
 returns-clause-shown c = encrypting_shown
-
-pub returns-clause-holds : goal.returns-clause-holds
-returns-clause-holds c = c.accepted_queries_hold.ensures encrypting kept_key eight_rows encrypting_proper encrypting_accepted
 
 pub returns-clause-told : goal.returns-clause-told
 returns-clause-told c = encrypting_tells

@@ -3,7 +3,7 @@ use Rattle.calculus.specs.Syntax.{Term as Message, EventTerm, Query, Secret, Sec
 use Rattle.calculus.specs.Secrecy.{Holds}
 use Rattle.terms.specs.Term.{Term}
 use Rattle.clauses.specs.Fact.{Clause}
-use Rattle.soundness.specs.Shown.{IsProper, IsShown}
+use Rattle.certificates.specs.Shown.{IsProper, IsShown}
 use Rattle.soundness.proofs.queries_hold.Goals as goal
 
 -- a query is of one of three kinds

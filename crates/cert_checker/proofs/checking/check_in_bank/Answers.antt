@@ -4,7 +4,7 @@ use Rattle.clauses.specs.Fact.{Clause}
 use Rattle.certificates.specs.Certificate.{Certificate}
 use Rattle.term_tree.specs.declared.bank.Id.{Id}
 use Rattle.pi_tree.specs.Protocols.{protocol_of}
-use Rattle.cert_checker.specs.Answers.{AreFit}
+use Rattle.clause_form.specs.Fit.{AreFit}
 use Rattle.cert_checker.specs.Shaping.{AreShaped}
 use Rattle.cert_checker.proofs.Reaching.{shapes_fit, shapes_rule}
 use Rattle.cert_checker.proofs.checking.check_in_bank.Goals as goal

@@ -7,8 +7,8 @@ use Rattle.query_derive.specs.GoalRows.{OfQuery}
 use Rattle.query_derive.proofs.Searching.{if_ok_map}
 use Rattle.cert_checker.specs.Reached.{HasShapes, IsTranslatedTo}
 use Rattle.cert_checker.specs.Rulings.{ruling_of}
-use Rattle.cert_checker.specs.Answers.{AreFit, clauses_at}
-use Rattle.cert_checker.proofs.Fitting.{AreFit-grow, clauses_grow}
+use Rattle.clause_form.specs.Fit.{AreFit, clauses_at}
+use Rattle.clause_form.proofs.Fit.{AreFit-grow, clauses_grow}
 use Rattle.cert_checker.proofs.Reaching.{given_fit, given_reached, large_rules}
 use Rattle.cert_checker.proofs.checking.check_shaped.Goals as goal
 

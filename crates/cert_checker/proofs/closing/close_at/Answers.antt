@@ -1,15 +1,18 @@
-use Rattle.std.proofs.Common.{◌≡◌, List, get_or, sym, subst, rules}
+use Rattle.std.proofs.Common.{◌≡◌, List, get_or, sym, subst, rules, arith}
 use Rattle.clauses.specs.Fact.{Clause}
 use Rattle.certificates.specs.Certificate.{CoverRowHolds, numbered_from}
 use Rattle.term_tree.specs.declared.bank.Id.{Id}
 use Rattle.clause_form.specs.Seen.{clause_at}
-use Rattle.clause_resolve.specs.Answers.{IsAnswerOf}
+use Rattle.clause_resolve.specs.Answers.{IsAnswerOf, LeavesBank}
 use Rattle.clause_resolve.specs.declared.resolving.Resolved.{Resolved}
-use Rattle.cert_checker.specs.Answers.{AreFit, clauses_at, numbered_at, pair_at, IsShownSo, IsClosedSo}
+use Rattle.clause_form.specs.Fit.{AreFit, clauses_at}
+use Rattle.cert_checker.specs.Answers.{numbered_at, pair_at, IsShownSo, IsClosedSo}
 use Rattle.cert_checker.specs.declared.ruling.Closed as closed
-use Rattle.cert_checker.proofs.Fitting.{AreFit-grow, clauses_grow, fit_in}
+use Rattle.clause_form.proofs.Fit.{AreFit-grow, clauses_grow, fit_in}
 use Rattle.cert_checker.proofs.Pairing.{fit_low}
 use Rattle.cert_checker.proofs.Passing.{selected_at, made_fit, pair_apart, pair_large, pair_shown}
+use Rattle.term_tree.proofs.BankLaws.{Grows-length}
+use Rattle.clause_resolve.proofs.Answering.{as_before}
 use Rattle.cert_checker.proofs.closing.close_at.Goals as goal
 
 pub resolvents-requires-clause-solved : goal.resolvents-requires-clause-solved
@@ -68,3 +71,15 @@ returns-in_ok-shown-in-Clauses-clause-closed g c =
     subst (λ (o : closed.Closed). IsClosedSo (clauses_at all cs) (pair_at (numbered_at all cs) c.args.pair.solved c.args.pair.unsolved) rows c.args.from o) (sym c.closed_where.ensures)
     (pair_shown all cs rows c.args.from c.args.pair.solved c.args.pair.unsolved c.index-checker-pair.result c.index-checker-pair-2.result c.requires.solved c.requires.unsolved
     new c.in-Clauses.made c.in_ok-shown-in-Clauses.shown (clauses_grow all new cs c.resolvents.ensures.grows c.requires.fit) answer shown)
+
+pub back-requires : goal.back-requires
+back-requires g c = omega (arith, c.mark-mark.ensures, Grows-length (g.B.Bank.trees c.args.bank.now) (g.B.Bank.trees c.resolvents.new.bank) c.resolvents.ensures.grows)
+
+pub returns-in_ok-shown-in-Clauses-clause-bank : goal.returns-in_ok-shown-in-Clauses-clause-bank
+returns-in_ok-shown-in-Clauses-clause-bank g c = as_before (g.B.Bank.trees c.args.bank.now) (g.B.Bank.trees c.resolvents.new.bank) (g.B.Bank.trees c.back.new.self) _ c.resolvents.ensures.grows c.mark-mark.ensures c.back.ensures
+
+pub returns-in-NoUnifier-clause-bank : goal.returns-in-NoUnifier-clause-bank
+returns-in-NoUnifier-clause-bank g c = subst (λ (found : Resolved). LeavesBank (g.B.Bank.trees c.args.bank.now) (g.B.Bank.trees c.resolvents.new.bank) found) c.in-NoUnifier.is c.in_ok-resolvents.ensures.as_before
+
+pub returns-in-Large-clause-bank : goal.returns-in-Large-clause-bank
+returns-in-Large-clause-bank g c = subst (λ (found : Resolved). LeavesBank (g.B.Bank.trees c.args.bank.now) (g.B.Bank.trees c.resolvents.new.bank) found) c.in-Large.is c.in_ok-resolvents.ensures.as_before

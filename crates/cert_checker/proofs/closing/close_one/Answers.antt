@@ -1,8 +1,9 @@
 use Rattle.std.proofs.Common.{◌∙◌, List, sym, subst}
 use Rattle.std.specs.Prelude.{IfOk}
 use Rattle.certificates.specs.Certificate.{Pair}
-use Rattle.cert_checker.specs.Answers.{clauses_at, IsClosedSo}
-use Rattle.cert_checker.proofs.Fitting.{fit_in}
+use Rattle.clause_form.specs.Fit.{clauses_at}
+use Rattle.cert_checker.specs.Answers.{IsClosedSo}
+use Rattle.clause_form.proofs.Fit.{fit_in}
 use Rattle.cert_checker.proofs.Passing.{passed_none, solved_pairs}
 use Rattle.cert_checker.proofs.closing.close_one.Goals as goal
 

@@ -1,6 +1,7 @@
 use Rattle.std.proofs.Common.{get_or}
 use Rattle.clause_form.specs.Seen.{clause_at}
-use Rattle.cert_checker.proofs.Fitting.{fit_in, fit_size}
+use Rattle.clause_form.proofs.Fit.{fit_in}
+use Rattle.cert_checker.proofs.Fitting.{fit_size}
 use Rattle.cert_checker.proofs.Passing.{selected_as, none_selected, pair_not_due}
 use Rattle.cert_checker.proofs.closing.close_pair.Goals as goal
 

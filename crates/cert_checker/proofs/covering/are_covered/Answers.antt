@@ -3,9 +3,10 @@ use Rattle.std.proofs.lemmas.Bool.{false≢true}
 use Rattle.std.proofs.lemmas.List.{length-map}
 use Rattle.certificates.specs.Certificate.{CoverRowHolds, numbered_from}
 use Rattle.clause_form.specs.Seen.{clause_at}
-use Rattle.cert_checker.specs.Answers.{clauses_at}
+use Rattle.clause_form.specs.Fit.{clauses_at}
 use Rattle.cert_checker.proofs.Walking.{with_number, clause_next, none_ahead, walk_begins, walk_goes_on, walk_fails, walk_ends}
-use Rattle.cert_checker.proofs.Fitting.{clause_fit_at, clause_at_index}
+use Rattle.clause_form.proofs.Fit.{clause_fit_at}
+use Rattle.cert_checker.proofs.Fitting.{clause_at_index}
 use Rattle.cert_checker.proofs.covering.are_covered.Goals as goal
 
 pub next_covers-requires-clause-known : goal.next_covers-requires-clause-known

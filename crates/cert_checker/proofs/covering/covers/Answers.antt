@@ -2,7 +2,7 @@ use Rattle.std.proofs.Common.{◌↔◌, List, ℕ, sym, subst}
 use Rattle.std.specs.Prelude.{IsTrue, IfOk}
 use Rattle.certificates.specs.Certificate.{CoverRowHolds}
 use Rattle.clause_form.specs.Seen.{clause_at}
-use Rattle.cert_checker.specs.Answers.{clauses_at}
+use Rattle.clause_form.specs.Fit.{clauses_at}
 use Rattle.cert_checker.proofs.covering.covers.Goals as goal
 
 pub returns-in-Some : goal.returns-in-Some

@@ -4,9 +4,9 @@ use Rattle.clauses.specs.Subsumption.{RowHolds}
 use Rattle.certificates.specs.Certificate.{CoverRowHolds}
 use Rattle.clause_form.specs.Seen.{clause_at}
 use Rattle.query_derive.proofs.Searching.{if_ok_map}
-use Rattle.cert_checker.specs.Answers.{clauses_at}
+use Rattle.clause_form.specs.Fit.{clauses_at}
 use Rattle.cert_checker.proofs.CoverRows.{none_past, by_number}
-use Rattle.cert_checker.proofs.Fitting.{clause_fit_at}
+use Rattle.clause_form.proofs.Fit.{clause_fit_at}
 use Rattle.cert_checker.proofs.Nexts.{never_told}
 use Rattle.cert_checker.proofs.covering.covers_at.Goals as goal
 

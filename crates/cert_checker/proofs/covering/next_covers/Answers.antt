@@ -4,7 +4,7 @@ use Rattle.std.proofs.lemmas.Option.{slice_get-map, slice_get_read}
 use Rattle.certificates.specs.Certificate.{CoverRowHolds}
 use Rattle.clause_form.specs.Seen.{clause_at}
 use Rattle.query_derive.proofs.Searching.{if_ok_map}
-use Rattle.cert_checker.specs.Answers.{clauses_at}
+use Rattle.clause_form.specs.Fit.{clauses_at}
 use Rattle.cert_checker.specs.Stages.{NextShows}
 use Rattle.cert_checker.proofs.Nexts.{next_at}
 use Rattle.cert_checker.proofs.covering.next_covers.Goals as goal

@@ -4,7 +4,7 @@ use Rattle.pi_tree.specs.Protocols.{protocol_of}
 use Rattle.query_derive.specs.GoalRows.{OfQuery}
 use Rattle.query_derive.proofs.Searching.{if_ok_map}
 use Rattle.certificates.specs.Ruling.{IsRuled}
-use Rattle.cert_checker.specs.Answers.{AreFit, clauses_at}
+use Rattle.clause_form.specs.Fit.{AreFit, clauses_at}
 use Rattle.cert_checker.specs.Reached.{HasCovered, HasClosed}
 use Rattle.cert_checker.specs.Rulings.{ruling_of}
 use Rattle.cert_checker.proofs.Reaching.{pairs_reached, pairs_rule}

@@ -8,9 +8,11 @@ use Rattle.certificates.specs.Certificate.{Numbered, GoalHolds}
 use Rattle.certificates.specs.Ruling.{bad_ones}
 use Rattle.pi_tree.specs.Protocols.{protocol_of}
 use Rattle.clause_form.specs.Seen.{clause_at}
-use Rattle.cert_checker.specs.Answers.{clauses_at, numbered_at}
+use Rattle.clause_form.specs.Fit.{clauses_at}
+use Rattle.cert_checker.specs.Answers.{numbered_at}
 use Rattle.cert_checker.proofs.Walking.{IsWalked, with_number, clause_next, none_ahead, walk_goes_on, walk_fails, walk_ends, sought_ahead, passed_over}
-use Rattle.cert_checker.proofs.Fitting.{clause_fit_at, clause_at_index}
+use Rattle.clause_form.proofs.Fit.{clause_fit_at}
+use Rattle.cert_checker.proofs.Fitting.{clause_at_index}
 use Rattle.cert_checker.proofs.satisfying.are_satisfied.Goals as goal
 use Rattle.cert_checker.proofs.satisfying.are_satisfied.Goals.{then-needs_row+in_ok-next_satisfies+else-not-branch, else-needs_row}
 

@@ -1,6 +1,7 @@
 use Rattle.std.proofs.Common.{◌≡◌, ◌∙◌, ◌<◌, ◌≤◌, length, get_or, ap, sym, rules, arith}
 use Rattle.std.proofs.lemmas.Bool.{false≢true}
 use Rattle.cert_checker.proofs.Looking.{looked_on, looking_fails, looking_ends}
+use Rattle.term_tree.proofs.BankLaws.{Grows_trans}
 use Rattle.cert_checker.proofs.shaping.look_at_shapes.Goals as goal
 
 pub each-preserved : goal.each-preserved
@@ -28,3 +29,12 @@ returns-clause-shaped g c =
     let are : c.deref-plain-items.result.now ≡ plain = search rules in
     let past : length plain ≤ c.each.k = omega (arith, c.each-test.false, ap length are) in
     looking_ends (g.B.Bank.trees c.args.bank.now) (g.B.Bank.trees c.each.bank) c.each.made.items c.args.arguments plain c.each.k past c.each.invariant
+
+pub returns-in_err-clause-clause-grows : goal.returns-in_err-clause-clause-grows
+returns-in_err-clause-clause-grows g c = Grows_trans (g.B.Bank.trees c.args.bank.now) (g.B.Bank.trees c.each.bank) (g.B.Bank.trees c.copy_into.new.bank) c.each.invariant.grows c.copy_into.ensures.grows
+
+pub returns-then-not-is_shaped-clause-grows : goal.returns-then-not-is_shaped-clause-grows
+returns-then-not-is_shaped-clause-grows g c = Grows_trans (g.B.Bank.trees c.args.bank.now) (g.B.Bank.trees c.each.bank) (g.B.Bank.trees c.copy_into.new.bank) c.each.invariant.grows c.copy_into.ensures.grows
+
+pub returns-in_err-push-clause-grows : goal.returns-in_err-push-clause-grows
+returns-in_err-push-clause-grows g c = Grows_trans (g.B.Bank.trees c.args.bank.now) (g.B.Bank.trees c.each.bank) (g.B.Bank.trees c.copy_into.new.bank) c.each.invariant.grows c.copy_into.ensures.grows

@@ -4,9 +4,9 @@ use Rattle.saturation.specs.Live.{MustBeCovered}
 use Rattle.verdicts.proofs.Accepting.{proved_accepted}
 use Rattle.pi_tree.specs.Protocols.{protocol_of}
 use Rattle.term_tree.specs.declared.bank.Id.{Id}
-use Rattle.clause_saturate.specs.Fit.{AreFit}
+use Rattle.clause_form.specs.Fit.{AreFit, clauses_at}
 use Rattle.cert_writer.specs.Living.{live_ids}
-use Rattle.cert_writer.specs.Adding.{clauses_at, MustClose}
+use Rattle.cert_writer.specs.Adding.{MustClose}
 use Rattle.cert_writer.specs.Goals.{AreGoalsOf}
 use Rattle.cert_writer.specs.Certifying.{IsWritten}
 use Rattle.cert_writer.specs.declared.satisfying.Goals.{Goals}

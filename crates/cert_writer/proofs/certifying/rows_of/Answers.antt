@@ -1,5 +1,6 @@
-use Rattle.std.proofs.Common.{◌≡◌, ℕ, List, map, Vec, Global, ap, subst}
-use Rattle.cert_writer.specs.Adding.{clauses_at, AddsRows}
+use Rattle.std.proofs.Common.{ℕ, List, map, Vec, Global, ap, subst}
+use Rattle.clause_form.specs.Fit.{clauses_at}
+use Rattle.cert_writer.specs.Adding.{AddsRows}
 use Rattle.cert_writer.proofs.Adding.{all_rows}
 use Rattle.cert_writer.proofs.certifying.rows_of.Goals as goal
 

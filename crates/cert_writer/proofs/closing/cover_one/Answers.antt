@@ -4,7 +4,8 @@ use Rattle.clauses.specs.Selection.{is_solved}
 use Rattle.clauses.proofs.Selection.{select-none}
 use Rattle.certificates.specs.Certificate.{numbered_from}
 use Rattle.clause_form.specs.Seen.{clause_at}
-use Rattle.cert_writer.specs.Adding.{clauses_at, AddsPairs, pairs_of_one, pairs_if_solved}
+use Rattle.clause_form.specs.Fit.{clauses_at}
+use Rattle.cert_writer.specs.Adding.{AddsPairs, pairs_of_one, pairs_if_solved}
 use Rattle.cert_writer.proofs.Adding.{unless_solved, if_solved}
 use Rattle.cert_writer.proofs.closing.cover_one.Goals as goal
 

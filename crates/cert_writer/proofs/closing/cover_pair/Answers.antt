@@ -1,16 +1,18 @@
-use Rattle.std.proofs.Common.{◌≡◌, ◌∙◌, ℕ, List, take, ap, sym, subst}
+use Rattle.std.proofs.Common.{◌≡◌, ◌∙◌, ℕ, List, take, ap, sym, subst, arith}
 use Rattle.std.proofs.lemmas.Result.{IfOk-weaker}
 use Rattle.terms.specs.Term.{Term}
 use Rattle.clauses.specs.Fact.{Clause}
 use Rattle.clauses.specs.Inclusion.{Has}
 use Rattle.saturation.specs.Live.{MustBeCovered}
 use Rattle.term_tree.specs.declared.bank.Id.{Id}
-use Rattle.term_tree.proofs.BankLaws.{take-grows}
+use Rattle.term_tree.proofs.BankLaws.{take-grows, Grows-length}
 use Rattle.clause_form.specs.Seen.{clause_at}
-use Rattle.clause_saturate.specs.Fit.{AreFit}
+use Rattle.clause_form.specs.Fit.{AreFit, clauses_at}
 use Rattle.clause_saturate.proofs.Fitting.{fit_low}
-use Rattle.cert_writer.specs.Adding.{clauses_at, AddsRows, AddsPairs, pairs_of_two}
+use Rattle.cert_writer.specs.Adding.{AddsRows, AddsPairs, pairs_of_two}
 use Rattle.cert_writer.proofs.Pairing.{found_apart, found_large, made_fit, made_covered, made_added}
+use Rattle.clause_resolve.specs.Answers.{LeavesBank}
+use Rattle.clause_resolve.specs.declared.resolving.Resolved.{Resolved}
 use Rattle.cert_writer.proofs.closing.cover_pair.Goals as goal
 
 pub resolvents-requires-clause-solved_low : goal.resolvents-requires-clause-solved_low
@@ -73,3 +75,19 @@ returns-in-Clauses-clause-bank g c =
     let all = g.B.Bank.trees c.args.bank.now in
     let now = g.B.Bank.trees c.resolvents.new.bank in
     c.cover_made.ensures.bank ∙ (ap (λ n. take n now) c.mark-mark.ensures ∙ take-grows all now c.resolvents.ensures.grows)
+
+pub cover_made-requires-clause-mark : goal.cover_made-requires-clause-mark
+cover_made-requires-clause-mark g c = omega (arith, c.mark-mark.ensures, Grows-length (g.B.Bank.trees c.args.bank.now) (g.B.Bank.trees c.resolvents.new.bank) c.resolvents.ensures.grows)
+
+pub cover_made-requires-clause-fit : goal.cover_made-requires-clause-fit
+cover_made-requires-clause-fit g c =
+    let all = g.B.Bank.trees c.args.bank.now in
+    let now = g.B.Bank.trees c.resolvents.new.bank in
+    let back : take c.mark-mark.result.len now ≡ all = ap (λ n. take n now) c.mark-mark.ensures ∙ take-grows all now c.resolvents.ensures.grows in
+    subst (λ (before : List Term). AreFit before c.args.writer.now.live.now) (sym back) c.requires.fit
+
+pub returns-in-NoUnifier-clause-bank : goal.returns-in-NoUnifier-clause-bank
+returns-in-NoUnifier-clause-bank g c = subst (λ (found : Resolved). LeavesBank (g.B.Bank.trees c.args.bank.now) (g.B.Bank.trees c.resolvents.new.bank) found) c.in-NoUnifier.is c.in_ok-resolvents-in-Some.ensures.as_before
+
+pub returns-in-Large-clause-bank : goal.returns-in-Large-clause-bank
+returns-in-Large-clause-bank g c = subst (λ (found : Resolved). LeavesBank (g.B.Bank.trees c.args.bank.now) (g.B.Bank.trees c.resolvents.new.bank) found) c.in-Large.is c.in_ok-resolvents-in-Some.ensures.as_before

@@ -1,12 +1,12 @@
-use Rattle.std.proofs.Common.{◌≡◌, ◌∙◌, ◌+◌, ℕ, List, take, sym, subst}
+use Rattle.std.proofs.Common.{◌∙◌, ℕ, List, sym, subst}
 use Rattle.terms.specs.Term.{Term}
 use Rattle.clauses.specs.Inclusion.{Has}
 use Rattle.certificates.specs.Certificate.{Numbered, numbered_from, pairs_of}
 use Rattle.verdicts.proofs.Building.{take_past}
 use Rattle.clause_form.specs.Seen.{clause_at}
-use Rattle.clause_saturate.specs.Fit.{IsFit}
-use Rattle.clause_saturate.proofs.Fitting.{clause_fit_at}
-use Rattle.cert_writer.specs.Adding.{clauses_at, AddsPairs, pairs_if_solved}
+use Rattle.clause_form.specs.Fit.{IsFit, AreFit, clauses_at}
+use Rattle.clause_form.proofs.Fit.{clause_fit_at}
+use Rattle.cert_writer.specs.Adding.{AddsPairs, pairs_if_solved, MustClose}
 use Rattle.cert_writer.proofs.Items.{item_at, item_has, numbers_past}
 use Rattle.cert_writer.proofs.Adding.{all_next}
 use Rattle.cert_writer.proofs.closing.cover_pairs.Goals as goal
@@ -41,3 +41,12 @@ returns-clause-rows g c =
     let clauses = clauses_at all c.args.writer.now.live.now in
     subst (λ (ns : List Numbered). AddsPairs clauses (pairs_of ns (numbered_from 1 clauses)) c.args.rows.now c.each.rows)
     (take_past (numbered_from 1 clauses) c.each.solved-index (numbers_past all c.args.writer.now.live.now c.each.solved-index c.each-test.false)) c.each.invariant.rows
+
+pub returns-in_err-cover_one-clause-bank : goal.returns-in_err-cover_one-clause-bank
+returns-in_err-cover_one-clause-bank g c = c.cover_one.ensures.bank ∙ c.each.invariant.bank
+
+pub cover_one-requires-clause-fit : goal.cover_one-requires-clause-fit
+cover_one-requires-clause-fit g c = subst (λ (all : List Term). AreFit all c.args.writer.now.live.now) (sym c.each.invariant.bank) c.requires.fit
+
+pub cover_one-requires-clause-closed : goal.cover_one-requires-clause-closed
+cover_one-requires-clause-closed g c = subst (λ (all : List Term). MustClose (clauses_at all c.args.writer.now.live.now)) (sym c.each.invariant.bank) c.requires.closed

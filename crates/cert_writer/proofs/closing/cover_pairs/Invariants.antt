@@ -1,6 +1,7 @@
 use Rattle.std.proofs.Common.{◌≡◌, take}
 use Rattle.certificates.specs.Certificate.{numbered_from, pairs_of}
-use Rattle.cert_writer.specs.Adding.{clauses_at, AddsPairs}
+use Rattle.clause_form.specs.Fit.{clauses_at}
+use Rattle.cert_writer.specs.Adding.{AddsPairs}
 use Rattle.cert_writer.proofs.closing.cover_pairs.Given as goal
 
 abbrev pub invariant-each : goal.invariant-each

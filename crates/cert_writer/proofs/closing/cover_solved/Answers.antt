@@ -1,14 +1,15 @@
-use Rattle.std.proofs.Common.{◌≡◌, ◌∙◌, ◌+◌, ℕ, List, take, sym, subst}
+use Rattle.std.proofs.Common.{◌≡◌, ◌∙◌, ℕ, List, sym, subst, true}
 use Rattle.terms.specs.Term.{Term}
 use Rattle.clauses.specs.Inclusion.{Has}
 use Rattle.certificates.specs.Certificate.{Numbered, numbered_from}
 use Rattle.verdicts.proofs.Building.{take_past}
 use Rattle.clause_form.specs.Seen.{clause_at}
-use Rattle.clause_saturate.specs.Fit.{IsFit}
-use Rattle.clause_saturate.proofs.Fitting.{clause_fit_at}
-use Rattle.cert_writer.specs.Adding.{clauses_at, AddsPairs, pairs_of_two, pairs_of_one}
+use Rattle.clause_form.specs.Fit.{IsFit, AreFit, clauses_at}
+use Rattle.clause_form.proofs.Fit.{clause_fit_at}
+use Rattle.cert_writer.specs.Adding.{AddsPairs, pairs_of_two, pairs_of_one, MustClose}
 use Rattle.cert_writer.proofs.Items.{item_at, item_has, numbers_past}
 use Rattle.cert_writer.proofs.Adding.{one_next}
+use Rattle.clauses.specs.Selection.{is_solved}
 use Rattle.cert_writer.proofs.closing.cover_solved.Goals as goal
 
 pub cover_pair-requires-clause-solved_fit : goal.cover_pair-requires-clause-solved_fit
@@ -45,3 +46,20 @@ returns-clause-rows g c =
     let clauses = clauses_at all c.args.writer.now.live.now in
     λ i. subst (λ (ns : List Numbered). AddsPairs clauses (pairs_of_one i (clause_at all c.args.solved.now) ns) c.args.rows.now c.each.rows)
     (take_past (numbered_from 1 clauses) c.each.unsolved-index (numbers_past all c.args.writer.now.live.now c.each.unsolved-index c.each-test.false)) (c.each.invariant.rows i)
+
+pub returns-in_err-cover_pair-clause-bank : goal.returns-in_err-cover_pair-clause-bank
+returns-in_err-cover_pair-clause-bank g c = c.cover_pair.ensures.bank ∙ c.each.invariant.bank
+
+pub cover_pair-requires-clause-fit : goal.cover_pair-requires-clause-fit
+cover_pair-requires-clause-fit g c = subst (λ (all : List Term). AreFit all c.args.writer.now.live.now) (sym c.each.invariant.bank) c.requires.fit
+
+pub cover_pair-requires-clause-solved_live : goal.cover_pair-requires-clause-solved_live
+cover_pair-requires-clause-solved_live g c =
+    subst (λ (all : List Term). Has (clauses_at all c.args.writer.now.live.now) (clause_at all c.args.solved.now)) (sym c.each.invariant.bank) c.requires.solved_live
+
+pub cover_pair-requires-clause-is_solved : goal.cover_pair-requires-clause-is_solved
+cover_pair-requires-clause-is_solved g c =
+    subst (λ (all : List Term). is_solved (clause_at all c.args.solved.now).hypotheses ≡ true) (sym c.each.invariant.bank) c.requires.is_solved
+
+pub cover_pair-requires-clause-closed : goal.cover_pair-requires-clause-closed
+cover_pair-requires-clause-closed g c = subst (λ (all : List Term). MustClose (clauses_at all c.args.writer.now.live.now)) (sym c.each.invariant.bank) c.requires.closed

@@ -1,7 +1,8 @@
 use Rattle.std.proofs.Common.{◌≡◌, ℕ, take}
 use Rattle.certificates.specs.Certificate.{numbered_from}
 use Rattle.clause_form.specs.Seen.{clause_at}
-use Rattle.cert_writer.specs.Adding.{clauses_at, AddsPairs, pairs_of_one}
+use Rattle.clause_form.specs.Fit.{clauses_at}
+use Rattle.cert_writer.specs.Adding.{AddsPairs, pairs_of_one}
 use Rattle.cert_writer.proofs.closing.cover_solved.Given as goal
 
 abbrev pub invariant-each : goal.invariant-each

@@ -1,8 +1,9 @@
 use Rattle.std.proofs.Common.{◌≡◌, ◌∙◌, ℕ, List, [], ◌∷◌, ◌++◌, map, Vec, Global, ap, sym, subst}
 use Rattle.std.proofs.lemmas.List.{map-append}
 use Rattle.clause_form.specs.Seen.{clause_at}
-use Rattle.clause_saturate.proofs.Fitting.{clause_fit_at}
-use Rattle.cert_writer.specs.Adding.{clauses_at, AddsRows}
+use Rattle.clause_form.proofs.Fit.{clause_fit_at}
+use Rattle.clause_form.specs.Fit.{clauses_at}
+use Rattle.cert_writer.specs.Adding.{AddsRows}
 use Rattle.cert_writer.proofs.Items.{item_at, item_has, items_past}
 use Rattle.cert_writer.proofs.Adding.{adds_none, adds_next, adds_all}
 use Rattle.cert_writer.proofs.covering.cover_all.Goals as goal

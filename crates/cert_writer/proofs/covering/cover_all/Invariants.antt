@@ -1,5 +1,6 @@
 use Rattle.std.proofs.Common.{ℕ, map, take, Vec, Global}
-use Rattle.cert_writer.specs.Adding.{clauses_at, AddsRows}
+use Rattle.clause_form.specs.Fit.{clauses_at}
+use Rattle.cert_writer.specs.Adding.{AddsRows}
 use Rattle.cert_writer.proofs.covering.cover_all.Given as goal
 
 abbrev pub invariant-each : goal.invariant-each

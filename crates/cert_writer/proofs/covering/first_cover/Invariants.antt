@@ -1,6 +1,6 @@
 use Rattle.clause_form.specs.Seen.{clause_at}
 use Rattle.verdicts.proofs.Finding.{NoneBefore}
-use Rattle.cert_writer.specs.Adding.{clauses_at}
+use Rattle.clause_form.specs.Fit.{clauses_at}
 use Rattle.cert_writer.proofs.covering.first_cover.Given as goal
 
 abbrev pub invariant-each : goal.invariant-each

@@ -2,7 +2,7 @@ use Rattle.std.proofs.Common.{◌≡◌, ◌∙◌, ◌+◌, Some, List, refl, s
 use Rattle.std.specs.Prelude.{slice_get, MatchBool}
 use Rattle.pi_tree.specs.Protocols.{protocol_of}
 use Rattle.clause_saturate.specs.declared.log.Entry.{Entry}
-use Rattle.clause_saturate.specs.Fit.{AreFit}
+use Rattle.clause_form.specs.Fit.{AreFit}
 use Rattle.clause_saturate.specs.Beating.{clauses_of}
 use Rattle.clause_saturate.proofs.Found.{get_at}
 use Rattle.clause_saturate.proofs.Marking.{fit_at}

@@ -1,5 +1,7 @@
+use Rattle.std.proofs.Common.{arith}
+use Rattle.std.proofs.lemmas.Grind.{common_steps}
 use Rattle.clause_form.proofs.Copying.{copied_on}
-use Rattle.term_tree.proofs.BankLaws.{Grows_trans}
+use Rattle.term_tree.proofs.BankLaws.{Grows_trans, Grows_refl}
 use Rattle.clause_form.proofs.copies.+copy_term.Goals as goal
 
 pub each-preserved : goal.each-preserved
@@ -15,3 +17,9 @@ returns-in_err-push-in-App-clause-grows g t c = Grows_trans (g.B.Bank.trees c.ar
 
 pub returns-after-each-clause-grows : goal.returns-after-each-clause-grows
 returns-after-each-clause-grows g t c = Grows_trans (g.B.Bank.trees c.args.bank.now) (g.B.Bank.trees c.each.bank) (g.B.Bank.trees c.app.new.self) c.each.invariant.grows c.app.ensures.grows
+
+pub returns-in_err-ids-in-App-clause-grows : goal.returns-in_err-ids-in-App-clause-grows
+returns-in_err-ids-in-App-clause-grows g t c = Grows_refl (g.B.Bank.trees c.args.bank.now)
+
+pub returns-after-each-clause-names : goal.returns-after-each-clause-names
+returns-after-each-clause-names g t c = grind (arith, common_steps)

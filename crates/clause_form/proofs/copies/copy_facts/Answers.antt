@@ -1,3 +1,5 @@
+use Rattle.std.proofs.Common.{arith}
+use Rattle.std.proofs.lemmas.Grind.{common_steps}
 use Rattle.clause_form.proofs.Copying.{facts_copied_on}
 use Rattle.term_tree.proofs.BankLaws.{Grows_trans}
 use Rattle.clause_form.proofs.copies.copy_facts.Goals as goal
@@ -12,3 +14,9 @@ returns-in_err-fact-clause-grows g c = Grows_trans (g.B.Bank.trees c.args.bank.n
 
 pub returns-in_err-push-clause-grows : goal.returns-in_err-push-clause-grows
 returns-in_err-push-clause-grows g c = Grows_trans (g.B.Bank.trees c.args.bank.now) (g.B.Bank.trees c.loop-one.bank) (g.B.Bank.trees c.copy_fact.new.bank) c.loop-one.invariant.grows c.copy_fact.ensures.grows
+
+pub returns-clause-names : goal.returns-clause-names
+returns-clause-names g c = grind (arith, common_steps)
+
+pub returns-in_err-items-clause-grows : goal.returns-in_err-items-clause-grows
+returns-in_err-items-clause-grows g c = grind (arith, common_steps)

@@ -1,4 +1,5 @@
 use Rattle.std.proofs.Common.{◌∙◌, ◌++◌, ap, sym, map, arith, rules}
+use Rattle.std.proofs.lemmas.Grind.{common_steps}
 use Rattle.term_tree.specs.Bank.{symbol_of}
 use Rattle.clauses.specs.Fact.{Att}
 use Rattle.clause_form.specs.Seen.{fact_at}
@@ -24,3 +25,12 @@ returns-then-not-is_data_symbol-clause-known g t c = push_known (g.B.Bank.trees 
 
 pub returns-in_ok-push-in-Var-clause-known : goal.returns-in_ok-push-in-Var-clause-known
 returns-in_ok-push-in-Var-clause-known g t c = push_known (g.B.Bank.trees c.args.bank.now) c.args.facts.now _ (Att c.args.id) c.in_ok-push-in-Var.ensures.ok c.requires.facts (c.requires.term, tt)
+
+pub each-preserved : goal.each-preserved
+each-preserved g t c = grind (arith, common_steps)
+
+pub returns-then-not-is_data_symbol-clause-parts : goal.returns-then-not-is_data_symbol-clause-parts
+returns-then-not-is_data_symbol-clause-parts g t c = grind (arith, common_steps)
+
+pub returns-in_ok-push-in-Var-clause-parts : goal.returns-in_ok-push-in-Var-clause-parts
+returns-in_ok-push-in-Var-clause-parts g t c = grind (arith, common_steps)

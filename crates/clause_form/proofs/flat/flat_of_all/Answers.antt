@@ -1,4 +1,5 @@
-use Rattle.std.proofs.Common.{◌≡◌, ◌∙◌, List, map, ap, sym, subst}
+use Rattle.std.proofs.Common.{◌≡◌, ◌∙◌, List, map, ap, sym, subst, arith}
+use Rattle.std.proofs.lemmas.Grind.{common_steps}
 use Rattle.clauses.specs.Fact.{Fact}
 use Rattle.term_tree.specs.declared.bank.Id.{Id}
 use Rattle.clause_form.specs.Facts.{fact_of}
@@ -17,3 +18,6 @@ pub returns : goal.returns
 returns g c =
     let seen : map fact_of c.deref-fact-items.result.now ≡ c.args.facts.now = ap (map fact_of) c.deref-fact-items.ensures.value ∙ c.facts.view_is in
     all_flat (g.B.Bank.trees c.args.bank.now) c.deref-fact-items.result.now c.args.facts.now c.loop-fact.made c.loop-fact.fact-index seen c.loop-fact.invariant.known c.loop-fact.invariant.are c.loop-fact-test.false
+
+pub loop-fact-preserved : goal.loop-fact-preserved
+loop-fact-preserved g c = grind (arith, common_steps)

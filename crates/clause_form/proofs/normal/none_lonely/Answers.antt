@@ -1,6 +1,7 @@
-use Rattle.std.proofs.Common.{not, ap}
+use Rattle.std.proofs.Common.{not, ap, arith}
 use Rattle.std.specs.List.{list_all}
 use Rattle.std.proofs.lemmas.Simd.{map-map}
+use Rattle.std.proofs.lemmas.Grind.{common_steps}
 use Rattle.clauses.specs.Norm.{is_lonely}
 use Rattle.clause_form.specs.Facts.{fact_of}
 use Rattle.clause_form.specs.Seen.{fact_at}
@@ -12,3 +13,12 @@ loop-fact-init g c = ap (list_all (λ h. not (is_lonely c.args.numbers.now h))) 
 
 pub is_lonely-requires : goal.is_lonely-requires
 is_lonely-requires g c = fact_known_at (g.B.Bank.trees c.args.bank.now) c.args.facts.now c.loop-fact.fact-index c.fact-item.result c.fact-item.is c.requires c.loop-fact-test.true
+
+pub returns-then-is_lonely : goal.returns-then-is_lonely
+returns-then-is_lonely g c = grind (arith, common_steps)
+
+pub loop-fact-preserved : goal.loop-fact-preserved
+loop-fact-preserved g c = grind (arith, common_steps)
+
+pub returns : goal.returns
+returns g c = grind (arith, common_steps)

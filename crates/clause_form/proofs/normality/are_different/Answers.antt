@@ -1,5 +1,6 @@
-use Rattle.std.proofs.Common.{◌∙◌, ◌+◌, not, ◌&&◌, map, drop, ap, sym}
+use Rattle.std.proofs.Common.{◌∙◌, ◌+◌, not, ◌&&◌, map, drop, ap, sym, arith}
 use Rattle.std.proofs.lemmas.Simd.{map-map}
+use Rattle.std.proofs.lemmas.Grind.{common_steps}
 use Rattle.clause_form.specs.Facts.{fact_of}
 use Rattle.clause_form.specs.Seen.{fact_at}
 use Rattle.clause_form.specs.Normality.{are_different}
@@ -29,3 +30,6 @@ each-preserved g c =
     c.each.invariant
     ∙ (different_on all c.args.facts.now c.each.i c.index-facts-i.result c.is_among.result c.each-test.true c.index-facts-i.is c.is_among.ensures
     ∙ ap (λ b. not b && are_different (map (λ h. fact_at all (fact_of h)) (drop (c.each.i + 1) c.args.facts.now))) c.if-is_among.false)
+
+pub returns : goal.returns
+returns g c = grind (arith, common_steps)

@@ -1,4 +1,5 @@
 use Rattle.std.proofs.Common.{◌+◌, ◌-◌, ap, get_or, arith}
+use Rattle.std.proofs.lemmas.Grind.{common_steps}
 use Rattle.clause_form.proofs.Tables.{counts_on, counts_done, count_fits}
 use Rattle.clause_form.proofs.numbers.counts_of.Goals as goal
 
@@ -15,3 +16,6 @@ each-preserved c = record {
 
 pub returns : goal.returns
 returns c = counts_done c.args.numbers.now c.each.i c.each.counts c.each-test.false c.each.invariant.counted
+
+pub each-init : goal.each-init
+each-init c = grind (arith, common_steps)

@@ -1,5 +1,6 @@
 use Rattle.std.proofs.Common.{◌≡◌, ◌∙◌, ◌<◌, ◌-◌, ◌++◌, ◌∷◌, List, [], length, take, drop, map, ap, sym, subst, arith}
 use Rattle.std.proofs.lemmas.List.{take_rest}
+use Rattle.std.proofs.lemmas.Grind.{common_steps}
 use Rattle.trees.specs.Tree.{depth, node, bind}
 use Rattle.term_tree.specs.Bank.{symbol_of, tree_at, AreKnown}
 use Rattle.term_tree.specs.declared.bank.Id.{Id}
@@ -73,3 +74,21 @@ returns-in_err-made-in-App-2-clause-grows g t c = Grows_trans (g.B.Bank.trees c.
 
 pub returns-in_ok-made-in-App-2-clause-grows : goal.returns-in_ok-made-in-App-2-clause-grows
 returns-in_ok-made-in-App-2-clause-grows g t c = Grows_trans (g.B.Bank.trees c.args.bank.now) (g.B.Bank.trees c.each.bank) (g.B.Bank.trees c.app.new.self) c.each.invariant.grows c.app.ensures.grows
+
+pub returns-in_ok-made-in-App-2-clause-stack : goal.returns-in_ok-made-in-App-2-clause-stack
+returns-in_ok-made-in-App-2-clause-stack g t c = grind (arith, common_steps)
+
+pub offset_bounds-deref-base : goal.offset_bounds-deref-base
+offset_bounds-deref-base g t c = grind (arith, common_steps)
+
+pub argument-part-requires-clause-known : goal.argument-part-requires-clause-known
+argument-part-requires-clause-known g t c = grind (arith, common_steps)
+
+pub returns-then-kept-clause-stack : goal.returns-then-kept-clause-stack
+returns-then-kept-clause-stack g t c = grind (arith, common_steps)
+
+pub slice_bounds-app-start : goal.slice_bounds-app-start
+slice_bounds-app-start g t c = grind (arith, common_steps)
+
+pub slice_bounds-app-count : goal.slice_bounds-app-count
+slice_bounds-app-count g t c = grind (arith, common_steps)

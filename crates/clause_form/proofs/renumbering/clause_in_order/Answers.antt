@@ -1,4 +1,5 @@
-use Rattle.std.proofs.Common.{map}
+use Rattle.std.proofs.Common.{map, arith}
+use Rattle.std.proofs.lemmas.Grind.{common_steps}
 use Rattle.clause_form.specs.Facts.{fact_of}
 use Rattle.clause_form.proofs.Copying.{IsFactIn-grows}
 use Rattle.clause_form.proofs.Norming.{numbered_named}
@@ -18,3 +19,6 @@ returns-in_err-concl-clause-grows g c = Grows_trans (g.B.Bank.trees c.args.bank.
 
 pub returns-clause-grows : goal.returns-clause-grows
 returns-clause-grows g c = Grows_trans (g.B.Bank.trees c.args.bank.now) (g.B.Bank.trees c.renumbered_facts.new.bank) (g.B.Bank.trees c.renumbered_fact.new.bank) c.renumbered_facts.ensures.grows c.renumbered_fact.ensures.grows
+
+pub returns-in_err-stack-clause-grows : goal.returns-in_err-stack-clause-grows
+returns-in_err-stack-clause-grows g c = grind (arith, common_steps)

@@ -1,3 +1,5 @@
+use Rattle.std.proofs.Common.{arith}
+use Rattle.std.proofs.lemmas.Grind.{common_steps}
 use Rattle.clause_form.specs.Facts.{fact_of}
 use Rattle.clause_form.specs.Numbers.{placed}
 use Rattle.clause_form.proofs.Walks.{fact_known_at}
@@ -25,3 +27,6 @@ returns-in_err-next-clause-grows g c = Grows_trans (g.B.Bank.trees c.args.bank.n
 
 pub returns-in_err-push-clause-grows : goal.returns-in_err-push-clause-grows
 returns-in_err-push-clause-grows g c = Grows_trans (g.B.Bank.trees c.args.bank.now) (g.B.Bank.trees c.each.bank) (g.B.Bank.trees c.renumbered_fact.new.bank) c.each.invariant.grows c.renumbered_fact.ensures.grows
+
+pub returns-in_err-items-clause-grows : goal.returns-in_err-items-clause-grows
+returns-in_err-items-clause-grows g c = grind (arith, common_steps)

@@ -1,4 +1,5 @@
 use Rattle.std.proofs.Common.{◌∙◌, ◌++◌, ap, sym, arith}
+use Rattle.std.proofs.lemmas.Grind.{common_steps}
 use Rattle.term_tree.specs.Bank.{symbol_of}
 use Rattle.clause_form.proofs.Walks.{argument_at}
 use Rattle.clause_form.proofs.Lists.{flat_map_all}
@@ -16,3 +17,6 @@ returns-after-each g t c =
     c.each.invariant
     ∙ ap (λ l. c.args.numbers.now.items ++ l) (flat_map_all (leaves_at all) c.in-App.arguments.now c.each.argument-index c.each-test.false
     ∙ sym (node_leaves all c.args.id (symbol_of c.in-App.field-0) c.in-App.arguments.now c.in-App.ensures.0))
+
+pub each-preserved : goal.each-preserved
+each-preserved g t c = grind (arith, common_steps)

@@ -1,5 +1,6 @@
-use Rattle.std.proofs.Common.{◌∙◌, ◌++◌, map, ap, sym}
+use Rattle.std.proofs.Common.{◌∙◌, ◌++◌, map, ap, sym, arith}
 use Rattle.std.proofs.lemmas.List.Folds.{flat_map-map}
+use Rattle.std.proofs.lemmas.Grind.{common_steps}
 use Rattle.clauses.specs.Variables.{fact_variables}
 use Rattle.clause_form.specs.Facts.{fact_of}
 use Rattle.clause_form.specs.Seen.{fact_at}
@@ -16,3 +17,6 @@ returns g c =
     c.loop-fact.invariant
     ∙ ap (λ l. c.args.numbers.now.items ++ l) (flat_map_all (λ f. fact_variables (fact_at all (fact_of f))) c.args.facts.now c.loop-fact.fact-index c.loop-fact-test.false
     ∙ (sym (flat_map-map (λ f. fact_variables (fact_at all f)) fact_of c.args.facts.now) ∙ sym (flat_map-map fact_variables (fact_at all) (map fact_of c.args.facts.now))))
+
+pub loop-fact-preserved : goal.loop-fact-preserved
+loop-fact-preserved g c = grind (arith, common_steps)

@@ -1,4 +1,5 @@
-use Rattle.std.proofs.Common.{◌∙◌, ◌++◌, ap}
+use Rattle.std.proofs.Common.{◌∙◌, ◌++◌, ap, arith}
+use Rattle.std.proofs.lemmas.Grind.{common_steps}
 use Rattle.clause_form.proofs.Walks.{known_at}
 use Rattle.clause_form.proofs.Counting.{all_leaves}
 use Rattle.clause_form.proofs.variables.add_terms_variables.Goals as goal
@@ -8,3 +9,6 @@ add_variables-requires g c = known_at (g.B.Bank.trees c.args.bank.now) c.args.te
 
 pub returns : goal.returns
 returns g c = c.loop-term.invariant ∙ ap (λ l. c.args.numbers.now.items ++ l) (all_leaves (g.B.Bank.trees c.args.bank.now) c.args.terms.now c.loop-term.term-index c.loop-term-test.false)
+
+pub loop-term-preserved : goal.loop-term-preserved
+loop-term-preserved g c = grind (arith, common_steps)

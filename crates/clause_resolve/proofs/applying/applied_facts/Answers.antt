@@ -6,7 +6,7 @@ use Rattle.clause_form.specs.Facts.{fact_of}
 use Rattle.clause_form.proofs.Walks.{fact_known_at}
 use Rattle.clause_form.proofs.Copying.{IsFactIn-grows}
 use Rattle.clause_resolve.proofs.Spending.{standing, facts_applied_on, facts_short, facts_applied}
-use Rattle.term_tree.proofs.BankLaws.{Grows_trans}
+use Rattle.term_tree.proofs.BankLaws.{Grows_trans, Grows_refl}
 use Rattle.clause_resolve.proofs.applying.applied_facts.Goals as goal
 
 pub applied_fact-requires-clause-known : goal.applied_fact-requires-clause-known
@@ -41,3 +41,6 @@ returns-in_err-next-clause-grows g c = Grows_trans (g.B.Bank.trees c.args.bank.n
 
 pub returns-in_err-push-clause-grows : goal.returns-in_err-push-clause-grows
 returns-in_err-push-clause-grows g c = Grows_trans (g.B.Bank.trees c.args.bank.now) (g.B.Bank.trees c.each.bank) (g.B.Bank.trees c.applied_fact.new.bank) c.each.invariant.done.grows c.applied_fact.ensures.grows
+
+pub returns-in_err-items-clause-grows : goal.returns-in_err-items-clause-grows
+returns-in_err-items-clause-grows g c = Grows_refl (g.B.Bank.trees c.args.bank.now)

@@ -1,4 +1,5 @@
 use Rattle.std.proofs.Common.{◌∙◌, sym, arith, rules}
+use Rattle.std.proofs.lemmas.Grind.{common_steps}
 use Rattle.term_tree.specs.Bank.{symbol_of}
 use Rattle.clause_form.proofs.Walks.{argument_at}
 use Rattle.clause_resolve.proofs.Parting.{some_over_found, none_over_left}
@@ -18,3 +19,6 @@ pub returns-after-each : goal.returns-after-each
 returns-after-each g t c = λ n told.
     let all = g.B.Bank.trees c.args.bank.now in
     none_over_left all c.args.id (symbol_of c.in-App.symbol) c.in-App.arguments.now c.each.argument-index n c.in-App.ensures.0 (search rules) c.each-test.false (c.each.invariant n told)
+
+pub each-preserved : goal.each-preserved
+each-preserved g t c = grind (arith, common_steps)

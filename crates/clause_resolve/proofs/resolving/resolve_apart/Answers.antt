@@ -5,6 +5,7 @@ use Rattle.term_tree.specs.declared.bank.Id.{Id}
 use Rattle.clause_form.specs.Seen.{IsClauseIn}
 use Rattle.clause_resolve.proofs.Spending.{standing}
 use Rattle.clause_resolve.proofs.Answering.{unanswered, answered_result, together_known}
+use Rattle.term_tree.proofs.BankLaws.{Grows_refl}
 use Rattle.clause_resolve.proofs.resolving.resolve_apart.Goals as goal
 
 pub returns-then-clash-clause-answer : goal.returns-then-clash-clause-answer
@@ -25,3 +26,21 @@ returns-clause-answer g c = λ unsolved apart.
     let all = g.B.Bank.trees c.args.bank.now in
     answered_result all (g.B.Bank.trees c.found_under.new.bank) c.args.solved.now c.in_ok-clause.clause _ unsolved c.args.apart.now (standing all c.unify_facts.new.binds.pairs) c.found_under.result (ap (λ (k : Clause Id). k.conclusion) c.solved.view_is) c.in_ok-clause.ensures c.requires.solved_low
     (MatchBool-at_true _ _ c.if-not-branch.false c.in_ok-unify_facts.ensures.outcome) c.found_under.ensures.found apart
+
+pub returns-then-clash-clause-grows : goal.returns-then-clash-clause-grows
+returns-then-clash-clause-grows g c = Grows_refl (g.B.Bank.trees c.args.bank.now)
+
+pub returns-in_err-binds-clause-grows : goal.returns-in_err-binds-clause-grows
+returns-in_err-binds-clause-grows g c = Grows_refl (g.B.Bank.trees c.args.bank.now)
+
+pub returns-in_err-unify_facts-clause-grows : goal.returns-in_err-unify_facts-clause-grows
+returns-in_err-unify_facts-clause-grows g c = Grows_refl (g.B.Bank.trees c.args.bank.now)
+
+pub returns-then-not-branch-clause-grows : goal.returns-then-not-branch-clause-grows
+returns-then-not-branch-clause-grows g c = Grows_refl (g.B.Bank.trees c.args.bank.now)
+
+pub returns-in_err-clause-clause-grows : goal.returns-in_err-clause-clause-grows
+returns-in_err-clause-clause-grows g c = Grows_refl (g.B.Bank.trees c.args.bank.now)
+
+pub unify_facts-requires-clause-ready : goal.unify_facts-requires-clause-ready
+unify_facts-requires-clause-ready g c = c.in_ok-binds.ensures.ready (g.B.Bank.trees c.args.bank.now)

@@ -6,6 +6,7 @@ use Rattle.clause_form.specs.Seen.{fact_at, clause_at, AreFactsIn}
 use Rattle.clause_form.proofs.Walks.{fact_known_at}
 use Rattle.clause_resolve.proofs.Shifting.{selected_within, selected_fact}
 use Rattle.clause_resolve.proofs.Answering.{clashing, taken_back, as_before}
+use Rattle.term_tree.proofs.BankLaws.{Grows-length, Grows_refl}
 use Rattle.clause_resolve.proofs.resolving.resolvents.Goals as goal
 
 pub bounds-facts-at : goal.bounds-facts-at
@@ -52,3 +53,15 @@ returns-in-Ok-Large-clause-as_before g c = as_before (g.B.Bank.trees c.args.bank
 
 pub returns-in-Err-clause-err : goal.returns-in-Err-clause-err
 returns-in-Err-clause-err g c = as_before (g.B.Bank.trees c.args.bank.now) (g.B.Bank.trees c.resolvents_grown.new.bank) (g.B.Bank.trees c.back-in-Err.new.self) _ c.resolvents_grown.ensures.grows c.mark-mark.ensures c.back-in-Err.ensures
+
+pub back-requires : goal.back-requires
+back-requires g c = omega (arith, c.mark-mark.ensures, Grows-length (g.B.Bank.trees c.args.bank.now) (g.B.Bank.trees c.resolvents_grown.new.bank) c.resolvents_grown.ensures.grows)
+
+pub back-requires-in-Ok-Large : goal.back-requires-in-Ok-Large
+back-requires-in-Ok-Large g c = omega (arith, c.mark-mark.ensures, Grows-length (g.B.Bank.trees c.args.bank.now) (g.B.Bank.trees c.resolvents_grown.new.bank) c.resolvents_grown.ensures.grows)
+
+pub back-requires-in-Err : goal.back-requires-in-Err
+back-requires-in-Err g c = omega (arith, c.mark-mark.ensures, Grows-length (g.B.Bank.trees c.args.bank.now) (g.B.Bank.trees c.resolvents_grown.new.bank) c.resolvents_grown.ensures.grows)
+
+pub returns-then-clash-clause-grows : goal.returns-then-clash-clause-grows
+returns-then-clash-clause-grows g c = Grows_refl (g.B.Bank.trees c.args.bank.now)

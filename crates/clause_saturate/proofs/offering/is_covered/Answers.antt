@@ -1,7 +1,7 @@
 use Rattle.std.proofs.Common.{List, ◌≡◌, true, false, sym, subst, rules}
 use Rattle.clause_form.specs.Seen.{clause_at}
 use Rattle.clause_saturate.specs.declared.log.Entry.{Entry}
-use Rattle.clause_saturate.specs.Fit.{AreFit}
+use Rattle.clause_form.specs.Fit.{AreFit}
 use Rattle.clause_saturate.specs.Beating.{clauses_of}
 use Rattle.clause_saturate.specs.Live.{CoversAmong}
 use Rattle.clause_saturate.proofs.Marking.{when_true, when_false}

@@ -1,6 +1,5 @@
-use Rattle.std.proofs.Common.{◌≡◌, ◌<◌, length, refl, sym, subst, inl, inr, rules}
+use Rattle.std.proofs.Common.{◌≡◌, ◌<◌, length, refl, inl, inr, rules}
 use Rattle.clause_form.specs.Seen.{clause_at}
-use Rattle.clause_saturate.specs.Fit.{IsFit}
 use Rattle.clause_saturate.proofs.Offers.{covered_offer, due_offer, new_offer}
 use Rattle.clause_saturate.proofs.offering.offer.Goals as goal
 
@@ -17,12 +16,9 @@ returns-then-len-walk-clause-made g c =
     let full : length items ≡ c.args.walk.now.budget = search rules in
     due_offer all items c.args.clause.now c.in_ok-clause.clause c.args.origin c.args.walk.now.budget c.in_ok-is_covered.field-0 c.requires.clause c.in_ok-clause.ensures c.if-branch.false c.in_ok-is_covered.ensures full
 
-pub add-requires-clause-entry : goal.add-requires-clause-entry
-add-requires-clause-entry g c = subst (IsFit (g.B.Bank.trees c.args.bank.now)) (sym c.in_ok-clause.ensures) c.requires.clause
-
 pub returns-clause-made : goal.returns-clause-made
 returns-clause-made g c =
     let all = g.B.Bank.trees c.args.bank.now in
     let items = c.args.walk.now.items.items in
     let room : length items < c.args.walk.now.budget = search rules in
-    λ log at tell origin. inr (new_offer all items c.add.new.walk.items.items c.args.clause.now c.in_ok-clause.clause c.args.origin c.args.walk.now.budget c.in_ok-is_covered.field-0 c.requires.clause c.in_ok-clause.ensures c.if-branch.false c.in_ok-is_covered.ensures room c.in_ok-add.ensures.pushed log at tell origin)
+    λ log at tell origin. inr (new_offer all items c.add.new.walk.items.items c.args.clause.now c.args.origin c.args.walk.now.budget c.in_ok-is_covered.field-0 c.requires.clause c.if-branch.false c.in_ok-is_covered.ensures room c.in_ok-add.ensures.pushed log at tell origin)

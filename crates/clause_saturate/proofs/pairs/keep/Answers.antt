@@ -1,11 +1,13 @@
-use Rattle.std.proofs.Common.{◌+◌, ◌≤◌, length, take, sym, subst, arith}
+use Rattle.std.proofs.Common.{◌+◌, ◌≤◌, length, take, sym, subst, arith, Option}
 use Rattle.saturation.specs.Key.{key}
 use Rattle.clause_saturate.specs.Pairs.{major, minor}
-use Rattle.clause_saturate.specs.Walked.{IsWalked}
+use Rattle.clause_saturate.specs.Walked.{IsWalked, HasOffered}
 use Rattle.clause_saturate.proofs.Found.{front_grows}
 use Rattle.clause_saturate.proofs.Fitting.{walked_fit, walked_grows, walked_back}
 use Rattle.clause_saturate.proofs.Pairing.{made_grows, same_if_no_more}
 use Rattle.clause_saturate.proofs.Stepping.{gone_on}
+use Rattle.term_tree.proofs.BankLaws.{Grows_same}
+use Rattle.clause_saturate.specs.declared.log.Entry.{Entry}
 use Rattle.clause_saturate.proofs.pairs.keep.Goals as goal
 
 pub offer_resolvents-requires : goal.offer_resolvents-requires
@@ -38,3 +40,15 @@ returns-clause-passed g c =
     let walked = gone_on now g.task new at c.in_ok-due.field-0 c.in-None.is c.in_ok-due.ensures.offered in
     subst (λ all. IsWalked all g.task new at) (sym c.back.ensures)
     (walked_back before now g.task old new from at (front_grows c.args.mark.len now) same c.requires.1.1.0 walked)
+
+pub back-requires : goal.back-requires
+back-requires g c = c.requires.1.0
+
+pub returns-clause-grows : goal.returns-clause-grows
+returns-clause-grows g c = Grows_same (take c.args.mark.len (g.B.Bank.trees c.args.bank.now)) (g.B.Bank.trees c.back.new.self) c.back.ensures
+
+pub returns-clause-tidy : goal.returns-clause-tidy
+returns-clause-tidy g c = λ _. c.back.ensures
+
+pub returns-in-Some-clause-passed : goal.returns-in-Some-clause-passed
+returns-in-Some-clause-passed g c = subst (λ (due : Option Entry). HasOffered (g.B.Bank.trees c.args.bank.now) g.task c.offer_resolvents.new.walk (key (major c.args.pair) (minor c.args.pair + 1) 1) due) c.in-Some.is c.in_ok-due.ensures.offered

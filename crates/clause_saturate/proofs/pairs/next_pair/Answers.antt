@@ -3,7 +3,7 @@ use Rattle.clause_saturate.specs.declared.walk.Pair.{Pair}
 use Rattle.clause_saturate.specs.Live.{IsPartner}
 use Rattle.clause_saturate.specs.Pairs.{IsNextPair}
 use Rattle.clause_saturate.proofs.Found.{numbered_at, entry_known}
-use Rattle.clause_saturate.proofs.Partners.{no_next, next_solved, next_unsolved}
+use Rattle.clause_saturate.proofs.Partners.{no_next, next_solved, next_unsolved, none_dead}
 use Rattle.clause_saturate.proofs.pairs.next_pair.Goals as goal
 
 pub is_solved-requires : goal.is_solved-requires
@@ -50,3 +50,8 @@ returns g c =
     next_unsolved (g.B.Bank.trees c.args.bank.now) walk.items.items c.args.later c.args.from c.in_ok-earlier-2.earlier x walk.live.solved.items
     (numbered_at walk.items.items c.args.later x c.index-last.ensures c.requires.some c.requires.within)
     live (sym c.is_solved.ensures ∙ c.if-is_solved.false) c.requires.listed.solved (subst (λ (l : List ℕ). IsPartner l c.args.later c.args.from (Some c.in_ok-earlier-2.earlier)) same c.in_ok-earlier-2.ensures)
+
+pub returns-then-is_some : goal.returns-then-is_some
+returns-then-is_some g c =
+    let x = c.index-last.result.now in
+    none_dead (g.B.Bank.trees c.args.bank.now) c.args.walk.now.items.items c.args.later c.args.from x (numbered_at c.args.walk.now.items.items c.args.later x c.index-last.ensures c.requires.some c.requires.within) (sym c.is_some.ensures ∙ c.if-is_some.true)

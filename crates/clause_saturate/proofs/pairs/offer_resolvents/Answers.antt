@@ -1,5 +1,6 @@
 use Rattle.std.proofs.Common.{refl, inl, arith}
-use Rattle.clause_saturate.proofs.Fitting.{resolvents_fit, clause_fit_at, walked_fit, walked_listed, walked_within}
+use Rattle.clause_form.proofs.Fit.{resolvents_fit, clause_fit_at}
+use Rattle.clause_saturate.proofs.Fitting.{walked_fit, walked_listed, walked_within}
 use Rattle.clause_saturate.proofs.Pairing.{offering_begins, offering_walked, offering_step, offering_due, offering_ends, step_made, offer_kept, more_on}
 use Rattle.clause_saturate.proofs.pairs.offer_resolvents.Goals as goal
 

@@ -1,5 +1,5 @@
 use Rattle.std.proofs.Common.{◌-◌, ◌≤◌, length}
-use Rattle.clause_saturate.specs.Fit.{AreFit}
+use Rattle.clause_form.specs.Fit.{AreFit}
 use Rattle.clause_saturate.specs.Pairs.{AreSameOrMore}
 use Rattle.clause_saturate.proofs.Pairing.{IsOffering}
 use Rattle.clause_saturate.proofs.pairs.offer_resolvents.Given as goal

@@ -1,6 +1,9 @@
 use Rattle.clause_saturate.specs.Pairs.{major, minor}
 use Rattle.clause_saturate.proofs.Found.{solved_fit, unsolved_fit, answer_found, never_none}
 use Rattle.clause_saturate.proofs.Fitting.{fit_low, fit_size}
+use Rattle.std.proofs.Common.{arith}
+use Rattle.saturation.proofs.Places.{numbered_within}
+use Rattle.term_tree.proofs.BankLaws.{Grows_refl}
 use Rattle.clause_saturate.proofs.pairs.pair_resolvents.Goals as goal
 
 pub selected-requires-clause-known : goal.selected-requires-clause-known
@@ -43,3 +46,30 @@ returns-in-None-clause-found g c =
 pub returns-in_ok-found-in-Some-clause-found : goal.returns-in_ok-found-in-Some-clause-found
 returns-in_ok-found-in-Some-clause-found g c =
     answer_found (g.B.Bank.trees c.args.bank.now) (g.B.Bank.trees c.resolvents.new.bank) c.args.entries.now c.args.pair c.requires.due c.index-entries-pair.result c.index-entries-pair-2.result c.in_ok-found-in-Some.found c.index-entries-pair.is c.index-entries-pair-2.is c.in_ok-found-in-Some.ensures.answer
+
+pub bounds-entries-pair : goal.bounds-entries-pair
+bounds-entries-pair g c =
+    let due = c.requires.due in
+    let within = numbered_within c.args.entries.now c.args.pair.solved due.solved due.solved_at in
+    omega (arith, within.0, within.1)
+
+pub offset_bounds-entries-pair : goal.offset_bounds-entries-pair
+offset_bounds-entries-pair g c =
+    let due = c.requires.due in
+    let within = numbered_within c.args.entries.now c.args.pair.solved due.solved due.solved_at in
+    omega (arith, within.0, within.1)
+
+pub bounds-entries-pair-2 : goal.bounds-entries-pair-2
+bounds-entries-pair-2 g c =
+    let due = c.requires.due in
+    let within = numbered_within c.args.entries.now c.args.pair.unsolved due.unsolved due.unsolved_at in
+    omega (arith, within.0, within.1)
+
+pub offset_bounds-entries-pair-2 : goal.offset_bounds-entries-pair-2
+offset_bounds-entries-pair-2 g c =
+    let due = c.requires.due in
+    let within = numbered_within c.args.entries.now c.args.pair.unsolved due.unsolved due.unsolved_at in
+    omega (arith, within.0, within.1)
+
+pub returns-in-None-clause-grows : goal.returns-in-None-clause-grows
+returns-in-None-clause-grows g c = Grows_refl (g.B.Bank.trees c.args.bank.now)

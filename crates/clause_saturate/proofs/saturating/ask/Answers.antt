@@ -1,8 +1,10 @@
 use Rattle.std.proofs.Common.{◌≡◌, ◌-◌, false, Some, None, length, sym, inl, inr, arith}
 use Rattle.saturation.specs.Log.{goal_key}
 use Rattle.clause_form.specs.Seen.{clause_at}
-use Rattle.clause_saturate.proofs.Fitting.{clause_fit_at, last_given, given_length, given_some, walked_fit, walked_listed}
+use Rattle.clause_form.proofs.Fit.{clause_fit_at}
+use Rattle.clause_saturate.proofs.Fitting.{last_given, given_length, given_some, walked_fit, walked_listed}
 use Rattle.clause_saturate.proofs.Stepping.{goal_step, goal_step_past, goal_made}
+use Rattle.std.proofs.lemmas.Grind.{common_steps}
 use Rattle.clause_saturate.proofs.saturating.ask.Goals as goal
 
 pub returns-then-walk : goal.returns-then-walk
@@ -46,3 +48,9 @@ returns-in-None g c =
     goal_step all g.task c.args.walk.now c.offer.new.walk c.args.turn (clause_at all c.index-given-count.result) None c.requires.1.1.1 unasked (omega arith)
     (last_given all given g.task.given c.index-given-count.result c.requires.1.0 c.index-given-count.is some) c.in_ok-due.ensures.kept.0 c.in_ok-due.ensures.kept.1 c.in_ok-due.ensures.listed
     (goal_made all g.task.given c.args.walk.now c.offer.new.walk c.args.turn (length given) (clause_at all c.index-given-count.result) c.in_ok-due.field-0 None (sym size) c.in-None.is c.in_ok-due.ensures.made)
+
+pub bounds-given-count : goal.bounds-given-count
+bounds-given-count g c = grind (arith, common_steps)
+
+pub overflow_sub-count : goal.overflow_sub-count
+overflow_sub-count g c = grind (arith, common_steps)

@@ -1,7 +1,8 @@
 use Rattle.std.proofs.Common.{◌-◌, Some, None, arith}
 use Rattle.saturation.specs.Key.{key}
 use Rattle.clause_form.specs.Seen.{clause_at}
-use Rattle.clause_saturate.proofs.Fitting.{clause_fit_at, number_given, given_length, walked_fit, walked_listed, walked_within}
+use Rattle.clause_form.proofs.Fit.{clause_fit_at}
+use Rattle.clause_saturate.proofs.Fitting.{number_given, given_length, walked_fit, walked_listed, walked_within}
 use Rattle.clause_saturate.proofs.Stepping.{given_step, given_next, given_done, given_made}
 use Rattle.clause_saturate.proofs.saturating.offer_given.Goals as goal
 

@@ -52,3 +52,9 @@ returns-clause-passed g c =
     let all = g.B.Bank.trees c.each.bank in
     turn_ends_step all g.task c.each.walk c.args.turn c.args.turn c.requires.1.1 refl
     (passed_by all g.task c.each.walk c.args.turn c.each.earlier c.args.turn c.each.invariant.within (omega arith) c.in_default.ensures c.each.invariant.walked)
+
+pub returns-in_err-stop-clause-grows : goal.returns-in_err-stop-clause-grows
+returns-in_err-stop-clause-grows g c = Grows_trans (g.B.Bank.trees c.args.bank.now) (g.B.Bank.trees c.each.bank) (g.B.Bank.trees c.resolve.new.bank) c.each.invariant.grows c.resolve.ensures.grows
+
+pub returns-in-Some-2-clause-grows : goal.returns-in-Some-2-clause-grows
+returns-in-Some-2-clause-grows g c = Grows_trans (g.B.Bank.trees c.args.bank.now) (g.B.Bank.trees c.each.bank) (g.B.Bank.trees c.resolve.new.bank) c.each.invariant.grows c.resolve.ensures.grows

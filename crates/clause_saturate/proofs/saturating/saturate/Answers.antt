@@ -1,9 +1,11 @@
-use Rattle.std.proofs.Common.{◌≡◌, [], false, map, refl, rules}
+use Rattle.std.proofs.Common.{◌≡◌, [], false, map, refl, rules, arith}
 use Rattle.clause_form.specs.Seen.{clause_at}
 use Rattle.clause_saturate.specs.Walked.{Task}
 use Rattle.clause_saturate.proofs.Fitting.{fit_task}
 use Rattle.clause_saturate.proofs.Listing.{none_listed}
 use Rattle.clause_saturate.proofs.Stepping.{walk_begins}
+use Rattle.term_tree.proofs.BankLaws.{Grows-length}
+use Rattle.clause_resolve.proofs.Answering.{as_before, taken_back}
 use Rattle.clause_saturate.proofs.saturating.saturate.Goals as goal
 
 pub run-requires : goal.run-requires
@@ -20,3 +22,12 @@ returns-in-Ok-clause-log g c =
     let all = g.B.Bank.trees c.args.bank.now in
     let task : Task = record { given = map (clause_at all) c.args.given.now; budget = c.args.budget } in
     c.ended.ensures (g.B.Bank.trees c.run.new.bank) task c.in-Ok.ensures.ended
+
+pub back-requires : goal.back-requires
+back-requires g c = omega (arith, c.mark-mark.ensures, Grows-length (g.B.Bank.trees c.args.bank.now) (g.B.Bank.trees c.run.new.bank) c.run.ensures.grows)
+
+pub returns-in-Err-clause-grows : goal.returns-in-Err-clause-grows
+returns-in-Err-clause-grows g c = taken_back (g.B.Bank.trees c.args.bank.now) (g.B.Bank.trees c.run.new.bank) (g.B.Bank.trees c.back.new.self) _ c.run.ensures.grows c.mark-mark.ensures c.back.ensures
+
+pub returns-in-Err-clause-err : goal.returns-in-Err-clause-err
+returns-in-Err-clause-err g c = as_before (g.B.Bank.trees c.args.bank.now) (g.B.Bank.trees c.run.new.bank) (g.B.Bank.trees c.back.new.self) _ c.run.ensures.grows c.mark-mark.ensures c.back.ensures

@@ -4,7 +4,7 @@ use Rattle.pi_tree.specs.Patterns.{pattern_of}
 use Rattle.clauses.specs.Variables.{IsBelow, AreBelow}
 use Rattle.term_tree.specs.Bank.{tree_at, AreKnown}
 use Rattle.term_tree.specs.declared.bank.Id.{Id}
-use Rattle.term_tree.proofs.BankLaws.{Grows_trans, Names-grows, AreKnown-grows, trees_at-grow}
+use Rattle.term_tree.proofs.BankLaws.{Grows_trans, Names-grows, AreKnown-grows, trees_at-grow, Grows_refl}
 use Rattle.translation.specs.Conversion.{rule_term}
 use Rattle.translation.specs.Visit.{Visit}
 use Rattle.translation.specs.Choice.{GoesOn}
@@ -103,3 +103,12 @@ returns-in_err-made-clause-grows g c = Grows_trans (g.B.Bank.trees c.args.bank.n
 
 pub returns-clause-grows : goal.returns-clause-grows
 returns-clause-grows g c = Grows_trans (g.B.Bank.trees c.args.bank.now) (g.B.Bank.trees c.with_pattern.new.bank) (g.B.Bank.trees c.way_of.new.bank) (Grows_trans (g.B.Bank.trees c.args.bank.now) (g.B.Bank.trees c.rule_term.new.bank) (g.B.Bank.trees c.with_pattern.new.bank) (Grows_trans (g.B.Bank.trees c.args.bank.now) (g.B.Bank.trees c.rule_terms.new.bank) (g.B.Bank.trees c.rule_term.new.bank) c.rule_terms.ensures.grows c.rule_term.ensures.grows) c.with_pattern.ensures.grows) c.way_of.ensures.grows
+
+pub returns-in_err-base-clause-grows : goal.returns-in_err-base-clause-grows
+returns-in_err-base-clause-grows g c = Grows_refl (g.B.Bank.trees c.args.bank.now)
+
+pub with_pattern-requires-clause-up : goal.with_pattern-requires-clause-up
+with_pattern-requires-clause-up g c = c.in_ok-base.ensures.end.up
+
+pub with_pattern-requires-clause-short : goal.with_pattern-requires-clause-short
+with_pattern-requires-clause-short g c = c.args.choosing.now.short

@@ -1,14 +1,15 @@
-use Rattle.std.proofs.Common.{◌+◌, map, sym, subst}
+use Rattle.std.proofs.Common.{◌+◌, map, sym, subst, arith}
 use Rattle.pi_tree.specs.Rules.{rule_of}
 use Rattle.pi_tree.specs.Patterns.{pattern_of}
 use Rattle.clauses.specs.Variables.{AreBelow}
 use Rattle.term_tree.specs.Bank.{tree_at}
-use Rattle.term_tree.proofs.BankLaws.{AreKnown-grows, trees_at-grow}
+use Rattle.term_tree.proofs.BankLaws.{AreKnown-grows, trees_at-grow, Grows_trans}
 use Rattle.clause_translate.specs.Places.{protocol_at}
 use Rattle.clause_translate.specs.Visits.{visit_at}
 use Rattle.clause_translate.proofs.Named.{visit_later}
 use Rattle.clause_translate.proofs.Ruling.{AreRuled, short_at, ruled_nowhere, ruled_large, ruled_visit, by_rule_same}
 use Rattle.clause_translate.proofs.choices.by_rules.Goals.{in-Nowhere, in-Large, in-Visit+in_ok-push-in-Visit}
+use Rattle.std.proofs.lemmas.Grind.{common_steps}
 use Rattle.clause_translate.proofs.choices.by_rules.Goals as goal
 
 pub by_rule-requires-clause-visit : goal.by_rule-requires-clause-visit
@@ -42,3 +43,15 @@ each-preserved g c =
       | in-Large w ↦ rw w.items-is (rw w.large-is (ruled_large P v pattern values old now next c.args.rules.now c.each.rule-index rule c.each.items.items c.each.large c.each.invariant c.each-test.true c.rule-item.is c.by_rule.ensures.grows told.0 one (rw w.in-Large.is at told.2)))
       | in-Visit+in_ok-push-in-Visit w ↦ rw w.items-is (rw w.large-is (ruled_visit P v pattern values old now next c.args.rules.now c.each.rule-index rule c.each.items.items c.each.large c.each.invariant c.each-test.true c.rule-item.is c.by_rule.ensures.grows told.0 w.in-Visit.made w.push.new.self.items one (rw w.in-Visit.is at told.2) w.in_ok-push-in-Visit.ensures.items))
     ]
+
+pub returns-in_err-by_rule-clause-grows : goal.returns-in_err-by_rule-clause-grows
+returns-in_err-by_rule-clause-grows g c = Grows_trans (g.B.Bank.trees c.args.bank.now) (g.B.Bank.trees c.each.bank) (g.B.Bank.trees c.by_rule.new.bank) c.each.invariant.grows c.by_rule.ensures.grows
+
+pub returns-in_err-push-in-Visit-clause-grows : goal.returns-in_err-push-in-Visit-clause-grows
+returns-in_err-push-in-Visit-clause-grows g c = Grows_trans (g.B.Bank.trees c.args.bank.now) (g.B.Bank.trees c.each.bank) (g.B.Bank.trees c.by_rule.new.bank) c.each.invariant.grows c.by_rule.ensures.grows
+
+pub returns-clause-go : goal.returns-clause-go
+returns-clause-go g c = grind (arith, common_steps)
+
+pub returns-then-large-clause-go : goal.returns-then-large-clause-go
+returns-then-large-clause-go g c = grind (arith, common_steps)

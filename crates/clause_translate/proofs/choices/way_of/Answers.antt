@@ -7,6 +7,7 @@ use Rattle.clause_translate.specs.Visits.{visit_at}
 use Rattle.clause_translate.specs.Ways.{choice_at}
 use Rattle.clause_translate.proofs.Solving.{solutions_below}
 use Rattle.clause_translate.proofs.Choosing.{goes_nowhere, goes_there, way_is, made_known}
+use Rattle.term_tree.proofs.BankLaws.{Grows_refl}
 use Rattle.clause_translate.proofs.choices.way_of.Goals as goal
 
 pub returns-in-None-clause-way : goal.returns-in-None-clause-way
@@ -39,3 +40,9 @@ returns-in_ok-found-in-Some-clause-way g c =
       goes_there all c.in-Some.binds.pairs (choice_at all c.args.equations.now c.args.visit.now) (rw c.in-Some.is at c.in_ok-unified.ensures),
       way_is (g.B.Bank.trees c.visit_under.new.bank) w c.in_ok-found-in-Some.found c.way_to.result c.in_ok-found-in-Some.ensures.under c.way_to.ensures,
     )
+
+pub returns-in_err-unified-clause-grows : goal.returns-in_err-unified-clause-grows
+returns-in_err-unified-clause-grows g c = Grows_refl (g.B.Bank.trees c.args.bank.now)
+
+pub returns-in-None-clause-grows : goal.returns-in-None-clause-grows
+returns-in-None-clause-grows g c = Grows_refl (g.B.Bank.trees c.args.bank.now)

@@ -1,6 +1,6 @@
 use Rattle.std.proofs.Common.{◌≡◌, true, false, Option, map, ap, sym, subst, ◌∙◌}
 use Rattle.term_tree.specs.Bank.{tree_at}
-use Rattle.term_tree.proofs.BankLaws.{Grows_trans}
+use Rattle.term_tree.proofs.BankLaws.{Grows_trans, Grows_refl}
 use Rattle.clauses.specs.Variables.{AreBelow}
 use Rattle.clauses.specs.Limits.{is_large_raw}
 use Rattle.clauses.specs.Norm.{norms}
@@ -95,3 +95,6 @@ returns-then-added-clause-grows g c = Grows_trans (g.B.Bank.trees c.args.bank.no
 
 pub returns-clause-grows : goal.returns-clause-grows
 returns-clause-grows g c = Grows_trans (g.B.Bank.trees c.args.bank.now) (g.B.Bank.trees c.terms_in.new.bank) (g.B.Bank.trees c.add.new.bank) c.terms_in.ensures.grows c.add.ensures.grows
+
+pub returns-then-some_large_term-clause-grows : goal.returns-then-some_large_term-clause-grows
+returns-then-some_large_term-clause-grows g c = Grows_refl (g.B.Bank.trees c.args.bank.now)

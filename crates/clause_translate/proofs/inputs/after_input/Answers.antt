@@ -4,6 +4,7 @@ use Rattle.pi_tree.specs.Patterns.{pattern_of}
 use Rattle.clause_translate.specs.Places.{protocol_at}
 use Rattle.clause_translate.specs.Visits.{visit_at}
 use Rattle.clause_translate.proofs.Receiving.{channel_large, compared_large, visit_large, visit_small}
+use Rattle.term_tree.proofs.BankLaws.{Grows_refl}
 use Rattle.clause_translate.proofs.inputs.after_input.Goals as goal
 
 pub returns-then-is_large_term-clause-receives : goal.returns-then-is_large_term-clause-receives
@@ -26,3 +27,9 @@ pub returns-clause-receives : goal.returns-clause-receives
 returns-clause-receives g c =
     visit_small (protocol_at c.args.place.now) (visit_at (g.B.Bank.trees c.args.bank.now) c.args.visit.now) (term_of c.args.channel.now) (pattern_of c.args.pattern.now) (g.B.Bank.trees c.received.new.bank) c.in_ok-made.made
     (sym c.is_large_term.ensures ∙ c.if-is_large_term.false) (sym c.some_large_compared.ensures ∙ c.if-some_large_compared.false) c.in_ok-made.ensures.names (sym c.is_large_visit.ensures ∙ c.if-is_large_visit.false)
+
+pub returns-then-is_large_term-clause-grows : goal.returns-then-is_large_term-clause-grows
+returns-then-is_large_term-clause-grows g c = Grows_refl (g.B.Bank.trees c.args.bank.now)
+
+pub returns-then-some_large_compared-clause-grows : goal.returns-then-some_large_compared-clause-grows
+returns-then-some_large_compared-clause-grows g c = Grows_refl (g.B.Bank.trees c.args.bank.now)

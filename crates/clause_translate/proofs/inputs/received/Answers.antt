@@ -1,4 +1,4 @@
-use Rattle.std.proofs.Common.{◌≡◌, ◌++◌, ◌∷◌, []}
+use Rattle.std.proofs.Common.{◌≡◌, ◌++◌, ◌∷◌, [], arith}
 use Rattle.pi_tree.specs.Terms.{term_of}
 use Rattle.pi_tree.specs.Patterns.{pattern_of}
 use Rattle.translation.specs.Conversion.{Fresh}
@@ -10,6 +10,7 @@ use Rattle.clause_translate.specs.Visits.{visit_at, NamesVisit}
 use Rattle.clause_translate.proofs.Named.{if_ok, visit_later}
 use Rattle.clause_translate.proofs.Receiving.{received_named}
 use Rattle.term_tree.proofs.BankLaws.{Grows_trans}
+use Rattle.std.proofs.lemmas.Grind.{common_steps}
 use Rattle.clause_translate.proofs.inputs.received.Goals as goal
 
 pub with_pattern-requires-clause-visit : goal.with_pattern-requires-clause-visit
@@ -35,3 +36,6 @@ returns-in_err-bound-clause-grows g c = Grows_trans (g.B.Bank.trees c.args.bank.
 
 pub returns-clause-grows : goal.returns-clause-grows
 returns-clause-grows g c = Grows_trans (g.B.Bank.trees c.args.bank.now) (g.B.Bank.trees c.term_in.new.bank) (g.B.Bank.trees c.with_pattern.new.bank) c.term_in.ensures.grows c.with_pattern.ensures.grows
+
+pub sent-fact-requires-clause-channel : goal.sent-fact-requires-clause-channel
+sent-fact-requires-clause-channel g c = grind (arith, common_steps)

@@ -6,7 +6,7 @@ use Rattle.clause_translate.specs.Places.{protocol_at}
 use Rattle.clause_translate.specs.Forms.{output_raw, are_large_in}
 use Rattle.clause_translate.specs.Visits.{visit_at}
 use Rattle.clause_translate.proofs.Adding.{is_added, is_told, both_small}
-use Rattle.term_tree.proofs.BankLaws.{Grows_trans}
+use Rattle.term_tree.proofs.BankLaws.{Grows_trans, Grows_refl}
 use Rattle.clause_translate.proofs.outputs.add_output.Goals as goal
 
 pub returns-clause-large : goal.returns-clause-large
@@ -29,3 +29,15 @@ returns-clause-adds g c =
 
 pub returns-clause-grows : goal.returns-clause-grows
 returns-clause-grows g c = Grows_trans (g.B.Bank.trees c.args.bank.now) (g.B.Bank.trees c.output_clause.new.bank) (g.B.Bank.trees c.add.new.bank) c.output_clause.ensures.grows c.add.ensures.grows
+
+pub returns-then-is_large_term-clause-adds : goal.returns-then-is_large_term-clause-adds
+returns-then-is_large_term-clause-adds g c = λ same. cc
+
+pub returns-then-is_large_term-clause-grows : goal.returns-then-is_large_term-clause-grows
+returns-then-is_large_term-clause-grows g c = Grows_refl (g.B.Bank.trees c.args.bank.now)
+
+pub returns-then-is_large_term-2-clause-adds : goal.returns-then-is_large_term-2-clause-adds
+returns-then-is_large_term-2-clause-adds g c = λ same. cc
+
+pub returns-then-is_large_term-2-clause-grows : goal.returns-then-is_large_term-2-clause-grows
+returns-then-is_large_term-2-clause-grows g c = Grows_refl (g.B.Bank.trees c.args.bank.now)

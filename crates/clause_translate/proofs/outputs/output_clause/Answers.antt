@@ -8,6 +8,7 @@ use Rattle.clause_translate.specs.Places.{protocol_at}
 use Rattle.clause_translate.specs.Visits.{visit_at}
 use Rattle.clause_translate.proofs.Named.{hypotheses_later}
 use Rattle.clause_translate.proofs.Adding.{raw_named}
+use Rattle.term_tree.proofs.BankLaws.{Grows_refl}
 use Rattle.clause_translate.proofs.outputs.output_clause.Goals as goal
 
 pub returns-clause-names : goal.returns-clause-names
@@ -18,3 +19,6 @@ returns-clause-names g c =
     let v = visit_at old c.args.visit.now in
     raw_named new c.in_ok-hyps.hyps (fact_of c.in_ok-concl.concl) v (sent P (term_in P v.scope (term_of c.args.channel.now)) (term_in P v.scope (term_of c.args.message.now)))
     (subst (λ hs. NameFacts new hs v.hypotheses) (sym c.in_ok-hyps.ensures) (hypotheses_later old new c.args.visit.now c.sent_in.ensures.grows c.requires.visit)) c.in_ok-concl.ensures.names
+
+pub returns-in_err-hyps-clause-grows : goal.returns-in_err-hyps-clause-grows
+returns-in_err-hyps-clause-grows g c = Grows_refl (g.B.Bank.trees c.args.bank.now)

@@ -1,4 +1,4 @@
-use Rattle.std.proofs.Common.{◌∙◌, ap, subst}
+use Rattle.std.proofs.Common.{◌∙◌, ap, subst, arith}
 use Rattle.pi_tree.specs.Terms.{term_of}
 use Rattle.term_tree.proofs.BankLaws.{Names-grows, Grows_trans}
 use Rattle.translation.specs.Conversion.{term_in}
@@ -8,6 +8,7 @@ use Rattle.clause_form.specs.Seen.{NamesFact}
 use Rattle.clause_terms.specs.Scopes.{scope_at}
 use Rattle.clause_translate.specs.Places.{protocol_at}
 use Rattle.clause_translate.proofs.Scopes.{IsScopeIn-grows, scope_at-grows}
+use Rattle.std.proofs.lemmas.Grind.{common_steps}
 use Rattle.clause_translate.proofs.outputs.sent_in.Goals as goal
 
 pub term_in-requires-2-clause-scope : goal.term_in-requires-2-clause-scope
@@ -29,3 +30,6 @@ returns-in_err-message-clause-grows g c = Grows_trans (g.B.Bank.trees c.args.ban
 
 pub returns-clause-grows : goal.returns-clause-grows
 returns-clause-grows g c = Grows_trans (g.B.Bank.trees c.args.bank.now) (g.B.Bank.trees c.term_in.new.bank) (g.B.Bank.trees c.term_in-2.new.bank) c.term_in.ensures.grows c.term_in-2.ensures.grows
+
+pub sent-requires-clause-channel : goal.sent-requires-clause-channel
+sent-requires-clause-channel g c = grind (arith, common_steps)

@@ -5,7 +5,7 @@ use Rattle.terms.specs.Binding.{resolved}
 use Rattle.terms.specs.Term.{Term}
 use Rattle.term_tree.specs.Bank.{symbol_of, tree_at, AreKnown, Names}
 use Rattle.term_tree.specs.declared.bank.Id.{Id}
-use Rattle.term_tree.proofs.BankLaws.{Grows_trans}
+use Rattle.term_tree.proofs.BankLaws.{Grows_trans, Grows_refl}
 use Rattle.unify_match.specs.Seen.{seen}
 use Rattle.unify_match.proofs.SeenLemmas.{IsReady-grows}
 use Rattle.clause_form.proofs.Walks.{known_at, known_later}
@@ -90,3 +90,45 @@ term_under-returns-clause-built g t c =
     let more = c.terms_under.ensures.grows in
     built_more old mid new pairs c.terms_under.new.built c.put.new.self c.args.id c.in_ok-made-in-Some-2.made (Grows_trans old mid new more c.applied.ensures.grows) c.applied.ensures.grows
     c.requires.ready (IsReady-grows old mid pairs more c.requires.ready) c.requires.known c.in_ok-terms_under-in-App.ensures.built (term_under-returns-clause-under g t c) c.in_ok-put-in-Some-2.ensures
+
+pub terms_under-returns-in_err-term_under-clause-grows : goal.terms_under-returns-in_err-term_under-clause-grows
+terms_under-returns-in_err-term_under-clause-grows g t c = Grows_trans (g.B.Bank.trees c.args.bank.now) (g.B.Bank.trees c.each.bank) (g.B.Bank.trees c.term_under.new.bank) c.each.invariant.row.grows c.term_under.ensures.grows
+
+pub terms_under-returns-in-None-clause-grows : goal.terms_under-returns-in-None-clause-grows
+terms_under-returns-in-None-clause-grows g t c = Grows_trans (g.B.Bank.trees c.args.bank.now) (g.B.Bank.trees c.each.bank) (g.B.Bank.trees c.term_under.new.bank) c.each.invariant.row.grows c.term_under.ensures.grows
+
+pub terms_under-returns-in_err-push-in-Some-clause-grows : goal.terms_under-returns-in_err-push-in-Some-clause-grows
+terms_under-returns-in_err-push-in-Some-clause-grows g t c = Grows_trans (g.B.Bank.trees c.args.bank.now) (g.B.Bank.trees c.each.bank) (g.B.Bank.trees c.term_under.new.bank) c.each.invariant.row.grows c.term_under.ensures.grows
+
+pub term_under-returns-in_err-made-in-Some-2-clause-grows : goal.term_under-returns-in_err-made-in-Some-2-clause-grows
+term_under-returns-in_err-made-in-Some-2-clause-grows g t c = Grows_trans (g.B.Bank.trees c.args.bank.now) (g.B.Bank.trees c.terms_under.new.bank) (g.B.Bank.trees c.applied.new.bank) c.terms_under.ensures.grows c.applied.ensures.grows
+
+pub term_under-returns-in_err-put-in-Some-2-clause-grows : goal.term_under-returns-in_err-put-in-Some-2-clause-grows
+term_under-returns-in_err-put-in-Some-2-clause-grows g t c = Grows_trans (g.B.Bank.trees c.args.bank.now) (g.B.Bank.trees c.terms_under.new.bank) (g.B.Bank.trees c.applied.new.bank) c.terms_under.ensures.grows c.applied.ensures.grows
+
+pub term_under-returns-clause-grows : goal.term_under-returns-clause-grows
+term_under-returns-clause-grows g t c = Grows_trans (g.B.Bank.trees c.args.bank.now) (g.B.Bank.trees c.terms_under.new.bank) (g.B.Bank.trees c.applied.new.bank) c.terms_under.ensures.grows c.applied.ensures.grows
+
+pub term_under-returns-in_err-arguments-in-App-clause-grows : goal.term_under-returns-in_err-arguments-in-App-clause-grows
+term_under-returns-in_err-arguments-in-App-clause-grows g t c = Grows_refl (g.B.Bank.trees c.args.bank.now)
+
+pub term_under-returns-in-Some-clause-grows : goal.term_under-returns-in-Some-clause-grows
+term_under-returns-in-Some-clause-grows g t c = Grows_refl (g.B.Bank.trees c.args.bank.now)
+
+pub term_under-returns-in_err-terms_under-in-App-clause-grows : goal.term_under-returns-in_err-terms_under-in-App-clause-grows
+term_under-returns-in_err-terms_under-in-App-clause-grows g t c = c.terms_under.ensures.grows
+
+pub term_under-returns-in-None-2-clause-grows : goal.term_under-returns-in-None-2-clause-grows
+term_under-returns-in-None-2-clause-grows g t c = c.terms_under.ensures.grows
+
+pub term_under-returns-in-None-2-clause-built : goal.term_under-returns-in-None-2-clause-built
+term_under-returns-in-None-2-clause-built g t c = c.in_ok-terms_under-in-App.ensures.built
+
+pub terms_under-returns-in-None-clause-built : goal.terms_under-returns-in-None-clause-built
+terms_under-returns-in-None-clause-built g t c = c.in_ok-term_under.ensures.built
+
+pub term_under-applied-requires-clause-known : goal.term_under-applied-requires-clause-known
+term_under-applied-requires-clause-known g t c =
+    let row = rw c.in-Some-2.is at c.in_ok-terms_under-in-App.ensures.under in
+    let now : c.deref-in-Some-2-2.result.now ≡ c.in-Some-2.now = c.deref-in-Some-2-2.ensures.value ∙ c.now.view_is in
+    subst (λ (l : List Id). AreKnown (g.B.Bank.trees c.terms_under.new.bank) l) (sym now) row.known

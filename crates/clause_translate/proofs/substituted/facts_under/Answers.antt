@@ -8,6 +8,7 @@ use Rattle.clause_form.proofs.Copying.{IsFactIn-grows}
 use Rattle.clause_form.proofs.Renumber.{facts_renumbered_on, facts_renumbered}
 use Rattle.clause_translate.proofs.Facts.{fact_over_later, fact_named_at}
 use Rattle.clause_translate.proofs.Under.{some_fact_over_at}
+use Rattle.term_tree.proofs.BankLaws.{Grows_trans}
 use Rattle.clause_translate.proofs.substituted.facts_under.Goals as goal
 
 pub fact_under-requires-clause-known : goal.fact_under-requires-clause-known
@@ -41,3 +42,12 @@ pub returns-clause-under : goal.returns-clause-under
 returns-clause-under g c =
     let old = g.B.Bank.trees c.args.bank.now in
     facts_renumbered old (g.B.Bank.trees c.each.bank) (resolved (seen old c.args.binds.now.pairs)) c.args.facts.now c.each.fact-index c.each.items.items c.each.invariant.0 c.each-test.false
+
+pub returns-in_err-fact_under-clause-grows : goal.returns-in_err-fact_under-clause-grows
+returns-in_err-fact_under-clause-grows g c = Grows_trans (g.B.Bank.trees c.args.bank.now) (g.B.Bank.trees c.each.bank) (g.B.Bank.trees c.fact_under.new.bank) c.each.invariant.0.grows c.fact_under.ensures.grows
+
+pub returns-in-None-clause-grows : goal.returns-in-None-clause-grows
+returns-in-None-clause-grows g c = Grows_trans (g.B.Bank.trees c.args.bank.now) (g.B.Bank.trees c.each.bank) (g.B.Bank.trees c.fact_under.new.bank) c.each.invariant.0.grows c.fact_under.ensures.grows
+
+pub returns-in_err-push-in-Some-clause-grows : goal.returns-in_err-push-in-Some-clause-grows
+returns-in_err-push-in-Some-clause-grows g c = Grows_trans (g.B.Bank.trees c.args.bank.now) (g.B.Bank.trees c.each.bank) (g.B.Bank.trees c.fact_under.new.bank) c.each.invariant.0.grows c.fact_under.ensures.grows

@@ -5,6 +5,7 @@ use Rattle.unify_match.proofs.SeenLemmas.{IsReady-grows}
 use Rattle.clause_translate.proofs.Scopes.{scope_known_at, scope_known_later}
 use Rattle.clause_translate.proofs.Standing.{stood_on, stood_all, standing_over_at}
 use Rattle.clause_translate.proofs.Under.{over_later, names_later}
+use Rattle.term_tree.proofs.BankLaws.{Grows_trans}
 use Rattle.clause_translate.proofs.unified.scope_under.Goals as goal
 
 pub term_under-requires-clause-known : goal.term_under-requires-clause-known
@@ -36,3 +37,12 @@ pub returns-clause-under : goal.returns-clause-under
 returns-clause-under g c =
     let old = g.B.Bank.trees c.args.bank.now in
     stood_all old (g.B.Bank.trees c.each.bank) (resolved (seen old c.args.binds.now.pairs)) c.args.scope.now c.each.standing-index c.each.items.items c.each.invariant.0 c.each-test.false
+
+pub returns-in_err-term_under-clause-grows : goal.returns-in_err-term_under-clause-grows
+returns-in_err-term_under-clause-grows g c = Grows_trans (g.B.Bank.trees c.args.bank.now) (g.B.Bank.trees c.each.bank) (g.B.Bank.trees c.term_under.new.bank) c.each.invariant.0.grows c.term_under.ensures.grows
+
+pub returns-in-None-clause-grows : goal.returns-in-None-clause-grows
+returns-in-None-clause-grows g c = Grows_trans (g.B.Bank.trees c.args.bank.now) (g.B.Bank.trees c.each.bank) (g.B.Bank.trees c.term_under.new.bank) c.each.invariant.0.grows c.term_under.ensures.grows
+
+pub returns-in_err-push-in-Some-clause-grows : goal.returns-in_err-push-in-Some-clause-grows
+returns-in_err-push-in-Some-clause-grows g c = Grows_trans (g.B.Bank.trees c.args.bank.now) (g.B.Bank.trees c.each.bank) (g.B.Bank.trees c.term_under.new.bank) c.each.invariant.0.grows c.term_under.ensures.grows

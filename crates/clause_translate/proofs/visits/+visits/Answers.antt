@@ -10,7 +10,7 @@ use Rattle.terms.specs.Term.{Term}
 use Rattle.clauses.specs.Fact.{Clause}
 use Rattle.term_tree.specs.Bank.{Grows}
 use Rattle.term_tree.specs.declared.bank.Id.{Id}
-use Rattle.term_tree.proofs.BankLaws.{Grows_refl, Grows_trans, take-grows}
+use Rattle.term_tree.proofs.BankLaws.{Grows_refl, Grows_trans, take-grows, Grows-length}
 use Rattle.translation.specs.Visit.{is_large_visit, after_new}
 use Rattle.clause_translate.specs.declared.listing.Listing.{Listing}
 use Rattle.clause_translate.specs.declared.visit.Visit as source
@@ -22,7 +22,7 @@ use Rattle.clause_translate.specs.Forms.{is_large_output, present, Receives, IsL
 use Rattle.clause_translate.specs.Jobs.{Once, Uncounted, Each, Ends, visits_at}
 use Rattle.clause_translate.proofs.Named.{visit_later}
 use Rattle.clause_translate.proofs.Weights.{weight}
-use Rattle.clause_translate.proofs.Visiting.{none_left, nil_ends, spelled, counted_ok, ends_back, moved, moved_each, output_ends, event_ends, input_ends, copies_ends, new_ends, parallel_ends, let_ends, next_large, known_visits}
+use Rattle.clause_translate.proofs.Visiting.{none_left, nil_ends, spelled, counted_ok, ends_back, moved, moved_each, output_ends, event_ends, input_ends, copies_ends, new_ends, parallel_ends, let_ends, next_large, known_visits, output_large, event_large, input_large, new_large, left_large, let_large, choice_large}
 use Rattle.clause_translate.proofs.Repeating.{visit_of, none_visited, one_visited, one_large, all_visited}
 use Rattle.clause_translate.proofs.visits.+visits.Goals as goal
 
@@ -430,3 +430,197 @@ visit_form-returns-in-Nil-clause-ends g t c =
     let v = visit_at old w in
     subst (λ (p : calculus.Process). Ends P (Uncounted p c.args.place.now.point v) old c.args.listing.now c.args.listing.now None) (sym (ap process_of c.in-Nil.is))
     (nil_ends P c.args.place.now.point v old c.args.listing.now)
+
+pub visit_output-returns-clause-grows : goal.visit_output-returns-clause-grows
+visit_output-returns-clause-grows g t c = Grows_trans (g.B.Bank.trees c.args.bank.now) (g.B.Bank.trees c.add_output.new.bank) (g.B.Bank.trees c.visit_process.new.bank) c.add_output.ensures.grows c.visit_process.ensures.grows
+
+pub visit_input-returns-in-Some-clause-grows : goal.visit_input-returns-in-Some-clause-grows
+visit_input-returns-in-Some-clause-grows g t c = Grows_trans (g.B.Bank.trees c.args.bank.now) (g.B.Bank.trees c.after_input.new.bank) (g.B.Bank.trees c.visit_process.new.bank) c.after_input.ensures.grows c.visit_process.ensures.grows
+
+pub visit_parallel-returns-in-None-clause-grows : goal.visit_parallel-returns-in-None-clause-grows
+visit_parallel-returns-in-None-clause-grows g t c = Grows_trans (g.B.Bank.trees c.args.bank.now) (g.B.Bank.trees c.visit_process.new.bank) (g.B.Bank.trees c.visit_process-in-None.new.bank) c.visit_process.ensures.grows c.visit_process-in-None.ensures.grows
+
+pub visit_copies-returns-clause-grows : goal.visit_copies-returns-clause-grows
+visit_copies-returns-clause-grows g t c = Grows_trans (g.B.Bank.trees c.args.bank.now) (g.B.Bank.trees c.after_copy.new.bank) (g.B.Bank.trees c.visit_process.new.bank) c.after_copy.ensures.grows c.visit_process.ensures.grows
+
+pub visit_new-returns-in-Some-clause-grows : goal.visit_new-returns-in-Some-clause-grows
+visit_new-returns-in-Some-clause-grows g t c = Grows_trans (g.B.Bank.trees c.args.bank.now) (g.B.Bank.trees c.after_new.new.bank) (g.B.Bank.trees c.visit_process.new.bank) c.after_new.ensures.grows c.visit_process.ensures.grows
+
+pub visit_let-returns-in-Some-2-clause-grows : goal.visit_let-returns-in-Some-2-clause-grows
+visit_let-returns-in-Some-2-clause-grows g t c = Grows_trans (g.B.Bank.trees c.args.bank.now) (g.B.Bank.trees c.choices.new.bank) (g.B.Bank.trees c.visit_each.new.bank) c.choices.ensures.grows c.visit_each.ensures.grows
+
+pub visit_let-returns-clause-grows : goal.visit_let-returns-clause-grows
+visit_let-returns-clause-grows g t c = Grows_trans (g.B.Bank.trees c.args.bank.now) (g.B.Bank.trees c.visit_each.new.bank) (g.B.Bank.trees c.visit_process.new.bank) (Grows_trans (g.B.Bank.trees c.args.bank.now) (g.B.Bank.trees c.choices.new.bank) (g.B.Bank.trees c.visit_each.new.bank) c.choices.ensures.grows c.visit_each.ensures.grows) c.visit_process.ensures.grows
+
+pub visit_event-returns-in-Some-clause-grows : goal.visit_event-returns-in-Some-clause-grows
+visit_event-returns-in-Some-clause-grows g t c = Grows_trans (g.B.Bank.trees c.args.bank.now) (g.B.Bank.trees c.add_event.new.bank) (g.B.Bank.trees c.visit_process.new.bank) c.add_event.ensures.grows c.visit_process.ensures.grows
+
+pub visit_let-returns-in_err-point-in-Some-clause-grows : goal.visit_let-returns-in_err-point-in-Some-clause-grows
+visit_let-returns-in_err-point-in-Some-clause-grows g t c = Grows_trans (g.B.Bank.trees c.args.bank.now) (g.B.Bank.trees c.choices.new.bank) (g.B.Bank.trees c.visit_each.new.bank) c.choices.ensures.grows c.visit_each.ensures.grows
+
+pub visit_let-returns-in_err-after-clause-grows : goal.visit_let-returns-in_err-after-clause-grows
+visit_let-returns-in_err-after-clause-grows g t c = Grows_refl (g.B.Bank.trees c.args.bank.now)
+
+pub visit_let-returns-in_err-below-clause-grows : goal.visit_let-returns-in_err-below-clause-grows
+visit_let-returns-in_err-below-clause-grows g t c = Grows_refl (g.B.Bank.trees c.args.bank.now)
+
+pub visit_parallel-returns-in_err-after-clause-grows : goal.visit_parallel-returns-in_err-after-clause-grows
+visit_parallel-returns-in_err-after-clause-grows g t c = Grows_refl (g.B.Bank.trees c.args.bank.now)
+
+pub visit_parallel-returns-in_err-below-clause-grows : goal.visit_parallel-returns-in_err-below-clause-grows
+visit_parallel-returns-in_err-below-clause-grows g t c = Grows_refl (g.B.Bank.trees c.args.bank.now)
+
+pub visit_input-returns-in_err-below-clause-grows : goal.visit_input-returns-in_err-below-clause-grows
+visit_input-returns-in_err-below-clause-grows g t c = Grows_refl (g.B.Bank.trees c.args.bank.now)
+
+pub visit_event-returns-in_err-below-clause-grows : goal.visit_event-returns-in_err-below-clause-grows
+visit_event-returns-in_err-below-clause-grows g t c = Grows_refl (g.B.Bank.trees c.args.bank.now)
+
+pub visit_new-returns-in_err-below-clause-grows : goal.visit_new-returns-in_err-below-clause-grows
+visit_new-returns-in_err-below-clause-grows g t c = Grows_refl (g.B.Bank.trees c.args.bank.now)
+
+pub visit_copies-returns-in_err-below-clause-grows : goal.visit_copies-returns-in_err-below-clause-grows
+visit_copies-returns-in_err-below-clause-grows g t c = Grows_refl (g.B.Bank.trees c.args.bank.now)
+
+pub visit_let-returns-then-is_large_let-clause-grows : goal.visit_let-returns-then-is_large_let-clause-grows
+visit_let-returns-then-is_large_let-clause-grows g t c = Grows_refl (g.B.Bank.trees c.args.bank.now)
+
+pub visit_form-returns-in-Nil-clause-grows : goal.visit_form-returns-in-Nil-clause-grows
+visit_form-returns-in-Nil-clause-grows g t c = Grows_refl (g.B.Bank.trees c.args.bank.now)
+
+pub visit_process-returns-then-listing-eq0-clause-grows : goal.visit_process-returns-then-listing-eq0-clause-grows
+visit_process-returns-then-listing-eq0-clause-grows g t c = Grows_refl (g.B.Bank.trees c.args.bank.now)
+
+pub visit_output-returns-in_err-below-clause-grows : goal.visit_output-returns-in_err-below-clause-grows
+visit_output-returns-in_err-below-clause-grows g t c = c.add_output.ensures.grows
+
+pub visit_output-returns-then-not-branch-clause-grows : goal.visit_output-returns-then-not-branch-clause-grows
+visit_output-returns-then-not-branch-clause-grows g t c = c.add_output.ensures.grows
+
+pub visit_let-returns-in-None-clause-grows : goal.visit_let-returns-in-None-clause-grows
+visit_let-returns-in-None-clause-grows g t c = c.choices.ensures.grows
+
+pub visit_let-returns-in_err-choices-clause-grows : goal.visit_let-returns-in_err-choices-clause-grows
+visit_let-returns-in_err-choices-clause-grows g t c = c.choices.ensures.grows
+
+pub visit_event-returns-in-None-clause-grows : goal.visit_event-returns-in-None-clause-grows
+visit_event-returns-in-None-clause-grows g t c = c.add_event.ensures.grows
+
+pub visit_event-returns-in_err-add_event-clause-grows : goal.visit_event-returns-in_err-add_event-clause-grows
+visit_event-returns-in_err-add_event-clause-grows g t c = c.add_event.ensures.grows
+
+pub visit_input-returns-in-None-clause-grows : goal.visit_input-returns-in-None-clause-grows
+visit_input-returns-in-None-clause-grows g t c = c.after_input.ensures.grows
+
+pub visit_input-returns-in_err-after_input-clause-grows : goal.visit_input-returns-in_err-after_input-clause-grows
+visit_input-returns-in_err-after_input-clause-grows g t c = c.after_input.ensures.grows
+
+pub visit_new-returns-in-None-clause-grows : goal.visit_new-returns-in-None-clause-grows
+visit_new-returns-in-None-clause-grows g t c = c.after_new.ensures.grows
+
+pub visit_new-returns-in_err-after_new-clause-grows : goal.visit_new-returns-in_err-after_new-clause-grows
+visit_new-returns-in_err-after_new-clause-grows g t c = c.after_new.ensures.grows
+
+pub visit_parallel-returns-in-Some-clause-grows : goal.visit_parallel-returns-in-Some-clause-grows
+visit_parallel-returns-in-Some-clause-grows g t c = c.visit_process.ensures.grows
+
+pub visit_parallel-returns-in_err-point-clause-grows : goal.visit_parallel-returns-in_err-point-clause-grows
+visit_parallel-returns-in_err-point-clause-grows g t c = c.visit_process.ensures.grows
+
+pub visit_copies-returns-in_err-made-clause-grows : goal.visit_copies-returns-in_err-made-clause-grows
+visit_copies-returns-in_err-made-clause-grows g t c = c.after_copy.ensures.grows
+
+pub visit_counted-returns-then-count-clause-grows : goal.visit_counted-returns-then-count-clause-grows
+visit_counted-returns-then-count-clause-grows g t c = c.visit_form.ensures.grows
+
+pub visit_form-returns-in-Let-clause-grows : goal.visit_form-returns-in-Let-clause-grows
+visit_form-returns-in-Let-clause-grows g t c = c.visit_let.ensures.grows
+
+pub visit_form-returns-in-Event-clause-grows : goal.visit_form-returns-in-Event-clause-grows
+visit_form-returns-in-Event-clause-grows g t c = c.visit_event.ensures.grows
+
+pub visit_form-returns-in-Par-clause-grows : goal.visit_form-returns-in-Par-clause-grows
+visit_form-returns-in-Par-clause-grows g t c = c.visit_parallel.ensures.grows
+
+pub visit_form-returns-in-Input-clause-grows : goal.visit_form-returns-in-Input-clause-grows
+visit_form-returns-in-Input-clause-grows g t c = c.visit_input.ensures.grows
+
+pub visit_form-returns-in-Output-clause-grows : goal.visit_form-returns-in-Output-clause-grows
+visit_form-returns-in-Output-clause-grows g t c = c.visit_output.ensures.grows
+
+pub visit_form-returns-in-New-clause-grows : goal.visit_form-returns-in-New-clause-grows
+visit_form-returns-in-New-clause-grows g t c = c.visit_new.ensures.grows
+
+pub visit_form-returns-in-Copies-clause-grows : goal.visit_form-returns-in-Copies-clause-grows
+visit_form-returns-in-Copies-clause-grows g t c = c.visit_copies.ensures.grows
+
+pub visit_counted-back-requires : goal.visit_counted-back-requires
+visit_counted-back-requires g t c = omega (arith, c.mark-mark.ensures, Grows-length (g.B.Bank.trees c.args.bank.now) (g.B.Bank.trees c.visit_form.new.bank) c.visit_form.ensures.grows)
+
+pub visit_output-returns-then-not-branch-clause-ends : goal.visit_output-returns-then-not-branch-clause-ends
+visit_output-returns-then-not-branch-clause-ends g t c =
+    let P = protocol_at c.args.place.now in
+    let v = visit_at (g.B.Bank.trees c.args.bank.now) c.args.visit.now in
+    let point = c.args.place.now.point in
+    let channel = term_of c.args.output.now.channel.now in
+    let message = term_of c.args.output.now.message.now in
+    output_large P v channel message (process_of c.args.output.now.next.now) point c.args.listing.now.left
+    (subst (λ b. MatchBool b (is_large_output P v channel message ≡ false) (is_large_output P v channel message ≡ true)) c.if-not-branch.true c.in_ok-add_output.ensures.large)
+
+pub visit_event-returns-in-None-clause-ends : goal.visit_event-returns-in-None-clause-ends
+visit_event-returns-in-None-clause-ends g t c =
+    let P = protocol_at c.args.place.now in
+    let v = visit_at (g.B.Bank.trees c.args.bank.now) c.args.visit.now in
+    let point = c.args.place.now.point in
+    let performed = event_of c.args.event.now.atom.now in
+    event_large P v performed (process_of c.args.event.now.next.now) point c.args.listing.now.left
+    (subst (λ (o : Option source.Visit). EventAdds P v performed (g.B.Bank.trees c.add_event.new.bank) c.args.listing.now c.add_event.new.listing o) c.in-None.is c.in_ok-add_event.ensures.adds)
+
+pub visit_input-returns-in-None-clause-ends : goal.visit_input-returns-in-None-clause-ends
+visit_input-returns-in-None-clause-ends g t c =
+    let P = protocol_at c.args.place.now in
+    let v = visit_at (g.B.Bank.trees c.args.bank.now) c.args.visit.now in
+    let point = c.args.place.now.point in
+    let channel = term_of c.args.input.now.channel.now in
+    let pattern = pattern_of c.args.input.now.pattern.now in
+    input_large P v channel pattern (process_of c.args.input.now.next.now) point c.args.listing.now.left
+    (subst (λ (o : Option source.Visit). MatchOption o (IsLargeInput P v channel pattern) (λ made. Receives P v channel pattern (g.B.Bank.trees c.after_input.new.bank) made)) c.in-None.is c.in_ok-after_input.ensures.receives)
+
+pub visit_new-returns-in-None-clause-ends : goal.visit_new-returns-in-None-clause-ends
+visit_new-returns-in-None-clause-ends g t c =
+    let P = protocol_at c.args.place.now in
+    let v = visit_at (g.B.Bank.trees c.args.bank.now) c.args.visit.now in
+    let point = c.args.place.now.point in
+    new_large P v (process_of c.args.next.now) point c.args.listing.now.left
+    (subst (λ (o : Option source.Visit). MatchOption o (is_large_visit (after_new v point) ≡ true) (λ made. is_large_visit (after_new v point) ≡ false)) c.in-None.is c.in_ok-after_new.ensures.large)
+
+pub visit_parallel-returns-in-Some-clause-ends : goal.visit_parallel-returns-in-Some-clause-ends
+visit_parallel-returns-in-Some-clause-ends g t c =
+    let P = protocol_at c.args.place.now in
+    let v = visit_at (g.B.Bank.trees c.args.bank.now) c.args.visit.now in
+    let point = c.args.place.now.point in
+    let left = process_of c.args.both.now.left.now in
+    let mid = g.B.Bank.trees c.visit_process.new.bank in
+    left_large P v left (process_of c.args.both.now.right.now) point c.args.listing.now.left c.in-Some.point
+    (moved P (point + 1) v c.in_ok-below.below v left mid c.args.listing.now c.visit_process.new.listing (Some c.in-Some.point) c.in_ok-below.ensures refl
+    (subst (λ (o : Option ℕ). Ends (protocol_at c.in_ok-below.below) (Once left c.in_ok-below.below.point v) mid c.args.listing.now c.visit_process.new.listing o) c.in-Some.is c.in_ok-point.ensures.ends))
+
+pub visit_let-returns-then-is_large_let-clause-ends : goal.visit_let-returns-then-is_large_let-clause-ends
+visit_let-returns-then-is_large_let-clause-ends g t c =
+    let P = protocol_at c.args.place.now in
+    let v = visit_at (g.B.Bank.trees c.args.bank.now) c.args.visit.now in
+    let point = c.args.place.now.point in
+    let choice = c.args.choice.now in
+    let_large P v (pattern_of choice.pattern.now) (expression_of choice.expression.now) (process_of choice.next.now) (process_of choice.otherwise.now) point c.args.listing.now.left
+    (sym c.is_large_let.ensures ∙ c.if-is_large_let.true)
+
+pub visit_let-returns-in-None-clause-ends : goal.visit_let-returns-in-None-clause-ends
+visit_let-returns-in-None-clause-ends g t c =
+    let P = protocol_at c.args.place.now in
+    let v = visit_at (g.B.Bank.trees c.args.bank.now) c.args.visit.now in
+    let point = c.args.place.now.point in
+    let choice = c.args.choice.now in
+    let pattern = pattern_of choice.pattern.now in
+    let expression = expression_of choice.expression.now in
+    choice_large P v pattern expression (process_of choice.next.now) (process_of choice.otherwise.now) point c.args.listing.now.left (sym c.is_large_let.ensures ∙ c.if-is_large_let.false)
+    (subst (λ (o : Option Visits). MatchOption o (IsLargeChoice P v pattern expression) (λ visits. GoOn P v pattern expression (g.B.Bank.trees c.choices.new.bank) visits.items.items)) c.in-None.is c.in_ok-choices.ensures.go)

@@ -1,5 +1,6 @@
-use Rattle.std.proofs.Common.{◌++◌, ◌∙◌, List, ap, map, sym, ℕ}
+use Rattle.std.proofs.Common.{◌++◌, ◌∙◌, List, ap, map, sym, ℕ, arith}
 use Rattle.std.proofs.lemmas.Simd.{map-map}
+use Rattle.std.proofs.lemmas.Grind.{common_steps}
 use Rattle.placements.specs.Placing.{loose_variables}
 use Rattle.clause_form.specs.Facts.{fact_of}
 use Rattle.clause_form.specs.Seen.{fact_at}
@@ -13,3 +14,9 @@ loop-hyp-init g c =
 
 pub known_variable-requires : goal.known_variable-requires
 known_variable-requires g c = fact_known_at (g.B.Bank.trees c.args.bank.now) c.args.hyps.now c.loop-hyp.hyp-index c.hyp-item.result c.hyp-item.is c.requires c.loop-hyp-test.true
+
+pub loop-hyp-preserved : goal.loop-hyp-preserved
+loop-hyp-preserved g c = grind (arith, common_steps)
+
+pub returns : goal.returns
+returns g c = grind (arith, common_steps)

@@ -1,14 +1,14 @@
-use Rattle.std.proofs.Common.{◌∙◌, ◌+◌, ◌∷◌, List, ap, sym, subst, map, drop, arith, Bor}
+use Rattle.std.proofs.Common.{◌∙◌, ◌+◌, ◌∷◌, List, ap, sym, subst, map, drop, arith, Bor, ℕ, length}
 use Rattle.clauses.specs.Fact as horn
 use Rattle.term_tree.specs.declared.bank.Id.{Id}
 use Rattle.clause_form.specs.declared.facts.Fact.{Fact}
 use Rattle.clause_form.specs.Facts.{fact_of}
 use Rattle.clause_form.specs.Seen.{AreFactsIn}
 use Rattle.clause_form.proofs.Comparing.{map_dropped}
-use Rattle.multiset_subsume.specs.Boards.{HoldsOn, IsNextRow}
+use Rattle.multiset_subsume.specs.Boards.{HoldsOn, IsNextRow, AreLinkedOn}
 use Rattle.multiset_subsume.proofs.Listing.{unref}
 use Rattle.multiset_subsume.proofs.Putting.{known_ref, linked_on}
-use Rattle.multiset_subsume.proofs.FirstRows.{way_on, way_ends, rest_of, known_dropped, front_of, next_within}
+use Rattle.multiset_subsume.proofs.FirstRows.{way_on, way_ends, rest_of, known_dropped, front_of, next_within, way_begins}
 use Rattle.multiset_subsume.proofs.covering.ordered.Goals as goal
 
 pub place_first-requires-clause-fact : goal.place_first-requires-clause-fact
@@ -63,3 +63,29 @@ pub returns : goal.returns
 returns g c =
     let none = map_dropped unref c.args.facts.now c.each.k c.each-test.false in
     way_ends (g.B.Bank.trees c.args.board.now.bank.now) (map fact_of c.args.board.now.hyps.now) c.args.board.now.loose.now c.args.placing.binds.pairs c.args.placing.taken.items (map unref c.args.facts.now) c.each.placing.binds.pairs c.each.placing.taken.items (map unref (drop c.each.k c.args.facts.now)) c.each.items.items c.each.row.items none c.each.invariant.way
+
+pub each-init : goal.each-init
+each-init g c = record {
+  way = way_begins (g.B.Bank.trees c.args.board.now.bank.now) (map fact_of c.args.board.now.hyps.now) c.args.board.now.loose.now c.args.placing.binds.pairs c.args.placing.taken.items (map unref c.args.facts.now) c.args.known.items c.in_ok-items.items.items c.in_ok-items.ensures.items c.requires.placing c.requires.known;
+  linked = c.requires.linked;
+}
+
+pub remove-position-requires : goal.remove-position-requires
+remove-position-requires g c =
+    let next = c.in_ok-row.ensures.outcome in
+    omega (arith, ap (λ (ps : List ℕ). length ps) next.are, c.in_ok-row.row.ok.0)
+
+pub place_first-requires-clause-placing : goal.place_first-requires-clause-placing
+place_first-requires-clause-placing g c = c.each.invariant.way.placing
+
+pub place_first-requires-clause-board : goal.place_first-requires-clause-board
+place_first-requires-clause-board g c = c.requires.board
+
+pub place_first-requires-clause-linked : goal.place_first-requires-clause-linked
+place_first-requires-clause-linked g c =
+    let all = g.B.Bank.trees c.args.board.now.bank.now in
+    let facts = c.args.facts.now in
+    let k = c.each.k in
+    let f = c.index-facts-k.result in
+    let front = front_of facts k f c.each-test.true c.index-facts-k.is ∙ ap (λ (fs : List (Bor Fact)). unref f ∷ map unref fs) (sym (rest_of facts (k + 1))) in
+    subst (λ (fs : List (horn.Fact Id)). AreLinkedOn all c.args.board.now.loose.now c.each.placing.binds.pairs fs) front c.each.invariant.linked

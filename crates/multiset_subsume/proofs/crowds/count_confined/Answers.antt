@@ -1,11 +1,12 @@
 use Rattle.std.proofs.Common.{map, arith}
+use Rattle.std.proofs.lemmas.Grind.{common_steps}
 use Rattle.clause_form.specs.Facts.{fact_of}
 use Rattle.unify_match.specs.Seen.{seen}
 use Rattle.clause_form.specs.Seen.{fact_at}
 use Rattle.placements.specs.Crowds.{IsConfined}
 use Rattle.multiset_subsume.specs.Boards.{facts_at}
 use Rattle.multiset_subsume.proofs.Putting.{known_ref}
-use Rattle.multiset_subsume.proofs.Keeping.{as_before-trans, as_back}
+use Rattle.multiset_subsume.proofs.Keeping.{as_before-trans, as_back, placing_as}
 use Rattle.multiset_subsume.proofs.Listing.{unref}
 use Rattle.multiset_subsume.proofs.Confining.{confined_on}
 use Rattle.multiset_subsume.proofs.crowds.count_confined.Goals as goal
@@ -27,3 +28,9 @@ each-preserved g c =
           (λ e. as_back (λ pairs flags. IsConfined (seen all pairs) flags (facts_at all hyps) c.args.area.now (fact_at all (unref f))) old c.each.placing.binds.pairs taken c.each.placing.taken.items c.each.invariant.same (c.in_ok-fits_only.ensures.confined e))
           c.one_if.ensures.is c.each.invariant.confined;
     }
+
+pub fits_only-requires-clause-placing : goal.fits_only-requires-clause-placing
+fits_only-requires-clause-placing g c = placing_as (g.B.Bank.trees c.args.board.now.bank.now) (map fact_of c.args.board.now.hyps.now) c.args.placing.now.binds.pairs c.each.placing.binds.pairs c.args.placing.now.taken.items c.each.placing.taken.items c.each.invariant.same c.requires.placing
+
+pub returns-clause-confined : goal.returns-clause-confined
+returns-clause-confined g c = grind (arith, common_steps)

@@ -1,6 +1,7 @@
 use Rattle.std.proofs.Common.{◌≡◌, ◌∙◌, ◌+◌, ◌∷◌, ◌<◌, ℕ, refl, ap, sym, length, map, drop, get_or, arith, add-one, drop-cons}
 use Rattle.std.proofs.lemmas.Bool.{MatchBool-at_true, MatchBool-at_false}
 use Rattle.std.proofs.lemmas.List.{length-map}
+use Rattle.std.proofs.lemmas.Grind.{common_steps}
 use Rattle.clause_form.specs.Facts.{fact_of}
 use Rattle.clause_form.proofs.Comparing.{map_drop}
 use Rattle.multiset_subsume.proofs.Listing.{unref}
@@ -50,3 +51,6 @@ each-preserved g c =
       holds = (λ h. on.0 (c.each.invariant.holds.0 h), λ h. c.each.invariant.holds.1 (on.1 h));
       linked = λ l. linked_on all hyps loose c.each.placing.binds.pairs c.put_at.new.placing.binds.pairs c.each.placing.taken.items c.put_at.new.placing.taken.items (map unref (drop k facts)) rest (unref f) put.0 facts_are put.2 (c.each.invariant.linked l);
     }
+
+pub returns-clause-outcome : goal.returns-clause-outcome
+returns-clause-outcome g c = grind (arith, common_steps)

@@ -1,4 +1,5 @@
 use Rattle.std.proofs.Common.{List, sym, subst, map, arith, rules}
+use Rattle.std.proofs.lemmas.Grind.{common_steps}
 use Rattle.clauses.specs.Fact.{Fact}
 use Rattle.terms.specs.Term.{Term}
 use Rattle.term_tree.specs.Bank.{symbol_of}
@@ -30,3 +31,6 @@ returns-after-each g t c =
     let parted = data_flat all c.args.term (symbol_of c.in-App.symbol) c.in-App.arguments.now c.in-App.ensures.0 (search rules) in
     subst (λ (ys : List (Fact Term)). Removes H c.args.taken.now c.each.taken ys) (sym parted)
     (removes_all (parts_at all) H c.in-App.arguments.now c.each.argument-index c.args.taken.now c.each.taken c.each-test.false c.each.invariant.removes)
+
+pub each-preserved : goal.each-preserved
+each-preserved g t c = grind (arith, common_steps)

@@ -1,6 +1,7 @@
 use Rattle.std.proofs.Common.{◌≡◌, ◌∙◌, ◌≤◌, Bool, List, [], ◌∷◌, Some, true, false, ap, sym, subst, refl, map, length, set, get_or, arith}
 use Rattle.std.specs.Prelude.{slice_get}
 use Rattle.std.proofs.lemmas.Bool.{false≢true}
+use Rattle.std.proofs.lemmas.Grind.{common_steps}
 use borrow.Author.Count.{below_more}
 use Rattle.clauses.specs.Fact.{Att}
 use Rattle.term_tree.specs.Bank.{tree_at}
@@ -47,3 +48,9 @@ returns g c =
     let y = Att (tree_at all c.args.term) in
     let past : length H ≤ c.each.p = omega (arith, length_at all c.args.hyps.now, c.each-test.false) in
     lacking H c.args.taken.now y c.requires.flags (lacks H c.args.taken.now y c.each.p past c.each.invariant.before)
+
+pub bounds-taken-p : goal.bounds-taken-p
+bounds-taken-p g c = grind (arith, common_steps)
+
+pub bounds-taken-p-then-is_free : goal.bounds-taken-p-then-is_free
+bounds-taken-p-then-is_free g c = grind (arith, common_steps)

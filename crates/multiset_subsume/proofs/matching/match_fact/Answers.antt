@@ -1,17 +1,15 @@
-use Rattle.multiset_subsume.proofs.FactTerms.{args_told, att_told, mess_told, ev_told, mev_told, bad_told}
+use Rattle.std.proofs.Common.{◌≡◌, ◌∙◌, sym, ap, rules}
+use Rattle.clauses.specs.Fact.{terms_of}
+use Rattle.clauses.specs.Head.{head_of}
+use Rattle.clause_form.specs.Facts.{fact_of}
+use Rattle.clause_form.specs.Heads.{head_seen}
+use Rattle.multiset_subsume.proofs.FactTerms.{terms_told}
 use Rattle.multiset_subsume.proofs.matching.match_fact.Goals as goal
 
-pub returns-in-Att-special-clause-outcome : goal.returns-in-Att-special-clause-outcome
-returns-in-Att-special-clause-outcome g c = att_told (g.B.Bank.trees c.args.bank.now) c.args.binds.now.pairs c.match_all_onto.new.binds.pairs c.match_all_onto.result c.args.general.now c.args.special.now c.in-Att.t c.in-Att-special.u c.in-Att.is c.in-Att-special.is c.match_all_onto.ensures.outcome
-
-pub returns-in-Mess-special-2-clause-outcome : goal.returns-in-Mess-special-2-clause-outcome
-returns-in-Mess-special-2-clause-outcome g c = mess_told (g.B.Bank.trees c.args.bank.now) c.args.binds.now.pairs c.match_all_onto-in-Mess-special-2.new.binds.pairs c.match_all_onto-in-Mess-special-2.result c.args.general.now c.args.special.now c.in-Mess.t c.in-Mess.u c.in-Mess-special-2.v c.in-Mess-special-2.w c.in-Mess.is c.in-Mess-special-2.is c.match_all_onto-in-Mess-special-2.ensures.outcome
-
-pub returns-else-e-g-clause-outcome : goal.returns-else-e-g-clause-outcome
-returns-else-e-g-clause-outcome g c = ev_told (g.B.Bank.trees c.args.bank.now) c.args.binds.now.pairs c.match_arguments.new.binds.pairs c.match_arguments.result c.args.general.now c.args.special.now c.in-Ev.e c.in-Ev-special.g c.in-Ev.ts c.in-Ev-special.us c.in-Ev.is c.in-Ev-special.is c.if-e-g.false (args_told (g.B.Bank.trees c.args.bank.now) c.args.binds.now.pairs c.match_arguments.new.binds.pairs c.match_arguments.result c.in-Ev.ts c.in-Ev-special.us c.deref.result.now c.deref-in-Ev-special.result.now (cc) (cc) c.match_arguments.ensures.outcome)
-
-pub returns-else-e-g-2-clause-outcome : goal.returns-else-e-g-2-clause-outcome
-returns-else-e-g-2-clause-outcome g c = mev_told (g.B.Bank.trees c.args.bank.now) c.args.binds.now.pairs c.match_arguments-in-Mev-special.new.binds.pairs c.match_arguments-in-Mev-special.result c.args.general.now c.args.special.now c.in-Mev.e c.in-Mev-special.g c.in-Mev.ts c.in-Mev-special.us c.in-Mev.is c.in-Mev-special.is c.if-e-g-2.false (args_told (g.B.Bank.trees c.args.bank.now) c.args.binds.now.pairs c.match_arguments-in-Mev-special.new.binds.pairs c.match_arguments-in-Mev-special.result c.in-Mev.ts c.in-Mev-special.us c.deref-in-Mev-special.result.now c.deref-in-Mev-special-2.result.now (cc) (cc) c.match_arguments-in-Mev-special.ensures.outcome)
-
-pub returns-in-Bad-special-clause-outcome : goal.returns-in-Bad-special-clause-outcome
-returns-in-Bad-special-clause-outcome g c = bad_told (g.B.Bank.trees c.args.bank.now) c.args.binds.now.pairs c.match_arguments-in-Bad-special.new.binds.pairs c.match_arguments-in-Bad-special.result c.args.general.now c.args.special.now c.in-Bad.ts c.in-Bad-special.us c.in-Bad.is c.in-Bad-special.is (args_told (g.B.Bank.trees c.args.bank.now) c.args.binds.now.pairs c.match_arguments-in-Bad-special.new.binds.pairs c.match_arguments-in-Bad-special.result c.in-Bad.ts c.in-Bad-special.us c.deref-in-Bad-special.result.now c.deref-in-Bad-special-2.result.now (cc) (cc) c.match_arguments-in-Bad-special.ensures.outcome)
+pub returns-clause-outcome : goal.returns-clause-outcome
+returns-clause-outcome g c =
+    let generals : c.as_slice.result.now ≡ terms_of (fact_of c.args.general.now) = c.as_slice.ensures ∙ c.terms-generals.ensures in
+    let specials : c.as_slice-2.result.now ≡ terms_of (fact_of c.args.special.now) = c.as_slice-2.ensures ∙ c.terms-specials.ensures in
+    let same : c.head.result ≡ c.head-2.result = search rules in
+    let heads : head_of (fact_of c.args.general.now) ≡ head_of (fact_of c.args.special.now) = sym c.head.ensures ∙ (ap head_seen same ∙ c.head-2.ensures) in
+    terms_told (g.B.Bank.trees c.args.bank.now) c.args.binds.now.pairs _ c.match_lists.result (fact_of c.args.general.now) (fact_of c.args.special.now) _ _ generals specials heads c.match_lists.ensures.outcome

@@ -25,3 +25,9 @@ returns-clause-refused g c e can =
     let same : c.deref.result.now ≡ c.in_ok-part.part.items = c.deref.ensures.value in
     let within : IsWithin part facts = subst (λ (fs : List (Bor Fact)). IsWithin (map unref fs) facts) (sym same) c.in_ok-part.ensures in
     at_none (CanPlaceOn all hyps [] pairs taken part → ⊥) c.in_ok-can_place.field-0 (λ row. HoldsOn all hyps [] pairs taken part row.items) c.in-None.is c.in_ok-can_place.ensures.outcome (part_placed all hyps c.args.board.now.loose.now [] pairs taken facts part refl within can)
+
+pub returns-in-Some-clause-same : goal.returns-in-Some-clause-same
+returns-in-Some-clause-same g c = c.can_place.ensures.same
+
+pub returns-clause-same : goal.returns-clause-same
+returns-clause-same g c = c.can_place.ensures.same

@@ -1,5 +1,6 @@
-use Rattle.std.proofs.Common.{refl, map, get_or, subst}
+use Rattle.std.proofs.Common.{refl, map, get_or, subst, arith}
 use Rattle.std.proofs.lemmas.Bool.{MatchBool-at_true, MatchBool-at_false}
+use Rattle.std.proofs.lemmas.Grind.{common_steps}
 use Rattle.clause_form.specs.declared.facts.Fact.{Fact}
 use Rattle.clause_form.specs.Facts.{fact_of}
 use Rattle.clause_form.specs.Seen.{fact_at, IsFactIn}
@@ -29,3 +30,12 @@ returns-clause-outcome g c =
       matched = MatchBool-at_true _ _ c.if-not-branch.false c.in_ok-match_fact.ensures.outcome;
       flags = refl;
     }
+
+pub index_mut-requires : goal.index_mut-requires
+index_mut-requires g c = grind (arith, common_steps)
+
+pub index-requires : goal.index-requires
+index-requires g c = grind (arith, common_steps)
+
+pub returns-then-index-clause-outcome : goal.returns-then-index-clause-outcome
+returns-then-index-clause-outcome g c = grind (arith, common_steps)

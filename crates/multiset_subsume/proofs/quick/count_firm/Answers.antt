@@ -1,5 +1,6 @@
 use Rattle.std.proofs.Common.{◌≡◌, ap, map, sym, length, arith}
 use Rattle.std.proofs.lemmas.Simd.{map-map}
+use Rattle.std.proofs.lemmas.Grind.{common_steps}
 use Rattle.clauses.specs.Subsumption.{firm}
 use Rattle.clause_form.specs.Facts.{fact_of}
 use Rattle.clause_form.specs.Seen.{fact_at}
@@ -15,3 +16,9 @@ each-init g c =
 
 pub one_if_firm-count-requires : goal.one_if_firm-count-requires
 one_if_firm-count-requires g c = fact_known_at (g.B.Bank.trees c.args.bank.now) c.args.facts.now c.each.fact-index c.fact-item.result c.fact-item.is c.requires c.each-test.true
+
+pub each-preserved : goal.each-preserved
+each-preserved g c = grind (arith, common_steps)
+
+pub returns : goal.returns
+returns g c = grind (arith, common_steps)

@@ -1,4 +1,4 @@
-use Rattle.std.proofs.Common.{◌≡◌, ◌∙◌, ◌∷◌, ◌+◌, ℕ, List, map, length, get_or, refl, ap, sym, subst, arith, rules, Bor}
+use Rattle.std.proofs.Common.{◌≡◌, ◌∙◌, ◌∷◌, ◌+◌, ℕ, List, map, length, get_or, refl, ap, sym, subst, arith, rules, Bor, IfOk, MatchOption, ◌<◌}
 use Rattle.std.specs.Prelude.{remove}
 use Rattle.std.proofs.lemmas.Grind.{common_steps}
 use Rattle.std.proofs.lemmas.List.{length-map}
@@ -8,12 +8,13 @@ use Rattle.clause_form.specs.Facts.{fact_of}
 use Rattle.clause_form.specs.Seen.{AreFactsIn}
 use Rattle.unify_match.specs.Seen.{seen}
 use Rattle.placements.proofs.Removing.{loose_unplaced}
-use Rattle.multiset_subsume.specs.Boards.{facts_at, HoldsOn}
+use Rattle.multiset_subsume.specs.Boards.{facts_at, HoldsOn, CanPlaceOn}
 use Rattle.multiset_subsume.proofs.Listing.{unref}
 use Rattle.multiset_subsume.proofs.Putting.{linked_on, known_ref}
 use Rattle.multiset_subsume.proofs.Along.{at_some}
-use Rattle.multiset_subsume.proofs.Keeping.{is_taken_back_later}
-use Rattle.multiset_subsume.proofs.Searching.{placed_nothing, stand_told, placed_told, linked_front, known_removed, row_length}
+use Rattle.multiset_subsume.proofs.Keeping.{is_taken_back_later, as_before-trans, as_back, placing_as, linked_as}
+use Rattle.multiset_subsume.proofs.Searching.{placed_nothing, stand_told, placed_told, linked_front, known_removed, row_length, cannot_stand}
+use Rattle.multiset_subsume.proofs.Parting.{at_none}
 use Rattle.multiset_subsume.proofs.search.+placing.Goals as goal
 
 pub can_place-returns-then-not-branch-clause-outcome : goal.can_place-returns-then-not-branch-clause-outcome
@@ -94,3 +95,39 @@ place_some-returns-clause-outcome g t c =
     let rest_is : c.deref.result.now ≡ remove unplaced at = c.deref.ensures.value ∙ (c.remove-fact.ensures.items ∙ ap (λ (xs : List (Bor Fact)). remove xs at) same) in
     placed_told (g.B.Bank.trees c.args.board.now.bank.now) (map fact_of c.args.board.now.hyps.now) c.args.board.now.loose.now c.args.placing.now.binds.pairs c.args.placing.now.taken.items c.place_beside.result (λ row. row.items)
     unplaced c.deref.result.now at (length c.args.board.now.hyps.now) f (omega (arith, length-map c.args.board.now.hyps.now fact_of)) is c.requires.index rest_is c.requires.placing c.place_beside.ensures.outcome
+
+pub can_stand-take_back-requires-clause-position : goal.can_stand-take_back-requires-clause-position
+can_stand-take_back-requires-clause-position g t c = grind (arith, common_steps)
+
+pub can_stand-take_back-requires-clause-level : goal.can_stand-take_back-requires-clause-level
+can_stand-take_back-requires-clause-level g t c = grind (arith, common_steps)
+
+pub can_place-place_some-requires : goal.can_place-place_some-requires
+can_place-place_some-requires g t c κs within = (omega (arith, c.decreases), (within, (c.requires.board, (placing_as (g.B.Bank.trees c.args.board.now.bank.now) (map fact_of c.args.board.now.hyps.now) c.args.placing.now.binds.pairs c.next_of.new.placing.binds.pairs c.args.placing.now.taken.items c.next_of.new.placing.taken.items c.next_of.ensures.same c.requires.placing, (c.requires.facts, (linked_as (g.B.Bank.trees c.args.board.now.bank.now) c.args.board.now.loose.now c.args.placing.now.binds.pairs c.next_of.new.placing.binds.pairs c.args.placing.now.taken.items c.next_of.new.placing.taken.items (map unref c.args.unplaced.now) c.next_of.ensures.same c.requires.linked, (at_some _ c.in_ok-next_of.field-0 c.in-Some.at (λ (at : ℕ). at < length c.args.unplaced.now) c.in-Some.is c.in_ok-next_of.ensures.outcome)))))))
+
+pub place_beside-can_stand-requires : goal.place_beside-can_stand-requires
+place_beside-can_stand-requires g t c κs within = (omega (arith, c.decreases), (within, (c.requires.board, (placing_as (g.B.Bank.trees c.args.board.now.bank.now) (map fact_of c.args.board.now.hyps.now) c.args.placing.now.binds.pairs c.each.placing.binds.pairs c.args.placing.now.taken.items c.each.placing.taken.items c.each.invariant.same c.requires.placing, (c.requires.fact, (c.requires.rest, (linked_as (g.B.Bank.trees c.args.board.now.bank.now) c.args.board.now.loose.now c.args.placing.now.binds.pairs c.each.placing.binds.pairs c.args.placing.now.taken.items c.each.placing.taken.items ((fact_of c.args.fact.now) ∷ map unref c.args.rest.now) c.each.invariant.same c.requires.linked, omega (arith, c.each-test.true))))))))
+
+pub can_place-returns-in-Some-clause-outcome : goal.can_place-returns-in-Some-clause-outcome
+can_place-returns-in-Some-clause-outcome g t c = as_back (λ pairs flags. IfOk c.place_some.result (λ found. MatchOption found (CanPlaceOn (g.B.Bank.trees c.args.board.now.bank.now) (map fact_of c.args.board.now.hyps.now) c.args.board.now.loose.now pairs flags (map unref c.args.unplaced.now) → ⊥) (λ row. HoldsOn (g.B.Bank.trees c.args.board.now.bank.now) (map fact_of c.args.board.now.hyps.now) c.args.board.now.loose.now pairs flags (map unref c.args.unplaced.now) row.items))) c.args.placing.now.binds.pairs c.next_of.new.placing.binds.pairs c.args.placing.now.taken.items c.next_of.new.placing.taken.items c.next_of.ensures.same c.place_some.ensures.outcome
+
+pub can_place-returns-in-Some-clause-same : goal.can_place-returns-in-Some-clause-same
+can_place-returns-in-Some-clause-same g t c = as_before-trans c.args.placing.now.binds.pairs c.next_of.new.placing.binds.pairs c.place_some.new.placing.binds.pairs c.args.placing.now.taken.items c.next_of.new.placing.taken.items c.place_some.new.placing.taken.items c.next_of.ensures.same c.place_some.ensures.same
+
+pub can_place-returns-in-None-clause-outcome : goal.can_place-returns-in-None-clause-outcome
+can_place-returns-in-None-clause-outcome g t c = at_none (CanPlaceOn (g.B.Bank.trees c.args.board.now.bank.now) (map fact_of c.args.board.now.hyps.now) c.args.board.now.loose.now c.args.placing.now.binds.pairs c.args.placing.now.taken.items (map unref c.args.unplaced.now) → ⊥) c.in_ok-next_of.field-0 (λ (at : ℕ). at < length c.args.unplaced.now) c.in-None.is c.in_ok-next_of.ensures.outcome
+
+pub can_place-returns-in-None-clause-same : goal.can_place-returns-in-None-clause-same
+can_place-returns-in-None-clause-same g t c = c.next_of.ensures.same
+
+pub place_beside-returns-in_err-insert-in-Some-clause-same : goal.place_beside-returns-in_err-insert-in-Some-clause-same
+place_beside-returns-in_err-insert-in-Some-clause-same g t c = as_before-trans c.args.placing.now.binds.pairs c.each.placing.binds.pairs c.can_stand.new.placing.binds.pairs c.args.placing.now.taken.items c.each.placing.taken.items c.can_stand.new.placing.taken.items c.each.invariant.same c.can_stand.ensures.same
+
+pub place_beside-returns-in-Some-clause-same : goal.place_beside-returns-in-Some-clause-same
+place_beside-returns-in-Some-clause-same g t c = as_before-trans c.args.placing.now.binds.pairs c.each.placing.binds.pairs c.can_stand.new.placing.binds.pairs c.args.placing.now.taken.items c.each.placing.taken.items c.can_stand.new.placing.taken.items c.each.invariant.same c.can_stand.ensures.same
+
+pub can_stand-returns-then-not-branch-clause-outcome : goal.can_stand-returns-then-not-branch-clause-outcome
+can_stand-returns-then-not-branch-clause-outcome g t c = cannot_stand (g.B.Bank.trees c.args.board.now.bank.now) (map fact_of c.args.board.now.hyps.now) c.args.board.now.loose.now c.args.placing.now.binds.pairs c.args.placing.now.taken.items (fact_of c.args.fact.now) (map unref c.args.rest.now) c.args.p (MatchBool-at_false _ _ c.if-not-branch.true c.in_ok-put.ensures.outcome)
+
+pub can_stand-returns-then-not-branch-clause-same : goal.can_stand-returns-then-not-branch-clause-same
+can_stand-returns-then-not-branch-clause-same g t c = c.in_ok-put.ensures.refused c.if-not-branch.true

@@ -3,8 +3,9 @@ use Rattle.pi_tree.specs.Events.{event_of}
 use Rattle.term_values.specs.Bound.{bound_of}
 use Rattle.pi_model.specs.Alternatives.{found_of}
 use Rattle.pi_model.specs.Happenings.{performed_of}
-use Rattle.pi_model.proofs.Searching.{search-step, fewer-missing}
+use Rattle.pi_model.proofs.Searching.{search-step, fewer-missing, of_search}
 use Rattle.pi_model.proofs.Picking.{beside-consistent}
+use Rattle.std.proofs.lemmas.Grind.{common_steps}
 use Rattle.pi_model.proofs.alternatives.+all_found.Goals as goal
 
 pub loop-happened-init : goal.loop-happened-init
@@ -19,3 +20,15 @@ all_found-requires t c =
       beside-consistent (bound_of c.args.bound.now) (bound_of c.beside-extended.result) (event_of c.event_at-event.result.now) (performed_of c.happened-item.result)
           c.beside-extended.ensures c.requires (search rules),
     )
+
+pub loop-happened-preserved : goal.loop-happened-preserved
+loop-happened-preserved t c = grind (arith, common_steps, of_search)
+
+pub returns-then-all_found : goal.returns-then-all_found
+returns-then-all_found t c = grind (arith, common_steps, of_search)
+
+pub returns : goal.returns
+returns t c = grind (arith, common_steps, of_search)
+
+pub returns-in_default : goal.returns-in_default
+returns-in_default t c = grind (arith, common_steps, of_search)

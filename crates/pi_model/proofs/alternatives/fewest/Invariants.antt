@@ -1,5 +1,4 @@
 use Rattle.std.proofs.Common.{map}
-use Rattle.pi_tree.specs.Events.{event_of}
 use Rattle.term_values.specs.Bound.{bound_of}
 use Rattle.pi_model.specs.Alternatives.{found_of, candidates, IsFewest}
 use Rattle.pi_model.specs.Happenings.{performed_of}

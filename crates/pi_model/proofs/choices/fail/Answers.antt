@@ -1,4 +1,4 @@
-use Rattle.std.proofs.Common.{◌+◌, ◌||◌, map, sym, ap, subst, ◌∙◌}
+use Rattle.std.proofs.Common.{◌+◌, ◌||◌, map, sym, ap, subst, ◌∙◌, arith}
 use Rattle.std.specs.List.{list_any}
 use Rattle.calculus.specs.Values.{values_of}
 use Rattle.calculus.specs.Limits.{is_large, terms_at}
@@ -11,7 +11,9 @@ use Rattle.pi_model.specs.Configurations.{configuration_of}
 use Rattle.pi_model.specs.Plans.{Stands, IsPossible}
 use Rattle.pi_model.specs.Moves.{advanced}
 use Rattle.calculus.specs.Runs as calculus
-use Rattle.pi_model.proofs.ThreadSteps.{fail-matches, fail-large, fail-possible}
+use Rattle.pi_model.proofs.ThreadSteps.{fail-matches, fail-large, fail-possible, of_fail}
+use Rattle.std.proofs.lemmas.Grind.{common_steps}
+use Rattle.pi_model.proofs.Points.{of_points}
 use Rattle.pi_model.proofs.choices.fail.Goals as goal
 
 pub returns-then-branch-clause-refused : goal.returns-then-branch-clause-refused
@@ -48,3 +50,9 @@ returns-else-some_large_beside-clause-possible c =
     (ap (λ q. list_any is_large (values_of at.environment.now (terms_at (process_of q))) || list_any is_large (map value_of c.deref.result.now)) (sym c.in-Let.is)
     ∙ ap (λ vs. list_any is_large (values_of at.environment.now (terms_at (process_of at.process.now))) || list_any is_large (map value_of vs)) (c.deref.ensures.value ∙ sym c.deref-in-Let.ensures.value)
     ∙ sym c.some_large_beside.ensures ∙ c.if-some_large_beside.false))
+
+pub overflow_add-at : goal.overflow_add-at
+overflow_add-at c = grind (arith, common_steps, of_fail, of_points)
+
+pub point_after-requires : goal.point_after-requires
+point_after-requires c = grind (arith, common_steps, of_fail, of_points)

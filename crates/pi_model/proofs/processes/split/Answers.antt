@@ -1,10 +1,12 @@
-use Rattle.std.proofs.Common.{◌+◌, ap, subst, ◌∙◌}
+use Rattle.std.proofs.Common.{◌+◌, ap, subst, ◌∙◌, arith}
 use Rattle.calculus.specs.Points.{point_after}
 use Rattle.pi_tree.specs.Processes.{process_of}
 use Rattle.pi_tree.specs.Protocols.{protocol_of}
 use Rattle.pi_model.specs.Configurations.{configuration_of}
 use Rattle.pi_model.specs.Plans.{Stands}
-use Rattle.pi_model.proofs.ThreadSteps.{split-possible}
+use Rattle.pi_model.proofs.ThreadSteps.{split-possible, of_split}
+use Rattle.std.proofs.lemmas.Grind.{common_steps}
+use Rattle.pi_model.proofs.Points.{of_points}
 use Rattle.pi_model.proofs.processes.split.Goals as goal
 
 pub returns-in_ok-copy-in-Par-clause-possible : goal.returns-in_ok-copy-in-Par-clause-possible
@@ -15,3 +17,9 @@ returns-in_ok-copy-in-Par-clause-possible c =
     (subst (λ q. Stands (protocol_of c.args.run.now.protocol.now) (configuration_of c.args.run.now.conf.now) c.args.number at.point at.environment.now (process_of q)) c.in-Par.is c.in_ok-at.ensures.stands)
     (c.point_after-right.ensures ∙ ap (λ q. point_after (at.point + 1) (process_of q)) c.deref.ensures)
     c.in_ok-copy-in-Par.ensures
+
+pub overflow_add-at : goal.overflow_add-at
+overflow_add-at c = grind (arith, common_steps, of_split, of_points)
+
+pub point_after-right-requires : goal.point_after-right-requires
+point_after-right-requires c = grind (arith, common_steps, of_split, of_points)

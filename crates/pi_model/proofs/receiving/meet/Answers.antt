@@ -1,4 +1,4 @@
-use Rattle.std.proofs.Common.{◌+◌, ◌||◌, sym, ap, subst, ◌∙◌}
+use Rattle.std.proofs.Common.{◌+◌, ◌||◌, sym, ap, subst, ◌∙◌, arith}
 use Rattle.std.specs.List.{list_any}
 use Rattle.calculus.specs.Limits.{is_large, terms_at}
 use Rattle.calculus.specs.Matching.{matched}
@@ -14,7 +14,9 @@ use Rattle.pi_tree.specs.Terms.{term_of}
 use Rattle.pi_model.specs.Configurations.{configuration_of}
 use Rattle.pi_model.specs.Moves.{advanced}
 use Rattle.pi_model.specs.Plans.{Stands, IsPossible}
-use Rattle.pi_model.proofs.Passing.{pass-differ, pass-large, pass-possible}
+use Rattle.pi_model.proofs.Passing.{pass-differ, pass-large, pass-possible, of_meeting}
+use Rattle.std.proofs.lemmas.Grind.{common_steps}
+use Rattle.pi_model.proofs.Points.{of_points}
 use Rattle.pi_model.proofs.receiving.meet.Goals as goal
 
 pub returns-then-not-same-clause-refused : goal.returns-then-not-same-clause-refused
@@ -54,3 +56,9 @@ returns-in_ok-thread-in-Input-clause-possible c =
     (ap (λ q. list_any is_large (values_of from.environment.now (terms_at (process_of q))) || list_any is_large (values_of to.environment.now (terms_at (process_of (Input c.in-Input.on c.in-Input.pattern c.in-Input.field-2))))) (sym c.in-Output.is)
     ∙ ap (λ q. list_any is_large (values_of from.environment.now (terms_at (process_of from.process.now))) || list_any is_large (values_of to.environment.now (terms_at (process_of q)))) (sym c.in-Input.is)
     ∙ sym c.some_large_at_either.ensures ∙ c.if-some_large_at_either.false))
+
+pub overflow_add-result : goal.overflow_add-result
+overflow_add-result c = grind (arith, common_steps, of_meeting, of_points)
+
+pub received-requires : goal.received-requires
+received-requires c = grind (arith, common_steps, of_meeting, of_points)

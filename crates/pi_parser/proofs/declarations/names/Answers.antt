@@ -1,5 +1,6 @@
 -- One more name.
-use Rattle.std.proofs.Common.{rules, ◌≡◌, ◌<◌, ◌+◌, true, [], ◌∷◌, ◌++◌, length}
+use Rattle.std.proofs.Common.{arith, rules, ◌≡◌, ◌<◌, ◌+◌, true, [], ◌∷◌, ◌++◌, length}
+use Rattle.std.proofs.lemmas.Grind.{common_steps}
 use Rattle.protocol_grammar.specs.declared.class.Class.TheVariants as w
 use Rattle.protocol_grammar.specs.Classes.{words, same}
 use Rattle.protocol_grammar.specs.Reading.{Found, name_at}
@@ -17,7 +18,7 @@ pub names-preserved : goal.names-preserved
 names-preserved c =
     let items : c.args.at ∷ c.push.new.self.items ≡ (c.args.at ∷ c.names.others.items) ++ ((c.names.behind + 1) ∷ []) = search rules in
     let test : same w.Comma (words c.args.classes.now c.names.behind).class ≡ true = search rules in
-    let near : c.names.behind < length c.args.classes.now = search rules in
+    let near : c.names.behind < length c.args.classes.now = grind (arith, common_steps) in
     let read : name_at (words c.args.classes.now) (c.names.behind + 1) ≡ Found (c.names.behind + 1) c.in_ok-end.end = search rules in
     going_on w.Comma name_at c.args.classes.now c.args.at c.names.behind c.in_ok-end.end (c.args.at ∷ c.names.others.items) (c.names.behind + 1)
     (c.args.at ∷ c.push.new.self.items) items c.names.invariant test near read c.in_ok-end.ensures.within.0 c.in_ok-end.ensures.within.1

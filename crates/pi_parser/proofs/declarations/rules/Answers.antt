@@ -1,5 +1,6 @@
 -- One more part of a list.
 use Rattle.std.proofs.Common.{rules, ◌≡◌, ◌<◌, true, map, [], ◌∷◌, ◌++◌, length, arith}
+use Rattle.std.proofs.lemmas.Grind.{common_steps}
 use Rattle.protocol_grammar.specs.declared.class.Class.TheVariants as w
 use Rattle.protocol_grammar.specs.Classes.{words, same}
 use Rattle.protocol_grammar.specs.Reading.{rule_at, list_at}
@@ -18,14 +19,14 @@ pub rules-preserved : goal.rules-preserved
 rules-preserved c =
     let items : c.in_ok-first.first ∷ c.push.new.self.items ≡ (c.in_ok-first.first ∷ c.rules.others.items) ++ (c.in_ok-next.next ∷ []) = search rules in
     let test : same w.Semicolon (words c.args.classes.now c.rules.behind).class ≡ true = search rules in
-    let near : c.rules.behind < length c.args.classes.now = search rules in
+    let near : c.rules.behind < length c.args.classes.now = grind (arith, common_steps) in
     going_continues rule_of w.Semicolon (rule_at (most_of c.args.classes.now)) c.args.classes.now c.args.at c.rules.behind c.in_ok-next.end (c.in_ok-first.first ∷ c.rules.others.items) c.in_ok-next.next
     (c.in_ok-first.first ∷ c.push.new.self.items) items c.rules.invariant test near c.in_ok-next.ensures.read c.in_ok-next.ensures.within.0 c.in_ok-next.ensures.within.1
 
 pub returns-in_err-next-clause-read : goal.returns-in_err-next-clause-read
 returns-in_err-next-clause-read c =
     let test : same w.Semicolon (words c.args.classes.now c.rules.behind).class ≡ true = search rules in
-    let near : c.rules.behind < length c.args.classes.now = search rules in
+    let near : c.rules.behind < length c.args.classes.now = grind (arith, common_steps) in
     let fault : HasFault c.in_err-next.field-0.0 (list_at (most_of c.args.classes.now) w.Semicolon (rule_at (most_of c.args.classes.now)) (words c.args.classes.now) c.args.at) =
     list_faults w.Semicolon (rule_at (most_of c.args.classes.now)) c.args.classes.now c.args.at c.rules.behind (rule_of c.in_ok-first.first ∷ map rule_of c.rules.others.items) c.in_err-next.field-0.0 c.rules.invariant test near c.in_err-next.ensures.read in
     grind (arith, fault, step_fault)

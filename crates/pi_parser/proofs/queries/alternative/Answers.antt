@@ -1,5 +1,6 @@
 -- One more part of a list.
 use Rattle.std.proofs.Common.{rules, ◌≡◌, ◌<◌, true, map, [], ◌∷◌, ◌++◌, length, arith}
+use Rattle.std.proofs.lemmas.Grind.{common_steps}
 use Rattle.protocol_grammar.specs.declared.class.Class.TheVariants as w
 use Rattle.protocol_grammar.specs.Classes.{words, same}
 use Rattle.protocol_grammar.specs.Reading.{happening_at, list_at, alternative_at}
@@ -18,7 +19,7 @@ pub events-preserved : goal.events-preserved
 events-preserved c =
     let items : c.in_ok-atom.atom ∷ c.push.new.self.items ≡ (c.in_ok-atom.atom ∷ c.events.others.items) ++ (c.in_ok-next.next ∷ []) = search rules in
     let test : same w.And (words c.args.classes.now c.events.behind).class ≡ true = search rules in
-    let near : c.events.behind < length c.args.classes.now = search rules in
+    let near : c.events.behind < length c.args.classes.now = grind (arith, common_steps) in
     going_continues atom_of w.And (happening_at (most_of c.args.classes.now)) c.args.classes.now c.args.at c.events.behind c.in_ok-next.end (c.in_ok-atom.atom ∷ c.events.others.items) c.in_ok-next.next
     (c.in_ok-atom.atom ∷ c.push.new.self.items) items c.events.invariant test near c.in_ok-next.ensures.read c.in_ok-next.ensures.within.0 c.in_ok-next.ensures.within.1
 
@@ -26,7 +27,7 @@ pub returns-in_err-next-clause-read : goal.returns-in_err-next-clause-read
 unfolding alternative_at
 returns-in_err-next-clause-read c =
     let test : same w.And (words c.args.classes.now c.events.behind).class ≡ true = search rules in
-    let near : c.events.behind < length c.args.classes.now = search rules in
+    let near : c.events.behind < length c.args.classes.now = grind (arith, common_steps) in
     let fault : HasFault c.in_err-next.field-0.0 (list_at (most_of c.args.classes.now) w.And (happening_at (most_of c.args.classes.now)) (words c.args.classes.now) c.args.at) =
     list_faults w.And (happening_at (most_of c.args.classes.now)) c.args.classes.now c.args.at c.events.behind (atom_of c.in_ok-atom.atom ∷ map atom_of c.events.others.items) c.in_err-next.field-0.0 c.events.invariant test near c.in_err-next.ensures.read in
     grind (arith, fault, step_fault)

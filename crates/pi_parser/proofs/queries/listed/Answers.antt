@@ -1,5 +1,6 @@
 -- One more part of a list.
-use Rattle.std.proofs.Common.{rules, ◌≡◌, ◌<◌, true, [], ◌∷◌, ◌++◌, length}
+use Rattle.std.proofs.Common.{arith, rules, ◌≡◌, ◌<◌, true, [], ◌∷◌, ◌++◌, length}
+use Rattle.std.proofs.lemmas.Grind.{common_steps}
 use Rattle.protocol_grammar.specs.declared.class.Class.TheVariants as w
 use Rattle.protocol_grammar.specs.Classes.{words, same}
 use Rattle.protocol_grammar.specs.Reading.{alternative_at}
@@ -18,6 +19,6 @@ pub alternatives-preserved : goal.alternatives-preserved
 alternatives-preserved c =
     let items : c.push-in-alternatives.new.self.items ≡ c.alternatives.items.items ++ (c.in_ok-next.next ∷ []) = search rules in
     let test : same w.Or (words c.args.classes.now c.alternatives.behind).class ≡ true = search rules in
-    let near : c.alternatives.behind < length c.args.classes.now = search rules in
+    let near : c.alternatives.behind < length c.args.classes.now = grind (arith, common_steps) in
     going_continues alternative_of w.Or (alternative_at (most_of c.args.classes.now)) c.args.classes.now c.args.at c.alternatives.behind c.in_ok-next.end c.alternatives.items.items c.in_ok-next.next
     c.push-in-alternatives.new.self.items items c.alternatives.invariant test near c.in_ok-next.ensures.read c.in_ok-next.ensures.within.0 c.in_ok-next.ensures.within.1

@@ -1,10 +1,12 @@
 -- One more part of a list, and a list in parentheses.
-use Rattle.std.proofs.Common.{rules, ◌≡◌, ◌<◌, true, [], ◌∷◌, ◌++◌, length}
+use Rattle.std.proofs.Common.{arith, rules, ◌≡◌, ◌<◌, true, [], ◌∷◌, ◌++◌, length}
+use Rattle.std.proofs.lemmas.Grind.{common_steps}
 use Rattle.protocol_grammar.specs.declared.class.Class.TheVariants as w
 use Rattle.protocol_grammar.specs.Classes.{words, same}
 use Rattle.protocol_grammar.specs.Reading.{term_at}
 use Rattle.pi_parser.specs.Gives.{most_of}
 use Rattle.pi_parser.specs.Terms.{term_of}
+use Rattle.pi_parser.proofs.Levels.{term_deeper, term_other}
 use Rattle.pi_parser.proofs.Lists.{going_begins, going_continues, arguments_shut}
 use Rattle.pi_parser.proofs.terms.+term.Goals as goal
 
@@ -18,7 +20,7 @@ pub terms-loop-alloc-preserved : goal.terms-loop-alloc-preserved
 terms-loop-alloc-preserved t c =
     let items : c.push-in-loop-alloc.new.self.items ≡ c.loop-alloc.items.items ++ (c.in_ok-next.next ∷ []) = search rules in
     let test : same w.Comma (words c.args.classes.now c.loop-alloc.behind).class ≡ true = search rules in
-    let near : c.loop-alloc.behind < length c.args.classes.now = search rules in
+    let near : c.loop-alloc.behind < length c.args.classes.now = grind (arith, common_steps) in
     going_continues term_of w.Comma (term_at (most_of c.args.classes.now) c.args.left) c.args.classes.now c.args.at c.loop-alloc.behind c.in_ok-next.end c.loop-alloc.items.items c.in_ok-next.next
     c.push-in-loop-alloc.new.self.items items c.loop-alloc.invariant test near c.in_ok-next.ensures.read c.in_ok-next.ensures.within.0 c.in_ok-next.ensures.within.1
 
@@ -27,3 +29,18 @@ arguments-returns-in_ok-close-clause-read t c =
     let opened : same w.Open (words c.args.classes.now c.args.at).class ≡ true = search rules in
     arguments_shut (most_of c.args.classes.now) (term_at (most_of c.args.classes.now) c.args.left) (words c.args.classes.now) c.args.at c.in_ok-items.items c.in_ok-items.behind c.in_ok-close.close
     opened c.in_ok-items.ensures.read c.in_ok-close.ensures.found.1 c.in_ok-close.ensures.found.0
+
+pub term-named-requires : goal.term-named-requires
+term-named-requires t c = grind (arith, common_steps)
+
+pub term-grouped-requires : goal.term-grouped-requires
+term-grouped-requires t c = grind (arith, common_steps)
+
+pub grouped-returns-clause-read : goal.grouped-returns-clause-read
+grouped-returns-clause-read t c = grind (arith, common_steps)
+
+pub named-returns-clause-read : goal.named-returns-clause-read
+named-returns-clause-read t c = grind (arith, common_steps)
+
+pub term-returns-in_default : goal.term-returns-in_default
+term-returns-in_default t c = grind (arith, term_deeper, term_other)

@@ -1,4 +1,4 @@
-use Rattle.std.proofs.Common.{◌≡◌, ◌+◌, true, false, List, get_or, length, map, drop, ap, sym, subst, refl, arith, rules}
+use Rattle.std.proofs.Common.{◌≡◌, ◌+◌, true, false, List, get_or, length, map, drop, ap, sym, subst, refl, arith, ◌∙◌}
 use Rattle.std.specs.Prelude.{IfOk}
 use Rattle.std.proofs.lemmas.Bool.{false≢true}
 use Rattle.std.proofs.lemmas.List.{length-map}
@@ -69,7 +69,7 @@ match_tree-returns-in-Var-node-clause-no g t c = λ _ s agrees made.
 pub match_trees-match_tree-requires : goal.match_trees-match_tree-requires
 match_trees-match_tree-requires g t c κs within =
     let all = g.B.Bank.trees c.args.bank.now in
-    let are : map term_of c.deref-tree-items.result.now ≡ c.args.trees.now = search rules in
+    let are : map term_of c.deref-tree-items.result.now ≡ c.args.trees.now = ap (map term_of) c.deref-tree-items.ensures.value ∙ c.trees.view_is in
     let sum : sizes (trees (map term_of c.deref-tree-items.result.now)) ≡ sizes (trees c.args.trees.now) = ap (λ ts. sizes (trees ts)) are in
     let part = tree_size_at c.deref-tree-items.result.now c.each.i c.tree-item.result c.each-test.true c.tree-item.is in
     let even : length c.deref-tree-items.result.now ≡ length c.args.ids.now = omega (arith, c.deref-tree-items.ensures.len, c.len.ensures, c.if-len-ids.false) in
@@ -86,7 +86,7 @@ match_trees-returns-then-not-branch-clause-no g t c = λ _.
     let all = g.B.Bank.trees c.args.bank.now in
     let ts = c.deref-tree-items.result.now in
     let ids = c.args.ids.now in
-    let are : map term_of ts ≡ c.args.trees.now = search rules in
+    let are : map term_of ts ≡ c.args.trees.now = ap (map term_of) c.deref-tree-items.ensures.value ∙ c.trees.view_is in
     let even : length ts ≡ length ids = omega (arith, c.deref-tree-items.ensures.len, c.len.ensures, c.if-len-ids.false) in
     subst (λ (us : List Term). Excludes all c.args.binds.now.pairs (λ s. MatchesAll s us (map (tree_at all) ids))) are
     (remains_fail all c.args.binds.now.pairs c.each.binds.pairs (λ s. MatchesAll s (map term_of ts) (map (tree_at all) ids)) (λ s. MatchesAll s (map term_of (drop c.each.i ts)) (map (tree_at all) (drop c.each.i ids)))
@@ -109,7 +109,7 @@ match_trees-returns-clause-yes g t c = λ _.
     let all = g.B.Bank.trees c.args.bank.now in
     let ts = c.deref-tree-items.result.now in
     let ids = c.args.ids.now in
-    let are : map term_of ts ≡ c.args.trees.now = search rules in
+    let are : map term_of ts ≡ c.args.trees.now = ap (map term_of) c.deref-tree-items.ensures.value ∙ c.trees.view_is in
     let even : length ts ≡ length ids = omega (arith, c.deref-tree-items.ensures.len, c.len.ensures, c.if-len-ids.false) in
     subst (λ (us : List Term). Narrows all c.args.binds.now.pairs c.each.binds.pairs (λ s. MatchesAll s us (map (tree_at all) ids))) are
     (remains_end all c.args.binds.now.pairs c.each.binds.pairs (λ s. MatchesAll s (map term_of ts) (map (tree_at all) ids)) (λ s. MatchesAll s (map term_of (drop c.each.i ts)) (map (tree_at all) (drop c.each.i ids))) c.each.invariant
@@ -126,3 +126,15 @@ match_trees-returns-then-len-ids-clause-no g t c = λ _ s agrees.
     let are : map term_of c.trees.inside.items.items ≡ c.args.trees.now = c.trees.view_is in
     let count : c.len.result ≡ length c.args.trees.now = omega (arith, c.len.ensures, c.trees.inside.items.ok.0, ap length are, length-map c.trees.inside.items.items term_of) in
     lengths_unmade s c.args.trees.now (map (tree_at all) c.args.ids.now) (λ e. absurd (omega (arith, e, count, length-map c.args.ids.now (tree_at all), c.if-len-ids.true)))
+
+pub match_trees-returns-then-not-branch-clause-yes : goal.match_trees-returns-then-not-branch-clause-yes
+match_trees-returns-then-not-branch-clause-yes g t c = λ e. absurd (false≢true e)
+
+pub match_tree-returns-then-not-is_same-clause-yes : goal.match_tree-returns-then-not-is_same-clause-yes
+match_tree-returns-then-not-is_same-clause-yes g t c = λ e. absurd (false≢true e)
+
+pub match_trees-returns-then-len-ids-clause-yes : goal.match_trees-returns-then-len-ids-clause-yes
+match_trees-returns-then-len-ids-clause-yes g t c = λ e. absurd (false≢true e)
+
+pub match_tree-returns-in-Var-node-clause-yes : goal.match_tree-returns-in-Var-node-clause-yes
+match_tree-returns-in-Var-node-clause-yes g t c = λ e. absurd (false≢true e)

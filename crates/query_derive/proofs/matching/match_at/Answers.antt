@@ -9,6 +9,7 @@ use Rattle.clause_form.specs.Seen.{fact_at}
 use Rattle.clause_form.proofs.Walks.{fact_known_at}
 use Rattle.query_derive.specs.Wanted.{event_fact}
 use Rattle.query_derive.proofs.Narrowing.{yes_same, no_same, some_made, none_made, hypothesis_there, hypothesis_past}
+use Rattle.std.proofs.lemmas.Bool.{false≢true}
 use Rattle.query_derive.proofs.matching.match_at.Goals as goal
 
 pub match_event-requires-clause-known : goal.match_event-requires-clause-known
@@ -47,3 +48,9 @@ returns-in-Some-get-clause-no g c =
     no_same all c.args.binds.now.pairs c.match_event.new.binds.pairs (λ s. fact_under s (event_fact c.args.event.now) ≡ h)
     (λ s. Some (fact_under s (event_fact c.args.event.now)) ≡ hypothesis_at (map (fact_at all) (map fact_of c.args.hyps.now)) c.args.position) c.match_event.result
     (λ s. some_made s (event_fact c.args.event.now) h (hypothesis_at (map (fact_at all) (map fact_of c.args.hyps.now)) c.args.position) there) c.match_event.ensures.no
+
+pub returns-in-None-get-clause-yes : goal.returns-in-None-get-clause-yes
+returns-in-None-get-clause-yes g c = λ e. absurd (false≢true e)
+
+pub returns-in-None-clause-yes : goal.returns-in-None-clause-yes
+returns-in-None-clause-yes g c = λ e. absurd (false≢true e)

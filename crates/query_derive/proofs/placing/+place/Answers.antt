@@ -12,6 +12,8 @@ use Rattle.query_derive.specs.Wanted.{event_fact}
 use Rattle.query_derive.proofs.Narrowing.{fact_there}
 use Rattle.query_derive.proofs.Searching.{NoneTo, none_placed, none_to_next, none_here, none_after, none_at_all, first_placed, others_of, first_rest, none_below, taken_back, if_some_at}
 use Rattle.query_derive.proofs.placing.+place.Goals.{then-branch+in_ok-row+in-None, else-branch}
+use Rattle.std.proofs.lemmas.Grind.{common_steps}
+use Rattle.terms.proofs.Replace.{some_none}
 use Rattle.query_derive.proofs.placing.+place.Goals as goal
 
 pub returns-in_default-clause-some : goal.returns-in_default-clause-some
@@ -82,3 +84,21 @@ returns-clause-none g t c = λ _ row k.
     let before : NoneTo all c.args.binds.now.pairs hs (e ∷ es) c.each.k = subst (λ (fs : List (Fact Term)). NoneTo all c.args.binds.now.pairs hs fs c.each.k) split c.each.invariant.none in
     none_at_all all c.args.binds.now.pairs hs e es c.each.k (omega (arith, c.each-test.false, length-map (map fact_of c.args.hyps.now) (fact_at all), length-map c.args.hyps.now fact_of)) before row
     (subst (λ (fs : List (Fact Term)). ArePlaced all c.args.binds.now.pairs fs hs row) split k)
+
+pub undo-requires : goal.undo-requires
+undo-requires g t c = grind (arith, common_steps)
+
+pub returns-in-Some-clause-none : goal.returns-in-Some-clause-none
+returns-in-Some-clause-none g t c = λ e. absurd (some_none e)
+
+pub returns-in-Some-clause-back : goal.returns-in-Some-clause-back
+returns-in-Some-clause-back g t c = λ e. absurd (some_none e)
+
+pub returns-in_default-clause-none : goal.returns-in_default-clause-none
+returns-in_default-clause-none g t c = λ e. absurd (some_none e)
+
+pub returns-in_default-clause-back : goal.returns-in_default-clause-back
+returns-in_default-clause-back g t c = λ e. absurd (some_none e)
+
+pub place-requires : goal.place-requires
+place-requires g t c κs within = (omega (arith, c.decreases), (within, (c.requires.known, (c.requires.few, c.match_event.ensures.bindings))))

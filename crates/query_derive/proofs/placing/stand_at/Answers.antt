@@ -7,6 +7,7 @@ use Rattle.query_derive.specs.Wanted.{event_fact}
 use Rattle.query_derive.specs.Sought.{AreAt}
 use Rattle.query_derive.proofs.Narrowing.{remains_on, remains_fail, remains_end}
 use Rattle.query_derive.proofs.Searching.{at_next, at_past, placed_by, never_placed}
+use Rattle.std.proofs.lemmas.Bool.{false≢true}
 use Rattle.query_derive.proofs.placing.stand_at.Goals as goal
 
 pub returns-then-not-branch-clause-no : goal.returns-then-not-branch-clause-no
@@ -43,3 +44,9 @@ returns-clause-yes g c = λ _.
     placed_by all c.args.binds.now.pairs c.each.binds.pairs (map event_fact es) hs row c.each.invariant.bindings
     (remains_end all c.args.binds.now.pairs c.each.binds.pairs (λ s. AreAt s (map event_fact es) hs row) (λ s. AreAt s (map event_fact (drop c.each.k es)) hs (drop c.each.k row)) c.each.invariant
     (λ s. at_past s es hs row c.each.k c.each-test.false (omega (arith, c.each-test.false, even))))
+
+pub returns-then-not-branch-clause-yes : goal.returns-then-not-branch-clause-yes
+returns-then-not-branch-clause-yes g c = λ e. absurd (false≢true e)
+
+pub returns-then-events-positions-clause-yes : goal.returns-then-events-positions-clause-yes
+returns-then-events-positions-clause-yes g c = λ e. absurd (false≢true e)

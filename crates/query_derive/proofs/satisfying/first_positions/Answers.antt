@@ -1,4 +1,4 @@
-use Rattle.std.proofs.Common.{◌≡◌, ◌∙◌, ℕ, None, List, map, ap, sym, rules}
+use Rattle.std.proofs.Common.{◌≡◌, ◌∙◌, ℕ, None, List, map, ap, sym, rules, arith}
 use Rattle.std.specs.Prelude.{IfSome}
 use Rattle.clause_form.specs.Facts.{fact_of}
 use Rattle.clause_form.specs.Seen.{fact_at, clause_at}
@@ -7,6 +7,7 @@ use Rattle.query_derive.specs.Narrowing.{ArePlaced, AreFirstPlaced}
 use Rattle.query_derive.specs.Wanted.{event_fact, sought_of}
 use Rattle.query_derive.proofs.Searching.{if_ok_map, if_some_map}
 use Rattle.query_derive.proofs.Deciding.{concluded, unconcluded, first_seen, placed_seen, first_for, placed_for, no_row_for}
+use Rattle.std.proofs.lemmas.Grind.{common_steps}
 use Rattle.query_derive.proofs.satisfying.first_positions.Goals as goal
 
 pub returns-clause-some : goal.returns-clause-some
@@ -47,3 +48,6 @@ returns-then-not-branch-clause-none g c = λ _.
     let seen = clause_at all c.args.clause.now in
     let concl_is = ap (λ k. fact_at all (fact_of k.concl)) c.clause-inside.view_is ∙ ap (λ k. fact_at all k.conclusion) c.clause.view_is in
     no_row_for all c.match_bad.new.binds.pairs sought seen (unconcluded all sought seen c.in_ok-binds.binds.pairs _ c.in_ok-binds.ensures.none concl_is (c.in_ok-match_bad.ensures.no c.if-not-branch.true))
+
+pub place-requires-clause-few : goal.place-requires-clause-few
+place-requires-clause-few g c = grind (arith, common_steps)

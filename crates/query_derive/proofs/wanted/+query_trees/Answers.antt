@@ -1,4 +1,4 @@
-use Rattle.std.proofs.Common.{◌≡◌, ◌∙◌, ap, sym, length, map, arith, rules}
+use Rattle.std.proofs.Common.{◌≡◌, ◌∙◌, ap, sym, length, map, arith}
 use Rattle.trees.specs.Tree.{node, trees, sizes}
 use Rattle.calculus.specs.Syntax.{Constructor}
 use Rattle.calculus.specs.Syntax as calculus
@@ -9,6 +9,7 @@ use Rattle.pi_tree.specs.Terms.{term_of}
 use Rattle.pi_tree.specs.Protocols.{protocol_of}
 use Rattle.clause_form.specs.Plain.{term_of as tree_term}
 use Rattle.query_derive.proofs.Converting.{query_node, size_at, made_all}
+use Rattle.std.proofs.lemmas.Grind.{common_steps}
 use Rattle.query_derive.proofs.wanted.+query_trees.Goals as goal
 
 pub tree_of-returns-in_ok-items-in-App : goal.tree_of-returns-in_ok-items-in-App
@@ -27,13 +28,19 @@ tree_of-returns-in_ok-items-in-Tuple t c =
 
 pub trees_of-tree_of-requires : goal.trees_of-tree_of-requires
 trees_of-tree_of-requires t c =
-    let are : map term_of c.deref-term-items.result.now ≡ c.args.terms.now = search rules in
+    let are : map term_of c.deref-term-items.result.now ≡ c.args.terms.now = ap (map term_of) c.deref-term-items.ensures.value ∙ c.terms.view_is in
     let sum : sizes (trees (map term_of c.deref-term-items.result.now)) ≡ sizes (trees c.args.terms.now) = ap (λ ts. sizes (trees ts)) are in
     let part = size_at c.deref-term-items.result.now c.loop-term.term-index c.term-item.result c.loop-term-test.true c.term-item.is in
     (omega (arith, c.decreases, sum, part), omega (arith, sum, part, c.requires))
 
 pub trees_of-returns : goal.trees_of-returns
 trees_of-returns t c =
-    let are : map term_of c.deref-term-items.result.now ≡ c.args.terms.now = search rules in
+    let are : map term_of c.deref-term-items.result.now ≡ c.args.terms.now = ap (map term_of) c.deref-term-items.ensures.value ∙ c.terms.view_is in
     made_all (query_term (protocol_of c.args.protocol.now)) term_of c.deref-term-items.result.now c.loop-term.term-index (map tree_term c.loop-term.items.items) c.loop-term-test.false c.loop-term.invariant
     ∙ ap (map (query_term (protocol_of c.args.protocol.now))) are
+
+pub trees_of-loop-term-preserved : goal.trees_of-loop-term-preserved
+trees_of-loop-term-preserved t c = grind (arith, common_steps)
+
+pub trees_of-loop-term-init : goal.trees_of-loop-term-init
+trees_of-loop-term-init t c = ap (map tree_term) c.in_ok-items.ensures.items

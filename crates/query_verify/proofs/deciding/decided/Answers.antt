@@ -20,12 +20,12 @@ saturate-requires-clause-fit g c =
     named_fit (g.B.Bank.trees c.args.bank.now) c.args.given.now t.list t.names (λ d has. c.translations_are_normal.ensures.normal P t.query t.list d t.translates has)
     (λ d has. c.translations_are_within_the_limit.ensures.all P t.query t.list d limits (small_query P c.args.question.now.query t.query limits t.is) t.translates has)
 
-pub ended-requires-clause-given : goal.ended-requires-clause-given
-ended-requires-clause-given g c =
+pub ended-answer-requires-clause-given : goal.ended-answer-requires-clause-given
+ended-answer-requires-clause-given g c =
     translates_later (protocol_at c.args.question.now) c.args.question.now.query (g.B.Bank.trees c.args.bank.now) (g.B.Bank.trees c.saturate.new.bank) c.args.given.now c.saturate.ensures.grows c.requires.given
 
-pub ended-requires-clause-log : goal.ended-requires-clause-log
-ended-requires-clause-log g c =
+pub ended-answer-requires-clause-log : goal.ended-answer-requires-clause-log
+ended-answer-requires-clause-log g c =
     let old = g.B.Bank.trees c.args.bank.now in
     let new = g.B.Bank.trees c.saturate.new.bank in
     subst (λ (cs : List (Clause Term)). IsLogOf new cs c.args.question.now.budget c.in_ok-saturated.saturated) (sym (same_later old new c.args.given.now c.saturate.ensures.grows c.requires.given.names.known)) c.in_ok-saturated.ensures.log

@@ -4,6 +4,7 @@ use Rattle.pi_model.specs.Steps.{step_of}
 use Rattle.pi_tree.specs.Protocols.{protocol_of}
 use Rattle.run_replay.specs.Reached.{IsDoneSomewhere, TellsViolation}
 use Rattle.run_replay.proofs.Violations.{IsBetween-true, IsBetween-false, IsBetween-end, front_somewhere}
+use Rattle.std.proofs.lemmas.Grind.{common_steps}
 use Rattle.run_replay.proofs.bisect.first_violation.Goals as goal
 
 pub violated_after-requires-clause-done : goal.violated_after-requires-clause-done
@@ -28,3 +29,9 @@ loop-low-preserved c =
 
 pub returns : goal.returns
 returns c = IsBetween-end _ _ _ _ _ c.loop-low.invariant c.loop-low-test.false
+
+pub violated_after-requires-clause-fewer : goal.violated_after-requires-clause-fewer
+violated_after-requires-clause-fewer c = grind (arith, common_steps)
+
+pub slice_bounds-violated_after-end : goal.slice_bounds-violated_after-end
+slice_bounds-violated_after-end c = grind (arith, common_steps)

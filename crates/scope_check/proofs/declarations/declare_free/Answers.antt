@@ -1,5 +1,6 @@
 -- The word was not declared before.
-use Rattle.std.proofs.Common.{ap, ◌∙◌}
+use Rattle.std.proofs.Common.{ap, ◌∙◌, arith}
+use Rattle.std.proofs.lemmas.Grind.{common_steps}
 use Rattle.protocol_scope.specs.Names as own
 use Rattle.scope_check.specs.Text.{texts_of}
 use Rattle.scope_check.specs.Names.{names_of}
@@ -10,3 +11,6 @@ returns-clause-kept c =
     let new = c.in_ok-free.ensures.new in
     let text = texts_of c.args.whole.now in
     c.in_ok-add_free.ensures.kept text c.requires (ap (own.meaning_of text (names_of c.args.names.now)) new.spelled ∙ new.fresh)
+
+pub returns-clause-read : goal.returns-clause-read
+returns-clause-read c = grind (arith, common_steps)

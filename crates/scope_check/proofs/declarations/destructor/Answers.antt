@@ -14,3 +14,6 @@ returns-then-said-ge-MOST_RULES-clause-read c = grind (arith, common_steps)
 
 pub returns-clause-read : goal.returns-clause-read
 returns-clause-read c = grind (arith, common_steps)
+
+pub loop-other-init : goal.loop-other-init
+loop-other-init c = grind (arith, common_steps)

@@ -21,3 +21,9 @@ patterns-returns-in_err-item-clause-read t c = grind (arith, common_steps)
 
 pub patterns-returns-clause-read : goal.patterns-returns-clause-read
 patterns-returns-clause-read t c = grind (arith, common_steps)
+
+pub pattern-returns-in_ok-arguments-in-Named-clause-read : goal.pattern-returns-in_ok-arguments-in-Named-clause-read
+pattern-returns-in_ok-arguments-in-Named-clause-read t c = grind (arith, common_steps)
+
+pub pattern-returns-in_ok-term-in-Equal-clause-read : goal.pattern-returns-in_ok-term-in-Equal-clause-read
+pattern-returns-in_ok-term-in-Equal-clause-read t c = grind (arith, common_steps)

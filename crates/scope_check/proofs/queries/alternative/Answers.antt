@@ -14,3 +14,6 @@ returns-then-len-ge-MOST_EVENTS-clause-read c = grind (arith, common_steps)
 
 pub returns-clause-read : goal.returns-clause-read
 returns-clause-read c = grind (arith, common_steps)
+
+pub loop-atom-init : goal.loop-atom-init
+loop-atom-init c = grind (arith, common_steps)

@@ -14,3 +14,6 @@ returns-then-len-ge-MOST_QUERIES c = grind (arith, common_steps)
 
 pub returns : goal.returns
 returns c = grind (arith, common_steps)
+
+pub loop-declaration-init : goal.loop-declaration-init
+loop-declaration-init c = grind (arith, common_steps)

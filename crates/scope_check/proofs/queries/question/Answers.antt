@@ -8,3 +8,6 @@ returns-then-len-gt-MOST_ALTERNATIVES c = grind (arith, common_steps)
 
 pub returns-else-len-gt-MOST_ALTERNATIVES : goal.returns-else-len-gt-MOST_ALTERNATIVES
 returns-else-len-gt-MOST_ALTERNATIVES c = grind (arith, common_steps)
+
+pub returns-in_ok-message-in-Attacker : goal.returns-in_ok-message-in-Attacker
+returns-in_ok-message-in-Attacker c = grind (arith, common_steps)

@@ -12,3 +12,9 @@ loop-form-smaller c = grind (arith, common_steps, weight_up_to)
 
 pub returns-in_err-at-in-Unit-Macro-clause-refused : goal.returns-in_err-at-in-Unit-Macro-clause-refused
 returns-in_err-at-in-Unit-Macro-clause-refused c = grind (arith, common_steps, weight_up_to)
+
+pub slice_bounds-macros-end : goal.slice_bounds-macros-end
+slice_bounds-macros-end c = grind (arith, common_steps, weight_up_to)
+
+pub returns-in_default-clause-found : goal.returns-in_default-clause-found
+returns-in_default-clause-found c = grind (arith, common_steps, weight_up_to)

@@ -12,3 +12,6 @@ loop-at-preserved c = grind (arith, common_steps, macros_up_to)
 
 pub returns-then-eq-clause-found : goal.returns-then-eq-clause-found
 returns-then-eq-clause-found c = grind (arith, common_steps, macros_up_to)
+
+pub returns-clause-refused : goal.returns-clause-refused
+returns-clause-refused c = grind (arith, common_steps, macros_up_to)

@@ -21,3 +21,27 @@ terms-returns-in_err-item-clause-read t c = grind (arith, common_steps, sizes_se
 
 pub terms-returns-clause-read : goal.terms-returns-clause-read
 terms-returns-clause-read t c = grind (arith, common_steps, sizes_seen)
+
+pub term-returns-then-given-eq0-clause-read : goal.term-returns-then-given-eq0-clause-read
+term-returns-then-given-eq0-clause-read t c = grind (arith, common_steps)
+
+pub term-returns-in_ok-arguments-in-Named-clause-read : goal.term-returns-in_ok-arguments-in-Named-clause-read
+term-returns-in_ok-arguments-in-Named-clause-read t c = grind (arith, common_steps)
+
+pub term-returns-in_ok-arguments-in-Named-clause-known : goal.term-returns-in_ok-arguments-in-Named-clause-known
+term-returns-in_ok-arguments-in-Named-clause-known t c = grind (arith, common_steps)
+
+pub term-returns-in_ok-parts-in-Grouped-clause-read : goal.term-returns-in_ok-parts-in-Grouped-clause-read
+term-returns-in_ok-parts-in-Grouped-clause-read t c = grind (arith, common_steps)
+
+pub term-returns-in_ok-parts-in-Grouped-clause-known : goal.term-returns-in_ok-parts-in-Grouped-clause-known
+term-returns-in_ok-parts-in-Grouped-clause-known t c = grind (arith, common_steps)
+
+pub term-terms-requires : goal.term-terms-requires
+term-terms-requires t c = grind (arith, common_steps)
+
+pub term-terms-requires-in-Grouped : goal.term-terms-requires-in-Grouped
+term-terms-requires-in-Grouped t c = grind (arith, common_steps)
+
+pub terms-loop-sketch-init : goal.terms-loop-sketch-init
+terms-loop-sketch-init t c = grind (arith, common_steps)

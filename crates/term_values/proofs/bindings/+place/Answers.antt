@@ -5,7 +5,8 @@ use Rattle.calculus.specs.Matching.{places_row}
 use Rattle.pi_tree.specs.Terms.{term_of}
 use Rattle.pi_tree.specs.Values.{value_of}
 use Rattle.term_values.specs.Slots.{name_of}
-use Rattle.term_values.proofs.Places.{row-found, row-passed}
+use Rattle.term_values.proofs.Places.{row-found, row-passed, of_places}
+use Rattle.std.proofs.lemmas.Grind.{common_steps}
 use Rattle.term_values.proofs.bindings.+place.Goals as goal
 
 pub place_in-returns-in-Some : goal.place_in-returns-in-Some
@@ -20,3 +21,6 @@ place_in-loop-index-preserved t c =
     sym (row-passed c.deref-term-items.result.now c.args.values.now c.loop-index.index c.term-item.result c.index-values-index.result (name_of c.args.slot)
     (omega arith) c.term-item.is (omega arith) c.index-values-index.is (sym c.place.ensures ∙ ap (option_map (λ v. value_of v.now)) c.in_default.is))
     ∙ c.loop-index.invariant
+
+pub place_in-returns-then-index-values : goal.place_in-returns-then-index-values
+place_in-returns-then-index-values t c = grind (arith, common_steps, of_places)

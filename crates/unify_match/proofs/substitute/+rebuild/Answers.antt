@@ -1,13 +1,13 @@
-use Rattle.std.proofs.Common.{◌≡◌, ◌∙◌, ◌<◌, ◌+◌, ◌-◌, List, [], ◌∷◌, ◌++◌, Bool, IfOk, length, take, drop, map, get_or, ap, sym, subst, arith}
+use Rattle.std.proofs.Common.{◌≡◌, ◌∙◌, ◌<◌, ◌+◌, ◌-◌, List, [], ◌∷◌, ◌++◌, length, take, drop, map, get_or, ap, sym, subst, arith}
 use Rattle.std.proofs.lemmas.Grind.{common_steps}
 use Rattle.std.proofs.lemmas.Bool.{false≢true}
 use Rattle.std.proofs.lemmas.List.{take_rest}
 use Rattle.trees.specs.Tree.{Leaf, node, bind}
 use Rattle.terms.specs.Term.{Term}
 use Rattle.terms.specs.Rank.{height}
-use Rattle.term_tree.specs.Bank.{tree_at, symbol_of, AreKnown, Names}
+use Rattle.term_tree.specs.Bank.{tree_at, symbol_of}
 use Rattle.term_tree.specs.declared.bank.Id.{Id}
-use Rattle.term_tree.proofs.BankLaws.{Grows_trans, Grows-length, tree_at-grows}
+use Rattle.term_tree.proofs.BankLaws.{Grows_trans, tree_at-grows}
 use Rattle.unify_match.specs.Substitution.{subst_of, CanChange, rank_of, arguments}
 use Rattle.unify_match.proofs.Substituting.{IsRebuilding, rebuilding_begins, rebuilding_on, rebuilding_kept, rebuilding_ends, end_unchanged, row_unchanged, argument_unchanged, Names-same, height-argument, subst_of-grows, rank_of-grows, CanChange-argument}
 use Rattle.unify_match.proofs.substitute.+rebuild.Goals as goal
@@ -157,12 +157,6 @@ renamed-requires-clause-none g t c = grind (arith, common_steps)
 pub argument-arg-requires-clause-known : goal.argument-arg-requires-clause-known
 argument-arg-requires-clause-known g t c = grind (arith, common_steps)
 
-pub returns-in_err-made-clause-grows : goal.returns-in_err-made-clause-grows
-returns-in_err-made-clause-grows g t c = grind (arith, common_steps)
-
-pub returns-in_err-push-clause-grows : goal.returns-in_err-push-clause-grows
-returns-in_err-push-clause-grows g t c = grind (arith, common_steps)
-
 pub returns-then-kept-clause-stack : goal.returns-then-kept-clause-stack
 returns-then-kept-clause-stack g t c = grind (arith, common_steps)
 
@@ -184,8 +178,14 @@ slice_bounds-app-start g t c = grind (arith, common_steps)
 pub app-requires : goal.app-requires
 app-requires g t c = grind (arith, common_steps)
 
-pub returns-clause-grows : goal.returns-clause-grows
-returns-clause-grows g t c = grind (arith, common_steps)
-
 pub returns-clause-stack : goal.returns-clause-stack
 returns-clause-stack g t c = grind (arith, common_steps)
+
+pub returns-in_err-made-clause-grows : goal.returns-in_err-made-clause-grows
+returns-in_err-made-clause-grows g t c = Grows_trans (g.B.Bank.trees c.args.bank.now) (g.B.Bank.trees c.each.bank) (g.B.Bank.trees c.rebuild.new.bank) c.each.invariant.grows c.rebuild.ensures.grows
+
+pub returns-in_err-push-clause-grows : goal.returns-in_err-push-clause-grows
+returns-in_err-push-clause-grows g t c = Grows_trans (g.B.Bank.trees c.args.bank.now) (g.B.Bank.trees c.each.bank) (g.B.Bank.trees c.rebuild.new.bank) c.each.invariant.grows c.rebuild.ensures.grows
+
+pub returns-clause-grows : goal.returns-clause-grows
+returns-clause-grows g t c = Grows_trans (g.B.Bank.trees c.args.bank.now) (g.B.Bank.trees c.each.bank) (g.B.Bank.trees c.app.new.self) c.each.invariant.grows c.app.ensures.grows

@@ -19,19 +19,19 @@ pub returns-in-Ok-clause-fault : goal.returns-in-Ok-clause-fault
 returns-in-Ok-clause-fault g c =
     let P = protocol_of c.in-Ok.protocol in
     let accepted = of_file (g.F.Files.held c.args.files.now c.args.file.now) (λ bytes. Spells bytes P) (λ bytes. (Q : syntax.Protocol) × Spells bytes Q) (λ bytes s. (P, s)) c.in-Ok.ensures.spelled in
-    λ e. inr (accepted, counted_later _ _ _ (c.load_protocol.ensures.read_faults_rise c.args.run.now) (c.replay_run.ensures.fault e))
+    λ e. inr (accepted, counted_later _ _ _ (c.load_protocol.ensures.read_faults_rise c.args.run.now) (c.replay_run-outcome.ensures.fault e))
 
 pub returns-in-Ok-clause-replayed : goal.returns-in-Ok-clause-replayed
 returns-in-Ok-clause-replayed g c =
     let laws : Laws = record { one_protocol = c.one_protocol.ensures; one_refusal = c.one_refusal.ensures; never_both = c.never_both.ensures } in
     let P = protocol_of c.in-Ok.protocol in
-    let F : Option (List ℕ) → Type 0 = λ held. OfFile held (λ text. RunsOn P text (outcome_of c.replay_run.result)) in
+    let F : Option (List ℕ) → Type 0 = λ held. OfFile held (λ text. RunsOn P text (outcome_of c.replay_run-outcome.result)) in
     λ read.
-    let said : F (g.F.Files.held c.args.files.now c.args.run.now) = subst F (c.load_protocol.ensures.held_stays c.args.run.now) (c.replay_run.ensures.shown read) in
-    run_replayed laws _ _ P _ c.replay_run.ensures.kind read said c.in-Ok.ensures.spelled
+    let said : F (g.F.Files.held c.args.files.now c.args.run.now) = subst F (c.load_protocol.ensures.held_stays c.args.run.now) (c.replay_run-outcome.ensures.shown read) in
+    run_replayed laws _ _ P _ c.replay_run-outcome.ensures.kind read said c.in-Ok.ensures.spelled
 
 pub returns-in-Err-clause-words : goal.returns-in-Err-clause-words
 returns-in-Err-clause-words g c = unread_words _ _ _ c.in-Err.ensures.unread
 
 pub returns-in-Ok-clause-words : goal.returns-in-Ok-clause-words
-returns-in-Ok-clause-words g c = run_words _ c.replay_run.ensures.kind
+returns-in-Ok-clause-words g c = run_words _ c.replay_run-outcome.ensures.kind

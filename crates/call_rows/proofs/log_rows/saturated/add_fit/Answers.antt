@@ -1,6 +1,6 @@
 use Rattle.std.proofs.Common.{◌≡◌, [], ◌∷◌, ◌++◌, sym, subst, rules}
-use Rattle.clause_saturate.specs.Fit.{AreFit}
-use Rattle.clause_saturate.proofs.Fitting.{AreFit-grow}
+use Rattle.clause_form.specs.Fit.{AreFit}
+use Rattle.clause_form.proofs.Fit.{AreFit-grow}
 use Rattle.call_rows.proofs.log_rows.Fits.{AreFit-push}
 use Rattle.call_rows.proofs.log_rows.saturated.add_fit.Goals as goal
 

@@ -1,4 +1,4 @@
-use Rattle.clause_saturate.specs.Fit.{AreFit}
+use Rattle.clause_form.specs.Fit.{AreFit}
 use Rattle.call_rows.proofs.log_rows.saturated.fit_clauses.Given as goal
 
 abbrev pub invariant-each : goal.invariant-each

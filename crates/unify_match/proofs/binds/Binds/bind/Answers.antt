@@ -1,4 +1,5 @@
 use Rattle.std.proofs.Common.{◌∙◌, ◌∷◌, List, reverse, ap, sym, subst, arith}
+use Rattle.std.proofs.lemmas.Grind.{common_steps}
 use Rattle.unify_match.specs.declared.bound.Bound.{Bound}
 use Rattle.unify_match.specs.Trail.{Trail, id_of}
 use Rattle.unify_match.specs.Table.{IsTableOf}
@@ -33,3 +34,6 @@ returns-clause-bindings c all were known =
 pub returns-clause-ready : goal.returns-clause-ready
 returns-clause-ready c all ready known absent =
     subst (λ (bs : List Bound). IsReady all bs) (sym (returns-clause-pairs c)) (IsReady-bind all c.args.self.now.pairs record { var = c.args.var; id = c.args.id } ready known c.requires.unbound absent)
+
+pub returns-clause-seen : goal.returns-clause-seen
+returns-clause-seen c = grind (arith, common_steps)

@@ -1,0 +1,28 @@
+-- A fact that is made of a head and of ids that name terms.
+use Rattle.std.proofs.Common.{◌≡◌, List, [], ◌∷◌, map, ap}
+use Rattle.terms.specs.Term.{Term}
+use Rattle.clauses.specs.Fact.{Fact, terms_of, map_fact}
+use Rattle.clauses.specs.Fact as fact
+use Rattle.clauses.specs.Head.{head_of, made_of}
+use Rattle.term_tree.specs.Bank.{tree_at}
+use Rattle.term_tree.specs.declared.bank.Id.{Id}
+use Rattle.clause_form.specs.Seen.{fact_at, NameTerms, NamesFact}
+
+-- where the ids name what is made of each term of a fact, the fact with the same head names what is made of the fact
+pub made_names : (old now : List Term) (h : Term → Term) (f : Fact Id) (ids : List Id) → NameTerms now ids (map h (map (tree_at old) (terms_of f)))
+    → NamesFact now (made_of (head_of f) ids) (map_fact h (fact_at old f))
+made_names old now h (fact.Att t) [] names = absurd (let e = names.are in cc)
+made_names old now h (fact.Att t) (a ∷ []) names =
+    let e : tree_at now a ≡ h (tree_at old t) = (let are = names.are in cc) in
+    record { known = names.known; is = ap fact.Att e }
+made_names old now h (fact.Att t) (a ∷ b ∷ ids) names = absurd (let e = names.are in cc)
+made_names old now h (fact.Mess t u) [] names = absurd (let e = names.are in cc)
+made_names old now h (fact.Mess t u) (a ∷ []) names = absurd (let e = names.are in cc)
+made_names old now h (fact.Mess t u) (a ∷ b ∷ []) names =
+    let e : tree_at now a ≡ h (tree_at old t) = (let are = names.are in cc) in
+    let k : tree_at now b ≡ h (tree_at old u) = (let are = names.are in cc) in
+    record { known = names.known; is = λ i. fact.Mess (e i) (k i) }
+made_names old now h (fact.Mess t u) (a ∷ b ∷ c ∷ ids) names = absurd (let e = names.are in cc)
+made_names old now h (fact.Ev e ts) ids names = record { known = names.known; is = ap (fact.Ev e) names.are }
+made_names old now h (fact.Mev e ts) ids names = record { known = names.known; is = ap (fact.Mev e) names.are }
+made_names old now h (fact.Bad ts) ids names = record { known = names.known; is = ap fact.Bad names.are }

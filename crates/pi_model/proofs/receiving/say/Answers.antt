@@ -1,0 +1,8 @@
+use Rattle.std.proofs.Common.{arith}
+use Rattle.std.proofs.lemmas.Grind.{common_steps}
+use Rattle.pi_model.proofs.ThreadSteps.{of_say}
+use Rattle.pi_model.proofs.Points.{of_points}
+use Rattle.pi_model.proofs.receiving.say.Goals as goal
+
+pub received-requires : goal.received-requires
+received-requires c = grind (arith, common_steps, of_say, of_points)

@@ -1,0 +1,7 @@
+-- The main process is read from the first point on.
+use Rattle.std.proofs.Common.{arith}
+use Rattle.std.proofs.lemmas.Grind.{common_steps}
+use Rattle.scope_check.proofs.processes.main_process.Goals as goal
+
+pub returns : goal.returns
+returns c = grind (arith, common_steps)

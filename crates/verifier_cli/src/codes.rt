@@ -1,0 +1,133 @@
+//! The words of the codes of what is refused.
+
+ghost use Rattle.std.specs.Prelude.{◌≡◌};
+ghost use Rattle.pi_model.specs.Errors as errors;
+ghost use Rattle.verifier_cli.specs.Seen.{refusal_by, report_refusal_by, run_refusal_by};
+ghost use Rattle.verifier_cli.specs.Text.{code_text, report_code_text, run_code_text, step_text};
+
+use crate::outcome::{ProtocolCode, ReportCode, RunCode};
+use pi_model::StepError;
+use std::fmt;
+
+impl ProtocolCode {
+    /// The number of the code, and its name.
+    fn words(self) -> &'static str
+        ensures { result.now ≡ code_text (refusal_by self) }
+    {
+        match self {
+            ProtocolCode::BadByte => "1 BadByte",
+            ProtocolCode::OpenComment => "2 OpenComment",
+            ProtocolCode::LongNumber => "3 LongNumber",
+            ProtocolCode::Unexpected => "4 Unexpected",
+            ProtocolCode::TooDeep => "5 TooDeep",
+            ProtocolCode::Unknown => "6 Unknown",
+            ProtocolCode::Twice => "7 Twice",
+            ProtocolCode::Arity => "8 Arity",
+            ProtocolCode::Kind => "9 Kind",
+            ProtocolCode::LooseVariable => "10 LooseVariable",
+            ProtocolCode::TooMany => "11 TooMany",
+            ProtocolCode::AmbiguousNew => "12 AmbiguousNew",
+            ProtocolCode::LongFile => "13 LongFile",
+        }
+    }
+}
+
+impl fmt::Display for ProtocolCode {
+    ghost use Rattle.std.specs.Prelude.{Some};
+    ghost use Rattle.verifier_cli.specs.Seen.{refusal_by};
+    ghost use Rattle.verifier_cli.specs.Text.{code_text};
+
+    ghost output = { λ c. Some (code_text (refusal_by c)) };
+
+    fn fmt<W: fmt::Write>(&self, f: &mut fmt::Formatter<W>) -> fmt::Result {
+        f.write_str(self.words())
+    }
+}
+
+impl ReportCode {
+    /// The number of the code, and its name.
+    fn words(self) -> &'static str
+        ensures { result.now ≡ report_code_text (report_refusal_by self) }
+    {
+        match self {
+            ReportCode::Syntax => "1 Syntax",
+            ReportCode::Number => "2 Number",
+            ReportCode::Symbol => "3 Symbol",
+            ReportCode::Arity => "4 Arity",
+            ReportCode::Count => "5 Count",
+            ReportCode::LongFile => "6 LongFile",
+        }
+    }
+}
+
+impl fmt::Display for ReportCode {
+    ghost use Rattle.std.specs.Prelude.{Some};
+    ghost use Rattle.verifier_cli.specs.Seen.{report_refusal_by};
+    ghost use Rattle.verifier_cli.specs.Text.{report_code_text};
+
+    ghost output = { λ c. Some (report_code_text (report_refusal_by c)) };
+
+    fn fmt<W: fmt::Write>(&self, f: &mut fmt::Formatter<W>) -> fmt::Result {
+        f.write_str(self.words())
+    }
+}
+
+impl RunCode {
+    /// The number of the code, and its name.
+    fn words(self) -> &'static str
+        ensures { result.now ≡ run_code_text (run_refusal_by self) }
+    {
+        match self {
+            RunCode::Word => "1 Word",
+            RunCode::Number => "2 Number",
+            RunCode::LongLine => "3 LongLine",
+            RunCode::LongFile => "4 LongFile",
+        }
+    }
+}
+
+impl fmt::Display for RunCode {
+    ghost use Rattle.std.specs.Prelude.{Some};
+    ghost use Rattle.verifier_cli.specs.Seen.{run_refusal_by};
+    ghost use Rattle.verifier_cli.specs.Text.{run_code_text};
+
+    ghost output = { λ c. Some (run_code_text (run_refusal_by c)) };
+
+    fn fmt<W: fmt::Write>(&self, f: &mut fmt::Formatter<W>) -> fmt::Result {
+        f.write_str(self.words())
+    }
+}
+
+/// The code of a refused step, and its name.
+#[derive(Clone, Copy)]
+pub(crate) struct StepCode(pub(crate) StepError);
+
+impl StepCode {
+    /// The number of the code, and its name.
+    fn words(self) -> &'static str
+        ensures { result.now ≡ step_text (errors.refusal_of self.0) }
+    {
+        match self.0 {
+            StepError::NoThread => "1 NoThread",
+            StepError::WrongForm => "2 WrongForm",
+            StepError::UnknownChannel => "3 UnknownChannel",
+            StepError::ChannelsDiffer => "4 ChannelsDiffer",
+            StepError::NoKnowledge => "5 NoKnowledge",
+            StepError::NoRule => "6 NoRule",
+            StepError::NotFailing => "7 NotFailing",
+            StepError::NotPublic => "8 NotPublic",
+            StepError::Large => "9 Large",
+        }
+    }
+}
+
+impl fmt::Display for StepCode {
+    ghost use Rattle.std.specs.Prelude.{Some};
+    ghost use Rattle.verifier_cli.specs.Text.{step_text};
+
+    ghost output = { λ c. Some (step_text (errors.refusal_of c.0)) };
+
+    fn fmt<W: fmt::Write>(&self, f: &mut fmt::Formatter<W>) -> fmt::Result {
+        f.write_str(self.words())
+    }
+}
