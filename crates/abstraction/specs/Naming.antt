@@ -8,7 +8,7 @@ use Rattle.calculus.specs.Values as calculus
 use Rattle.calculus.specs.Runs.{Performed}
 use Rattle.terms.specs.Term.{Attacker, Term}
 use Rattle.clauses.specs.Fact.{Fact, Ev, Mev}
-use Rattle.translation.specs.Conversion.{Standing, free_term, name_term, converted}
+use Rattle.translation.specs.Conversion.{StandsFor, free_term, name_term, converted}
 use Rattle.translation.specs.Visit.{Visit}
 use Rattle.abstraction.specs.Trace.{Past, MadeAt}
 
@@ -40,7 +40,7 @@ naming P [] point number = free_term 0
 naming P (e ∷ es) point number = cond (nat_eq e.number number) (made_term P (naming P es) e) (naming P es point number)
 
 -- a thread's environment, and all that is known of the thread, as a visit
-abbrev pub abstracted_binding : Protocol → Naming → calculus.Binding → Standing
+abbrev pub abstracted_binding : Protocol → Naming → calculus.Binding → StandsFor
 abstracted_binding P names b = record { name = b.name; term = abstracted P names b.value }
 
 abbrev pub abstracted_visit : Protocol → Naming → Environment → Past → List (Fact Term) → Visit

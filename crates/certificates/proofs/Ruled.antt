@@ -5,7 +5,7 @@ use Rattle.calculus.specs.Syntax.{Query}
 use Rattle.terms.specs.Term.{Term}
 use Rattle.clauses.specs.Fact.{Clause}
 use Rattle.clauses.specs.Selection.{select}
-use Rattle.clauses.specs.Resolvents.{Answer, NoUnifier, Large, Resolvents, IsRawResolvent, resolved}
+use Rattle.clauses.specs.Resolvents.{Answer, NoUnifier, Large, Resolvents, IsRawResolvent, answer_of}
 use Rattle.certificates.specs.Certificate.{IsInShape, CoverRowHolds, Numbered, Pair, pairs_of_solved, pairs_of}
 use Rattle.certificates.specs.Ruling.{Ruling, Rest, Shapes, Covers, Answered, Closures}
 
@@ -26,7 +26,7 @@ IsEmpty Large = ⊥
 IsEmpty (Resolvents cs) = cs ≡ []
 
 abbrev pub IsIdle : Pair → Type 0
-IsIdle p = (raw : Option (Clause Term)) × IsRawResolvent p.solved.clause p.unsolved.clause p.at raw × IsEmpty (resolved raw)
+IsIdle p = (raw : Option (Clause Term)) × IsRawResolvent p.solved.clause p.unsolved.clause p.at raw × IsEmpty (answer_of raw)
 
 -- nor do the pairs of the clause with these
 abbrev pub IsIdleWith : List Numbered → Numbered → Type 0
@@ -49,7 +49,7 @@ module _ (clauses : List (Clause Term)) (next : Rest) (rows : List (List ℕ)) (
   pub idle_first : (p : Pair) (ps : List Pair) → IsIdle p → Closures clauses ps next rows ruling → Closures clauses (p ∷ ps) next rows ruling
   idle_first p ps idle x =
       let (raw, is_raw, none) = idle in
-      (resolved raw, (raw, is_raw, refl), answered_idle clauses (Closures clauses ps next) ruling p (resolved raw) rows none x)
+      (answer_of raw, (raw, is_raw, refl), answered_idle clauses (Closures clauses ps next) ruling p (answer_of raw) rows none x)
 
   idle_all : (ps qs : List Pair) → AllByRecursion IsIdle ps → Closures clauses qs next rows ruling → Closures clauses (ps ++ qs) next rows ruling
   idle_all [] qs all x = x

@@ -4,7 +4,7 @@ use Rattle.terms.specs.Term.{Term}
 use Rattle.clauses.specs.Fact.{Clause}
 use Rattle.clauses.specs.Norm.{IsNormal}
 use Rattle.clauses.specs.Limits.{IsWithinLimit}
-use Rattle.clauses.specs.Resolvents.{Resolvents, resolved}
+use Rattle.clauses.specs.Resolvents.{Resolvents, answer_of}
 use Rattle.clauses.specs.Inclusion.{here, there, Has}
 use Rattle.clauses.proofs.Made.{made_small, made_normal}
 use Rattle.term_tree.specs.Bank.{Grows}
@@ -53,5 +53,5 @@ named_fit all clauses cs names normal small = go clauses cs names.known names.ar
           go clauses ds known.1 rest (λ x h. normal x (d ∷ h.0, there h.1)) (λ x h. small x (d ∷ h.0, there h.1)),
         )
 
-pub resolvents_fit : (all : List Term) (clauses : List (Clause Id)) (raw : Option (Clause Term)) (cs : List (Clause Term)) → Resolvents cs ≡ resolved raw → NameClauses all clauses cs → AreFit all clauses
+pub resolvents_fit : (all : List Term) (clauses : List (Clause Id)) (raw : Option (Clause Term)) (cs : List (Clause Term)) → Resolvents cs ≡ answer_of raw → NameClauses all clauses cs → AreFit all clauses
 resolvents_fit all clauses raw cs e names = named_fit all clauses cs names (λ c h. made_normal raw cs c e h) (λ c h. made_small raw cs c e h)

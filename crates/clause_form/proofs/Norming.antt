@@ -10,7 +10,7 @@ use Rattle.terms.proofs.Replace.{eqb_self}
 use Rattle.clauses.specs.Fact.{Fact, Att, Mess, Ev, Mev, Bad, Clause, same_fact, is_among, is_variable_known, fact_under}
 use Rattle.clauses.specs.Variables.{fact_variables, clause_variables}
 use Rattle.clauses.specs.Selection.{is_solved}
-use Rattle.clauses.specs.Norm.{distinct, is_lonely, generalized, numbered, norm}
+use Rattle.clauses.specs.Norm.{distinct, is_lonely, generalized, numbered_anew, norm}
 use Rattle.clauses.proofs.Equality.{same_fact-decides}
 use Rattle.term_tree.specs.Bank.{Grows}
 use Rattle.term_tree.specs.declared.bank.Id.{Id}
@@ -90,8 +90,8 @@ lonely_done all numbers fs i kept known was past = record {
 }
 
 -- a solved clause that concludes `att` of a variable, numbered
-general_variable : (hs : List (Fact Term)) (f : Fact Term) (b : Bool) → is_solved hs ≡ b → (b && is_variable_known f) ≡ true → numbered (generalized (with_hypotheses hs f)) ≡ numbered (with_hypotheses [] f)
-general_variable hs (Att (Leaf x)) true solved e = ap (λ b. numbered (cond (b && true) (with_hypotheses [] (Att (Leaf 0))) (with_hypotheses hs (Att (Leaf x))))) solved ∙ ap (λ b. with_hypotheses [] (Att (Leaf (cond b 0 1)))) (sym (eqb_self x))
+general_variable : (hs : List (Fact Term)) (f : Fact Term) (b : Bool) → is_solved hs ≡ b → (b && is_variable_known f) ≡ true → numbered_anew (generalized (with_hypotheses hs f)) ≡ numbered_anew (with_hypotheses [] f)
+general_variable hs (Att (Leaf x)) true solved e = ap (λ b. numbered_anew (cond (b && true) (with_hypotheses [] (Att (Leaf 0))) (with_hypotheses hs (Att (Leaf x))))) solved ∙ ap (λ b. with_hypotheses [] (Att (Leaf (cond b 0 1)))) (sym (eqb_self x))
 general_variable hs (Att (Node g ts)) true solved e = cc
 general_variable hs (Mess t u) true solved e = cc
 general_variable hs (Ev k ts) true solved e = cc
@@ -99,11 +99,11 @@ general_variable hs (Mev k ts) true solved e = cc
 general_variable hs (Bad ts) true solved e = cc
 general_variable hs f false solved e = cc
 
-pub general_then : (hs : List (Fact Term)) (f : Fact Term) → (is_solved hs && is_variable_known f) ≡ true → numbered (generalized (with_hypotheses hs f)) ≡ numbered (with_hypotheses [] f)
+pub general_then : (hs : List (Fact Term)) (f : Fact Term) → (is_solved hs && is_variable_known f) ≡ true → numbered_anew (generalized (with_hypotheses hs f)) ≡ numbered_anew (with_hypotheses [] f)
 general_then hs f e = general_variable hs f (is_solved hs) refl e
 
-pub general_else : (hs : List (Fact Term)) (f : Fact Term) → (is_solved hs && is_variable_known f) ≡ false → numbered (generalized (with_hypotheses hs f)) ≡ numbered (with_hypotheses hs f)
-general_else hs f e = ap (λ b. numbered (cond b (with_hypotheses [] (Att (Leaf 0))) (with_hypotheses hs f))) e
+pub general_else : (hs : List (Fact Term)) (f : Fact Term) → (is_solved hs && is_variable_known f) ≡ false → numbered_anew (generalized (with_hypotheses hs f)) ≡ numbered_anew (with_hypotheses hs f)
+general_else hs f e = ap (λ b. numbered_anew (cond b (with_hypotheses [] (Att (Leaf 0))) (with_hypotheses hs f))) e
 
 pub named_as : (all : List Term) (r : Result (Clause Id) AllocError) (t u : Clause Term) → t ≡ u → IfOk r (λ made. NamesClause all made t) → IfOk r (λ made. NamesClause all made u)
 named_as all r t u e names = subst (λ (v : Clause Term). IfOk r (λ made. NamesClause all made v)) e names
@@ -111,9 +111,9 @@ named_as all r t u e names = subst (λ (v : Clause Term). IfOk r (λ made. Names
 -- hypotheses and conclusion renumbered by the order of their variables
 pub numbered_named : (old now next : List Term) (hyps : List (Fact Id)) (concl : Fact Id) (o p : List ℕ) (made : List (Fact Id)) (last : Fact Id) → IsFactIn old concl → Grows old now → Grows now next
     → o ≡ distinct nat_eq (clause_variables (clause_at old (with_hypotheses hyps concl))) → p ≡ distinct nat_eq (clause_variables (clause_at old (with_hypotheses hyps concl)))
-    → NameFacts now made (map (fact_under (placed o)) (map (fact_at old) hyps)) → NamesFact next last (fact_under (placed p) (fact_at now concl)) → NamesClause next record { hypotheses = made; conclusion = last } (numbered (clause_at old (with_hypotheses hyps concl)))
+    → NameFacts now made (map (fact_under (placed o)) (map (fact_at old) hyps)) → NamesFact next last (fact_under (placed p) (fact_at now concl)) → NamesClause next record { hypotheses = made; conclusion = last } (numbered_anew (clause_at old (with_hypotheses hyps concl)))
 numbered_named old now next hyps concl o p made last known grows later first second hyps_named concl_named =
-    let plain = numbered (clause_at old (with_hypotheses hyps concl)) in
+    let plain = numbered_anew (clause_at old (with_hypotheses hyps concl)) in
     let concl_is : fact_under (placed p) (fact_at now concl) ≡ plain.conclusion = ap (λ q. fact_under (placed q) (fact_at now concl)) second ∙ ap (fact_under (placed (distinct nat_eq (clause_variables (clause_at old (with_hypotheses hyps concl)))))) (fact_at-grows old now concl grows known) in
     clause_named now next made last (map (fact_under (placed o)) (map (fact_at old) hyps)) plain later hyps_named (ap (λ q. map (fact_under (placed q)) (map (fact_at old) hyps)) first)
     (subst (λ (t : Fact Term). NamesFact next last t) concl_is concl_named)
@@ -122,7 +122,7 @@ numbered_named old now next hyps concl o p made last known grows later first sec
 pub norm_named : (old next : List Term) (hyps : List (Fact Id)) (concl : Fact Id) (kept few k m n fewer : List (Fact Id)) (numbers taken : List ℕ) (among : Bool) (made : Clause Id)
     → NameFacts old kept (distinct same_fact (map (fact_at old) hyps)) → k ≡ kept → m ≡ kept → n ≡ kept → fewer ≡ few
     → among ≡ is_among (map (fact_at old) k) (fact_at old concl) → among ≡ false → numbers ≡ flat_map fact_variables (fact_at old concl ∷ map (fact_at old) m) → taken ≡ numbers
-    → NameFacts old few (filter (λ h. not (is_lonely taken h)) (map (fact_at old) n)) → NamesClause next made (numbered (generalized (with_hypotheses (map (fact_at old) fewer) (fact_at old concl))))
+    → NameFacts old few (filter (λ h. not (is_lonely taken h)) (map (fact_at old) n)) → NamesClause next made (numbered_anew (generalized (with_hypotheses (map (fact_at old) fewer) (fact_at old concl))))
     → NamesNorm next (variants.Clause made) (norm (with_hypotheses (map (fact_at old) hyps) (fact_at old concl)))
 norm_named old next hyps concl kept few k m n fewer numbers taken among made kept_named k_is m_is n_is fewer_is among_is absent numbers_are taken_is few_named names =
     let D = distinct same_fact (map (fact_at old) hyps) in
@@ -132,6 +132,6 @@ norm_named old next hyps concl kept few k m n fewer numbers taken among made kep
     let variables : taken ≡ V = taken_is ∙ (numbers_are ∙ ap (λ l. flat_map fact_variables (C ∷ l)) (ap (map (fact_at old)) m_is ∙ kept_named.are)) in
     let few_are : map (fact_at old) fewer ≡ filter (λ h. not (is_lonely V h)) D =
     ap (map (fact_at old)) fewer_is ∙ (few_named.are ∙ (ap (λ v. filter (λ h. not (is_lonely v h)) (map (fact_at old) n)) variables ∙ ap (filter (λ h. not (is_lonely V h))) (ap (map (fact_at old)) n_is ∙ kept_named.are))) in
-    let is : norm (with_hypotheses (map (fact_at old) hyps) C) ≡ Some (numbered (generalized (with_hypotheses (map (fact_at old) fewer) C))) =
-    ap (λ b. cond b None (Some (numbered (generalized (with_hypotheses (filter (λ h. not (is_lonely V h)) D) C))))) tautology ∙ ap (λ l. Some (numbered (generalized (with_hypotheses l C)))) (sym few_are) in
+    let is : norm (with_hypotheses (map (fact_at old) hyps) C) ≡ Some (numbered_anew (generalized (with_hypotheses (map (fact_at old) fewer) C))) =
+    ap (λ b. cond b None (Some (numbered_anew (generalized (with_hypotheses (filter (λ h. not (is_lonely V h)) D) C))))) tautology ∙ ap (λ l. Some (numbered_anew (generalized (with_hypotheses l C)))) (sym few_are) in
     subst (λ (o : Option (Clause Term)). NamesNorm next (variants.Clause made) o) (sym is) names

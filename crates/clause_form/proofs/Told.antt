@@ -7,7 +7,7 @@ use Rattle.trees.proofs.Occurrence.{or_false}
 use Rattle.terms.specs.Term.{Term}
 use Rattle.clauses.specs.Fact.{Fact, Clause, same_fact, is_among}
 use Rattle.clauses.specs.Variables.{clause_variables}
-use Rattle.clauses.specs.Norm.{distinct, place_of, numbering, without_repeats, is_lonely, without_lonely, numbered, IsNormal}
+use Rattle.clauses.specs.Norm.{distinct, place_of, numbering, without_repeats, is_lonely, without_lonely, numbered_anew, IsNormal}
 use Rattle.clauses.proofs.Lists.{all_weaker}
 use Rattle.clauses.proofs.Facts.{clause_under-agree, clause_under-Leaf}
 use Rattle.clauses.proofs.Renaming.{clause_variables-renamed, variables_distinct-renamed}
@@ -191,7 +191,7 @@ filter_true ds = filter-all (not_below 0) ds (each ds) where
   each [] = tt
   each (y ∷ ys) = (ap not (le-ltb y 0 (omega arith)), each ys)
 
-numbered_range : (c : Clause Term) → numbered c ≡ c → (m : ℕ) × (distinct nat_eq (clause_variables c) ≡ range_with_len 0 m)
+numbered_range : (c : Clause Term) → numbered_anew c ≡ c → (m : ℕ) × (distinct nat_eq (clause_variables c) ≡ range_with_len 0 m)
 numbered_range c e =
     let vs = clause_variables c in
     let ds = distinct nat_eq vs in
@@ -209,20 +209,20 @@ place_range n (suc m) x e = go (nat_eq x n) refl (λ l. place_range (n + 1) m x 
 place_here : (m x : ℕ) → list_any (nat_eq x) (range_with_len 0 m) ≡ true → place_of x (range_with_len 0 m) ≡ x
 place_here m x e = omega (arith, place_range 0 m x e)
 
-range_numbered : (c : Clause Term) (m : ℕ) → distinct nat_eq (clause_variables c) ≡ range_with_len 0 m → numbered c ≡ c
+range_numbered : (c : Clause Term) (m : ℕ) → distinct nat_eq (clause_variables c) ≡ range_with_len 0 m → numbered_anew c ≡ c
 range_numbered c m e =
     let vs = clause_variables c in
     let own = all_weaker (λ x. list_any (nat_eq x) vs ≡ true) (λ x. numbering vs x ≡ Leaf x)
     (λ x stands. ap Leaf (ap (place_of x) e ∙ place_here m x (ap (list_any (nat_eq x)) (sym e) ∙ (stands_distinct nat_eq nat_eq-decides x vs ∙ stands)))) vs (stand_all vs) in
     clause_under-agree (numbering vs) Leaf c own ∙ clause_under-Leaf c
 
-pub numbers_told : (c : Clause Term) → (is_some (numbers_after (Some 0) (clause_variables c)) ≡ true) ↔ (numbered c ≡ c)
+pub numbers_told : (c : Clause Term) → (is_some (numbers_after (Some 0) (clause_variables c)) ≡ true) ↔ (numbered_anew c ≡ c)
 numbers_told c = (
   λ e. let range = told_range 0 (clause_variables c) e in range_numbered c range.0 (sym (filter_true (distinct nat_eq (clause_variables c))) ∙ range.1),
   λ e. let range = numbered_range c e in range_told 0 range.0 (clause_variables c) (filter_true (distinct nat_eq (clause_variables c)) ∙ range.1),
 )
 
-pub numbers_are : (c : Clause Term) (b : Bool) → b ≡ is_some (numbers_after (Some 0) (clause_variables c)) → (b ≡ true) ↔ (numbered c ≡ c)
+pub numbers_are : (c : Clause Term) (b : Bool) → b ≡ is_some (numbers_after (Some 0) (clause_variables c)) → (b ≡ true) ↔ (numbered_anew c ≡ c)
 numbers_are c b e = (λ f. (numbers_told c).0 (sym e ∙ f), λ k. e ∙ (numbers_told c).1 k)
 
 -- All rules together.

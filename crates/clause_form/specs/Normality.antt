@@ -3,7 +3,7 @@ use Rattle.std.specs.Prelude.{◌≡◌, ℕ, ◌+◌, Bool, true, false, not, �
 use Rattle.terms.specs.Term.{Term}
 use Rattle.clauses.specs.Fact.{Fact, Clause, is_among}
 use Rattle.clauses.specs.Flat.{is_flat_clause}
-use Rattle.clauses.specs.Norm.{without_repeats, is_tautology, without_lonely, generalized, numbered}
+use Rattle.clauses.specs.Norm.{without_repeats, is_tautology, without_lonely, generalized, numbered_anew}
 
 -- whether no fact is the same as a later one
 abbrev pub are_different : List (Fact Term) → Bool
@@ -31,4 +31,4 @@ pub record KeepsItsFacts (c : Clause Term) : Type 0 where
 pub record KeepsItsVariables (c : Clause Term) : Type 0 where
   pub none_lonely : without_lonely c ≡ c
   pub general : generalized c ≡ c
-  pub numbers : numbered c ≡ c
+  pub numbers : numbered_anew c ≡ c

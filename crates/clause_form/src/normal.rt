@@ -6,7 +6,7 @@ ghost use Rattle.std.specs.List.{list_all};
 ghost use Rattle.clauses.specs.Fact.{is_variable_known as is_variable_known_fact};
 ghost use Rattle.clauses.specs.Selection.{is_solved};
 ghost use Rattle.clauses.specs.Variables.{fact_variables};
-ghost use Rattle.clauses.specs.Norm.{norm as norm_of, is_lonely as is_lonely_fact, generalized, numbered};
+ghost use Rattle.clauses.specs.Norm.{norm as norm_of, is_lonely as is_lonely_fact, generalized, numbered_anew};
 ghost use Rattle.term_tree.specs.Bank.{Grows};
 ghost use Rattle.clause_form.specs.Facts.{fact_of};
 ghost use Rattle.clause_form.specs.Seen.{fact_at, clause_at, IsFactIn, AreFactsIn, IsClauseIn, NameFacts, NamesClause};
@@ -158,7 +158,7 @@ fn generalized_clause<B: Bank>(
     requires hyps { AreFactsIn (B.trees bank.old) (map fact_of hyps.now) }
     ensures grows { Grows (B.trees bank.old) (B.trees bank.new) }
     ensures names { IfOk result (λ made. NamesClause (B.trees bank.new) made
-        (numbered (generalized record {
+        (numbered_anew (generalized record {
           hypotheses = map (fact_at (B.trees bank.old))
               (map fact_of hyps.now);
           conclusion = fact_at (B.trees bank.old) (fact_of concl.now);

@@ -4,7 +4,7 @@ ghost use Rattle.std.specs.Prelude.{◌≡◌, ◌↔◌, ◌+◌, ◌-◌, ◌^
 ghost use Rattle.std.specs.List.{count_by, list_all};
 ghost use Rattle.clauses.specs.Fact.{is_variable_known as is_variable_known_fact};
 ghost use Rattle.clauses.specs.Flat.{is_flat as is_flat_fact, is_flat_clause as is_flat_clause_of};
-ghost use Rattle.clauses.specs.Norm.{without_repeats, is_tautology as is_tautology_of, is_lonely as is_lonely_fact, without_lonely, generalized, everything_known, numbered, IsNormal};
+ghost use Rattle.clauses.specs.Norm.{without_repeats, is_tautology as is_tautology_of, is_lonely as is_lonely_fact, without_lonely, generalized, everything_known, numbered_anew, IsNormal};
 ghost use Rattle.clauses.specs.Variables.{leaves, fact_variables, clause_variables, times};
 ghost use Rattle.term_tree.specs.Bank.{tree_at, AreKnown};
 ghost use Rattle.clause_form.specs.Facts.{fact_of};
@@ -367,7 +367,7 @@ fn after_facts<B: Bank>(bank: &B, facts: &[Fact], next: Option<u64>) -> Option<u
 /// Whether the variables are numbered from 0 by their first occurrence, the conclusion's first.
 fn is_numbered<B: Bank>(bank: &B, clause: &Clause) -> bool
     requires { IsClauseIn (B.trees bank.now) clause.now }
-    ensures { (result ≡ true) ↔ (numbered (clause_at (B.trees bank.now) clause.now) ≡
+    ensures { (result ≡ true) ↔ (numbered_anew (clause_at (B.trees bank.now) clause.now) ≡
         clause_at (B.trees bank.now) clause.now) }
 {
     let first = after_fact(bank, &clause.concl, Some(0));

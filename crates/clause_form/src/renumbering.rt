@@ -4,7 +4,7 @@ ghost use Rattle.std.specs.Prelude.{◌≡◌, ◌↔◌, ◌<◌, true, IsTrue,
 ghost use Rattle.trees.specs.Tree.{Leaf, bind};
 ghost use Rattle.clauses.specs.Fact.{fact_under};
 ghost use Rattle.clauses.specs.Variables.{fact_variables};
-ghost use Rattle.clauses.specs.Norm.{distinct, numbered};
+ghost use Rattle.clauses.specs.Norm.{distinct, numbered_anew};
 ghost use Rattle.term_tree.specs.Bank.{tree_at, AreKnown, Names, Grows};
 ghost use Rattle.unify_match.specs.Substitution.{arguments};
 ghost use Rattle.clause_form.specs.Facts.{fact_of};
@@ -210,7 +210,7 @@ fn clause_in_order<B: Bank>(
         (fact_at (B.trees bank.old)) (map fact_of hyps.now))) }
     ensures grows { Grows (B.trees bank.old) (B.trees bank.new) }
     ensures names { IfOk result (λ made. NamesClause (B.trees bank.new) made
-        (numbered record {
+        (numbered_anew record {
           hypotheses = map (fact_at (B.trees bank.old)) (map fact_of hyps.now);
           conclusion = fact_at (B.trees bank.old) (fact_of concl.now);
         })) }
@@ -232,7 +232,7 @@ pub(crate) fn numbered_clause<B: Bank>(
     requires hyps { AreFactsIn (B.trees bank.old) (map fact_of hyps.now) }
     ensures grows { Grows (B.trees bank.old) (B.trees bank.new) }
     ensures names { IfOk result (λ made. NamesClause (B.trees bank.new) made
-        (numbered record {
+        (numbered_anew record {
           hypotheses = map (fact_at (B.trees bank.old)) (map fact_of hyps.now);
           conclusion = fact_at (B.trees bank.old) (fact_of concl.now);
         })) }

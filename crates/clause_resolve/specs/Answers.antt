@@ -1,10 +1,9 @@
 -- What a pair of clauses gives.
 use Rattle.std.specs.Prelude.{◌≡◌, Some, List}
 use Rattle.terms.specs.Term.{Term}
-use Rattle.clauses.specs.Fact.{clause_under, fact_under}
 use Rattle.clauses.specs.Fact as horn
 use Rattle.clauses.specs.Selection.{Selection, select}
-use Rattle.clauses.specs.Resolvents.{Answer, Resolves, resolved}
+use Rattle.clauses.specs.Resolvents.{Answer, Resolves}
 use Rattle.clauses.specs.Resolvents as answer
 use Rattle.clause_form.specs.Seen.{NameClauses}
 use Rattle.clause_resolve.specs.declared.resolving.Resolved.{Resolved}

@@ -5,7 +5,7 @@ use Rattle.calculus.specs.Syntax.{Name}
 use Rattle.calculus.specs.Codes.{coded_name}
 use Rattle.calculus.specs.Values.{same_name}
 use Rattle.terms.specs.Term.{Term}
-use Rattle.translation.specs.Conversion.{Standing, Scope}
+use Rattle.translation.specs.Conversion.{StandsFor, Scope}
 use Rattle.term_tree.specs.Bank.{tree_at, AreKnown}
 use Rattle.term_tree.specs.declared.bank.Id.{Id}
 use Rattle.clause_form.specs.Codes.{coded_id}
@@ -24,7 +24,7 @@ id_in [] x = None
 id_in (h ∷ later) x = cond (same_name h.name x) (Some h.id) (id_in later x)
 
 -- the scope of the trees that the ids name
-abbrev pub standing_at : List Term → Held → Standing
+abbrev pub standing_at : List Term → Held → StandsFor
 standing_at all h = record { name = h.name; term = tree_at all h.id }
 
 abbrev pub scope_at : List Term → List Held → Scope

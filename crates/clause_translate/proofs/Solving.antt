@@ -17,7 +17,7 @@ use Rattle.unify_match.specs.Seen.{seen, IsReady}
 use Rattle.unify_match.specs.Outcome.{Unified, NoUnifier, UnifiedAll, NoUnifierOfAll}
 use Rattle.unify_match.proofs.SeenLemmas.{IsReady-solves}
 use Rattle.translation.proofs.Visits.{below_agree, terms_agree}
-use Rattle.clause_translate.specs.Solving.{AreRowsApart, AreRowsSolved, Holds, AreSolved, AreUnsolvable, HasBelow}
+use Rattle.clause_translate.specs.Solving.{AreRowsApart, AreRowsSolved, SolvesChoice, AreSolved, AreUnsolvable, HasBelow}
 
 -- rows of different lengths are apart
 pub lengths_apart : (all : List Term) (xs ys : List Id) → (length xs ≡ length ys → ⊥) → AreRowsApart (map (tree_at all) xs) (map (tree_at all) ys)
@@ -94,7 +94,7 @@ module _ (all : List Term) (pairs : List Bound) (xs ys : List Term) (a b : Term)
       let r = changed n s in
       let same : (y : ℕ) → y < n → r y ≡ s y = λ y h. (let e : nat_lt y n ≡ true = grind (arith, nat_tests, h) in rw e refl) in
       let holds = (solved.solutions s).0 (IsReady-solves all pairs solved.ready) in
-      let also : Holds r xs ys a b = (
+      let also : SolvesChoice r xs ys a b = (
         terms_agree r s n same xs xs_below ∙ (holds.0 ∙ sym (terms_agree r s n same ys ys_below)),
         below_agree r s n same a a_below ∙ (holds.1 ∙ sym (below_agree r s n same b b_below)),
       ) in

@@ -11,7 +11,7 @@ use Rattle.terms.specs.Term.{Sym, Term, Subst}
 use Rattle.clauses.specs.Fact.{Fact, Att, Mess, Ev, Mev, Bad, terms_of, fact_under, fact_size, total}
 use Rattle.clauses.specs.Variables.{IsBelow, AreBelow}
 use Rattle.clauses.proofs.Lists.{all_append, all_first, all_second}
-use Rattle.translation.specs.Conversion.{Standing, Scope}
+use Rattle.translation.specs.Conversion.{StandsFor, Scope}
 use Rattle.translation.specs.Visit.{Visit, standing_under, visit_under, is_large_term, is_large_visit}
 use Rattle.term_tree.specs.Bank.{tree_at, Names, Grows}
 use Rattle.term_tree.specs.declared.bank.Id.{Id}
@@ -26,7 +26,7 @@ use Rattle.clause_translate.proofs.Named.{Below, NamesScope-push}
 use Rattle.clause_translate.proofs.Lists.{any_at}
 
 -- what a standing of the source is under s
-abbrev pub stood : Subst → List Term → source.Standing → Standing
+abbrev pub stood : Subst → List Term → source.Standing → StandsFor
 stood s old b = record { name = name_of b.slot; term = bind s (tree_at old b.term) }
 
 -- how far a scope has come

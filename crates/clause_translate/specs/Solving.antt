@@ -21,16 +21,16 @@ abbrev pub AreRowsApart : List Term → List Term → Type 0
 AreRowsApart xs ys = (s : Subst) → map (bind s) xs ≡ map (bind s) ys → ⊥
 
 -- the equations hold under the substitution
-abbrev pub Holds : Subst → List Term → List Term → Term → Term → Type 0
-Holds s arguments sides value target = (map (bind s) arguments ≡ map (bind s) sides) × (bind s value ≡ bind s target)
+abbrev pub SolvesChoice : Subst → List Term → List Term → Term → Term → Type 0
+SolvesChoice s arguments sides value target = (map (bind s) arguments ≡ map (bind s) sides) × (bind s value ≡ bind s target)
 
 -- the bindings are ready, and their solutions are what makes the equations hold
 pub record AreSolved (all : List Term) (pairs : List Bound) (arguments sides : List Term) (value target : Term) : Type 0 where
   pub ready : IsReady all pairs
-  pub solutions : (s : Subst) → Solves s (seen all pairs) ↔ Holds s arguments sides value target
+  pub solutions : (s : Subst) → Solves s (seen all pairs) ↔ SolvesChoice s arguments sides value target
 
 abbrev pub AreUnsolvable : List Term → List Term → Term → Term → Type 0
-AreUnsolvable arguments sides value target = (s : Subst) → Holds s arguments sides value target → ⊥
+AreUnsolvable arguments sides value target = (s : Subst) → SolvesChoice s arguments sides value target → ⊥
 
 -- the substitution has terms below the number for the variables below it
 abbrev pub HasBelow : Subst → ℕ → Type 0

@@ -12,7 +12,7 @@ use Rattle.clauses.specs.Selection.{Selection}
 use Rattle.clauses.specs.Renaming.{AreVariants}
 use Rattle.clauses.specs.Norm.{norms}
 use Rattle.clauses.specs.Limits.{is_large_raw}
-use Rattle.clauses.specs.Resolvents.{joined, IsRawResolvent, Answer, NoUnifier, Large, Resolvents, resolved, Resolves}
+use Rattle.clauses.specs.Resolvents.{joined, IsRawResolvent, Answer, NoUnifier, Large, Resolvents, answer_of, Resolves}
 use Rattle.clauses.proofs.Lists.{all_weaker, all-from_flat_map}
 use Rattle.clauses.proofs.FactUnifiers.{facts_unified}
 use Rattle.clauses.proofs.Facts.{fact_under-fact_under, facts_under-facts_under, clause_under-clause_under, clause_under-Leaf}
@@ -62,14 +62,14 @@ meetings_vary x y same = record {
   again = ap (λ m. m.clause) (same.from Leaf).1 ∙ clause_under-Leaf x.clause;
 }
 
-variants_resolved : (c d : Clause Term) → AreVariants c d → resolved (Some c) ≡ resolved (Some d)
+variants_resolved : (c d : Clause Term) → AreVariants c d → answer_of (Some c) ≡ answer_of (Some d)
 variants_resolved c d v = let large = variants_large c d v in let same = variants_norms c d v in λ i. cond (large i) Large (Resolvents (same i))
 
-alike_resolved : (o p : Option (Clause Term)) → AreAlike meeting_under (λ m. m.clause) o p → resolved o ≡ resolved p
+alike_resolved : (o p : Option (Clause Term)) → AreAlike meeting_under (λ m. m.clause) o p → answer_of o ≡ answer_of p
 alike_resolved None None a = refl
 alike_resolved None (Some d) a = absurd a
 alike_resolved (Some c) None a = absurd a
-alike_resolved (Some c) (Some d) a = ap (λ e. resolved (Some e)) a.2 ∙ (variants_resolved a.0.clause a.1.clause (meetings_vary a.0 a.1 a.4) ∙ sym (ap (λ e. resolved (Some e)) a.3))
+alike_resolved (Some c) (Some d) a = ap (λ e. answer_of (Some e)) a.2 ∙ (variants_resolved a.0.clause a.1.clause (meetings_vary a.0 a.1 a.4) ∙ sym (ap (λ e. answer_of (Some e)) a.3))
 
 pub one_answer : (solved unsolved : Clause Term) (at : Selection) (a b : Answer) → Resolves solved unsolved at a → Resolves solved unsolved at b → a ≡ b
 one_answer solved unsolved at a b first second =
@@ -96,7 +96,7 @@ pub an_answer : (solved unsolved : Clause Term) (at : Selection) → (answer : A
 an_answer solved unsolved at =
     let (n, apart) = an_offset solved in
     let (raw, unified) = facts_unified solved.conclusion (fact_under (moved n) at.fact) (λ s. clause_under s (joined n solved unsolved at)) in
-    (resolved raw, (raw, record { offset = n; apart = apart; unified = unified }, refl))
+    (answer_of raw, (raw, record { offset = n; apart = apart; unified = unified }, refl))
 
 -- which answer it is
 pub no_unifier : (solved unsolved : Clause Term) (at : Selection) → IsRawResolvent solved unsolved at None → Resolves solved unsolved at NoUnifier

@@ -4,12 +4,12 @@ use Rattle.terms.specs.Term.{Term}
 use Rattle.clauses.specs.Fact.{Clause}
 use Rattle.clauses.specs.Norm.{IsNormal, norms}
 use Rattle.clauses.specs.Limits.{IsWithinLimit, is_large_raw}
-use Rattle.clauses.specs.Resolvents.{Large, Resolvents, resolved}
+use Rattle.clauses.specs.Resolvents.{Large, Resolvents, answer_of}
 use Rattle.clauses.specs.Inclusion.{Has}
 use Rattle.clauses.proofs.Limits.{norms-within_limit}
 use Rattle.clauses.proofs.NormAnswers.{norms-normal}
 
-pub made_small : (raw : Option (Clause Term)) (cs : List (Clause Term)) (c : Clause Term) → Resolvents cs ≡ resolved raw → Has cs c → IsWithinLimit c
+pub made_small : (raw : Option (Clause Term)) (cs : List (Clause Term)) (c : Clause Term) → Resolvents cs ≡ answer_of raw → Has cs c → IsWithinLimit c
 made_small None cs c e h = cc
 made_small (Some raw) cs c e h = go (is_large_raw raw) refl e
   where
@@ -17,7 +17,7 @@ made_small (Some raw) cs c e h = go (is_large_raw raw) refl e
     go true p e = cc
     go false p e = let same : cs ≡ norms raw = cc in norms-within_limit raw c p (subst (λ xs. Has xs c) same h)
 
-pub made_normal : (raw : Option (Clause Term)) (cs : List (Clause Term)) (c : Clause Term) → Resolvents cs ≡ resolved raw → Has cs c → IsNormal c
+pub made_normal : (raw : Option (Clause Term)) (cs : List (Clause Term)) (c : Clause Term) → Resolvents cs ≡ answer_of raw → Has cs c → IsNormal c
 made_normal None cs c e h = cc
 made_normal (Some raw) cs c e h = go (is_large_raw raw) refl e
   where

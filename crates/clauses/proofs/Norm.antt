@@ -8,7 +8,7 @@ use Rattle.terms.specs.Term.{Term}
 use Rattle.clauses.specs.Fact.{Fact, Att, Mess, Ev, Mev, Bad, Clause, clause_under, same_fact, is_among, is_variable_known}
 use Rattle.clauses.specs.Variables.{fact_variables, clause_variables, times}
 use Rattle.clauses.specs.Selection.{is_solved}
-use Rattle.clauses.specs.Norm.{distinct, place_of, numbering, without_repeats, is_tautology, is_lonely, without_lonely, everything_known, generalized, numbered, norm}
+use Rattle.clauses.specs.Norm.{distinct, place_of, numbering, without_repeats, is_tautology, is_lonely, without_lonely, everything_known, generalized, numbered_anew, norm}
 use Rattle.clauses.specs.Renaming.{renaming, AreVariants}
 use Rattle.clauses.proofs.Lists.{all_weaker}
 use Rattle.clauses.proofs.Facts.{clause_under-clause_under, clause_under-agree, clause_under-Leaf}
@@ -20,9 +20,9 @@ use Rattle.clauses.proofs.Distinct.{all-filter_passes, filter-all, distinct-filt
 abbrev pub simplified : Clause Term → Clause Term
 simplified c = generalized (without_lonely (without_repeats c))
 
-pub norm_made : (c d : Clause Term) → norm c ≡ Some d → (is_tautology (without_repeats c) ≡ false) × (d ≡ numbered (simplified c))
+pub norm_made : (c d : Clause Term) → norm c ≡ Some d → (is_tautology (without_repeats c) ≡ false) × (d ≡ numbered_anew (simplified c))
 norm_made c d e = go (is_tautology (without_repeats c)) refl e where
-  go : (b : Bool) → is_tautology (without_repeats c) ≡ b → cond b None (Some (numbered (simplified c))) ≡ Some d → (is_tautology (without_repeats c) ≡ false) × (d ≡ numbered (simplified c))
+  go : (b : Bool) → is_tautology (without_repeats c) ≡ b → cond b None (Some (numbered_anew (simplified c))) ≡ Some d → (is_tautology (without_repeats c) ≡ false) × (d ≡ numbered_anew (simplified c))
   go true k e = cc
   go false k e = (k, cc)
 
@@ -109,12 +109,12 @@ pub simplified-simple : (c : Clause Term) → is_tautology (without_repeats c) �
 simplified-simple c says = few-simple (without_repeats c) (distinct-distinct same_fact c.hypotheses) says
 
 -- So its norm is itself, numbered.
-pub norm-simple : (e : Clause Term) → IsSimple e → norm e ≡ Some (numbered e)
+pub norm-simple : (e : Clause Term) → IsSimple e → norm e ≡ Some (numbered_anew e)
 norm-simple e s =
     let once : without_repeats e ≡ e = λ i. record { hypotheses = distinct-fixed same_fact e.hypotheses s.distinct i; conclusion = e.conclusion } in
-    ap (λ d. cond (is_tautology d) None (Some (numbered (generalized (without_lonely d))))) once
-    ∙ (ap (λ b. cond b None (Some (numbered (generalized (without_lonely e))))) s.says
-    ∙ (ap (λ d. Some (numbered (generalized d))) s.none_lonely ∙ ap (λ d. Some (numbered d)) s.general))
+    ap (λ d. cond (is_tautology d) None (Some (numbered_anew (generalized (without_lonely d))))) once
+    ∙ (ap (λ b. cond b None (Some (numbered_anew (generalized (without_lonely e))))) s.says
+    ∙ (ap (λ d. Some (numbered_anew (generalized d))) s.none_lonely ∙ ap (λ d. Some (numbered_anew d)) s.general))
 
 -- the names that numbering gives, and the way back
 abbrev pub names_of : Clause Term → ℕ → ℕ
@@ -124,14 +124,14 @@ abbrev pub back_of : Clause Term → ℕ → ℕ
 back_of e i = get_or (distinct nat_eq (clause_variables e)) i 0
 
 -- A numbered clause is a variant of the clause.
-pub numbered-back : (e : Clause Term) → clause_under (renaming (back_of e)) (numbered e) ≡ e
+pub numbered-back : (e : Clause Term) → clause_under (renaming (back_of e)) (numbered_anew e) ≡ e
 numbered-back e =
     let vs = clause_variables e in
     let ds = distinct nat_eq vs in
     let returns = all_weaker (λ x. get_or ds (place_of x ds) 0 ≡ x) (λ x. after (renaming (back_of e)) (numbering vs) x ≡ Leaf x) (λ x k. ap Leaf k) vs (at_places vs) in
     clause_under-clause_under (renaming (back_of e)) (numbering vs) e ∙ (clause_under-agree (after (renaming (back_of e)) (numbering vs)) Leaf e returns ∙ clause_under-Leaf e)
 
-pub numbered-variant : (e : Clause Term) → AreVariants e (numbered e)
+pub numbered-variant : (e : Clause Term) → AreVariants e (numbered_anew e)
 numbered-variant e = record { by = numbering (clause_variables e); back = renaming (back_of e); there = refl; again = numbered-back e }
 
 -- the norm is its own norm
@@ -139,7 +139,7 @@ pub norm-norm : (c d : Clause Term) → norm c ≡ Some d → norm d ≡ Some d
 norm-norm c d e =
     let made = norm_made c d e in
     let plain = simplified c in
-    ap norm made.1 ∙ (sym (variants_norm plain (numbered plain) (numbered-variant plain)) ∙ (norm-simple plain (simplified-simple c made.0) ∙ ap Some (sym made.1)))
+    ap norm made.1 ∙ (sym (variants_norm plain (numbered_anew plain) (numbered-variant plain)) ∙ (norm-simple plain (simplified-simple c made.0) ∙ ap Some (sym made.1)))
 
 -- its variables are numbered from 0 on, by their first occurrence
 pub norm-variables : (c d : Clause Term) → norm c ≡ Some d → (n : ℕ) × (distinct nat_eq (clause_variables d) ≡ range_with_len 0 n)

@@ -6,7 +6,7 @@ use Rattle.trees.proofs.Equality.{and_true}
 use Rattle.terms.specs.Term.{Term}
 use Rattle.clauses.specs.Fact.{Clause, same_fact}
 use Rattle.clauses.specs.Flat.{flat_parts, is_flat, is_flat_clause}
-use Rattle.clauses.specs.Norm.{without_repeats, is_tautology, numbered, norm, norms, IsNormal}
+use Rattle.clauses.specs.Norm.{without_repeats, is_tautology, numbered_anew, norm, norms, IsNormal}
 use Rattle.clauses.specs.Inclusion.{Picks, here, there, Has}
 use Rattle.clauses.proofs.Equality.{same_fact-decides, is_among-decides}
 use Rattle.clauses.proofs.Distinct.{stands_distinct}
@@ -22,9 +22,9 @@ tautology_repeats c = stands_distinct same_fact same_fact-decides c.conclusion c
 pub norm-none : (c : Clause Term) → (norm c ≡ None) ↔ Has c.hypotheses c.conclusion
 norm-none c = (
   λ e. (is_among-decides c.hypotheses c.conclusion).0 (sym (tautology_repeats c) ∙ of_none (is_tautology (without_repeats c)) e),
-  λ h. ap (λ b. cond b None (Some (numbered (simplified c)))) (tautology_repeats c ∙ (is_among-decides c.hypotheses c.conclusion).1 h),
+  λ h. ap (λ b. cond b None (Some (numbered_anew (simplified c)))) (tautology_repeats c ∙ (is_among-decides c.hypotheses c.conclusion).1 h),
 ) where
-  of_none : (b : Bool) → cond b None (Some (numbered (simplified c))) ≡ None → b ≡ true
+  of_none : (b : Bool) → cond b None (Some (numbered_anew (simplified c))) ≡ None → b ≡ true
   of_none true e = refl
   of_none false e = cc
 

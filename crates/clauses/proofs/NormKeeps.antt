@@ -9,7 +9,7 @@ use Rattle.clauses.specs.Fact.{Fact, Att, Mess, Ev, Mev, Bad, Clause, facts_of, 
 use Rattle.clauses.specs.Variables.{fact_variables, clause_variables}
 use Rattle.clauses.specs.Flat.{is_flat, is_flat_clause}
 use Rattle.clauses.specs.Selection.{is_solved}
-use Rattle.clauses.specs.Norm.{distinct, without_repeats, is_tautology, is_lonely, without_lonely, everything_known, generalized, numbered, norm, IsNormal, EachRuleKeeps}
+use Rattle.clauses.specs.Norm.{distinct, without_repeats, is_tautology, is_lonely, without_lonely, everything_known, generalized, numbered_anew, norm, IsNormal, EachRuleKeeps}
 use Rattle.clauses.specs.Renaming.{renaming}
 use Rattle.clauses.specs.Inclusion.{Picks, here, there, IsWithin}
 use Rattle.clauses.proofs.Lists.{all-from_flat_map}
@@ -133,14 +133,14 @@ norm-size c d e =
 pub norm-normal : (c d : Clause Term) → is_flat_clause c ≡ true → norm c ≡ Some d → IsNormal d
 norm-normal c d flat e = record { flat = norm-flat c d flat e; own = norm-norm c d e }
 
-numbered-general : (c : Clause Term) → generalized c ≡ c → generalized (numbered c) ≡ numbered c
+numbered-general : (c : Clause Term) → generalized c ≡ c → generalized (numbered_anew c) ≡ numbered_anew c
 numbered-general c g = go (is_solved c.hypotheses && is_variable_known c.conclusion) refl where
-  tests : (is_solved (numbered c).hypotheses && is_variable_known (numbered c).conclusion) ≡ (is_solved c.hypotheses && is_variable_known c.conclusion)
+  tests : (is_solved (numbered_anew c).hypotheses && is_variable_known (numbered_anew c).conclusion) ≡ (is_solved c.hypotheses && is_variable_known c.conclusion)
   tests = let r = names_of c in cc (is_solved-renamed r c.hypotheses, is_variable_known-renamed r c.conclusion)
 
-  go : (b : Bool) → (is_solved c.hypotheses && is_variable_known c.conclusion) ≡ b → generalized (numbered c) ≡ numbered c
-  go true e = ap (λ b. cond b everything_known (numbered c)) (tests ∙ e) ∙ ap numbered (sym (ap (λ b. cond b everything_known c) e) ∙ g)
-  go false e = ap (λ b. cond b everything_known (numbered c)) (tests ∙ e)
+  go : (b : Bool) → (is_solved c.hypotheses && is_variable_known c.conclusion) ≡ b → generalized (numbered_anew c) ≡ numbered_anew c
+  go true e = ap (λ b. cond b everything_known (numbered_anew c)) (tests ∙ e) ∙ ap numbered_anew (sym (ap (λ b. cond b everything_known c) e) ∙ g)
+  go false e = ap (λ b. cond b everything_known (numbered_anew c)) (tests ∙ e)
 
 -- A clause is its own norm exactly where each rule by itself leaves it as it is.
 rules_keep : (c : Clause Term) → norm c ≡ Some c → EachRuleKeeps c
@@ -158,15 +158,15 @@ rules_keep c e =
       no_tautology = ap is_tautology renamed ∙ (is_among-renamed q r plain.hypotheses plain.conclusion back.1 back.0 ∙ simple.says);
       none_lonely = ap without_lonely renamed ∙ (without_lonely-renamed q r plain back ∙ (ap (clause_under (renaming r)) simple.none_lonely ∙ sym renamed));
       general = ap generalized renamed ∙ (numbered-general plain simple.general ∙ sym renamed);
-      numbers = ap numbered renamed ∙ (numbered-renamed q r plain back ∙ sym renamed);
+      numbers = ap numbered_anew renamed ∙ (numbered-renamed q r plain back ∙ sym renamed);
     }
 
 pub own_norm : (c : Clause Term) → (norm c ≡ Some c) ↔ EachRuleKeeps c
 own_norm c = (
   rules_keep c,
-  λ k. ap (λ d. cond (is_tautology d) None (Some (numbered (generalized (without_lonely d))))) k.no_repeats
-      ∙ (ap (λ b. cond b None (Some (numbered (generalized (without_lonely c))))) k.no_tautology
-      ∙ (ap (λ d. Some (numbered (generalized d))) k.none_lonely ∙ (ap (λ d. Some (numbered d)) k.general ∙ ap Some k.numbers))),
+  λ k. ap (λ d. cond (is_tautology d) None (Some (numbered_anew (generalized (without_lonely d))))) k.no_repeats
+      ∙ (ap (λ b. cond b None (Some (numbered_anew (generalized (without_lonely c))))) k.no_tautology
+      ∙ (ap (λ d. Some (numbered_anew (generalized d))) k.none_lonely ∙ (ap (λ d. Some (numbered_anew d)) k.general ∙ ap Some k.numbers))),
 )
 
 -- A solved clause that is its own norm and concludes `att` of a variable has no hypotheses.

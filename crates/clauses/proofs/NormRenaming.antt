@@ -8,7 +8,7 @@ use Rattle.clauses.specs.Fact.{Fact, Att, Mess, Ev, Mev, Bad, Clause, facts_of, 
 use Rattle.clauses.specs.Variables.{fact_variables, clause_variables}
 use Rattle.clauses.specs.Flat.{is_flat}
 use Rattle.clauses.specs.Selection.{is_selectable, is_solved}
-use Rattle.clauses.specs.Norm.{distinct, place_of, numbering, without_repeats, is_tautology, is_lonely, without_lonely, everything_known, generalized, numbered, norm}
+use Rattle.clauses.specs.Norm.{distinct, place_of, numbering, without_repeats, is_tautology, is_lonely, without_lonely, everything_known, generalized, numbered_anew, norm}
 use Rattle.clauses.specs.Renaming.{renaming}
 use Rattle.clauses.proofs.Lists.{all_filter, all_weaker, all-flat_map, filter_same, filter-map}
 use Rattle.clauses.proofs.Facts.{clause_under-agree, clause_under-clause_under}
@@ -72,7 +72,7 @@ module _ (q r : ℕ → ℕ) where
   pub without_lonely-back : (c : Clause Term) → IsClauseLedBack c → IsClauseLedBack (without_lonely c)
   without_lonely-back c a = (a.0, all_filter (IsLedBack q r) (λ h. not (is_lonely (clause_variables c) h)) c.hypotheses a.1)
 
-  pub numbered-renamed : (c : Clause Term) → IsClauseLedBack c → numbered (clause_under (renaming r) c) ≡ numbered c
+  pub numbered-renamed : (c : Clause Term) → IsClauseLedBack c → numbered_anew (clause_under (renaming r) c) ≡ numbered_anew c
   numbered-renamed c a =
       let xs = clause_variables c in
       let back = variables_back c a in
@@ -84,11 +84,11 @@ module _ (q r : ℕ → ℕ) where
       ∙ (clause_under-clause_under (numbering (map r xs)) (renaming r) c
       ∙ clause_under-agree (after (numbering (map r xs)) (renaming r)) (numbering xs) c places)
 
-  generalized-renamed : (c : Clause Term) → IsClauseLedBack c → numbered (generalized (clause_under (renaming r) c)) ≡ numbered (generalized c)
+  generalized-renamed : (c : Clause Term) → IsClauseLedBack c → numbered_anew (generalized (clause_under (renaming r) c)) ≡ numbered_anew (generalized c)
   generalized-renamed c a =
       let tests : (is_solved (map (fact_under (renaming r)) c.hypotheses) && is_variable_known (fact_under (renaming r) c.conclusion)) ≡ (is_solved c.hypotheses && is_variable_known c.conclusion) = cc (is_solved-renamed r c.hypotheses, is_variable_known-renamed r c.conclusion) in
-      ap (λ b. numbered (cond b everything_known (clause_under (renaming r) c))) tests
-      ∙ elim (is_solved c.hypotheses && is_variable_known c.conclusion) as (λ b. numbered (cond b everything_known (clause_under (renaming r) c)) ≡ numbered (cond b everything_known c)) [
+      ap (λ b. numbered_anew (cond b everything_known (clause_under (renaming r) c))) tests
+      ∙ elim (is_solved c.hypotheses && is_variable_known c.conclusion) as (λ b. numbered_anew (cond b everything_known (clause_under (renaming r) c)) ≡ numbered_anew (cond b everything_known c)) [
         | true ↦ refl
         | false ↦ numbered-renamed c a
       ]
@@ -99,6 +99,6 @@ module _ (q r : ℕ → ℕ) where
       let back = without_repeats-back c a in
       let few = without_lonely kept in
       let tautology = is_among-renamed q r kept.hypotheses kept.conclusion back.1 back.0 in
-      let numbers = ap (λ d. numbered (generalized d)) (without_lonely-renamed kept back) ∙ generalized-renamed few (without_lonely-back kept back) in
-      ap (λ d. cond (is_tautology d) None (Some (numbered (generalized (without_lonely d))))) (without_repeats-renamed c a)
+      let numbers = ap (λ d. numbered_anew (generalized d)) (without_lonely-renamed kept back) ∙ generalized-renamed few (without_lonely-back kept back) in
+      ap (λ d. cond (is_tautology d) None (Some (numbered_anew (generalized (without_lonely d))))) (without_repeats-renamed c a)
       ∙ (λ i. cond (tautology i) None (Some (numbers i)))

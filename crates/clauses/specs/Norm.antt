@@ -48,13 +48,13 @@ abbrev pub numbering : List ℕ → Subst
 numbering variables x = Leaf (place_of x (distinct nat_eq variables))
 
 -- Variables are numbered by first occurrence, the conclusion first, then the hypotheses in their order.
-abbrev pub numbered : Clause Term → Clause Term
-numbered c = clause_under (numbering (clause_variables c)) c
+abbrev pub numbered_anew : Clause Term → Clause Term
+numbered_anew c = clause_under (numbering (clause_variables c)) c
 
 -- the norm of a flat clause, or None where it is a tautology: the rules in their order
 abbrev pub norm : Clause Term → Option (Clause Term)
 norm c = let kept = without_repeats c in
-    cond (is_tautology kept) None (Some (numbered (generalized (without_lonely kept))))
+    cond (is_tautology kept) None (Some (numbered_anew (generalized (without_lonely kept))))
 
 -- the clause is flat, and the rules leave it as it is
 pub record IsNormal (c : Clause Term) : Type 0 where
@@ -71,4 +71,4 @@ pub record EachRuleKeeps (c : Clause Term) : Type 0 where
   pub no_tautology : is_tautology c ≡ false
   pub none_lonely : without_lonely c ≡ c
   pub general : generalized c ≡ c
-  pub numbers : numbered c ≡ c
+  pub numbers : numbered_anew c ≡ c

@@ -29,10 +29,10 @@ pub data Answer : Type 0 where
   -- the resolvents, in order
   Resolvents : (clauses : List (Clause Term)) → Answer
 
-abbrev pub resolved : Option (Clause Term) → Answer
-resolved None = NoUnifier
-resolved (Some raw) = cond (is_large_raw raw) Large (Resolvents (norms raw))
+abbrev pub answer_of : Option (Clause Term) → Answer
+answer_of None = NoUnifier
+answer_of (Some raw) = cond (is_large_raw raw) Large (Resolvents (norms raw))
 
 -- the pair, with this hypothesis selected, gives this answer
 abbrev pub Resolves : Clause Term → Clause Term → Selection → Answer → Type 0
-Resolves solved unsolved at answer = (raw : Option (Clause Term)) × IsRawResolvent solved unsolved at raw × (answer ≡ resolved raw)
+Resolves solved unsolved at answer = (raw : Option (Clause Term)) × IsRawResolvent solved unsolved at raw × (answer ≡ answer_of raw)

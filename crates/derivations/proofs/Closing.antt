@@ -11,7 +11,7 @@ use Rattle.clauses.specs.Flat.{is_flat}
 use Rattle.clauses.specs.Selection.{Selection, select, is_solved}
 use Rattle.clauses.specs.Norm.{IsNormal, norms}
 use Rattle.clauses.specs.Limits.{is_large_raw}
-use Rattle.clauses.specs.Resolvents.{IsRawResolvent, Answer, NoUnifier, Large, Resolvents, resolved, Resolves}
+use Rattle.clauses.specs.Resolvents.{IsRawResolvent, Answer, NoUnifier, Large, Resolvents, answer_of, Resolves}
 use Rattle.clauses.specs.Inclusion.{Picks, here, there, Has}
 use Rattle.clauses.specs.Subsumption.{IsCovered}
 use Rattle.clauses.proofs.Subsumption.{covered_grown, subsumes_itself}
@@ -45,7 +45,7 @@ module _ (clauses : List (Clause Term)) (i j : Clause Term) (at : Selection) whe
     of_clause true cs e = cc
     of_clause false cs e = cc
 
-    go : (raw : Option (Clause Term)) → IsRawResolvent i j at raw → NoUnifier ≡ resolved raw → IsPairClosed clauses i j at
+    go : (raw : Option (Clause Term)) → IsRawResolvent i j at raw → NoUnifier ≡ answer_of raw → IsPairClosed clauses i j at
     go None r e = record { raw = None; is_raw = r; answered = tt }
     go (Some raw) r e = absurd (of_clause (is_large_raw raw) (norms raw) e)
 
@@ -55,7 +55,7 @@ module _ (clauses : List (Clause Term)) (i j : Clause Term) (at : Selection) whe
     of_clause true ds e = cc
     of_clause false ds e = cc
 
-    go : (raw : Option (Clause Term)) → IsRawResolvent i j at raw → Resolvents cs ≡ resolved raw → IsPairClosed clauses i j at
+    go : (raw : Option (Clause Term)) → IsRawResolvent i j at raw → Resolvents cs ≡ answer_of raw → IsPairClosed clauses i j at
     go None r e = absurd (let clash : Resolvents cs ≡ NoUnifier = e in cc)
     go (Some raw) r e =
         let same = of_clause (is_large_raw raw) (norms raw) e in

@@ -4,7 +4,7 @@ use Rattle.trees.specs.Tree.{Leaf, after}
 use Rattle.terms.specs.Term.{Term, Subst}
 use Rattle.clauses.specs.Fact.{Fact, Att, Clause, fact_under, clause_under, same_fact}
 use Rattle.clauses.specs.Flat.{flat, flat_under}
-use Rattle.clauses.specs.Norm.{without_repeats, is_tautology, everything_known, numbered, norm}
+use Rattle.clauses.specs.Norm.{without_repeats, is_tautology, everything_known, numbered_anew, norm}
 use Rattle.clauses.specs.Renaming.{renaming}
 use Rattle.clauses.specs.Inclusion.{Has, IsWithin}
 use Rattle.clauses.proofs.Facts.{fact_under-fact_under}
@@ -45,14 +45,14 @@ module _ (c : Clause Term) (premises : List (Fact Term)) (f : Fact Term) (i : In
     within = tt;
   }
 
-  numbered_follows : Follows (numbered (simplified c)) premises f
+  numbered_follows : Follows (numbered_anew (simplified c)) premises f
   numbered_follows =
       let plain = simplified c in
       let k = generalized_or (few c) (λ d. Follows d premises f) everything_follows few_follows in
-      record { kept = k.kept; instance = instance-under (renaming (back_of plain)) (numbered plain) plain k.kept f (numbered-back plain) k.instance; within = k.within }
+      record { kept = k.kept; instance = instance-under (renaming (back_of plain)) (numbered_anew plain) plain k.kept f (numbered-back plain) k.instance; within = k.within }
 
 pub norm_law : NormLaw
 norm_law c premises f flat i = go (is_tautology (without_repeats c)) refl where
   go : (b : Bool) → is_tautology (without_repeats c) ≡ b → Has premises f ⊎ ((d : Clause Term) × (norm c ≡ Some d) × Follows d premises f)
   go true e = inl (tautology_premise c premises f i e)
-  go false e = inr (numbered (simplified c), ap (λ b. cond b None (Some (numbered (simplified c)))) e, numbered_follows c premises f i)
+  go false e = inr (numbered_anew (simplified c), ap (λ b. cond b None (Some (numbered_anew (simplified c)))) e, numbered_follows c premises f i)

@@ -22,5 +22,5 @@ code_number terms.Symbol = 3
 code_number terms.Arity = 4
 code_number terms.Count = 5
 
-abbrev pub numbered : Code × ℕ → ℕ × ℕ
-numbered refusal = (code_number refusal.0, refusal.1)
+abbrev pub in_numbers : Code × ℕ → ℕ × ℕ
+in_numbers refusal = (code_number refusal.0, refusal.1)

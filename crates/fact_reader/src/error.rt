@@ -3,7 +3,7 @@
 ghost use Rattle.std.specs.Prelude.{◌≡◌, Some, option_map, alloc_error};
 ghost use Rattle.fact_reader.specs.declared.error.CertError.TheVariants.{Memory};
 ghost use Rattle.term_reader.specs.SeenSteps.{code_of};
-ghost use Rattle.fact_reader.specs.Errors.{refusal_of, numbered};
+ghost use Rattle.fact_reader.specs.Errors.{refusal_of, in_numbers};
 
 use std::alloc::{AllocError, AllocFailed};
 use term_reader::Code;
@@ -50,7 +50,7 @@ impl<T: Drop> From<AllocFailed<T>> for CertError {
 
 /// The number of the refusal, from 1 for `Syntax` to 5 for `Count`, and its place; none for want of memory.
 pub fn code_and_place(error: &CertError) -> Option<(u32, usize)>
-    ensures { result ≡ option_map numbered (refusal_of error.now) }
+    ensures { result ≡ option_map in_numbers (refusal_of error.now) }
 {
     match error {
         CertError::Syntax(at) => Some((1, *at)),

@@ -20,7 +20,7 @@ use Rattle.clause_form.specs.declared.facts.Fact.{Fact}
 use Rattle.clause_form.specs.Seen.{fact_at, clause_at, AreFactsIn, NameFacts}
 use Rattle.clause_form.proofs.Comparing.{map_drop}
 use Rattle.placements.specs.Placing.{IsFirstFrom, CanPlace, loose_variables}
-use Rattle.placements.specs.Stages.{LeadsFirst}
+use Rattle.placements.specs.Stages.{PlacesFirst}
 use Rattle.placements.proofs.Holding.{from_first, no_row}
 use Rattle.placements.proofs.Leading.{leads_first_nowhere, leads_first_on, leads_first_to_end}
 use Rattle.placements.proofs.Standing.{one_holds, row_placed}
@@ -82,7 +82,7 @@ pub record IsOnTheWay (all : List Term) (hyps : List (horn.Fact Id)) (loose : Li
   pub holds : HoldsOn all hyps loose now taken_now front row
   pub done : List ℕ
   pub are : items ≡ map suc done
-  pub leads : LeadsFirst (facts_at all hyps) loose (record { bindings = seen all start; taken = taken_start; unplaced = facts_at all facts }) done (record { bindings = seen all now; taken = taken_now; unplaced = facts_at all front })
+  pub leads : PlacesFirst (facts_at all hyps) loose (record { bindings = seen all start; taken = taken_start; unplaced = facts_at all facts }) done (record { bindings = seen all now; taken = taken_now; unplaced = facts_at all front })
 
 module _ (all : List Term) (hyps : List (horn.Fact Id)) (loose : List ℕ) (start : List Bound) (taken_start : List Bool) (facts : List (horn.Fact Id)) where
   pub way_begins : (row items : List ℕ) → items ≡ [] → IsPlacing all hyps start taken_start → HoldsOn all hyps loose start taken_start facts row → IsOnTheWay all hyps loose start start taken_start taken_start facts facts items row
@@ -99,23 +99,23 @@ module _ (all : List Term) (hyps : List (horn.Fact Id)) (loose : List ℕ) (star
   way_on old new taken_old taken_new front rest fact items more row next left position front_is way placing is at left_is more_is =
       let first : position ≡ is.position = at ∙ ap (λ (ps : List ℕ). get_or ps 0 position) is.are in
       let others : left ≡ is.others = left_is ∙ ap (λ (ps : List ℕ). remove ps 0) is.are in
-      let stage : LeadsFirst (facts_at all hyps) loose (record { bindings = seen all start; taken = taken_start; unplaced = facts_at all facts }) way.done (record { bindings = seen all old; taken = taken_old; unplaced = fact_at all fact ∷ facts_at all rest }) =
-      subst (λ (fs : List (horn.Fact Id)). LeadsFirst (facts_at all hyps) loose (record { bindings = seen all start; taken = taken_start; unplaced = facts_at all facts }) way.done (record { bindings = seen all old; taken = taken_old; unplaced = facts_at all fs })) front_is way.leads in
+      let stage : PlacesFirst (facts_at all hyps) loose (record { bindings = seen all start; taken = taken_start; unplaced = facts_at all facts }) way.done (record { bindings = seen all old; taken = taken_old; unplaced = fact_at all fact ∷ facts_at all rest }) =
+      subst (λ (fs : List (horn.Fact Id)). PlacesFirst (facts_at all hyps) loose (record { bindings = seen all start; taken = taken_start; unplaced = facts_at all facts }) way.done (record { bindings = seen all old; taken = taken_old; unplaced = facts_at all fs })) front_is way.leads in
       let next_stage = leads_first_on (facts_at all hyps) loose (record { bindings = seen all start; taken = taken_start; unplaced = facts_at all facts }) (seen all old) taken_old way.done (fact_at all fact) (facts_at all rest) is.position (seen all new) is.put.there way.placing.flags is.put.free is.put.stands is.put.matched is.least stage in
       record {
         placing = placing;
         holds = subst (λ (ps : List ℕ). HoldsOn all hyps loose new taken_new rest ps) (sym others) is.holds;
         done = way.done ++ is.position ∷ [];
         are = more_is ∙ (ap (λ (ps : List ℕ). ps ++ (position + 1) ∷ []) way.are ∙ (ap (λ (n : ℕ). map suc way.done ++ n ∷ []) (add-one position ∙ ap suc first) ∙ sym (map-append suc way.done (is.position ∷ []))));
-        leads = subst (λ (flags : List Bool). LeadsFirst (facts_at all hyps) loose (record { bindings = seen all start; taken = taken_start; unplaced = facts_at all facts }) (way.done ++ is.position ∷ []) (record { bindings = seen all new; taken = flags; unplaced = facts_at all rest })) (sym is.put.flags) next_stage;
+        leads = subst (λ (flags : List Bool). PlacesFirst (facts_at all hyps) loose (record { bindings = seen all start; taken = taken_start; unplaced = facts_at all facts }) (way.done ++ is.position ∷ []) (record { bindings = seen all new; taken = flags; unplaced = facts_at all rest })) (sym is.put.flags) next_stage;
       }
 
   pub way_ends : (now : List Bound) (taken_now : List Bool) (front : List (horn.Fact Id)) (items row : List ℕ) → front ≡ [] → IsOnTheWay all hyps loose start now taken_start taken_now facts front items row → IsFirstByOn all hyps loose start taken_start facts items
   way_ends now taken_now front items row none way =
       let held : HoldsOn all hyps loose now taken_now [] row = subst (λ (fs : List (horn.Fact Id)). HoldsOn all hyps loose now taken_now fs row) none way.holds in
       let can = row_placed (facts_at all hyps) taken_now loose (seen all now) [] row way.placing.flags held in
-      let stage : LeadsFirst (facts_at all hyps) loose (record { bindings = seen all start; taken = taken_start; unplaced = facts_at all facts }) way.done (record { bindings = seen all now; taken = taken_now; unplaced = [] }) =
-      subst (λ (fs : List (horn.Fact Id)). LeadsFirst (facts_at all hyps) loose (record { bindings = seen all start; taken = taken_start; unplaced = facts_at all facts }) way.done (record { bindings = seen all now; taken = taken_now; unplaced = facts_at all fs })) none way.leads in
+      let stage : PlacesFirst (facts_at all hyps) loose (record { bindings = seen all start; taken = taken_start; unplaced = facts_at all facts }) way.done (record { bindings = seen all now; taken = taken_now; unplaced = [] }) =
+      subst (λ (fs : List (horn.Fact Id)). PlacesFirst (facts_at all hyps) loose (record { bindings = seen all start; taken = taken_start; unplaced = facts_at all facts }) way.done (record { bindings = seen all now; taken = taken_now; unplaced = facts_at all fs })) none way.leads in
       (way.done, way.are, leads_first_to_end (facts_at all hyps) loose (record { bindings = seen all start; taken = taken_start; unplaced = facts_at all facts }) (seen all now) taken_now way.done stage can)
 
 -- what is told once the conclusions are matched

@@ -7,7 +7,7 @@ use Rattle.pi_parser.specs.Gives.{HasFault}
 use Rattle.pi_parser.specs.declared.error.Fault.{Fault}
 use Rattle.pi_parser.specs.declared.error.Fault.TheVariants as fault
 use Rattle.protocol_grammar.specs.Sketch.{TermSketch, PatternSketch, UnitSketch, ProcessSketch}
-use Rattle.protocol_grammar.specs.Reading.{Read, Found, Unexpected, TooDeep, step, Reader, built, both, optional, numbered, arguments_at, begins_term, term_by, term_at, begins_pattern, pattern_by, pattern_at, begins_atom, atom_from, atom_at, begins_unit, beside_from, process_from, unit_by, unit_at, process_at, question_by, declaration_by}
+use Rattle.protocol_grammar.specs.Reading.{Read, Found, Unexpected, TooDeep, step, Reader, built, both, optional, with_place, arguments_at, begins_term, term_by, term_at, begins_pattern, pattern_by, pattern_at, begins_atom, atom_from, atom_at, begins_unit, beside_from, process_from, unit_by, unit_at, process_at, question_by, declaration_by}
 
 pub term_other : (most : ℕ) (below : Reader TermSketch) (c : Class) (s : Source) (at : ℕ) → c ≢ w.Name → c ≢ w.Open → term_by most below c s at ≡ Unexpected at
 term_other most below w.Private s at n0 n1 = refl
@@ -294,10 +294,10 @@ pub atom_lowest : (most left : ℕ) (s : Source) (at : ℕ) → left ≡ 0 → a
 unfolding atom_at
 atom_lowest most left s at h = ap (λ (k : ℕ). atom_at most k s at) h
 
-pub atom_deeper : (most left : ℕ) (s : Source) (at : ℕ) → 0 < left → atom_at most left s at ≡ built atom_from (numbered w.Name (arguments_at most (term_at most (left - 1)))) s at
+pub atom_deeper : (most left : ℕ) (s : Source) (at : ℕ) → 0 < left → atom_at most left s at ≡ built atom_from (with_place w.Name (arguments_at most (term_at most (left - 1)))) s at
 unfolding atom_at
 atom_deeper most zero s at h = absurd (omega arith)
-atom_deeper most (suc left) s at h = ap (λ (k : ℕ). built atom_from (numbered w.Name (arguments_at most (term_at most k))) s at) (less left) where
+atom_deeper most (suc left) s at h = ap (λ (k : ℕ). built atom_from (with_place w.Name (arguments_at most (term_at most k))) s at) (less left) where
   less : (n : ℕ) → n ≡ suc n - 1
   less n = omega arith
 

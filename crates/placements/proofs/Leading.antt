@@ -5,14 +5,14 @@ use Rattle.terms.specs.Term.{Term}
 use Rattle.terms.specs.Binding.{Binding}
 use Rattle.clauses.specs.Fact.{Fact}
 use Rattle.placements.specs.Placing.{FactMatched, CanPlace, CanStand, HoldsFrom, IsFirstFrom}
-use Rattle.placements.specs.Stages.{Stage, Leads, LeadsFirst}
+use Rattle.placements.specs.Stages.{Stage, PlacesOn, PlacesFirst}
 use Rattle.placements.proofs.Standing.{row_placed, row_stands, holds_nothing, first_nothing, holds_one, one_holds, first_one}
 
 module _ (hs : List (Fact Term)) (loose : List ℕ) (start : Stage) where
-  pub leads_nowhere : Leads hs loose start [] start
+  pub leads_nowhere : PlacesOn hs loose start [] start
   leads_nowhere row = (λ h. h, λ h. h)
 
-  pub leads_first_nowhere : LeadsFirst hs loose start [] start
+  pub leads_first_nowhere : PlacesFirst hs loose start [] start
   leads_first_nowhere row h = h
 
   module _ (bs : List Binding) (taken : List Bool) (done : List ℕ) (g : Fact Term) (rest : List (Fact Term)) (p : ℕ) where
@@ -20,7 +20,7 @@ module _ (hs : List (Fact Term)) (loose : List ℕ) (start : Stage) where
     now = record { bindings = bs; taken = taken; unplaced = g ∷ rest }
 
     -- one more fact, at a free position that it matches
-    pub leads_on : (new : List Binding) (h : Fact Term) → get_or taken p false ≡ false → slice_get hs p ≡ Some h → FactMatched bs new g h → Leads hs loose start done now → Leads hs loose start (done ++ p ∷ []) (record { bindings = new; taken = set taken p true; unplaced = rest })
+    pub leads_on : (new : List Binding) (h : Fact Term) → get_or taken p false ≡ false → slice_get hs p ≡ Some h → FactMatched bs new g h → PlacesOn hs loose start done now → PlacesOn hs loose start (done ++ p ∷ []) (record { bindings = new; taken = set taken p true; unplaced = rest })
     leads_on new h free found m leads row =
         let same : (done ++ p ∷ []) ++ row ≡ done ++ p ∷ row = append_assoc done (p ∷ []) row in (
           λ held. one_holds hs taken loose bs new g h p found m rest row ((leads (p ∷ row)).0 (subst (HoldsFrom start.bindings start.taken hs start.unplaced loose) same held)),
@@ -28,13 +28,13 @@ module _ (hs : List (Fact Term)) (loose : List ℕ) (start : Stage) where
         )
 
     -- and at the first where it can stand
-    pub leads_first_on : (new : List Binding) (h : Fact Term) → length taken ≡ length hs → get_or taken p false ≡ false → slice_get hs p ≡ Some h → FactMatched bs new g h → ((q : ℕ) → q < p → CanStand bs taken hs g rest loose q → ⊥) → LeadsFirst hs loose start done now → LeadsFirst hs loose start (done ++ p ∷ []) (record { bindings = new; taken = set taken p true; unplaced = rest })
+    pub leads_first_on : (new : List Binding) (h : Fact Term) → length taken ≡ length hs → get_or taken p false ≡ false → slice_get hs p ≡ Some h → FactMatched bs new g h → ((q : ℕ) → q < p → CanStand bs taken hs g rest loose q → ⊥) → PlacesFirst hs loose start done now → PlacesFirst hs loose start (done ++ p ∷ []) (record { bindings = new; taken = set taken p true; unplaced = rest })
     leads_first_on new h e free found m least leads row is =
         let same : (done ++ p ∷ []) ++ row ≡ done ++ p ∷ row = append_assoc done (p ∷ []) row in
         subst (IsFirstFrom start.bindings start.taken hs start.unplaced loose) (sym same) (leads (p ∷ row) (first_one hs taken loose bs new g h p found m rest row e free least is))
 
     -- where it can't stand, no row goes on so
-    pub leads_no_further : (row : List ℕ) → length taken ≡ length hs → (CanStand bs taken hs g rest loose p → ⊥) → Leads hs loose start done now → HoldsFrom start.bindings start.taken hs start.unplaced loose (done ++ p ∷ row) → ⊥
+    pub leads_no_further : (row : List ℕ) → length taken ≡ length hs → (CanStand bs taken hs g rest loose p → ⊥) → PlacesOn hs loose start done now → HoldsFrom start.bindings start.taken hs start.unplaced loose (done ++ p ∷ row) → ⊥
     leads_no_further row e never leads held = never (row_stands hs taken loose bs g rest p row e ((leads (p ∷ row)).0 held))
 
   module _ (bs : List Binding) (taken : List Bool) (done : List ℕ) where
@@ -42,12 +42,12 @@ module _ (hs : List (Fact Term)) (loose : List ℕ) (start : Stage) where
     last = record { bindings = bs; taken = taken; unplaced = [] }
 
     -- with no fact left, the loose variables decide
-    pub leads_to_end : length taken ≡ length hs → Leads hs loose start done last → HoldsFrom start.bindings start.taken hs start.unplaced loose done ↔ CanPlace bs taken hs [] loose
+    pub leads_to_end : length taken ≡ length hs → PlacesOn hs loose start done last → HoldsFrom start.bindings start.taken hs start.unplaced loose done ↔ CanPlace bs taken hs [] loose
     leads_to_end e leads =
         let same : done ++ [] ≡ done = append-nil done in (
           λ held. row_placed hs taken loose bs [] [] e ((leads []).0 (subst (HoldsFrom start.bindings start.taken hs start.unplaced loose) (sym same) held)),
           λ can. subst (HoldsFrom start.bindings start.taken hs start.unplaced loose) same ((leads []).1 (holds_nothing hs taken loose bs can)),
         )
 
-    pub leads_first_to_end : LeadsFirst hs loose start done last → CanPlace bs taken hs [] loose → IsFirstFrom start.bindings start.taken hs start.unplaced loose done
+    pub leads_first_to_end : PlacesFirst hs loose start done last → CanPlace bs taken hs [] loose → IsFirstFrom start.bindings start.taken hs start.unplaced loose done
     leads_first_to_end leads can = subst (IsFirstFrom start.bindings start.taken hs start.unplaced loose) (append-nil done) (leads [] (first_nothing hs taken loose bs can))

@@ -13,9 +13,9 @@ pub record Stage : Type 0 where
 
 -- The positions lead from one stage to another: what holds from there on holds, with these in front, from the first on,
 -- and the other way round.
-abbrev pub Leads : List (Fact Term) → List ℕ → Stage → List ℕ → Stage → Type 0
-Leads hs loose start done now = (row : List ℕ) → HoldsFrom start.bindings start.taken hs start.unplaced loose (done ++ row) ↔ HoldsFrom now.bindings now.taken hs now.unplaced loose row
+abbrev pub PlacesOn : List (Fact Term) → List ℕ → Stage → List ℕ → Stage → Type 0
+PlacesOn hs loose start done now = (row : List ℕ) → HoldsFrom start.bindings start.taken hs start.unplaced loose (done ++ row) ↔ HoldsFrom now.bindings now.taken hs now.unplaced loose row
 
 -- they are the first: the first row from there on makes, with these in front, the first row from the first stage on
-abbrev pub LeadsFirst : List (Fact Term) → List ℕ → Stage → List ℕ → Stage → Type 0
-LeadsFirst hs loose start done now = (row : List ℕ) → IsFirstFrom now.bindings now.taken hs now.unplaced loose row → IsFirstFrom start.bindings start.taken hs start.unplaced loose (done ++ row)
+abbrev pub PlacesFirst : List (Fact Term) → List ℕ → Stage → List ℕ → Stage → Type 0
+PlacesFirst hs loose start done now = (row : List ℕ) → IsFirstFrom now.bindings now.taken hs now.unplaced loose row → IsFirstFrom start.bindings start.taken hs start.unplaced loose (done ++ row)

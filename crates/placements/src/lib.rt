@@ -18,7 +18,7 @@ ghost use Rattle.placements.specs.Takes.{left, Takes};
 ghost use Rattle.placements.specs.Placing.{loose_variables, all_known, FactMatched, NoFactMatch};
 ghost use Rattle.placements.specs.Placing.{CanPlace, CanStand, HoldsFrom, IsFirstFrom};
 ghost use Rattle.placements.specs.Placing.{AreLinked, IsLinked};
-ghost use Rattle.placements.specs.Stages.{Stage, Leads, LeadsFirst};
+ghost use Rattle.placements.specs.Stages.{Stage, PlacesOn, PlacesFirst};
 ghost use Rattle.placements.specs.LooseParts.{bound_parts, Removes, Lacks, HasNoRoom};
 ghost use Rattle.placements.specs.Crowds.{room, IsConfined, AreConfined};
 
@@ -181,38 +181,38 @@ pub fn first_rows_begin_with_the_least_stand()
 /// left the loose variables decide.
 pub fn positions_lead_on()
     ensures nowhere { (hs : List (Fact Term)) (loose : List ℕ) (start : Stage) →
-        Leads hs loose start [] start × LeadsFirst hs loose start [] start }
+        PlacesOn hs loose start [] start × PlacesFirst hs loose start [] start }
     ensures on { (hs : List (Fact Term)) (loose : List ℕ) (start : Stage) (bs new : List Binding)
         (taken : List Bool) (done : List ℕ) (g h : Fact Term) (rest : List (Fact Term)) (p : ℕ) →
         get_or taken p false ≡ false → slice_get hs p ≡ Some h → FactMatched bs new g h →
-        Leads hs loose start done
+        PlacesOn hs loose start done
         (record { bindings = bs; taken = taken; unplaced = g ∷ rest }) →
-        Leads hs loose start (done ++ p ∷ [])
+        PlacesOn hs loose start (done ++ p ∷ [])
         (record { bindings = new; taken = set taken p true; unplaced = rest }) }
     ensures first { (hs : List (Fact Term)) (loose : List ℕ) (start : Stage) (bs new : List Binding)
         (taken : List Bool) (done : List ℕ) (g h : Fact Term) (rest : List (Fact Term)) (p : ℕ) →
         length taken ≡ length hs →
         get_or taken p false ≡ false → slice_get hs p ≡ Some h → FactMatched bs new g h →
         ((q : ℕ) → q < p → CanStand bs taken hs g rest loose q → ⊥) →
-        LeadsFirst hs loose start done
+        PlacesFirst hs loose start done
         (record { bindings = bs; taken = taken; unplaced = g ∷ rest }) →
-        LeadsFirst hs loose start (done ++ p ∷ [])
+        PlacesFirst hs loose start (done ++ p ∷ [])
         (record { bindings = new; taken = set taken p true; unplaced = rest }) }
     ensures no_further { (hs : List (Fact Term)) (loose : List ℕ) (start : Stage)
         (bs : List Binding) (taken : List Bool) (done row : List ℕ) (g : Fact Term)
         (rest : List (Fact Term)) (p : ℕ) → length taken ≡ length hs →
         (CanStand bs taken hs g rest loose p → ⊥) →
-        Leads hs loose start done
+        PlacesOn hs loose start done
         (record { bindings = bs; taken = taken; unplaced = g ∷ rest }) →
         HoldsFrom start.bindings start.taken hs start.unplaced loose (done ++ p ∷ row) → ⊥ }
     ensures end { (hs : List (Fact Term)) (loose : List ℕ) (start : Stage) (bs : List Binding)
         (taken : List Bool) (done : List ℕ) → length taken ≡ length hs →
-        Leads hs loose start done (record { bindings = bs; taken = taken; unplaced = [] }) →
+        PlacesOn hs loose start done (record { bindings = bs; taken = taken; unplaced = [] }) →
         HoldsFrom start.bindings start.taken hs start.unplaced loose done ↔
         CanPlace bs taken hs [] loose }
     ensures first_end { (hs : List (Fact Term)) (loose : List ℕ) (start : Stage)
         (bs : List Binding) (taken : List Bool) (done : List ℕ) →
-        LeadsFirst hs loose start done (record { bindings = bs; taken = taken; unplaced = [] }) →
+        PlacesFirst hs loose start done (record { bindings = bs; taken = taken; unplaced = [] }) →
         CanPlace bs taken hs [] loose →
         IsFirstFrom start.bindings start.taken hs start.unplaced loose done }
 {}

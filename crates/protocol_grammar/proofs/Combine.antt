@@ -4,7 +4,7 @@ use Rattle.protocol_grammar.specs.declared.class.Class.{Class}
 use Rattle.protocol_grammar.specs.declared.class.Class.TheVariants as w
 use Rattle.protocol_grammar.specs.Classes.{Source, Word, same, fits}
 use Rattle.protocol_grammar.specs.Spelling.{Item, kept, word, IsGreedy}
-use Rattle.protocol_grammar.specs.Reading.{Read, Found, Unexpected, TooDeep, Tired, Reader, step, done, numbered, then_marked}
+use Rattle.protocol_grammar.specs.Reading.{Read, Found, Unexpected, TooDeep, Tired, Reader, step, done, with_place, then_marked}
 use Rattle.protocol_grammar.proofs.Same.{same-true}
 use Rattle.protocol_grammar.proofs.Items.{words-append, words-split, words_later, shallow-append, greedy-append, greedy-split, leads_front, leads_behind, deep_front, deep_behind}
 use Rattle.protocol_grammar.proofs.Good.{Inside, InsideUnless, inside_append, IsFound, IsRight, Outcome, finds, Agree, Within, IsLocal, IsComplete, Good, Later, right_later, later_within, step_right, step_local, outcome_step}
@@ -92,22 +92,22 @@ module _ {X : Type 0} {most : ℕ} {last : Bool} {sp : X → List Item} {C : Cla
         inside = unless_append last s at (at + 1) j (fits_inside s at c n e) f.inside;
       })
 
-  numbered_local : IsLocal (numbered c r)
+  numbered_local : IsLocal (with_place c r)
   numbered_local s t at k a z =
-      let near : at ≤ k = later_within at k (numbered c r s at) (right_later last (numbered_items l c sp) C s at (numbered c r s at) (numbered_right s at (fits c (s at).class) refl)) z in
+      let near : at ≤ k = later_within at k (with_place c r s at) (right_later last (numbered_items l c sp) C s at (with_place c r s at) (numbered_right s at (fits c (s at).class) refl)) z in
       let same_word : t at ≡ s at = a at near in
       cond_local k (fits c (s at).class) (fits c (t at).class) _ _ _ _ (ap (λ (x : Word). fits c x.class) same_word)
       (λ e v. step_local k (r s (at + 1)) (r t (at + 1)) _ _ (g.sound.local s t (at + 1) k a) (λ x j q. omega arith)
       (λ x j q m u. ap (λ (v : Word). Found (v.number, x) j) same_word) v)
       (λ e v. refl) z
 
-  numbered_complete : IsComplete most All (numbered_items l c sp) (numbered c r)
+  numbered_complete : IsComplete most All (numbered_items l c sp) (with_place c r)
   numbered_complete s at x end low z y =
       cond_true (λ p. Outcome most s at (numbered_items l c sp x) x end p) (fits c (s at).class) _ _ z.0.1
       (outcome_step (r s (at + 1)) _ (g.complete s (at + 1) x.1 end tt z.1 y)
       (λ d. finds (ap (λ (n : ℕ). Found (n, x.1) end) z.0.0) (h, d)) (λ i d. (z.0, inr (h, d))) (omega arith))
 
-  pub good_numbered : Good most All last (numbered_items l c sp) C (numbered c r)
+  pub good_numbered : Good most All last (numbered_items l c sp) C (with_place c r)
   good_numbered = record {
     some = (0, g.some);
     some_firm = g.some_firm;

@@ -5,7 +5,7 @@ use Rattle.protocol_grammar.specs.declared.class.Class.TheVariants as w
 use Rattle.protocol_grammar.specs.Classes.{Source, same, fits}
 use Rattle.protocol_grammar.specs.Sketch.{TermSketch, Named, Grouped, TermsSketch, none, more, AlternativeSketch, QuerySketch, AttackerNew, Attacker, Correspondence, RuleSketch, DeclarationSketch, Free, Fun, Data, Reduc, Event, Query, Definition}
 use Rattle.protocol_grammar.specs.Spelling.{Item, word, kept, more_of, term, process, name, happening, alternative, alternatives, question, rule, sized, declaration, declarations, file, Words, IsGreedy}
-use Rattle.protocol_grammar.specs.Reading.{Tired, Reader, built, done, numbered, then_marked, both, either, list_at, term_at, atom_at, process_at, name_from, name_at, happening_from, happening_at, alternative_from, alternative_at, alternatives_from, alternatives_at, attacker_from, correspondence, question_by, question_at, rule_from, rule_at, sized_at, names_at, free, fun, hidden, data_from, event_from, reduc, query, definition, declaration_by, declaration_at, main_at, Rest, declarations_from, declarations_at, file_from, file_at}
+use Rattle.protocol_grammar.specs.Reading.{Tired, Reader, built, done, with_place, then_marked, both, either, list_at, term_at, atom_at, process_at, name_from, name_at, happening_from, happening_at, alternative_from, alternative_at, alternatives_from, alternatives_at, attacker_from, correspondence, question_by, question_at, rule_from, rule_at, sized_at, names_at, free, fun, hidden, data_from, event_from, reduc, query, definition, declaration_by, declaration_at, main_at, Rest, declarations_from, declarations_at, file_from, file_at}
 use Rattle.protocol_grammar.proofs.Same.{same-true}
 use Rattle.protocol_grammar.proofs.Items.{words-split, words_later, greedy-append, greedy-split}
 use Rattle.protocol_grammar.proofs.Good.{Outcome, Sound, Good, tires}
@@ -76,7 +76,7 @@ module _ (most : ℕ) where
   one_term = good_term most 512 1 refl
 
   abbrev attacked : Reader ((Unit {0} × (ℕ × (Unit {0} × Unit {0}))) ⊎ (TermSketch × Unit {0}))
-  attacked = either w.New (then_marked done w.New (numbered w.Name (then_marked done w.Close done))) (then_marked (term_at most 512) w.Close done)
+  attacked = either w.New (then_marked done w.New (with_place w.Name (then_marked done w.Close done))) (then_marked (term_at most 512) w.Close done)
 
   abbrev attacked_items : (Unit {0} × (ℕ × (Unit {0} × Unit {0}))) ⊎ (TermSketch × Unit {0}) → List Item
   attacked_items = either_items (then_items done_items 0 w.New (numbered_items 0 w.Name (then_items done_items 0 w.Close done_items))) (then_items (term 1) 0 w.Close done_items)
@@ -90,10 +90,10 @@ module _ (most : ℕ) where
   attacker_spelled (n, (o, inl x)) = refl
   attacker_spelled (n, (o, inr x)) = refl
 
-  attacker_way : Way most question EndsQuestion attacker_from (numbered w.Attacker (then_marked done w.Open attacked))
+  attacker_way : Way most question EndsQuestion attacker_from (with_place w.Attacker (then_marked done w.Open attacked))
   attacker_way = record { items = _; spelled = attacker_spelled; good = good_numbered 0 h w.Attacker refl (behind w.Open (λ k e. e) refl good_attacked) }
 
-  correspondence_way : Way most question EndsQuestion correspondence (numbered w.Event (then_marked (atom_at most 512) w.Implies (alternatives_at most)))
+  correspondence_way : Way most question EndsQuestion correspondence (with_place w.Event (then_marked (atom_at most 512) w.Implies (alternatives_at most)))
   correspondence_way = record { items = _; spelled = λ x. refl; good = good_numbered 0 h w.Event refl (good_then 0 h w.Implies (λ k e. e) refl (λ e. cc) (good_atom most 512 1 refl) (good_alternatives most)) }
 
   question_sound : (c : Class) → Sound false question EndsQuestion (question_by most c)
@@ -112,7 +112,7 @@ module _ (most : ℕ) where
       (record { some = AttackerNew 0 0; some_firm = λ c i. tt; sound = choice_sound question_sound; complete = question_complete })
 
   abbrev rule_reader : Reader (ℕ × (Unit {0} × ((TermSketch × List TermSketch) × (Unit {0} × TermSketch))))
-  rule_reader = numbered w.Name (then_marked done w.Open (then_marked (list_at most w.Comma (term_at most 512)) w.Close (then_marked done w.Arrow (term_at most 512))))
+  rule_reader = with_place w.Name (then_marked done w.Open (then_marked (list_at most w.Comma (term_at most 512)) w.Close (then_marked done w.Arrow (term_at most 512))))
 
   abbrev rule_items : ℕ × (Unit {0} × ((TermSketch × List TermSketch) × (Unit {0} × TermSketch))) → List Item
   rule_items = numbered_items 0 w.Name (then_items done_items 0 w.Open (then_items (list_items 0 w.Comma (term 1)) 0 w.Close (then_items done_items 0 w.Arrow (term 1))))
@@ -164,7 +164,7 @@ module _ (most : ℕ) where
   hidden_spelled (n, inl x) = refl
   hidden_spelled (n, inr x) = refl
 
-  hidden_way : Way most declaration Any hidden (numbered w.Private hidden_reader)
+  hidden_way : Way most declaration Any hidden (with_place w.Private hidden_reader)
   hidden_way = record {
     items = _;
     spelled = hidden_spelled;
@@ -172,19 +172,19 @@ module _ (most : ℕ) where
         (good_either w.Free (λ s at x end z. z.0) (λ s at y end z. differs_from w.Free w.Fun (s at).class z.0 refl) (behind w.Free (λ k e. e) refl good_names) (behind w.Fun (λ k e. e) refl good_sized));
   }
 
-  free_way : Way most declaration Any (free true) (numbered w.Free (names_at most))
+  free_way : Way most declaration Any (free true) (with_place w.Free (names_at most))
   free_way = record { items = _; spelled = λ x. refl; good = good_numbered 0 h w.Free refl good_names }
 
-  fun_way : Way most declaration Any (fun true) (numbered w.Fun sized_at)
+  fun_way : Way most declaration Any (fun true) (with_place w.Fun sized_at)
   fun_way = record { items = _; spelled = λ x. refl; good = good_numbered 0 h w.Fun refl good_sized }
 
-  data_way : Way most declaration Any data_from (numbered w.Data sized_at)
+  data_way : Way most declaration Any data_from (with_place w.Data sized_at)
   data_way = record { items = _; spelled = λ x. refl; good = good_numbered 0 h w.Data refl good_sized }
 
-  event_way : Way most declaration Any event_from (numbered w.Event sized_at)
+  event_way : Way most declaration Any event_from (with_place w.Event sized_at)
   event_way = record { items = _; spelled = λ x. refl; good = good_numbered 0 h w.Event refl good_sized }
 
-  reduc_way : Way most declaration Any reduc (numbered w.Reduc (then_marked (list_at most w.Semicolon (rule_at most)) w.Dot done))
+  reduc_way : Way most declaration Any reduc (with_place w.Reduc (then_marked (list_at most w.Semicolon (rule_at most)) w.Dot done))
   reduc_way = record {
     items = _;
     spelled = λ x. refl;
@@ -192,10 +192,10 @@ module _ (most : ℕ) where
         (good_then 0 h w.Dot (λ k e. e) refl (λ e. cc, λ e. cc) (good_list {D = λ c. NotOpen c × (w.Semicolon ≢ c)} 0 h w.Semicolon (λ k e. e) refl (λ d i. i.0) (λ d i. i.1) good_rule) (good_done most));
   }
 
-  query_way : Way most declaration Any query (numbered w.Query (then_marked (question_at most) w.Dot done))
+  query_way : Way most declaration Any query (with_place w.Query (then_marked (question_at most) w.Dot done))
   query_way = record { items = _; spelled = λ x. refl; good = good_numbered 0 h w.Query refl (good_then 0 h w.Dot (λ k e. e) refl ((λ e. cc, λ e. cc), λ e. cc) good_question (good_done most)) }
 
-  definition_way : Way most declaration Any definition (numbered w.Let (numbered w.Name (then_marked done w.Equals (then_marked (process_at most 512) w.Dot done))))
+  definition_way : Way most declaration Any definition (with_place w.Let (with_place w.Name (then_marked done w.Equals (then_marked (process_at most 512) w.Dot done))))
   definition_way = record {
     items = _;
     spelled = λ x. refl;
@@ -277,7 +277,7 @@ main_items = numbered_items 0 w.Process (then_items (process 1) 0 w.End done_ite
 
 good_main : (most : ℕ) → Good most All true main_items Any (main_at most)
 unfolding main_at
-good_main most = good_same (numbered w.Process (then_marked (process_at most 512) w.End done)) (main_at most) (λ s at. refl)
+good_main most = good_same (with_place w.Process (then_marked (process_at most 512) w.End done)) (main_at most) (λ s at. refl)
     (good_numbered 0 h w.Process refl (good_ended Any 0 h ((λ e. cc, λ e. cc, λ e. cc), λ e. cc) (good_process most 512 1 refl)))
 
 abbrev declarations_items : List DeclarationSketch × Rest → List Item

@@ -6,7 +6,7 @@ use Rattle.protocol_grammar.specs.Classes.{Source, fits}
 use Rattle.protocol_grammar.specs.Sketch.{none, PatternSketch, NamedPattern, Equal, GroupedPattern, PatternsSketch, no_patterns, more_patterns, AtomSketch, Named, patterns_sketch}
 use Rattle.protocol_grammar.specs.Spelling.{word, kept, more_of, term, pattern, pattern_arguments, patterns, commas_patterns, atom, Words, IsGreedy}
 use Rattle.protocol_grammar.specs.Refusals.{DeepAt}
-use Rattle.protocol_grammar.specs.Reading.{Reader, built, done, deep, numbered, then_marked, list_at, list_of, arguments_at, term_at, named_pattern, equal, grouped_pattern, begins_pattern, pattern_by, pattern_at, atom_from, begins_atom, atom_at}
+use Rattle.protocol_grammar.specs.Reading.{Reader, built, done, deep, with_place, then_marked, list_at, list_of, arguments_at, term_at, named_pattern, equal, grouped_pattern, begins_pattern, pattern_by, pattern_at, atom_from, begins_atom, atom_at}
 use Rattle.protocol_grammar.proofs.Good.{IsDeep, Outcome, Sound, Good}
 use Rattle.protocol_grammar.proofs.Combine.{All, numbered_items, then_items, done_items, good_numbered}
 use Rattle.protocol_grammar.proofs.Choose.{good_same, built_sound, built_complete, good_built, choice_sound, refused_sound, choice_outcome, good_deep}
@@ -37,13 +37,13 @@ module _ {most : ℕ} (left l : ℕ) (d : left + (l + 1) ≡ 513) (below : Reade
   h : l ≤ 512
   h = omega arith
 
-  named_good : Good most All false (numbered_items l w.Name (arguments_items l (pattern (l + 1)))) NotOpen (numbered w.Name (arguments_at most below))
+  named_good : Good most All false (numbered_items l w.Name (arguments_items l (pattern (l + 1)))) NotOpen (with_place w.Name (arguments_at most below))
   named_good = good_numbered l h w.Name refl (good_arguments l h g)
 
-  equal_good : Good most All false (numbered_items l w.Equals (term (l + 1))) NotOpen (numbered w.Equals (term_at most left))
+  equal_good : Good most All false (numbered_items l w.Equals (term (l + 1))) NotOpen (with_place w.Equals (term_at most left))
   equal_good = good_numbered l h w.Equals refl (good_term most left (l + 1) d)
 
-  grouped_good : Good most All false (numbered_items l w.Open (then_items (list_items l w.Comma (pattern (l + 1))) l w.Close done_items)) NotOpen (numbered w.Open (then_marked (list_at most w.Comma below) w.Close done))
+  grouped_good : Good most All false (numbered_items l w.Open (then_items (list_items l w.Comma (pattern (l + 1))) l w.Close done_items)) NotOpen (with_place w.Open (then_marked (list_at most w.Comma below) w.Close done))
   grouped_good = good_numbered l h w.Open refl (good_parts l h g)
 
   named_spelled : (p : ℕ × List PatternSketch) → pattern l (named_pattern p) ≡ numbered_items l w.Name (arguments_items l (pattern (l + 1))) p
@@ -115,7 +115,7 @@ pub good_atom : (most left l : ℕ) → left + l ≡ 513 → Good most All false
 unfolding atom_at
 good_atom most zero l d = good_same (deep begins_atom) (atom_at most zero) (λ s at. refl) (atom_deep l (omega arith))
 good_atom most (suc left) l d =
-    good_same (built atom_from (numbered w.Name (arguments_at most (term_at most left)))) (atom_at most (suc left)) (λ s at. refl)
+    good_same (built atom_from (with_place w.Name (arguments_at most (term_at most left)))) (atom_at most (suc left)) (λ s at. refl)
     (good_built (atom l) atom_from (λ p. ap (λ is. kept l p.0 w.Name ∷ is) (arguments_spelled l p.1))
     (good_numbered l (omega arith) w.Name refl (good_arguments l (omega arith) (good_term most left (l + 1) (omega arith))))
     (λ a. (a.first, terms_list a.arguments)) (λ a. ap (λ (ts : _). record { first = a.first; arguments = ts }) (terms_there a.arguments)))

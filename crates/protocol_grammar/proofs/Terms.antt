@@ -6,7 +6,7 @@ use Rattle.protocol_grammar.specs.Classes.{Source, same, fits}
 use Rattle.protocol_grammar.specs.Sketch.{TermSketch, Named, Grouped, TermsSketch, none, more, terms_sketch}
 use Rattle.protocol_grammar.specs.Spelling.{word, kept, more_of, term, arguments, terms, more_terms, Words, IsGreedy}
 use Rattle.protocol_grammar.specs.Refusals.{DeepAt}
-use Rattle.protocol_grammar.specs.Reading.{Reader, done, deep, numbered, then_marked, list_at, list_of, arguments_at, named, grouped, begins_term, term_by, term_at}
+use Rattle.protocol_grammar.specs.Reading.{Reader, done, deep, with_place, then_marked, list_at, list_of, arguments_at, named, grouped, begins_term, term_by, term_at}
 use Rattle.protocol_grammar.proofs.Same.{same-true}
 use Rattle.protocol_grammar.proofs.Good.{IsDeep, Outcome, Sound, Good}
 use Rattle.protocol_grammar.proofs.Combine.{All, numbered_items, then_items, done_items, good_numbered}
@@ -41,10 +41,10 @@ pub terms_spelled : (l : ℕ) (p : TermSketch × List TermSketch) → terms l (t
 terms_spelled l p = ap (λ is. term (l + 1) p.0 ++ is) (more_spelled l p.1)
 
 module _ {most : ℕ} (l : ℕ) (h : l ≤ 512) (below : Reader TermSketch) (g : Good most All false (term (l + 1)) NotOpen below) where
-  named_good : Good most All false (numbered_items l w.Name (arguments_items l (term (l + 1)))) NotOpen (numbered w.Name (arguments_at most below))
+  named_good : Good most All false (numbered_items l w.Name (arguments_items l (term (l + 1)))) NotOpen (with_place w.Name (arguments_at most below))
   named_good = good_numbered l h w.Name refl (good_arguments l h g)
 
-  grouped_good : Good most All false (numbered_items l w.Open (then_items (list_items l w.Comma (term (l + 1))) l w.Close done_items)) NotOpen (numbered w.Open (then_marked (list_at most w.Comma below) w.Close done))
+  grouped_good : Good most All false (numbered_items l w.Open (then_items (list_items l w.Comma (term (l + 1))) l w.Close done_items)) NotOpen (with_place w.Open (then_marked (list_at most w.Comma below) w.Close done))
   grouped_good = good_numbered l h w.Open refl (good_parts l h g)
 
   named_spelled : (p : ℕ × List TermSketch) → term l (named p) ≡ numbered_items l w.Name (arguments_items l (term (l + 1))) p

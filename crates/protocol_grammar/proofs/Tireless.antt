@@ -7,7 +7,7 @@ use Rattle.protocol_grammar.specs.Classes.{Source, same, fits}
 use Rattle.protocol_grammar.specs.Sketch.{TermSketch, PatternSketch, ProcessSketch, UnitSketch, FileSketch}
 use Rattle.protocol_grammar.specs.Laws.{HasAnswer}
 use Rattle.protocol_grammar.proofs.Answers.{found_sketch, word_refused, deep_refused}
-use Rattle.protocol_grammar.specs.Reading.{Read, Found, Unexpected, TooDeep, Tired, Reader, step, built, done, numbered, then_marked, optional, both, either, deep, others_of, list_at, arguments_of, arguments_at, begins_term, named, grouped, term_by, term_at, begins_pattern, named_pattern, equal, grouped_pattern, pattern_by, pattern_at, begins_atom, atom_from, atom_at, begins_unit, next_from, beside_from, next_at, zero_unit, macro, inner, replicated, new, output, input, happens, let_unit, if_unit, unit_by, unit_at, process_from, process_at, name_from, name_at, happening_from, happening_at, alternative_from, alternative_at, alternatives_from, alternatives_at, attacker_from, correspondence, question_by, question_at, rule_from, rule_at, sized_at, names_at, free, fun, hidden, data_from, event_from, reduc, query, definition, declaration_by, declaration_at, main_at, declarations_from, declarations_at, file_from, file_at}
+use Rattle.protocol_grammar.specs.Reading.{Read, Found, Unexpected, TooDeep, Tired, Reader, step, built, done, with_place, then_marked, optional, both, either, deep, others_of, list_at, arguments_of, arguments_at, begins_term, named, grouped, term_by, term_at, begins_pattern, named_pattern, equal, grouped_pattern, pattern_by, pattern_at, begins_atom, atom_from, atom_at, begins_unit, next_from, beside_from, next_at, zero_unit, macro, inner, replicated, new, output, input, happens, let_unit, if_unit, unit_by, unit_at, process_from, process_at, name_from, name_at, happening_from, happening_at, alternative_from, alternative_at, alternatives_from, alternatives_at, attacker_from, correspondence, question_by, question_at, rule_from, rule_at, sized_at, names_at, free, fun, hidden, data_from, event_from, reduc, query, definition, declaration_by, declaration_at, main_at, declarations_from, declarations_at, file_from, file_at}
 
 -- a choice, by its test
 choice : {X : Type 0} (P : X → Type 0) (b : Bool) (x y : X) → (b ≡ true → P x) → (b ≡ false → P y) → P (cond b x y)
@@ -90,7 +90,7 @@ module _ (size : ℕ) where
     done_steady : Steady done
     done_steady = record { rests = λ at l. (omega arith, l) }
 
-    numbered_moving : {X : Type 0} (c : Class) (r : Reader X) → fits c w.End ≡ false → Steady r → Moving (numbered c r)
+    numbered_moving : {X : Type 0} (c : Class) (r : Reader X) → fits c w.End ≡ false → Steady r → Moving (with_place c r)
     numbered_moving c r ends_not h = record {
       moves = λ at l.
           choice (Rests (at + 1)) (fits c (s at).class) (step (r s (at + 1)) (λ x e. Found ((s at).number, x) e)) (Unexpected at)
@@ -98,8 +98,8 @@ module _ (size : ℕ) where
           (λ t. tt);
     }
 
-    numbered_steady : {X : Type 0} (c : Class) (r : Reader X) → fits c w.End ≡ false → Steady r → Steady (numbered c r)
-    numbered_steady c r ends_not h = moving_steady (numbered c r) (numbered_moving c r ends_not h)
+    numbered_steady : {X : Type 0} (c : Class) (r : Reader X) → fits c w.End ≡ false → Steady r → Steady (with_place c r)
+    numbered_steady c r ends_not h = moving_steady (with_place c r) (numbered_moving c r ends_not h)
 
     then_steady : {X Y : Type 0} (r : Reader X) (c : Class) (q : Reader Y) → fits c w.End ≡ false → Steady r → Steady q → Steady (then_marked r c q)
     then_steady r c q ends_not h k = record {
@@ -191,7 +191,7 @@ module _ (size : ℕ) where
       atom_steady : (left : ℕ) → Steady (atom_at most left)
       unfolding atom_at
       atom_steady zero = record { rests = λ at l. let whole = deep_steady _ begins_atom in whole.rests at l }
-      atom_steady (suc left) = record { rests = λ at l. let whole = built_steady atom_from (numbered w.Name (arguments_at most (term_at most left))) (numbered_steady w.Name _ refl (arguments_steady (term_at most left) (term_steady left))) in whole.rests at l }
+      atom_steady (suc left) = record { rests = λ at l. let whole = built_steady atom_from (with_place w.Name (arguments_at most (term_at most left))) (numbered_steady w.Name _ refl (arguments_steady (term_at most left) (term_steady left))) in whole.rests at l }
 
       next_steady : (c : Class) (below : Reader UnitSketch) → same c w.End ≡ false → Steady below → Steady (next_at c below)
       next_steady c below ends_not h = built_steady next_from (optional c below) (optional_steady c below ends_not h)
@@ -262,7 +262,7 @@ module _ (size : ℕ) where
       rule_steady : Steady (rule_at most)
       unfolding rule_at
       rule_steady = record {
-        rests = λ at l. let whole = built_steady rule_from (numbered w.Name (then_marked done w.Open (then_marked (list_at most w.Comma (term_at most 512)) w.Close (then_marked done w.Arrow (term_at most 512)))))
+        rests = λ at l. let whole = built_steady rule_from (with_place w.Name (then_marked done w.Open (then_marked (list_at most w.Comma (term_at most 512)) w.Close (then_marked done w.Arrow (term_at most 512)))))
             (numbered_steady w.Name _ refl (then_steady done w.Open _ refl done_steady (then_steady _ w.Close _ refl (list_steady w.Comma (term_at most 512) refl (term_steady 512))
             (then_steady done w.Arrow (term_at most 512) refl done_steady (term_steady 512))))) in whole.rests at l;
       }

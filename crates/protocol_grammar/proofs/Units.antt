@@ -6,7 +6,7 @@ use Rattle.protocol_grammar.specs.Classes.{Source, fits}
 use Rattle.protocol_grammar.specs.Sketch.{TermSketch, Named, none, NamedPattern, no_patterns, ProcessSketch, Process, BesideSketch, alone, beside, UnitSketch, Zero, Macro, Inner, Replicated, New, Output, Input, Happens, Let, If, NextSketch, omitted, given}
 use Rattle.protocol_grammar.specs.Spelling.{Item, no, term, pattern, atom, process, besides, unit, next, Words, IsGreedy}
 use Rattle.protocol_grammar.specs.Refusals.{DeepAt}
-use Rattle.protocol_grammar.specs.Reading.{Reader, built, done, deep, numbered, then_marked, optional, both, term_at, pattern_at, atom_at, begins_unit, next_from, beside_from, next_at, zero_unit, macro, inner, replicated, new, output, input, happens, let_unit, if_unit, unit_by, unit_at, process_from, process_at}
+use Rattle.protocol_grammar.specs.Reading.{Reader, built, done, deep, with_place, then_marked, optional, both, term_at, pattern_at, atom_at, begins_unit, next_from, beside_from, next_at, zero_unit, macro, inner, replicated, new, output, input, happens, let_unit, if_unit, unit_by, unit_at, process_from, process_at}
 use Rattle.protocol_grammar.proofs.Items.{words-split, deep_front, greedy-append}
 use Rattle.protocol_grammar.proofs.Good.{IsDeep, Outcome, Sound, Good}
 use Rattle.protocol_grammar.proofs.Combine.{All, then_items, done_items, good_done, good_numbered, good_then}
@@ -80,28 +80,28 @@ module _ {most : ℕ} (left l : ℕ) (d : left + (l + 1) ≡ 513) (below : Reade
   opened : {Y : Type 0} {sq : Y → List Item} {D : Class → Type 0} {q : Reader Y} → Good most All false sq D q → Good most All false (then_items done_items l w.Open sq) D (then_marked done w.Open q)
   opened q = good_then {C = Any} l h w.Open (λ k e. e) refl tt (good_done most) q
 
-  zero_way : Way most (unit l) EndsUnit zero_unit (numbered w.Zero done)
+  zero_way : Way most (unit l) EndsUnit zero_unit (with_place w.Zero done)
   zero_way = record { items = _; spelled = λ x. refl; good = good_numbered l h w.Zero refl (good_done most) }
 
-  macro_way : Way most (unit l) EndsUnit macro (numbered w.Name done)
+  macro_way : Way most (unit l) EndsUnit macro (with_place w.Name done)
   macro_way = record { items = _; spelled = λ x. refl; good = good_numbered l h w.Name refl (good_done most) }
 
-  inner_way : Way most (unit l) EndsUnit inner (numbered w.Open (then_marked inside w.Close done))
+  inner_way : Way most (unit l) EndsUnit inner (with_place w.Open (then_marked inside w.Close done))
   inner_way = record { items = _; spelled = λ x. refl; good = good_numbered l h w.Open refl (good_then l h w.Close (λ k e. e) refl ((λ e. cc, λ e. cc, λ e. cc), λ e. cc) k (good_done most)) }
 
-  replicated_way : Way most (unit l) EndsUnit replicated (numbered w.Bang below)
+  replicated_way : Way most (unit l) EndsUnit replicated (with_place w.Bang below)
   replicated_way = record { items = _; spelled = λ x. refl; good = good_numbered l h w.Bang refl g }
 
-  new_way : Way most (unit l) EndsUnit new (numbered w.New (numbered w.Name (next_at w.Semicolon below)))
+  new_way : Way most (unit l) EndsUnit new (with_place w.New (with_place w.Name (next_at w.Semicolon below)))
   new_way = record { items = _; spelled = λ x. refl; good = good_numbered l h w.New refl (good_numbered l h w.Name refl continued) }
 
-  output_way : Way most (unit l) EndsUnit output (numbered w.Out (then_marked done w.Open (then_marked (term_at most left) w.Comma (then_marked (term_at most left) w.Close (next_at w.Semicolon below)))))
+  output_way : Way most (unit l) EndsUnit output (with_place w.Out (then_marked done w.Open (then_marked (term_at most left) w.Comma (then_marked (term_at most left) w.Close (next_at w.Semicolon below)))))
   output_way = record { items = _; spelled = λ x. refl; good = good_numbered l h w.Out refl (opened (good_then l h w.Comma (λ k e. e) refl (λ e. cc) t (good_then l h w.Close (λ k e. e) refl (λ e. cc) t continued))) }
 
-  input_way : Way most (unit l) EndsUnit input (numbered w.In (then_marked done w.Open (then_marked (term_at most left) w.Comma (then_marked (pattern_at most left) w.Close (next_at w.Semicolon below)))))
+  input_way : Way most (unit l) EndsUnit input (with_place w.In (then_marked done w.Open (then_marked (term_at most left) w.Comma (then_marked (pattern_at most left) w.Close (next_at w.Semicolon below)))))
   input_way = record { items = _; spelled = λ x. refl; good = good_numbered l h w.In refl (opened (good_then l h w.Comma (λ k e. e) refl (λ e. cc) t (good_then l h w.Close (λ k e. e) refl (λ e. cc) p continued))) }
 
-  happens_way : Way most (unit l) EndsUnit happens (numbered w.Event (both (atom_at most left) (next_at w.Semicolon below)))
+  happens_way : Way most (unit l) EndsUnit happens (with_place w.Event (both (atom_at most left) (next_at w.Semicolon below)))
   happens_way = record {
     items = _;
     spelled = λ x. refl;
@@ -110,10 +110,10 @@ module _ {most : ℕ} (left l : ℕ) (d : left + (l + 1) ≡ 513) (below : Reade
         (good_followed l h w.Semicolon (λ k e. e) refl (λ c i. i.0) (λ c i. i.1) (λ at e low z. tt) (good_atom most left (l + 1) d) g));
   }
 
-  let_way : Way most (unit l) EndsUnit let_unit (numbered w.Let (then_marked (pattern_at most left) w.Equals (then_marked (term_at most left) w.In (both below (next_at w.Else below)))))
+  let_way : Way most (unit l) EndsUnit let_unit (with_place w.Let (then_marked (pattern_at most left) w.Equals (then_marked (term_at most left) w.In (both below (next_at w.Else below)))))
   let_way = record { items = _; spelled = λ x. refl; good = good_numbered l h w.Let refl (good_then l h w.Equals (λ k e. e) refl (λ e. cc) p (good_then l h w.In (λ k e. e) refl (λ e. cc) t branches)) }
 
-  if_way : Way most (unit l) EndsUnit if_unit (numbered w.If (then_marked (term_at most left) w.Equals (then_marked (term_at most left) w.Then (both below (next_at w.Else below)))))
+  if_way : Way most (unit l) EndsUnit if_unit (with_place w.If (then_marked (term_at most left) w.Equals (then_marked (term_at most left) w.Then (both below (next_at w.Else below)))))
   if_way = record { items = _; spelled = λ x. refl; good = good_numbered l h w.If refl (good_then l h w.Equals (λ k e. e) refl (λ e. cc) t (good_then l h w.Then (λ k e. e) refl (λ e. cc) t branches)) }
 
   unit_sound : (c : Class) → Sound false (unit l) EndsUnit (unit_by most left below inside c)

@@ -36,8 +36,8 @@ abbrev pub refused : {X : Type 0} → Reader X
 refused s at = Unexpected at
 
 -- a word of this class, with its number
-abbrev pub numbered : {X : Type 0} → Class → Reader X → Reader (ℕ × X)
-numbered c r s at = cond (fits c (s at).class) (step (r s (at + 1)) (λ x e. Found ((s at).number, x) e)) (Unexpected at)
+abbrev pub with_place : {X : Type 0} → Class → Reader X → Reader (ℕ × X)
+with_place c r s at = cond (fits c (s at).class) (step (r s (at + 1)) (λ x e. Found ((s at).number, x) e)) (Unexpected at)
 
 -- something, a word of this class, and something else
 abbrev pub then_marked : {X Y : Type 0} → Reader X → Class → Reader Y → Reader (X × Y)
@@ -99,8 +99,8 @@ grouped parts = Grouped parts.0 (terms_sketch (list_of parts.1.0))
 
 -- a term by the class of its first word
 abbrev pub term_by : ℕ → Reader TermSketch → Class → Reader TermSketch
-term_by most below w.Name = built named (numbered w.Name (arguments_at most below))
-term_by most below w.Open = built grouped (numbered w.Open (then_marked (list_at most w.Comma below) w.Close done))
+term_by most below w.Name = built named (with_place w.Name (arguments_at most below))
+term_by most below w.Open = built grouped (with_place w.Open (then_marked (list_at most w.Comma below) w.Close done))
 term_by most below _ = refused
 
 -- a term, with so many levels left
@@ -125,9 +125,9 @@ grouped_pattern parts = GroupedPattern parts.0 (patterns_sketch (list_of parts.1
 
 -- a pattern by the class of its first word
 abbrev pub pattern_by : ℕ → ℕ → Reader PatternSketch → Class → Reader PatternSketch
-pattern_by most left below w.Name = built named_pattern (numbered w.Name (arguments_at most below))
-pattern_by most left below w.Equals = built equal (numbered w.Equals (term_at most left))
-pattern_by most left below w.Open = built grouped_pattern (numbered w.Open (then_marked (list_at most w.Comma below) w.Close done))
+pattern_by most left below w.Name = built named_pattern (with_place w.Name (arguments_at most below))
+pattern_by most left below w.Equals = built equal (with_place w.Equals (term_at most left))
+pattern_by most left below w.Open = built grouped_pattern (with_place w.Open (then_marked (list_at most w.Comma below) w.Close done))
 pattern_by most left below _ = refused
 
 -- a pattern, with so many levels left
@@ -145,7 +145,7 @@ atom_from parts = record { first = parts.0; arguments = terms_sketch parts.1 }
 -- an event, with so many levels left
 unfoldable pub atom_at : ℕ → ℕ → Reader AtomSketch
 atom_at most zero s at = deep begins_atom s at
-atom_at most (suc left) s at = built atom_from (numbered w.Name (arguments_at most (term_at most left))) s at
+atom_at most (suc left) s at = built atom_from (with_place w.Name (arguments_at most (term_at most left))) s at
 
 abbrev pub begins_unit : Class → Bool
 begins_unit w.Zero = true
@@ -204,20 +204,20 @@ if_unit parts = If parts.0 parts.1.0 parts.1.1.0 parts.1.1.1.0 parts.1.1.1.1
 
 -- a unit by the class of its first word
 abbrev pub unit_by : ℕ → ℕ → Reader UnitSketch → Reader ProcessSketch → Class → Reader UnitSketch
-unit_by most left below inside w.Zero = built zero_unit (numbered w.Zero done)
-unit_by most left below inside w.Name = built macro (numbered w.Name done)
-unit_by most left below inside w.Open = built inner (numbered w.Open (then_marked inside w.Close done))
-unit_by most left below inside w.Bang = built replicated (numbered w.Bang below)
-unit_by most left below inside w.New = built new (numbered w.New (numbered w.Name (next_at w.Semicolon below)))
+unit_by most left below inside w.Zero = built zero_unit (with_place w.Zero done)
+unit_by most left below inside w.Name = built macro (with_place w.Name done)
+unit_by most left below inside w.Open = built inner (with_place w.Open (then_marked inside w.Close done))
+unit_by most left below inside w.Bang = built replicated (with_place w.Bang below)
+unit_by most left below inside w.New = built new (with_place w.New (with_place w.Name (next_at w.Semicolon below)))
 unit_by most left below inside w.Out =
-    built output (numbered w.Out (then_marked done w.Open (then_marked (term_at most left) w.Comma (then_marked (term_at most left) w.Close (next_at w.Semicolon below)))))
+    built output (with_place w.Out (then_marked done w.Open (then_marked (term_at most left) w.Comma (then_marked (term_at most left) w.Close (next_at w.Semicolon below)))))
 unit_by most left below inside w.In =
-    built input (numbered w.In (then_marked done w.Open (then_marked (term_at most left) w.Comma (then_marked (pattern_at most left) w.Close (next_at w.Semicolon below)))))
-unit_by most left below inside w.Event = built happens (numbered w.Event (both (atom_at most left) (next_at w.Semicolon below)))
+    built input (with_place w.In (then_marked done w.Open (then_marked (term_at most left) w.Comma (then_marked (pattern_at most left) w.Close (next_at w.Semicolon below)))))
+unit_by most left below inside w.Event = built happens (with_place w.Event (both (atom_at most left) (next_at w.Semicolon below)))
 unit_by most left below inside w.Let =
-    built let_unit (numbered w.Let (then_marked (pattern_at most left) w.Equals (then_marked (term_at most left) w.In (both below (next_at w.Else below)))))
+    built let_unit (with_place w.Let (then_marked (pattern_at most left) w.Equals (then_marked (term_at most left) w.In (both below (next_at w.Else below)))))
 unit_by most left below inside w.If =
-    built if_unit (numbered w.If (then_marked (term_at most left) w.Equals (then_marked (term_at most left) w.Then (both below (next_at w.Else below)))))
+    built if_unit (with_place w.If (then_marked (term_at most left) w.Equals (then_marked (term_at most left) w.Then (both below (next_at w.Else below)))))
 unit_by most left below inside _ = refused
 
 abbrev pub process_from : UnitSketch × BesideSketch → ProcessSketch
@@ -238,7 +238,7 @@ abbrev pub name_from : ℕ × Unit {0} → ℕ
 name_from parts = parts.0
 
 abbrev pub name_at : Reader ℕ
-name_at = built name_from (numbered w.Name done)
+name_at = built name_from (with_place w.Name done)
 
 abbrev pub happening_from : Unit {0} × AtomSketch → AtomSketch
 happening_from parts = parts.1
@@ -271,9 +271,9 @@ correspondence parts = Correspondence parts.0 parts.1.0 parts.1.1
 -- what a query asks, by its first word
 abbrev pub question_by : ℕ → Class → Reader QuerySketch
 question_by most w.Attacker =
-    built attacker_from (numbered w.Attacker (then_marked done w.Open
-    (either w.New (then_marked done w.New (numbered w.Name (then_marked done w.Close done))) (then_marked (term_at most 512) w.Close done))))
-question_by most w.Event = built correspondence (numbered w.Event (then_marked (atom_at most 512) w.Implies (alternatives_at most)))
+    built attacker_from (with_place w.Attacker (then_marked done w.Open
+    (either w.New (then_marked done w.New (with_place w.Name (then_marked done w.Close done))) (then_marked (term_at most 512) w.Close done))))
+question_by most w.Event = built correspondence (with_place w.Event (then_marked (atom_at most 512) w.Implies (alternatives_at most)))
 question_by most _ = refused
 
 unfoldable pub question_at : ℕ → Reader QuerySketch
@@ -284,12 +284,12 @@ rule_from parts = record { first = parts.0; arguments = terms_sketch (list_of pa
 
 unfoldable pub rule_at : ℕ → Reader RuleSketch
 rule_at most s at =
-    built rule_from (numbered w.Name (then_marked done w.Open (then_marked (list_at most w.Comma (term_at most 512)) w.Close
+    built rule_from (with_place w.Name (then_marked done w.Open (then_marked (list_at most w.Comma (term_at most 512)) w.Close
     (then_marked done w.Arrow (term_at most 512))))) s at
 
 -- `name/arity.`
 abbrev pub sized_at : Reader (ℕ × (Unit {0} × (ℕ × (Unit {0} × Unit {0}))))
-sized_at = numbered w.Name (then_marked done w.Slash (numbered w.Number (then_marked done w.Dot done)))
+sized_at = with_place w.Name (then_marked done w.Slash (with_place w.Number (then_marked done w.Dot done)))
 
 -- `name, others.`
 abbrev pub names_at : ℕ → Reader ((ℕ × List ℕ) × Unit {0})
@@ -322,14 +322,14 @@ definition parts = Definition parts.0 parts.1.0 parts.1.1.1.0
 
 -- a declaration by the class of its first word
 abbrev pub declaration_by : ℕ → Class → Reader DeclarationSketch
-declaration_by most w.Private = built hidden (numbered w.Private (either w.Free (then_marked done w.Free (names_at most)) (then_marked done w.Fun sized_at)))
-declaration_by most w.Free = built (free true) (numbered w.Free (names_at most))
-declaration_by most w.Fun = built (fun true) (numbered w.Fun sized_at)
-declaration_by most w.Data = built data_from (numbered w.Data sized_at)
-declaration_by most w.Reduc = built reduc (numbered w.Reduc (then_marked (list_at most w.Semicolon (rule_at most)) w.Dot done))
-declaration_by most w.Event = built event_from (numbered w.Event sized_at)
-declaration_by most w.Query = built query (numbered w.Query (then_marked (question_at most) w.Dot done))
-declaration_by most w.Let = built definition (numbered w.Let (numbered w.Name (then_marked done w.Equals (then_marked (process_at most 512) w.Dot done))))
+declaration_by most w.Private = built hidden (with_place w.Private (either w.Free (then_marked done w.Free (names_at most)) (then_marked done w.Fun sized_at)))
+declaration_by most w.Free = built (free true) (with_place w.Free (names_at most))
+declaration_by most w.Fun = built (fun true) (with_place w.Fun sized_at)
+declaration_by most w.Data = built data_from (with_place w.Data sized_at)
+declaration_by most w.Reduc = built reduc (with_place w.Reduc (then_marked (list_at most w.Semicolon (rule_at most)) w.Dot done))
+declaration_by most w.Event = built event_from (with_place w.Event sized_at)
+declaration_by most w.Query = built query (with_place w.Query (then_marked (question_at most) w.Dot done))
+declaration_by most w.Let = built definition (with_place w.Let (with_place w.Name (then_marked done w.Equals (then_marked (process_at most 512) w.Dot done))))
 declaration_by most _ = refused
 
 unfoldable pub declaration_at : ℕ → Reader DeclarationSketch
@@ -337,7 +337,7 @@ declaration_at most s at = declaration_by most (s at).class s at
 
 -- the main process
 unfoldable pub main_at : ℕ → Reader (ℕ × (ProcessSketch × Unit {0}))
-main_at most s at = numbered w.Process (then_marked (process_at most 512) w.End done) s at
+main_at most s at = with_place w.Process (then_marked (process_at most 512) w.End done) s at
 
 abbrev pub Rest : Type 0
 Rest = ℕ × (ProcessSketch × Unit {0})

@@ -10,7 +10,7 @@ use Rattle.clauses.specs.Fact.{Fact, Att, Mess, Ev, Mev, Bad, Clause, map_fact, 
 use Rattle.clauses.specs.Selection.{Selection, select}
 use Rattle.clauses.specs.Norm.{norms}
 use Rattle.clauses.specs.Limits.{is_large_raw}
-use Rattle.clauses.specs.Resolvents.{Large, Resolvents, joined, IsRawResolvent, resolved, Resolves}
+use Rattle.clauses.specs.Resolvents.{Large, Resolvents, joined, IsRawResolvent, answer_of, Resolves}
 use Rattle.clauses.specs.Inclusion.{Picks, here, there, Has}
 use Rattle.clauses.proofs.Inclusion.{pick-within, Has-append, Has-append_right, Has-filter_source, Has-one}
 use Rattle.clauses.proofs.Lists.{all_append}
@@ -42,7 +42,7 @@ pub record AreNorms (raw : Option (Clause Term)) (cs : List (Clause Term)) : Typ
   pub small : is_large_raw clause ≡ false
   pub are : cs ≡ norms clause
 
-pub are_norms : (raw : Option (Clause Term)) (cs : List (Clause Term)) → Resolvents cs ≡ resolved raw → AreNorms raw cs
+pub are_norms : (raw : Option (Clause Term)) (cs : List (Clause Term)) → Resolvents cs ≡ answer_of raw → AreNorms raw cs
 are_norms None cs e = cc
 are_norms (Some clause) cs e = go (is_large_raw clause) refl e where
   go : (b : Bool) → is_large_raw clause ≡ b → Resolvents cs ≡ cond b Large (Resolvents (norms clause)) → AreNorms (Some clause) cs

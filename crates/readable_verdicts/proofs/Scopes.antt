@@ -17,7 +17,7 @@ use Rattle.clauses.specs.Fact.{Att, Mess}
 use Rattle.clauses.specs.Inclusion.{Has}
 use Rattle.clauses.proofs.Inclusion.{Has-append, Has-one, Has-from_Contains}
 use Rattle.clauses.proofs.Lists.{all_append, all_weaker}
-use Rattle.translation.specs.Conversion.{Standing, Scope, free_term, found_in, leaf_term, term_in, Fresh, fresh_leaf, hole_term, pattern_term, hole_standing, pattern_scope}
+use Rattle.translation.specs.Conversion.{StandsFor, Scope, free_term, found_in, leaf_term, term_in, Fresh, fresh_leaf, hole_term, pattern_term, hole_standing, pattern_scope}
 use Rattle.translation.specs.Visit.{Visit, standing_under, visit_under, is_public_channel, sent}
 use Rattle.translation.proofs.Conversions.{found_in-under}
 use Rattle.translation.proofs.Goal.{all_filter_map}
@@ -39,7 +39,7 @@ pub found_first : (a b : Scope) (x : Name) → IsFound a x → IsFound (a ++ b) 
 found_first [] b x h = cc
 found_first (d ∷ a) b x h = found_later (same_name d.name x) d.term (found_in a x) (found_in (a ++ b) x) (found_first a b x) h
 
-found_behind : (d : Standing) (later : Scope) (x : Name) → IsFound later x → IsFound (d ∷ later) x
+found_behind : (d : StandsFor) (later : Scope) (x : Name) → IsFound later x → IsFound (d ∷ later) x
 found_behind d later x h = go (same_name d.name x) where
   go : (k : Bool) → is_some (cond k (Some d.term) (found_in later x)) ≡ true
   go true = refl
@@ -49,7 +49,7 @@ pub found_last : (a b : Scope) (x : Name) → IsFound b x → IsFound (a ++ b) x
 found_last [] b x h = h
 found_last (d ∷ a) b x h = found_behind d (a ++ b) x (found_last a b x h)
 
-pub found_at : (d : Standing) (later : Scope) → IsFound (d ∷ later) d.name
+pub found_at : (d : StandsFor) (later : Scope) → IsFound (d ∷ later) d.name
 found_at d later = ap (λ k. is_some (cond k (Some d.term) (found_in later d.name))) (same_name-refl d.name)
 
 -- each variable that a pattern binds
@@ -57,7 +57,7 @@ pub found_bound : (at : Fresh) (holes : List Hole) (x : Name) → Has (filter_ma
 found_bound at [] x h = elim h.1 [ ]
 found_bound at (Equal t ∷ holes) x h = found_bound at holes x h
 found_bound at (Bind i ∷ holes) x h =
-    let d : Standing = record { name = Variable i; term = fresh_leaf at i } in
+    let d : StandsFor = record { name = Variable i; term = fresh_leaf at i } in
     let later = filter_map (hole_standing at) holes in
     elim ((Has-append (Variable i ∷ []) (filter_map bound_by_hole holes) x).0 h) as (λ _. IsFound (d ∷ later) x) [
       | inl k ↦ subst (IsFound (d ∷ later)) (sym (Has-one k)) (found_at d later)
@@ -139,9 +139,9 @@ module _ (P : Protocol) where
     scope_with at pattern =
         all_append (λ d. IsTermOver P d.term) v.scope (pattern_scope at pattern) is.scope (all_filter_map (λ d. IsTermOver P d.term) (hole_standing at) standing_over (leaves pattern))
       where
-        standing_over : (hole : Hole) (d : Standing) → hole_standing at hole ≡ Some d → IsTermOver P d.term
+        standing_over : (hole : Hole) (d : StandsFor) → hole_standing at hole ≡ Some d → IsTermOver P d.term
         standing_over (Bind i) d e =
-            let made : Standing = record { name = Variable i; term = fresh_leaf at i } in
+            let made : StandsFor = record { name = Variable i; term = fresh_leaf at i } in
             let same : made ≡ d = cc in subst (λ x. IsTermOver P x.term) same tt
         standing_over (Equal t) d e = cc
 

@@ -19,7 +19,7 @@ use Rattle.clauses.specs.Norm.{norms}
 use Rattle.clauses.specs.Limits.{is_large_raw}
 use Rattle.clauses.proofs.Inclusion.{Has-append, Has-one}
 use Rattle.clauses.proofs.Lists.{all_append, all-flat_map, all_weaker}
-use Rattle.translation.specs.Conversion.{Standing, term_in, leaf_term, Fresh, pattern_term, name_term}
+use Rattle.translation.specs.Conversion.{StandsFor, term_in, leaf_term, Fresh, pattern_term, name_term}
 use Rattle.translation.specs.Visit.{Visit, first_visit, is_large_visit, evaluates_large, sent, raw_clause, after_input, after_copy, after_new, event_terms, after_event}
 use Rattle.translation.specs.Course.{Outcome, Done, TooLarge, Course, Finished, Counted, Unless, preceded, After, Then, Adds}
 use Rattle.translation.specs.Visited.{some_large, EachThen, Copied, Received, Chosen, Visited}
@@ -120,7 +120,7 @@ module _ (P : Protocol) (limits : IsWithinLimits P) (scoped : IsWellScoped P) wh
 
     after_new_over : (point : ℕ) (word : List ℕ) (next : Process) → Stands P.main point (New word next) above → IsVisitOver P (Made point ∷ bound) above (after_new v point)
     after_new_over point word next stands =
-        let d : Standing = record { name = Made point; term = name_term point v.messages v.sessions } in record {
+        let d : StandsFor = record { name = Made point; term = name_term point v.messages v.sessions } in record {
           scope = all_append (λ x. IsTermOver P x.term) v.scope (d ∷ []) is.scope (name_over point word next stands, tt);
           found = λ x h. elim ((Has-append (Made point ∷ []) bound x).0 h) as (λ _. IsFound (v.scope ++ d ∷ []) x) [
             | inl k ↦ found_last v.scope (d ∷ []) x (subst (IsFound (d ∷ [])) (sym (Has-one k)) (found_at d []))

@@ -66,13 +66,13 @@ numerals [] = Some []
 numerals (field ∷ fields) = option_and_then (λ n. option_map (λ ns. n ∷ ns) (numerals fields)) (numeral field)
 
 -- the fields behind the first
-abbrev pub others : List (List ℕ) → List (List ℕ)
-others [] = []
-others (field ∷ fields) = fields
+abbrev pub fields_behind : List (List ℕ) → List (List ℕ)
+fields_behind [] = []
+fields_behind (field ∷ fields) = fields
 
 -- the numbers of a line, which stand behind its word
 abbrev pub line_numbers : List ℕ → Option (List ℕ)
-line_numbers line = numerals (others (fields line))
+line_numbers line = numerals (fields_behind (fields line))
 
 -- the step of a line whose first word names this action, if any, and which has these numbers
 abbrev pub line_with : Option Action → Option (List ℕ) → Result Step Fault

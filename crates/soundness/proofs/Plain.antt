@@ -12,7 +12,7 @@ use Rattle.terms.specs.Unifier.{moved}
 use Rattle.clauses.specs.Variables.{clause_variables}
 use Rattle.clauses.specs.Flat.{flat, parts}
 use Rattle.clauses.specs.Selection.{Selection, is_solved}
-use Rattle.clauses.specs.Norm.{without_repeats, is_tautology, without_lonely, everything_known, generalized, numbering, numbered, norm, norms}
+use Rattle.clauses.specs.Norm.{without_repeats, is_tautology, without_lonely, everything_known, generalized, numbering, numbered_anew, norm, norms}
 use Rattle.clauses.specs.Resolvents.{IsRawResolvent, joined}
 use Rattle.clauses.specs.Inclusion.{Has}
 use Rattle.clauses.specs.Subsumption.{IsCovered}
@@ -66,11 +66,11 @@ norm_plain c d e h = go (is_tautology (without_repeats c)) e
     general : is_required_event (generalized (without_lonely (without_repeats c))).conclusion ≡ false
     general = elim (is_solved (without_lonely (without_repeats c)).hypotheses && is_variable_known c.conclusion) as (λ b. is_required_event (cond b everything_known (without_lonely (without_repeats c))).conclusion ≡ false) [ true ↦ refl | false ↦ h ]
 
-    go : (b : Bool) → cond b None (Some (numbered (generalized (without_lonely (without_repeats c))))) ≡ Some d → is_plain d ≡ true
+    go : (b : Bool) → cond b None (Some (numbered_anew (generalized (without_lonely (without_repeats c))))) ≡ Some d → is_plain d ≡ true
     go true k = cc
     go false k =
         let made = generalized (without_lonely (without_repeats c)) in
-        subst (λ x. is_plain x ≡ true) (of_some (numbered made) d k) (ap not (event_under (numbering (clause_variables made)) made.conclusion ∙ general))
+        subst (λ x. is_plain x ≡ true) (of_some (numbered_anew made) d k) (ap not (event_under (numbering (clause_variables made)) made.conclusion ∙ general))
 
 pub norms_plain : (c : Clause Term) → is_required_event c.conclusion ≡ false → AllByRecursion (λ d. is_plain d ≡ true) (norms c)
 norms_plain c h = go (flat c.conclusion) (flat_plain c.conclusion h)

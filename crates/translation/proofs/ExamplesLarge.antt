@@ -16,7 +16,7 @@ use Rattle.clauses.specs.Variables.{clause_variables}
 use Rattle.clauses.specs.Norm.{numbering, norms}
 use Rattle.clauses.specs.Limits.{is_large_raw, IsWithinLimit}
 use Rattle.clauses.proofs.Limits.{large_raw-decides}
-use Rattle.translation.specs.Conversion.{Standing, Scope, found_in, term_in, free_term}
+use Rattle.translation.specs.Conversion.{StandsFor, Scope, found_in, term_in, free_term}
 use Rattle.translation.specs.Visit.{Visit, bound, is_large_term, is_large_visit, evaluates_large, sent, raw_clause}
 use Rattle.translation.specs.Course.{Outcome, Done, TooLarge, Then, Unless, Adds}
 use Rattle.translation.specs.Visited.{Visited}
@@ -70,7 +70,7 @@ scope_behind (suc i) = scope_behind i ++ record { name = Variable (suc i); term 
 abbrev behind : ℕ → Visit
 behind i = record { scope = scope_behind i; hypotheses = []; messages = []; sessions = [] }
 
-found_last : (scope : Scope) (b : Standing) (n : Name) → found_in scope n ≡ None → found_in (scope ++ b ∷ []) n ≡ found_in (b ∷ []) n
+found_last : (scope : Scope) (b : StandsFor) (n : Name) → found_in scope n ≡ None → found_in (scope ++ b ∷ []) n ≡ found_in (b ∷ []) n
 found_last [] b n e = refl
 found_last (c ∷ cs) b n e = go (same_name c.name n) e (found_last cs b n) where
   go : (t : Bool) → cond t (Some c.term) (found_in cs n) ≡ None → (found_in cs n ≡ None → found_in (cs ++ b ∷ []) n ≡ found_in (b ∷ []) n) → cond t (Some c.term) (found_in (cs ++ b ∷ []) n) ≡ found_in (b ∷ []) n
@@ -101,12 +101,12 @@ term_small i fits = let e = doubled-size i in let test : nat_le (size (doubled i
 term_large : (i : ℕ) → 4096 < weight i → is_large_term (doubled i) ≡ true
 term_large i over = let e = doubled-size i in let test : nat_le (size (doubled i)) 4096 ≡ false = grind (arith, nat_tests) in ap not test
 
-scope_small : (i : ℕ) → weight i ≤ 4096 → list_any (λ (b : Standing). is_large_term b.term) (scope_behind i) ≡ false
+scope_small : (i : ℕ) → weight i ≤ 4096 → list_any (λ (b : StandsFor). is_large_term b.term) (scope_behind i) ≡ false
 scope_small zero fits = refl
 scope_small (suc i) fits =
     let others = scope_small i (omega arith) in
     let first = term_small (suc i) fits in
-    list_any-append (λ (b : Standing). is_large_term b.term) (scope_behind i) (record { name = Variable (suc i); term = doubled (suc i) } ∷ [])
+    list_any-append (λ (b : StandsFor). is_large_term b.term) (scope_behind i) (record { name = Variable (suc i); term = doubled (suc i) } ∷ [])
     ∙ (λ k. others k || (first k || false))
 
 visit_small : (i : ℕ) → weight i ≤ 4096 → is_large_visit (behind i) ≡ false

@@ -36,13 +36,13 @@ abbrev mutual
   converted_row P leaf (more t ts) = more (converted P leaf t) (converted_row P leaf ts)
 
 -- what a leaf stands for where a process is visited
-pub record Standing : Type 0 where
+pub record StandsFor : Type 0 where
   pub name : Name
   pub term : Term
 
 -- what the leaves that are bound stand for, in the order in which they were bound
 abbrev pub Scope : Type 0
-Scope = List Standing
+Scope = List StandsFor
 
 -- the term that the leaf stands for; one that nothing binds is the free name 0, which no protocol declares
 abbrev pub found_in : Scope → Name → Option Term
@@ -83,7 +83,7 @@ bound_number (Equal term) = None
 abbrev pub bound_numbers : Pattern → List ℕ
 bound_numbers pattern = filter_map bound_number (leaves pattern)
 
-abbrev pub hole_standing : Fresh → Hole → Option Standing
+abbrev pub hole_standing : Fresh → Hole → Option StandsFor
 hole_standing at (Bind i) = Some (record { name = Variable i; term = fresh_leaf at i })
 hole_standing at (Equal term) = None
 

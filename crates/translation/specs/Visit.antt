@@ -11,7 +11,7 @@ use Rattle.calculus.specs.Limits.{terms_at}
 use Rattle.terms.specs.Term.{Free, Term, Subst}
 use Rattle.clauses.specs.Fact.{Fact, Att, Mess, Mev, Clause, terms_of, fact_under, fact_size}
 use Rattle.clauses.specs.Variables.{AreBelow}
-use Rattle.translation.specs.Conversion.{Standing, Scope, term_in, name_term, Fresh, pattern_term, bound_numbers, pattern_scope}
+use Rattle.translation.specs.Conversion.{StandsFor, Scope, term_in, name_term, Fresh, pattern_term, bound_numbers, pattern_scope}
 
 -- what is known where a point is visited: what the leaves stand for, the hypotheses so far, the messages received above
 -- the point, and the numbers of the copies that were taken above it
@@ -26,7 +26,7 @@ abbrev pub first_visit : Visit
 first_visit = record { scope = []; hypotheses = []; messages = []; sessions = [] }
 
 -- a visit under a substitution
-abbrev pub standing_under : Subst → Standing → Standing
+abbrev pub standing_under : Subst → StandsFor → StandsFor
 standing_under s b = record { name = b.name; term = bind s b.term }
 
 abbrev pub visit_under : Subst → Visit → Visit

@@ -11,7 +11,7 @@ use Rattle.clauses.specs.Fact.{Fact, Att, Mess, Ev, Mev, Bad, Clause, outline, f
 use Rattle.clauses.specs.Selection.{Selection}
 use Rattle.clauses.specs.Norm.{norms}
 use Rattle.clauses.specs.Limits.{is_large_raw}
-use Rattle.clauses.specs.Resolvents.{Large, Resolvents, IsRawResolvent, resolved, Resolves}
+use Rattle.clauses.specs.Resolvents.{Large, Resolvents, IsRawResolvent, answer_of, Resolves}
 use Rattle.clauses.specs.Inclusion.{here, Has}
 use Rattle.clauses.proofs.Inclusion.{Has-append, Has-append_right, Has-filter_source, Has-one}
 use Rattle.clauses.proofs.Limits.{norms-within_limit}
@@ -125,7 +125,7 @@ record AreNorms (raw : Clause Term) (cs : List (Clause Term)) : Type 0 where
   small : is_large_raw raw ≡ false
   are : cs ≡ norms raw
 
-are_norms : (raw : Clause Term) (cs : List (Clause Term)) → Resolvents cs ≡ resolved (Some raw) → AreNorms raw cs
+are_norms : (raw : Clause Term) (cs : List (Clause Term)) → Resolvents cs ≡ answer_of (Some raw) → AreNorms raw cs
 are_norms raw cs e = go (is_large_raw raw) refl e
   where
     go : (b : Bool) → is_large_raw raw ≡ b → Resolvents cs ≡ cond b Large (Resolvents (norms raw)) → AreNorms raw cs
@@ -154,7 +154,7 @@ module _ (P : Protocol) (q : Query) (given : List (Clause Term)) (translated : I
   kept_shape : (i j : Clause Term) (at : Selection) (cs : List (Clause Term)) (c : Clause Term) → Resolves i j at (Resolvents cs) → Has cs c → IsInShape q j → IsInShape q c
   kept_shape i j at cs c h listed shape = go h.0 h.1 h.2
     where
-      go : (raw : Option (Clause Term)) → IsRawResolvent i j at raw → Resolvents cs ≡ resolved raw → IsInShape q c
+      go : (raw : Option (Clause Term)) → IsRawResolvent i j at raw → Resolvents cs ≡ answer_of raw → IsInShape q c
       go None is e = cc
       go (Some raw) is e =
           let n = are_norms raw cs e in

@@ -10,7 +10,7 @@ use Rattle.verifier_cli.specs.Command.{OfFile, IsDecidedBy, IsUnreadable, NoneVi
 use Rattle.verifier_cli.specs.Checking.{IsCheckOf, Checks, ChecksReport}
 use Rattle.verifier_cli.specs.Complete.{IsComeTo, AreAccepted, IsOwnOutcome, IsOfAnswer}
 use Rattle.verifier_cli.specs.Listing.{IsListOf, IsListOutcome, Lists, source_of}
-use Rattle.verifier_cli.specs.Replaying.{IsReplayOf, IsReplayOutcome, Replays, RunsOn}
+use Rattle.verifier_cli.specs.Replaying.{IsOutcomeOfReplay, IsReplayOutcome, Replays, RunsOn}
 use Rattle.verifier_cli.specs.Ringing.{IsRingOutcome}
 use Rattle.verifier_cli.specs.Text.{is_proved, is_accepted, is_without_violation, status_of}
 use Rattle.verifier_cli.proofs.Held.{of_file, of_held}
@@ -102,7 +102,7 @@ own_list P file query (Refused refusal) is = absurd is
 own_list P file query Usage is = absurd is
 own_list P file query ReadFault is = absurd is
 
-own_replay : (P : Protocol) (file run : List ℕ) (steps : List Step) (outcome : Outcome) → IsReplayOf P steps outcome → IsOwnOutcome (Replay file run) outcome
+own_replay : (P : Protocol) (file run : List ℕ) (steps : List Step) (outcome : Outcome) → IsOutcomeOfReplay P steps outcome → IsOwnOutcome (Replay file run) outcome
 own_replay P file run steps (Replayed replay) is = tt
 own_replay P file run steps (Ring ring) is = absurd is
 own_replay P file run steps Memory is = tt

@@ -5,7 +5,7 @@ use Rattle.protocol_scope.specs.Spells.{Spells}
 use Rattle.verifier_cli.specs.Outcome.{Refusal, Outcome, Usage, Verified, Checked, Listed, ListLarge, NoQuery, Replayed, Ring, Refused, ReadFault, Memory}
 use Rattle.verifier_cli.specs.Command.{OfFile, IsRefusalOf}
 use Rattle.verifier_cli.specs.Reading.{IsUnread}
-use Rattle.verifier_cli.specs.Text.{HasWords, prints_clauses}
+use Rattle.verifier_cli.specs.Text.{HasItsProtocol, prints_clauses}
 use Rattle.verifier_cli.specs.Listing.{IsListOf, IsListOutcome, Lists}
 use Rattle.verifier_cli.proofs.Held.{of_any, of_file}
 use Rattle.verifier_cli.proofs.Verifying.{Laws, same_refusal}
@@ -78,6 +78,6 @@ pub list_said : Laws → (held : Option (List ℕ)) (P : syntax.Protocol) (numbe
 list_said laws held P number outcome is spelled = of_file held (λ bytes. Spells bytes P) (λ bytes. Lists bytes number outcome) (λ bytes s. list_lists laws bytes P number outcome is s) spelled
 
 -- want of memory prints no clause, and so wants no words
-pub memory_has_words : (P : Option syntax.Protocol) (outcome : Outcome) → outcome ≡ Memory → HasWords P outcome
+pub memory_has_words : (P : Option syntax.Protocol) (outcome : Outcome) → outcome ≡ Memory → HasItsProtocol P outcome
 memory_has_words None outcome is = ap prints_clauses is
 memory_has_words (Some P) outcome is = tt

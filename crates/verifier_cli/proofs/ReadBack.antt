@@ -36,7 +36,7 @@ use Rattle.verifier_cli.specs.Outcome.{Outcome, Usage, Verified, Checked, Listed
 use Rattle.verifier_cli.specs.Command.{Becomes, Verifies}
 use Rattle.verifier_cli.specs.Checking.{MakesClaims, IsFindingOf, AreFindingsOf, IsCheckOf, ChecksReport}
 use Rattle.verifier_cli.specs.Listing.{IsSource, IsTextOf}
-use Rattle.verifier_cli.specs.Text.{HasWords as IsWorded, line, entry_text, verdict_text, verdict_lines, outcome_bytes}
+use Rattle.verifier_cli.specs.Text.{HasItsProtocol as IsWorded, line, entry_text, verdict_text, verdict_lines, outcome_bytes}
 use Rattle.verifier_cli.specs.ReadBack.{finding_of, IsReportOf, IsReadBack}
 use Rattle.verifier_cli.proofs.Followed.{certificate_followed}
 use Rattle.verifier_cli.proofs.Held.{of_held}

@@ -9,7 +9,7 @@ use Rattle.run_text.specs.Text.{SpellsRun, IsRefused}
 use Rattle.verifier_cli.specs.Outcome.{RunRefusal, Faulty, LongRun, Refusal, Protocol, Report, Run, Outcome, Usage, Verified, Checked, Listed, ListLarge, NoQuery, Replayed, Ring, Refused, ReadFault, Memory}
 use Rattle.verifier_cli.specs.Command.{OfFile, IsRefusalOf}
 use Rattle.verifier_cli.specs.Reading.{IsUnread}
-use Rattle.verifier_cli.specs.Replaying.{SpellsSteps, RefusesRun, IsReplayOf, IsOutcomeOfRun, RunsOn, IsReplayOutcome, Replays}
+use Rattle.verifier_cli.specs.Replaying.{SpellsSteps, RefusesRun, IsOutcomeOfReplay, IsOutcomeOfRun, RunsOn, IsReplayOutcome, Replays}
 use Rattle.verifier_cli.specs.RunReading.{IsUnreadRun, IsOfRun}
 use Rattle.verifier_cli.specs.Text.{prints_clauses}
 use Rattle.verifier_cli.proofs.Held.{of_any, of_file}
@@ -35,7 +35,7 @@ same_run_refusal : (r s : RunRefusal) (i j : ℕ) → (r ≡ s) × (i ≡ j) →
 same_run_refusal r s i j (e, h) = ap (λ (why : RunRefusal). Run i why) e ∙ ap (λ (line : ℕ). Run line s) h
 
 -- what is said of the replay of the steps that a text spells
-replay_answers : (P : syntax.Protocol) (bytes : List ℕ) (steps : List Step) (outcome : Outcome) → IsReplayOf P steps outcome → SpellsSteps bytes steps → IsOutcomeOfRun P bytes outcome
+replay_answers : (P : syntax.Protocol) (bytes : List ℕ) (steps : List Step) (outcome : Outcome) → IsOutcomeOfReplay P steps outcome → SpellsSteps bytes steps → IsOutcomeOfRun P bytes outcome
 replay_answers P bytes steps (Replayed replay) shown spelled = (steps, spelled, shown)
 replay_answers P bytes steps (Ring ring) shown spelled = absurd shown
 replay_answers P bytes steps Memory shown spelled = tt
@@ -48,14 +48,14 @@ replay_answers P bytes steps (Listed clauses) shown spelled = absurd shown
 replay_answers P bytes steps (ListLarge point) shown spelled = absurd shown
 replay_answers P bytes steps (NoQuery number) shown spelled = absurd shown
 
-replay_runs : RunLaws → (P : syntax.Protocol) (bytes : List ℕ) (steps : List Step) (outcome : Outcome) → IsReplayOf P steps outcome → SpellsSteps bytes steps → RunsOn P bytes outcome
+replay_runs : RunLaws → (P : syntax.Protocol) (bytes : List ℕ) (steps : List Step) (outcome : Outcome) → IsOutcomeOfReplay P steps outcome → SpellsSteps bytes steps → RunsOn P bytes outcome
 replay_runs laws P bytes steps outcome shown spelled = record {
   answers = replay_answers P bytes steps outcome shown spelled;
-  accepts = λ others s. subst (λ (xs : List Step). IsReplayOf P xs outcome) (laws.one_run bytes steps others spelled.1 s.1) shown;
+  accepts = λ others s. subst (λ (xs : List Step). IsOutcomeOfReplay P xs outcome) (laws.one_run bytes steps others spelled.1 s.1) shown;
   refuses = λ why line r. absurd (not_both laws bytes steps why line spelled r);
 }
 
-pub replay_said : RunLaws → (held : Option (List ℕ)) (P : syntax.Protocol) (steps : List Step) (outcome : Outcome) → IsReplayOf P steps outcome → OfFile held (λ bytes. SpellsSteps bytes steps) → OfFile held (λ bytes. RunsOn P bytes outcome)
+pub replay_said : RunLaws → (held : Option (List ℕ)) (P : syntax.Protocol) (steps : List Step) (outcome : Outcome) → IsOutcomeOfReplay P steps outcome → OfFile held (λ bytes. SpellsSteps bytes steps) → OfFile held (λ bytes. RunsOn P bytes outcome)
 replay_said laws held P steps outcome shown spelled = of_file held (λ bytes. SpellsSteps bytes steps) (λ bytes. RunsOn P bytes outcome) (λ bytes s. replay_runs laws P bytes steps outcome shown s) spelled
 
 -- of a refused text

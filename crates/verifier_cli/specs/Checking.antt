@@ -13,7 +13,7 @@ use Rattle.cert_checker.specs.Rulings.{ruling_of}
 use Rattle.verifier_cli.specs.declared.outcome.Finding.{Finding}
 use Rattle.verifier_cli.specs.declared.outcome.Finding.TheVariants.{Ruled, Missing, NotClaimed}
 use Rattle.verifier_cli.specs.Outcome as own
-use Rattle.verifier_cli.specs.Outcome.{ReportRefusal, Misspelled, LongReport, Outcome, Usage, Verified, Checked, Listed, ListLarge, NoQuery, Replayed, Ring, Refused, Report, ReadFault, Memory}
+use Rattle.verifier_cli.specs.Outcome.{ReportRefusal, Misspelled, LongReport, Outcome, Checked, Refused, Report, Memory}
 use Rattle.verifier_cli.specs.Command.{OfFile, Becomes, IsRefusalOf, refusal_at, NoneViolated}
 
 -- the bytes, which are not too many, are a report that claims this of the protocol's queries, in order
@@ -44,32 +44,15 @@ AreFindingsOf P _ _ _ = ⊥
 abbrev pub IsCheckOf : Protocol → List Claim → Outcome → Type 0
 IsCheckOf P claims (Checked findings) = AreFindingsOf P P.queries claims findings
 IsCheckOf P claims Memory = Unit {0}
-IsCheckOf P claims (Refused refusal) = ⊥
-IsCheckOf P claims (Verified verdicts) = ⊥
-IsCheckOf P claims (Listed clauses) = ⊥
-IsCheckOf P claims (ListLarge point) = ⊥
-IsCheckOf P claims (NoQuery query) = ⊥
-IsCheckOf P claims (Replayed replay) = ⊥
-IsCheckOf P claims (Ring ring) = ⊥
-IsCheckOf P claims Usage = ⊥
-IsCheckOf P claims ReadFault = ⊥
+IsCheckOf P claims _ = ⊥
 
 -- the outcome is what is found of the claims that a report makes, or why it is refused and where, or want of memory
 abbrev pub IsOutcomeOfReport : Protocol → List ℕ → Outcome → Type 0
 IsOutcomeOfReport P bytes (Checked findings) =
     (claims : List Claim) × MakesClaims P bytes claims × AreFindingsOf P P.queries claims findings
 IsOutcomeOfReport P bytes (Refused (Report line why)) = RefusesReport P bytes why line
-IsOutcomeOfReport P bytes (Refused (own.Protocol line column why)) = ⊥
-IsOutcomeOfReport P bytes (Refused (own.Run line why)) = ⊥
 IsOutcomeOfReport P bytes Memory = Unit {0}
-IsOutcomeOfReport P bytes (Verified verdicts) = ⊥
-IsOutcomeOfReport P bytes (Listed clauses) = ⊥
-IsOutcomeOfReport P bytes (ListLarge point) = ⊥
-IsOutcomeOfReport P bytes (NoQuery query) = ⊥
-IsOutcomeOfReport P bytes (Replayed replay) = ⊥
-IsOutcomeOfReport P bytes (Ring ring) = ⊥
-IsOutcomeOfReport P bytes Usage = ⊥
-IsOutcomeOfReport P bytes ReadFault = ⊥
+IsOutcomeOfReport P bytes _ = ⊥
 
 -- what the bytes of a report on this protocol come to
 pub record ChecksReport (P : Protocol) (bytes : List ℕ) (outcome : Outcome) : Type 0 where
@@ -84,17 +67,9 @@ pub record ChecksReport (P : Protocol) (bytes : List ℕ) (outcome : Outcome) : 
 abbrev pub IsCheckOutcome : List ℕ → Outcome → Type 0
 IsCheckOutcome bytes (Refused (own.Protocol line column why)) = IsRefusalOf bytes (own.Protocol line column why)
 IsCheckOutcome bytes (Refused (Report line why)) = (P : Protocol) × Spells bytes P
-IsCheckOutcome bytes (Refused (own.Run line why)) = ⊥
 IsCheckOutcome bytes (Checked findings) = (P : Protocol) × Spells bytes P
 IsCheckOutcome bytes Memory = Unit {0}
-IsCheckOutcome bytes (Verified verdicts) = ⊥
-IsCheckOutcome bytes (Listed clauses) = ⊥
-IsCheckOutcome bytes (ListLarge point) = ⊥
-IsCheckOutcome bytes (NoQuery query) = ⊥
-IsCheckOutcome bytes (Replayed replay) = ⊥
-IsCheckOutcome bytes (Ring ring) = ⊥
-IsCheckOutcome bytes Usage = ⊥
-IsCheckOutcome bytes ReadFault = ⊥
+IsCheckOutcome bytes _ = ⊥
 
 -- what `check` comes to where the protocol's file has these bytes, and the report's file those that are held, where that is told
 pub record Checks (bytes : List ℕ) (held : Option (List ℕ)) (outcome : Outcome) : Type 0 where

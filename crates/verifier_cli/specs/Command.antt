@@ -76,29 +76,14 @@ IsUnreadable (Some (RingOf stages)) held Counted = ⊥
 abbrev pub IsDecidedBy : syntax.Protocol → ℕ → Outcome → Type 0
 IsDecidedBy P budget (Verified verdicts) = AnswerQueries P budget P.queries verdicts
 IsDecidedBy P budget Memory = Unit {0}
-IsDecidedBy P budget (Checked findings) = ⊥
-IsDecidedBy P budget (Listed clauses) = ⊥
-IsDecidedBy P budget (ListLarge point) = ⊥
-IsDecidedBy P budget (NoQuery query) = ⊥
-IsDecidedBy P budget (Replayed replay) = ⊥
-IsDecidedBy P budget (Ring ring) = ⊥
-IsDecidedBy P budget (Refused refusal) = ⊥
-IsDecidedBy P budget Usage = ⊥
-IsDecidedBy P budget ReadFault = ⊥
+IsDecidedBy P budget _ = ⊥
 
 -- what the queries of a file with these bytes may come to
 abbrev pub IsOutcomeOf : List ℕ → Outcome → Type 0
 IsOutcomeOf bytes (Verified verdicts) = (P : syntax.Protocol) × Spells bytes P
 IsOutcomeOf bytes (Refused refusal) = IsRefusalOf bytes refusal
 IsOutcomeOf bytes Memory = Unit {0}
-IsOutcomeOf bytes (Checked findings) = ⊥
-IsOutcomeOf bytes (Listed clauses) = ⊥
-IsOutcomeOf bytes (ListLarge point) = ⊥
-IsOutcomeOf bytes (NoQuery query) = ⊥
-IsOutcomeOf bytes (Replayed replay) = ⊥
-IsOutcomeOf bytes (Ring ring) = ⊥
-IsOutcomeOf bytes Usage = ⊥
-IsOutcomeOf bytes ReadFault = ⊥
+IsOutcomeOf bytes _ = ⊥
 
 -- the outcome is the wanted one, or want of memory in its place
 abbrev pub Becomes : Outcome → Outcome → Type 0

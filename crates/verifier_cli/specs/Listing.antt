@@ -10,9 +10,9 @@ use Rattle.protocol_scope.specs.Spells as spells
 use Rattle.protocol_scope.specs.Spells.{Spells, Refuses}
 use Rattle.translation.specs.Translation.{Translated, Clauses, LargeAt, IsTranslation}
 use Rattle.ring_text.specs.Text.{ring_text}
-use Rattle.verifier_cli.specs.Outcome.{Outcome, Usage, Verified, Checked, Listed, ListLarge, NoQuery, Replayed, Ring, Refused, ReadFault, Memory}
+use Rattle.verifier_cli.specs.Outcome.{Outcome, Listed, ListLarge, NoQuery, Refused, Memory}
 use Rattle.verifier_cli.specs.Command.{OfFile, Becomes, IsRefusalOf, refusal_at}
-use Rattle.verifier_cli.specs.Text.{HasWords, outcome_bytes}
+use Rattle.verifier_cli.specs.Text.{HasItsProtocol, outcome_bytes}
 
 -- the protocol's query of that number has this translation
 abbrev pub IsTranslated : syntax.Protocol → ℕ → Translated → Type 0
@@ -24,13 +24,7 @@ IsListOf P number (Listed clauses) = IsTranslated P number (Clauses clauses)
 IsListOf P number (ListLarge point) = IsTranslated P number (LargeAt point)
 IsListOf P number (NoQuery asked) = (asked ≡ number) × (numbered P.queries number ≡ None)
 IsListOf P number Memory = Unit {0}
-IsListOf P number (Verified verdicts) = ⊥
-IsListOf P number (Checked findings) = ⊥
-IsListOf P number (Replayed replay) = ⊥
-IsListOf P number (Ring ring) = ⊥
-IsListOf P number (Refused refusal) = ⊥
-IsListOf P number Usage = ⊥
-IsListOf P number ReadFault = ⊥
+IsListOf P number _ = ⊥
 
 -- what `list` may come to where the protocol's file has these bytes
 abbrev pub IsListOutcome : List ℕ → Outcome → Type 0
@@ -39,12 +33,7 @@ IsListOutcome bytes (Listed clauses) = (P : syntax.Protocol) × Spells bytes P
 IsListOutcome bytes (ListLarge point) = (P : syntax.Protocol) × Spells bytes P
 IsListOutcome bytes (NoQuery asked) = (P : syntax.Protocol) × Spells bytes P
 IsListOutcome bytes Memory = Unit {0}
-IsListOutcome bytes (Verified verdicts) = ⊥
-IsListOutcome bytes (Checked findings) = ⊥
-IsListOutcome bytes (Replayed replay) = ⊥
-IsListOutcome bytes (Ring ring) = ⊥
-IsListOutcome bytes Usage = ⊥
-IsListOutcome bytes ReadFault = ⊥
+IsListOutcome bytes _ = ⊥
 
 -- what `list` comes to where the protocol's file has these bytes
 pub record Lists (bytes : List ℕ) (number : ℕ) (outcome : Outcome) : Type 0 where
@@ -82,5 +71,5 @@ IsSource (Some request) held P = IsSpelledAt (source_of request held) P
 pub record IsTextOf (request : Option Request) (held : List ℕ → Option (List ℕ)) (outcome : Outcome) (text : List ℕ) : Type 0 where
   pub protocol : Option syntax.Protocol
   pub source : IsSource request held protocol
-  pub words : HasWords protocol outcome
+  pub words : HasItsProtocol protocol outcome
   pub is : text ≡ outcome_bytes protocol outcome

@@ -13,7 +13,7 @@ use Rattle.verifier_cli.specs.declared.reading.Stop.{Stop}
 use Rattle.verifier_cli.specs.declared.reading.Stop.TheVariants as stop
 use Rattle.verifier_cli.specs.declared.loading.Unloaded.{Unloaded}
 use Rattle.verifier_cli.specs.declared.loading.Unloaded.TheVariants as unloaded
-use Rattle.verifier_cli.specs.Outcome.{Protocol, Outcome, Usage, Verified, Checked, Listed, ListLarge, NoQuery, Replayed, Ring, Refused, ReadFault, Memory}
+use Rattle.verifier_cli.specs.Outcome.{Protocol, Outcome, Refused, ReadFault, Memory}
 use Rattle.verifier_cli.specs.Command.{OfFile, IsRefusalOf}
 use Rattle.verifier_cli.specs.Seen.{refusal_by}
 
@@ -49,15 +49,7 @@ IsStopOf bytes stop.Memory = Unit {0}
 abbrev pub IsNoReading : List ℕ → Outcome → Type 0
 IsNoReading bytes (Refused refusal) = IsRefusalOf bytes refusal
 IsNoReading bytes Memory = Unit {0}
-IsNoReading bytes (Listed clauses) = ⊥
-IsNoReading bytes (ListLarge point) = ⊥
-IsNoReading bytes (NoQuery query) = ⊥
-IsNoReading bytes (Replayed replay) = ⊥
-IsNoReading bytes (Ring ring) = ⊥
-IsNoReading bytes Usage = ⊥
-IsNoReading bytes (Verified verdicts) = ⊥
-IsNoReading bytes (Checked findings) = ⊥
-IsNoReading bytes ReadFault = ⊥
+IsNoReading bytes _ = ⊥
 
 -- a call whose protocol could not be loaded
 abbrev pub not_loaded : Unloaded → Outcome
@@ -70,11 +62,4 @@ abbrev pub IsUnread : Type 0 → Option (List ℕ) → Outcome → Type 0
 IsUnread Counted held ReadFault = Counted
 IsUnread Counted held (Refused refusal) = OfFile held (λ bytes. IsRefusalOf bytes refusal)
 IsUnread Counted held Memory = Unit {0}
-IsUnread Counted held (Listed clauses) = ⊥
-IsUnread Counted held (ListLarge point) = ⊥
-IsUnread Counted held (NoQuery query) = ⊥
-IsUnread Counted held (Replayed replay) = ⊥
-IsUnread Counted held (Ring ring) = ⊥
-IsUnread Counted held Usage = ⊥
-IsUnread Counted held (Verified verdicts) = ⊥
-IsUnread Counted held (Checked findings) = ⊥
+IsUnread Counted held _ = ⊥

@@ -8,7 +8,7 @@ use Rattle.protocol_scope.specs.Spells.{Spells, Refuses}
 use Rattle.run_text.specs.Text.{SpellsRun, IsRefused}
 use Rattle.run_replay.specs.Replay.{IsDone, IsFirstRefused, AreFirstViolations}
 use Rattle.verifier_cli.specs.Outcome as own
-use Rattle.verifier_cli.specs.Outcome.{RunRefusal, Faulty, LongRun, Replay, Done, Stuck, Outcome, Usage, Verified, Checked, Listed, ListLarge, NoQuery, Replayed, Ring, Refused, Report, Run, ReadFault, Memory}
+use Rattle.verifier_cli.specs.Outcome.{RunRefusal, Faulty, LongRun, Replay, Done, Stuck, Outcome, Replayed, Refused, Run, Memory}
 use Rattle.verifier_cli.specs.Command.{OfFile, Becomes, IsRefusalOf, refusal_at}
 
 -- the bytes, which are not too many, spell the steps of a run
@@ -27,41 +27,24 @@ IsShown P steps (Done end count firsts) =
 IsShown P steps (Stuck number refusal) = IsFirstRefused P steps number refusal
 
 -- the outcome is what replaying the steps shows, or want of memory in its place
-abbrev pub IsReplayOf : Protocol → List Step → Outcome → Type 0
-IsReplayOf P steps (Replayed replay) = IsShown P steps replay
-IsReplayOf P steps (Ring ring) = ⊥
-IsReplayOf P steps Memory = Unit {0}
-IsReplayOf P steps (Refused refusal) = ⊥
-IsReplayOf P steps (Verified verdicts) = ⊥
-IsReplayOf P steps (Checked findings) = ⊥
-IsReplayOf P steps (Listed clauses) = ⊥
-IsReplayOf P steps (ListLarge point) = ⊥
-IsReplayOf P steps (NoQuery query) = ⊥
-IsReplayOf P steps Usage = ⊥
-IsReplayOf P steps ReadFault = ⊥
+abbrev pub IsOutcomeOfReplay : Protocol → List Step → Outcome → Type 0
+IsOutcomeOfReplay P steps (Replayed replay) = IsShown P steps replay
+IsOutcomeOfReplay P steps Memory = Unit {0}
+IsOutcomeOfReplay P steps _ = ⊥
 
 -- the outcome is what the steps that the text of a run spells show, or why it is refused and where, or want of memory
 abbrev pub IsOutcomeOfRun : Protocol → List ℕ → Outcome → Type 0
 IsOutcomeOfRun P bytes (Replayed replay) = (steps : List Step) × SpellsSteps bytes steps × IsShown P steps replay
-IsOutcomeOfRun P bytes (Ring ring) = ⊥
 IsOutcomeOfRun P bytes (Refused (Run line why)) = RefusesRun bytes why line
 IsOutcomeOfRun P bytes Memory = Unit {0}
-IsOutcomeOfRun P bytes (Refused (own.Protocol line column why)) = ⊥
-IsOutcomeOfRun P bytes (Refused (Report line why)) = ⊥
-IsOutcomeOfRun P bytes (Verified verdicts) = ⊥
-IsOutcomeOfRun P bytes (Checked findings) = ⊥
-IsOutcomeOfRun P bytes (Listed clauses) = ⊥
-IsOutcomeOfRun P bytes (ListLarge point) = ⊥
-IsOutcomeOfRun P bytes (NoQuery query) = ⊥
-IsOutcomeOfRun P bytes Usage = ⊥
-IsOutcomeOfRun P bytes ReadFault = ⊥
+IsOutcomeOfRun P bytes _ = ⊥
 
 -- what the text of a run comes to, for this protocol
 pub record RunsOn (P : Protocol) (bytes : List ℕ) (outcome : Outcome) : Type 0 where
   -- the outcome is a replay or a refusal, each with its cause, or want of memory, and nothing else
   pub answers : IsOutcomeOfRun P bytes outcome
   -- steps that are spelled are replayed
-  pub accepts : (steps : List Step) → SpellsSteps bytes steps → IsReplayOf P steps outcome
+  pub accepts : (steps : List Step) → SpellsSteps bytes steps → IsOutcomeOfReplay P steps outcome
   -- and a text that is refused gets this refusal, at this line
   pub refuses : (why : RunRefusal) (line : ℕ) → RefusesRun bytes why line → Becomes (Refused (Run line why)) outcome
 
@@ -69,17 +52,9 @@ pub record RunsOn (P : Protocol) (bytes : List ℕ) (outcome : Outcome) : Type 0
 abbrev pub IsReplayOutcome : List ℕ → Outcome → Type 0
 IsReplayOutcome bytes (Refused (own.Protocol line column why)) = IsRefusalOf bytes (own.Protocol line column why)
 IsReplayOutcome bytes (Refused (Run line why)) = (P : Protocol) × Spells bytes P
-IsReplayOutcome bytes (Refused (Report line why)) = ⊥
 IsReplayOutcome bytes (Replayed replay) = (P : Protocol) × Spells bytes P
-IsReplayOutcome bytes (Ring ring) = ⊥
 IsReplayOutcome bytes Memory = Unit {0}
-IsReplayOutcome bytes (Verified verdicts) = ⊥
-IsReplayOutcome bytes (Checked findings) = ⊥
-IsReplayOutcome bytes (Listed clauses) = ⊥
-IsReplayOutcome bytes (ListLarge point) = ⊥
-IsReplayOutcome bytes (NoQuery query) = ⊥
-IsReplayOutcome bytes Usage = ⊥
-IsReplayOutcome bytes ReadFault = ⊥
+IsReplayOutcome bytes _ = ⊥
 
 -- what `replay` comes to where the protocol's file has these bytes, and the run's file those that are held, where that is told
 pub record Replays (bytes : List ℕ) (held : Option (List ℕ)) (outcome : Outcome) : Type 0 where

@@ -7,7 +7,7 @@ use Rattle.fact_reader.specs.declared.error.CertError.{CertError}
 use Rattle.fact_reader.specs.declared.error.CertError.TheVariants as error
 use Rattle.verifier_cli.specs.declared.loading.Unloaded.{Unloaded}
 use Rattle.verifier_cli.specs.declared.loading.Unloaded.TheVariants as unloaded
-use Rattle.verifier_cli.specs.Outcome.{Misspelled, LongReport, Protocol, Report, Run, Outcome, Usage, Verified, Checked, Listed, ListLarge, NoQuery, Replayed, Ring, Refused, ReadFault, Memory}
+use Rattle.verifier_cli.specs.Outcome.{Misspelled, LongReport, Protocol, Report, Outcome, Checked, Refused, ReadFault, Memory}
 use Rattle.verifier_cli.specs.Command.{OfFile}
 use Rattle.verifier_cli.specs.Checking.{RefusesReport}
 
@@ -30,30 +30,13 @@ report_not_read bytes (error.Memory e) = Memory
 abbrev pub IsUnreadReport : syntax.Protocol → Type 0 → Option (List ℕ) → Outcome → Type 0
 IsUnreadReport P Counted held ReadFault = Counted
 IsUnreadReport P Counted held (Refused (Report line why)) = OfFile held (λ bytes. RefusesReport P bytes why line)
-IsUnreadReport P Counted held (Refused (Protocol line column why)) = ⊥
-IsUnreadReport P Counted held (Refused (Run line why)) = ⊥
 IsUnreadReport P Counted held Memory = Unit {0}
-IsUnreadReport P Counted held (Checked findings) = ⊥
-IsUnreadReport P Counted held (Replayed replay) = ⊥
-IsUnreadReport P Counted held (Ring ring) = ⊥
-IsUnreadReport P Counted held (Listed clauses) = ⊥
-IsUnreadReport P Counted held (ListLarge point) = ⊥
-IsUnreadReport P Counted held (NoQuery query) = ⊥
-IsUnreadReport P Counted held Usage = ⊥
-IsUnreadReport P Counted held (Verified verdicts) = ⊥
+IsUnreadReport P Counted held _ = ⊥
 
 -- the outcome is about a report
 abbrev pub IsOfReport : Outcome → Type 0
 IsOfReport ReadFault = Unit {0}
 IsOfReport (Refused (Report line why)) = Unit {0}
-IsOfReport (Refused (Protocol line column why)) = ⊥
-IsOfReport (Refused (Run line why)) = ⊥
 IsOfReport Memory = Unit {0}
 IsOfReport (Checked findings) = Unit {0}
-IsOfReport (Replayed replay) = ⊥
-IsOfReport (Ring ring) = ⊥
-IsOfReport (Listed clauses) = ⊥
-IsOfReport (ListLarge point) = ⊥
-IsOfReport (NoQuery query) = ⊥
-IsOfReport Usage = ⊥
-IsOfReport (Verified verdicts) = ⊥
+IsOfReport _ = ⊥

@@ -6,7 +6,7 @@ use Rattle.translation.specs.Translation.{Translated, Clauses, LargeAt, IsTransl
 use Rattle.query_verify.specs.Told.{IsAnswer}
 use Rattle.ring_text.specs.Text.{ring_text}
 use Rattle.verifier_cli.specs.declared.outcome.Ring.{Ring as Summary}
-use Rattle.verifier_cli.specs.Outcome.{Outcome, Usage, Verified, Checked, Listed, ListLarge, NoQuery, Replayed, Ring, Refused, ReadFault, Memory}
+use Rattle.verifier_cli.specs.Outcome.{Outcome, Ring, Memory}
 use Rattle.verifier_cli.specs.Command.{NoneViolated}
 
 -- how many clauses a translation has: none where it is large
@@ -32,29 +32,13 @@ pub record IsSummaryOf (P : syntax.Protocol) (n : ℕ) (ring : Summary) : Type 0
 abbrev pub IsRingOf : syntax.Protocol → ℕ → Outcome → Type 0
 IsRingOf P n (Ring ring) = IsSummaryOf P n ring
 IsRingOf P n Memory = Unit {0}
-IsRingOf P n (Verified verdicts) = ⊥
-IsRingOf P n (Checked findings) = ⊥
-IsRingOf P n (Listed clauses) = ⊥
-IsRingOf P n (ListLarge point) = ⊥
-IsRingOf P n (NoQuery query) = ⊥
-IsRingOf P n (Replayed replay) = ⊥
-IsRingOf P n (Refused refusal) = ⊥
-IsRingOf P n Usage = ⊥
-IsRingOf P n ReadFault = ⊥
+IsRingOf P n _ = ⊥
 
 -- what `ring` may come to: the text always spells a protocol, so it is never refused, and no file is read
 abbrev pub IsRingOutcome : ℕ → Outcome → Type 0
 IsRingOutcome n (Ring ring) = (P : syntax.Protocol) × Spells (ring_text n) P
 IsRingOutcome n Memory = Unit {0}
-IsRingOutcome n (Verified verdicts) = ⊥
-IsRingOutcome n (Checked findings) = ⊥
-IsRingOutcome n (Listed clauses) = ⊥
-IsRingOutcome n (ListLarge point) = ⊥
-IsRingOutcome n (NoQuery query) = ⊥
-IsRingOutcome n (Replayed replay) = ⊥
-IsRingOutcome n (Refused refusal) = ⊥
-IsRingOutcome n Usage = ⊥
-IsRingOutcome n ReadFault = ⊥
+IsRingOutcome n _ = ⊥
 
 -- what `ring` comes to for n keys
 pub record Rings (n : ℕ) (outcome : Outcome) : Type 0 where

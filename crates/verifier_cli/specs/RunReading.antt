@@ -5,7 +5,7 @@ use Rattle.run_replay.specs.declared.error.RunError.{RunError}
 use Rattle.run_replay.specs.declared.error.RunError.TheVariants as error
 use Rattle.verifier_cli.specs.declared.loading.Unloaded.{Unloaded}
 use Rattle.verifier_cli.specs.declared.loading.Unloaded.TheVariants as unloaded
-use Rattle.verifier_cli.specs.Outcome.{Faulty, LongRun, Protocol, Report, Run, Outcome, Usage, Verified, Checked, Listed, ListLarge, NoQuery, Replayed, Ring, Refused, ReadFault, Memory}
+use Rattle.verifier_cli.specs.Outcome.{Faulty, LongRun, Run, Outcome, Replayed, Refused, ReadFault, Memory}
 use Rattle.verifier_cli.specs.Command.{OfFile}
 use Rattle.verifier_cli.specs.Replaying.{RefusesRun}
 
@@ -26,30 +26,13 @@ run_not_read (error.Memory e) = Memory
 abbrev pub IsUnreadRun : Type 0 → Option (List ℕ) → Outcome → Type 0
 IsUnreadRun Counted held ReadFault = Counted
 IsUnreadRun Counted held (Refused (Run line why)) = OfFile held (λ bytes. RefusesRun bytes why line)
-IsUnreadRun Counted held (Refused (Protocol line column why)) = ⊥
-IsUnreadRun Counted held (Refused (Report line why)) = ⊥
 IsUnreadRun Counted held Memory = Unit {0}
-IsUnreadRun Counted held (Replayed replay) = ⊥
-IsUnreadRun Counted held (Ring ring) = ⊥
-IsUnreadRun Counted held (Listed clauses) = ⊥
-IsUnreadRun Counted held (ListLarge point) = ⊥
-IsUnreadRun Counted held (NoQuery query) = ⊥
-IsUnreadRun Counted held Usage = ⊥
-IsUnreadRun Counted held (Verified verdicts) = ⊥
-IsUnreadRun Counted held (Checked findings) = ⊥
+IsUnreadRun Counted held _ = ⊥
 
 -- the outcome is about a run
 abbrev pub IsOfRun : Outcome → Type 0
 IsOfRun ReadFault = Unit {0}
 IsOfRun (Refused (Run line why)) = Unit {0}
-IsOfRun (Refused (Protocol line column why)) = ⊥
-IsOfRun (Refused (Report line why)) = ⊥
 IsOfRun Memory = Unit {0}
 IsOfRun (Replayed replay) = Unit {0}
-IsOfRun (Ring ring) = ⊥
-IsOfRun (Listed clauses) = ⊥
-IsOfRun (ListLarge point) = ⊥
-IsOfRun (NoQuery query) = ⊥
-IsOfRun Usage = ⊥
-IsOfRun (Verified verdicts) = ⊥
-IsOfRun (Checked findings) = ⊥
+IsOfRun _ = ⊥

@@ -8,10 +8,10 @@ ghost use Rattle.protocol_scope.specs.Spells.{Spells};
 ghost use Rattle.run_replay.specs.Limits.{IsLimited};
 ghost use Rattle.verifier_cli.specs.Command.{OfFile};
 ghost use Rattle.verifier_cli.specs.Outcome as own;
-ghost use Rattle.verifier_cli.specs.Replaying.{SpellsSteps, IsReplayOf, RunsOn, Replays};
+ghost use Rattle.verifier_cli.specs.Replaying.{SpellsSteps, IsOutcomeOfReplay, RunsOn, Replays};
 ghost use Rattle.verifier_cli.specs.RunReading.{run_not_loaded, run_not_read, IsUnreadRun, IsOfRun};
 ghost use Rattle.verifier_cli.specs.SeenOutcome.{outcome_of};
-ghost use Rattle.verifier_cli.specs.Text.{HasWords};
+ghost use Rattle.verifier_cli.specs.Text.{HasItsProtocol};
 
 use crate::loading::{Unloaded, load_protocol, load_text};
 use crate::outcome::{Outcome, Refusal, RunCode};
@@ -73,7 +73,7 @@ fn load_run<F: Files>(alloc: Global, run: &str, files: &mut F) -> Result<Steps, 
 fn replayed(alloc: Global, protocol: &Protocol, steps: &Steps) -> Outcome
     requires limits { IsLimited (protocol_of protocol.now) }
     requires few { length steps.now < 2 ^ 32 }
-    ensures shown { IsReplayOf (protocol_of protocol.now) steps.now (outcome_of result) }
+    ensures shown { IsOutcomeOfReplay (protocol_of protocol.now) steps.now (outcome_of result) }
     ensures kind { IsOfRun (outcome_of result) }
 {
     match replay(alloc, protocol, &steps.items) {
@@ -108,7 +108,7 @@ pub(crate) fn replay_file<F: Files>(alloc: Global, file: &str, run: &str, files:
     ensures held_stays { (name : List ℕ) → F.held files.new name ≡ F.held files.old name }
     ensures read_faults_rise { (name : List ℕ) → F.faults files.old name ≤ F.faults files.new name }
     ensures used { outcome_of result ≢ own.Usage }
-    ensures words { HasWords None (outcome_of result) }
+    ensures words { HasItsProtocol None (outcome_of result) }
     ensures fault { outcome_of result ≡ own.ReadFault →
         IsFaultCounted (F.faults files.old file.now) (F.faults files.new file.now) ⊎
         (OfFile (F.held files.old file.now) (λ bytes. (P : syntax.Protocol) × Spells bytes P) ×
