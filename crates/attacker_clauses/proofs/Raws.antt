@@ -2,12 +2,12 @@
 use Rattle.std.proofs.Common.{◌≡◌, ℕ, zero, suc, ◌+◌, true, not, ◌&&◌, cond, Some, None, List, [], ◌∷◌, ◌++◌, map, refl, sym, ap, ◌∙◌, subst, arith}
 use Rattle.std.specs.List.{cons_option}
 use Rattle.std.proofs.lemmas.Simd.{map-map}
-use Rattle.trees.specs.Tree.{Leaf, node}
-use Rattle.calculus.specs.Syntax.{Rule, Declared, Protocol}
-use Rattle.terms.specs.Term.{Ctor, Term}
-use Rattle.clauses.specs.Fact.{Fact, Att, Clause}
-use Rattle.translation.specs.Conversion.{free_term, rule_term}
-use Rattle.translation.specs.Attacker.{variables_from, name_known, constructor_applied, rule_applied}
+use Rattle.spec_trees.specs.Tree.{Leaf, node}
+use Rattle.spec_calculus.specs.Syntax.{Rule, Declared, Protocol}
+use Rattle.spec_terms.specs.Term.{Ctor, Term}
+use Rattle.spec_clauses.specs.Fact.{Fact, Att, Clause}
+use Rattle.spec_translation.specs.Conversion.{free_term, rule_term}
+use Rattle.spec_translation.specs.Attacker.{variables_from, name_known, constructor_applied, rule_applied}
 use Rattle.term_tree.specs.Bank.{tree_at, AreKnown, Names, Grows}
 use Rattle.term_tree.specs.declared.bank.Id.{Id}
 use Rattle.term_tree.proofs.BankLaws.{AreKnown-grows, trees_at-grow}

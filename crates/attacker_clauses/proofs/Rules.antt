@@ -2,12 +2,12 @@
 use Rattle.std.proofs.Common.{ℕ, zero, suc, List, [], ◌∷◌, arith}
 use Rattle.std.specs.List.{AllByRecursion}
 use Rattle.std.specs.Option.{option_map_or}
-use Rattle.calculus.specs.Syntax.{Rule, Destructor, Protocol}
-use Rattle.calculus.specs.Points.{numbered}
-use Rattle.well_formed.specs.Signature.{Signature, signature_of}
-use Rattle.well_formed.specs.Limits.{IsSmallRule, IsSmallDestructor, IsWithinLimits}
-use Rattle.well_formed.specs.Rules.{IsProperRule, HasProperRules}
-use Rattle.well_formed.specs.WellFormed.{IsRuleOver, IsWellScoped}
+use Rattle.spec_calculus.specs.Syntax.{Rule, Destructor, Protocol}
+use Rattle.spec_calculus.specs.Points.{numbered}
+use Rattle.spec_well_formed.specs.Signature.{Signature, signature_of}
+use Rattle.spec_well_formed.specs.Limits.{IsSmallRule, IsSmallDestructor, IsWithinLimits}
+use Rattle.spec_well_formed.specs.Rules.{IsProperRule, HasProperRules}
+use Rattle.spec_well_formed.specs.WellFormed.{IsRuleOver, IsWellScoped}
 use Rattle.clause_terms.proofs.Laws.{short_rule, rule_room}
 use Rattle.attacker_clauses.specs.Conditions.{CanBeRenamed, CanAllBeRenamed}
 

@@ -1,6 +1,6 @@
 -- What is asked of rules: what those of a protocol have that bytes spell.
 use Rattle.std.specs.List.{AllByRecursion}
-use Rattle.calculus.specs.Syntax.{Rule, Destructor}
+use Rattle.spec_calculus.specs.Syntax.{Rule, Destructor}
 use Rattle.clause_terms.specs.Conditions.{IsShortRule, HasRoomForRule}
 
 -- a rule that can be made terms of clauses, with variables from 0

@@ -1,10 +1,10 @@
 //! The channels on which the attacker hears and sends.
 
 ghost use Rattle.std.specs.Prelude.{◌≡◌, ◌<◌, [], ◌∷◌, ◌++◌, length, IfOk, OnOk};
-ghost use Rattle.trees.specs.Tree.{Leaf};
-ghost use Rattle.translation.specs.Attacker.{message_heard, message_sent};
+ghost use Rattle.spec_trees.specs.Tree.{Leaf};
+ghost use Rattle.spec_translation.specs.Attacker.{message_heard, message_sent};
 ghost use Rattle.term_tree.specs.Bank.{Names, Grows};
-ghost use Rattle.clauses.specs.Fact.{Att, Mess};
+ghost use Rattle.spec_clauses.specs.Fact.{Att, Mess};
 ghost use Rattle.attacker_clauses.specs.Listed.{Adds};
 
 use crate::listing::add_raw;

@@ -2,7 +2,7 @@
 
 ghost use Rattle.std.specs.Prelude.{◌≡◌, ◌+◌, ◌^◌, ◌<◌, ◌&&◌, not, [], ◌∷◌, ◌++◌, length, filter_map, IfOk, OnOk};
 ghost use Rattle.std.specs.List.{enumerate_from};
-ghost use Rattle.translation.specs.Attacker.{variables_from, constructor_applied};
+ghost use Rattle.spec_translation.specs.Attacker.{variables_from, constructor_applied};
 ghost use Rattle.term_tree.specs.Bank.{Grows};
 ghost use Rattle.clause_form.specs.Seen.{NameTerms};
 ghost use Rattle.pi_tree.specs.Names.{declared_of};

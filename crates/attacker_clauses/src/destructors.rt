@@ -2,7 +2,7 @@
 
 ghost use Rattle.std.specs.Prelude.{◌≡◌, [], ◌∷◌, ◌++◌, map, flat_map, OnOk};
 ghost use Rattle.std.specs.List.{AllByRecursion};
-ghost use Rattle.translation.specs.Attacker.{rule_applied};
+ghost use Rattle.spec_translation.specs.Attacker.{rule_applied};
 ghost use Rattle.term_tree.specs.Bank.{Grows};
 ghost use Rattle.pi_tree.specs.Rules.{rule_of, destructor_of};
 ghost use Rattle.pi_tree.specs.Protocols.{protocol_of};

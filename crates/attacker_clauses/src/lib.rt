@@ -4,10 +4,10 @@
 
 ghost use Rattle.std.specs.Prelude.{◌≡◌, ◌^◌, ◌<◌, length, IfOk, OnErr};
 ghost use Rattle.std.specs.List.{AllByRecursion};
-ghost use Rattle.well_formed.specs.Limits.{IsWithinLimits};
-ghost use Rattle.well_formed.specs.Rules.{HasProperRules};
-ghost use Rattle.well_formed.specs.WellFormed.{IsWellScoped};
-ghost use Rattle.translation.specs.Translation.{attacker_clauses as clauses_of};
+ghost use Rattle.spec_well_formed.specs.Limits.{IsWithinLimits};
+ghost use Rattle.spec_well_formed.specs.Rules.{HasProperRules};
+ghost use Rattle.spec_well_formed.specs.WellFormed.{IsWellScoped};
+ghost use Rattle.spec_translation.specs.Translation.{attacker_clauses as clauses_of};
 ghost use Rattle.term_tree.specs.Bank.{Grows};
 ghost use Rattle.clause_form.specs.Seen.{NameClauses};
 ghost use Rattle.pi_tree.specs.Protocols.{protocol_of};

@@ -1,7 +1,7 @@
 //! Raw clauses, each listed by what it gives.
 
 ghost use Rattle.std.specs.Prelude.{◌≡◌, ◌<◌, [], ◌∷◌, ◌++◌, length, map, IfOk, OnOk};
-ghost use Rattle.clauses.specs.Fact.{Att};
+ghost use Rattle.spec_clauses.specs.Fact.{Att};
 ghost use Rattle.term_tree.specs.Bank.{tree_at, AreKnown, Grows};
 ghost use Rattle.clause_form.specs.Seen.{clause_at, IsClauseIn};
 ghost use Rattle.attacker_clauses.specs.Listed.{Adds};

@@ -2,7 +2,7 @@
 
 ghost use Rattle.std.specs.Prelude.{◌≡◌, ◌+◌, ◌^◌, ◌<◌, [], ◌∷◌, ◌++◌, length, filter_map, OnOk};
 ghost use Rattle.std.specs.List.{enumerate_from};
-ghost use Rattle.translation.specs.Attacker.{name_known, fresh_known};
+ghost use Rattle.spec_translation.specs.Attacker.{name_known, fresh_known};
 ghost use Rattle.term_tree.specs.Bank.{Grows};
 ghost use Rattle.pi_tree.specs.Names.{declared_of};
 ghost use Rattle.attacker_clauses.specs.Listed.{Adds};

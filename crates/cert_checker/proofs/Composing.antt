@@ -1,12 +1,12 @@
 -- The stages together: what is ruled where each stage but the last is met, and what comes of the last.
 use Rattle.std.proofs.Common.{ℕ, List, [], ◌∷◌, refl, ap, sym, subst, inl, inr}
-use Rattle.calculus.specs.Syntax.{Query, Protocol}
-use Rattle.terms.specs.Term.{Term}
-use Rattle.clauses.specs.Fact.{Clause}
-use Rattle.clauses.specs.Resolvents.{Answer, NoUnifier, Large, Resolvents}
-use Rattle.translation.specs.Translation.{LargeAt, IsTranslation}
-use Rattle.certificates.specs.Certificate.{Certificate, bad_arguments, IsInShape, CoverRowHolds, GoalHolds, Numbered, numbered_from, Pair, pairs_of}
-use Rattle.certificates.specs.Ruling.{Ruling, Shape, Translation, Cover, Closure, Goal, Rest, Shapes, Covers, Answered, Closures, Goals, NoneLeft, bad_ones, Obliged, IsRuled}
+use Rattle.spec_calculus.specs.Syntax.{Query, Protocol}
+use Rattle.spec_terms.specs.Term.{Term}
+use Rattle.spec_clauses.specs.Fact.{Clause}
+use Rattle.spec_clauses.specs.Resolvents.{Answer, NoUnifier, Large, Resolvents}
+use Rattle.spec_translation.specs.Translation.{LargeAt, IsTranslation}
+use Rattle.spec_certificates.specs.Certificate.{Certificate, bad_arguments, IsInShape, CoverRowHolds, GoalHolds, Numbered, numbered_from, Pair, pairs_of}
+use Rattle.spec_certificates.specs.Ruling.{Ruling, Shape, Translation, Cover, Closure, Goal, Rest, Shapes, Covers, Answered, Closures, Goals, NoneLeft, bad_ones, Obliged, IsRuled}
 use Rattle.cert_checker.specs.Stages.{AreShown, FirstUnshown, IsAnswerCovered, IsAnswerUncovered, AreClosed, FirstOpen, HasShape, AreInShape, FirstMisshapen}
 use Rattle.cert_checker.specs.Reached.{clauses_of, HasShapes, IsTranslatedTo, HasCovered, HasClosed}
 

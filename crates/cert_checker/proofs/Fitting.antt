@@ -1,11 +1,11 @@
 -- Clauses that are their own norms within the limit of size: they stay so as the bank grows, and so are resolvents and what is translated.
 use Rattle.std.proofs.Common.{◌≡◌, ℕ, zero, suc, ◌+◌, ◌<◌, ◌^◌, Bool, true, false, cond, Option, Some, None, List, [], ◌∷◌, length, map, get_or, refl, ap, sym, subst, arith}
 use Rattle.std.specs.Prelude.{slice_get}
-use Rattle.terms.specs.Term.{Term}
-use Rattle.clauses.specs.Fact.{Clause, clause_size}
-use Rattle.clauses.specs.Norm.{IsNormal}
-use Rattle.clauses.specs.Limits.{IsWithinLimit}
-use Rattle.certificates.specs.Certificate.{numbered_from}
+use Rattle.spec_terms.specs.Term.{Term}
+use Rattle.spec_clauses.specs.Fact.{Clause, clause_size}
+use Rattle.spec_clauses.specs.Norm.{IsNormal}
+use Rattle.spec_clauses.specs.Limits.{IsWithinLimit}
+use Rattle.spec_certificates.specs.Certificate.{numbered_from}
 use Rattle.term_tree.specs.declared.bank.Id.{Id}
 use Rattle.clause_form.specs.Seen.{clause_at, AreClausesIn, NameClauses}
 use Rattle.cert_checker.specs.Stages.{AreInShape}

@@ -1,14 +1,14 @@
 -- The goal of a query has as many arguments as `bad` has for the query.
 use Rattle.std.proofs.Common.{◌≡◌, ◌∙◌, List, [], ◌∷◌, length, get_or, refl, ap, sym, subst, arith}
 use Rattle.std.proofs.lemmas.List.{length-map}
-use Rattle.calculus.specs.Syntax.{Variable, Query, Secret, SecretNew, Correspondence, Protocol}
-use Rattle.terms.specs.Term.{Term}
-use Rattle.clauses.specs.Fact.{Fact, Att, Mess, Ev, Mev, Bad, Clause, map_fact}
-use Rattle.clauses.specs.Inclusion.{here, Has}
-use Rattle.translation.specs.Goal.{goal_raw, query_leaf, event_variables}
-use Rattle.translation.specs.Translation.{goal_clauses}
-use Rattle.translation.proofs.Placement.{norms-outline}
-use Rattle.certificates.specs.Certificate.{bad_arguments}
+use Rattle.spec_calculus.specs.Syntax.{Variable, Query, Secret, SecretNew, Correspondence, Protocol}
+use Rattle.spec_terms.specs.Term.{Term}
+use Rattle.spec_clauses.specs.Fact.{Fact, Att, Mess, Ev, Mev, Bad, Clause, map_fact}
+use Rattle.spec_clauses.specs.Inclusion.{here, Has}
+use Rattle.spec_translation.specs.Goal.{goal_raw, query_leaf, event_variables}
+use Rattle.spec_translation.specs.Translation.{goal_clauses}
+use Rattle.spec_translation.proofs.Placement.{norms-outline}
+use Rattle.spec_certificates.specs.Certificate.{bad_arguments}
 use Rattle.term_tree.specs.Bank.{tree_at}
 use Rattle.term_tree.specs.declared.bank.Id.{Id}
 use Rattle.clause_form.specs.Seen.{clause_at, NameClauses}

@@ -1,8 +1,8 @@
 -- What is ruled where all obligations are met.
 use Rattle.std.proofs.Common.{◌≡◌, ℕ, ◌+◌, ◌-◌, ◌<◌, ◌≤◌, List, [], ◌∷◌, length, drop, refl, ap, sym, subst, arith}
 use Rattle.std.proofs.lemmas.List.{length-drop, drop_all}
-use Rattle.certificates.specs.Certificate.{Certificate}
-use Rattle.certificates.specs.Ruling.{Accepted, Extra, NoneLeft}
+use Rattle.spec_certificates.specs.Certificate.{Certificate}
+use Rattle.spec_certificates.specs.Ruling.{Accepted, Extra, NoneLeft}
 
 -- a cover row is left over
 pub row_left : (cert : Certificate) (row : ℕ) (goals : List (List ℕ)) → row < length cert.rows → NoneLeft cert (drop row cert.rows) goals (Extra (row + 1))

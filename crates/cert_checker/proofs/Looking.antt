@@ -2,9 +2,9 @@
 use Rattle.std.proofs.Common.{◌≡◌, ◌∙◌, ℕ, ◌+◌, ◌<◌, ◌≤◌, List, [], ◌∷◌, ◌++◌, length, get_or, take, drop, refl, ap, sym, subst}
 use Rattle.std.proofs.lemmas.List.{take_more, take_all}
 use Rattle.std.proofs.lemmas.Option.{slice_get_read}
-use Rattle.terms.specs.Term.{Term}
-use Rattle.clauses.specs.Fact.{Clause}
-use Rattle.certificates.specs.Certificate.{numbered_from}
+use Rattle.spec_terms.specs.Term.{Term}
+use Rattle.spec_clauses.specs.Fact.{Clause}
+use Rattle.spec_certificates.specs.Certificate.{numbered_from}
 use Rattle.term_tree.specs.Bank.{Grows}
 use Rattle.term_tree.specs.declared.bank.Id.{Id}
 use Rattle.term_tree.proofs.BankLaws.{Grows_refl, Grows_trans}

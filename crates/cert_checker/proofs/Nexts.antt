@@ -2,10 +2,10 @@
 use Rattle.std.proofs.Common.{◌≡◌, ◌↔◌, ℕ, zero, suc, false, Some, None, List, [], ◌∷◌, drop, sym, subst}
 use Rattle.std.specs.Prelude.{slice_get, IsTrue}
 use Rattle.std.proofs.lemmas.Bool.{false≢true}
-use Rattle.calculus.specs.Syntax.{Query, Secret, SecretNew, Correspondence, Protocol}
-use Rattle.terms.specs.Term.{Term}
-use Rattle.clauses.specs.Fact.{Clause}
-use Rattle.certificates.specs.Certificate.{CoverRowHolds, GoalHolds}
+use Rattle.spec_calculus.specs.Syntax.{Query, Secret, SecretNew, Correspondence, Protocol}
+use Rattle.spec_terms.specs.Term.{Term}
+use Rattle.spec_clauses.specs.Fact.{Clause}
+use Rattle.spec_certificates.specs.Certificate.{CoverRowHolds, GoalHolds}
 use Rattle.cert_checker.specs.Stages.{Shows, NextShows}
 
 -- a row at the place shows what it shows

@@ -1,15 +1,15 @@
 -- What a pair's answer is to the stage of the pairs.
 use Rattle.std.proofs.Common.{◌≡◌, ℕ, ◌<◌, None, List, refl, inl, arith}
-use Rattle.terms.specs.Term.{Term}
-use Rattle.calculus.specs.Bounds.{most_symbols}
-use Rattle.clauses.specs.Fact.{Clause, clause_terms, clause_size}
-use Rattle.clauses.specs.Variables.{leaves, IsBelow}
-use Rattle.clauses.proofs.Lists.{all_weaker}
-use Rattle.clauses.proofs.NormNumbers.{norm-below}
-use Rattle.clauses.specs.Selection.{select}
-use Rattle.clauses.specs.Resolvents.{NoUnifier, Large, Resolvents}
-use Rattle.certificates.specs.Certificate.{CoverRowHolds, Numbered, numbered_from, Pair, pairs_with}
-use Rattle.certificates.specs.Ruling.{Closure}
+use Rattle.spec_terms.specs.Term.{Term}
+use Rattle.spec_calculus.specs.Bounds.{most_symbols}
+use Rattle.spec_clauses.specs.Fact.{Clause, clause_terms, clause_size}
+use Rattle.spec_clauses.specs.Variables.{leaves, IsBelow}
+use Rattle.spec_clauses.proofs.Lists.{all_weaker}
+use Rattle.spec_clauses.proofs.NormNumbers.{norm-below}
+use Rattle.spec_clauses.specs.Selection.{select}
+use Rattle.spec_clauses.specs.Resolvents.{NoUnifier, Large, Resolvents}
+use Rattle.spec_certificates.specs.Certificate.{CoverRowHolds, Numbered, numbered_from, Pair, pairs_with}
+use Rattle.spec_certificates.specs.Ruling.{Closure}
 use Rattle.term_tree.specs.declared.bank.Id.{Id}
 use Rattle.clause_form.specs.Seen.{clause_at}
 use Rattle.clause_resolve.specs.Low.{HasLowVariables}

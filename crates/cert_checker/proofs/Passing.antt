@@ -4,13 +4,13 @@ use Rattle.std.specs.Prelude.{slice_get, option_map}
 use Rattle.std.proofs.lemmas.Bool.{false≢true}
 use Rattle.std.proofs.lemmas.List.{length-map}
 use Rattle.std.proofs.lemmas.Option.{slice_get-map, slice_get-get_or}
-use Rattle.terms.specs.Term.{Term}
-use Rattle.terms.proofs.Replace.{some_same}
-use Rattle.clauses.specs.Fact.{Fact, Clause}
-use Rattle.clauses.specs.Selection.{Selection, select, is_solved}
-use Rattle.clauses.proofs.Selection.{select-none}
-use Rattle.clauses.specs.Resolvents.{Resolvents}
-use Rattle.certificates.specs.Certificate.{CoverRowHolds, Numbered, numbered_from, Pair, pairs_with, pairs_of_solved, pairs_of}
+use Rattle.spec_terms.specs.Term.{Term}
+use Rattle.spec_terms.proofs.Replace.{some_same}
+use Rattle.spec_clauses.specs.Fact.{Fact, Clause}
+use Rattle.spec_clauses.specs.Selection.{Selection, select, is_solved}
+use Rattle.spec_clauses.proofs.Selection.{select-none}
+use Rattle.spec_clauses.specs.Resolvents.{Resolvents}
+use Rattle.spec_certificates.specs.Certificate.{CoverRowHolds, Numbered, numbered_from, Pair, pairs_with, pairs_of_solved, pairs_of}
 use Rattle.term_tree.specs.declared.bank.Id.{Id}
 use Rattle.clause_form.specs.Seen.{clause_at}
 use Rattle.literal_selection.specs.Best.{selected_place}

@@ -1,11 +1,11 @@
 -- Queries of well-scoped protocols are proper.
 use Rattle.std.proofs.Common.{◌≡◌, ℕ, Some}
-use Rattle.calculus.specs.Syntax.{Query, Protocol}
-use Rattle.calculus.specs.Points.{numbered}
-use Rattle.well_formed.specs.Rules.{HasProperRules}
-use Rattle.well_formed.specs.Queries.{HasQueryLeaves, HasProperQueries}
-use Rattle.well_formed.specs.WellFormed.{IsWellScoped}
-use Rattle.certificates.specs.Shown.{IsProper}
+use Rattle.spec_calculus.specs.Syntax.{Query, Protocol}
+use Rattle.spec_calculus.specs.Points.{numbered}
+use Rattle.spec_well_formed.specs.Rules.{HasProperRules}
+use Rattle.spec_well_formed.specs.Queries.{HasQueryLeaves, HasProperQueries}
+use Rattle.spec_well_formed.specs.WellFormed.{IsWellScoped}
+use Rattle.spec_certificates.specs.Shown.{IsProper}
 use Rattle.query_derive.proofs.Deciding.{query_has}
 use Rattle.clause_translate.proofs.Linear.{linear_patterns}
 

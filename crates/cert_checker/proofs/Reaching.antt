@@ -1,17 +1,17 @@
 -- How far a check has come by what is answered of each stage, and what is ruled where a stage ends it.
 use Rattle.std.proofs.Common.{◌≡◌, ◌∙◌, ℕ, Some, List, drop, sym, subst}
-use Rattle.calculus.specs.Syntax.{Query, Protocol}
-use Rattle.calculus.specs.Points.{numbered}
-use Rattle.well_formed.specs.Limits.{IsWithinLimits}
-use Rattle.terms.specs.Term.{Term}
-use Rattle.terms.proofs.Replace.{some_same}
-use Rattle.clauses.specs.Fact.{Clause}
-use Rattle.translation.specs.Translation.{Clauses, LargeAt, IsTranslation}
-use Rattle.translation.proofs.Goal.{clauses_normal}
-use Rattle.translation.proofs.Sizes.{clauses_within}
-use Rattle.certificates.specs.Certificate.{Certificate, bad_arguments, CoverRowHolds, numbered_from, pairs_of}
-use Rattle.certificates.specs.Ruling.{IsRuled}
-use Rattle.certificates.specs.Ruling as certificates
+use Rattle.spec_calculus.specs.Syntax.{Query, Protocol}
+use Rattle.spec_calculus.specs.Points.{numbered}
+use Rattle.spec_well_formed.specs.Limits.{IsWithinLimits}
+use Rattle.spec_terms.specs.Term.{Term}
+use Rattle.spec_terms.proofs.Replace.{some_same}
+use Rattle.spec_clauses.specs.Fact.{Clause}
+use Rattle.spec_translation.specs.Translation.{Clauses, LargeAt, IsTranslation}
+use Rattle.spec_translation.proofs.Goal.{clauses_normal}
+use Rattle.spec_translation.proofs.Sizes.{clauses_within}
+use Rattle.spec_certificates.specs.Certificate.{Certificate, bad_arguments, CoverRowHolds, numbered_from, pairs_of}
+use Rattle.spec_certificates.specs.Ruling.{IsRuled}
+use Rattle.spec_certificates.specs.Ruling as certificates
 use Rattle.term_tree.specs.declared.bank.Id.{Id}
 use Rattle.clause_form.specs.Seen.{NameClauses}
 use Rattle.query_derive.proofs.Deciding.{small_query}

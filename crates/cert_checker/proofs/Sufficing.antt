@@ -1,8 +1,8 @@
 -- Translations that are one have one list of clauses.
 use Rattle.std.proofs.Common.{◌≡◌, List, [], ap}
-use Rattle.terms.specs.Term.{Term}
-use Rattle.clauses.specs.Fact.{Clause}
-use Rattle.translation.specs.Translation.{Translated, Clauses, LargeAt}
+use Rattle.spec_terms.specs.Term.{Term}
+use Rattle.spec_clauses.specs.Fact.{Clause}
+use Rattle.spec_translation.specs.Translation.{Translated, Clauses, LargeAt}
 
 abbrev list_of : Translated → List (Clause Term)
 list_of (Clauses all) = all

@@ -2,11 +2,11 @@
 use Rattle.std.proofs.Common.{◌≡◌, ◌∙◌, ℕ, zero, suc, ◌+◌, ◌≤◌, Bool, true, false, Some, List, [], ◌∷◌, ◌++◌, length, drop, refl, ap, sym, subst, inl, inr, arith}
 use Rattle.std.specs.Prelude.{slice_get, filter, flat_map}
 use Rattle.std.proofs.lemmas.List.{drop-drop}
-use Rattle.terms.specs.Term.{Term}
-use Rattle.clauses.specs.Fact.{Clause}
-use Rattle.clauses.specs.Selection.{select}
-use Rattle.certificates.specs.Certificate.{Numbered, numbered_from, Pair, pairs_of_solved, pairs_of}
-use Rattle.certificates.specs.Ruling.{Ruling}
+use Rattle.spec_terms.specs.Term.{Term}
+use Rattle.spec_clauses.specs.Fact.{Clause}
+use Rattle.spec_clauses.specs.Selection.{select}
+use Rattle.spec_certificates.specs.Certificate.{Numbered, numbered_from, Pair, pairs_of_solved, pairs_of}
+use Rattle.spec_certificates.specs.Ruling.{Ruling}
 use Rattle.cert_checker.specs.Stages.{Shows, NextShows, AreShown, FirstUnshown, AreClosed, FirstOpen, HasShape, AreInShape, FirstMisshapen}
 
 -- a clause with its number

@@ -1,9 +1,9 @@
 -- What is answered of each stage.
 use Rattle.std.specs.Prelude.{ℕ, ◌+◌, Option, Some, None, List, [], ◌∷◌, map, drop, slice_get, flat_map}
-use Rattle.terms.specs.Term.{Term}
-use Rattle.clauses.specs.Fact.{Clause}
-use Rattle.clauses.specs.Selection.{select}
-use Rattle.certificates.specs.Certificate.{Numbered, numbered_from, Pair, pairs_with, pairs_of_solved}
+use Rattle.spec_terms.specs.Term.{Term}
+use Rattle.spec_clauses.specs.Fact.{Clause}
+use Rattle.spec_clauses.specs.Selection.{select}
+use Rattle.spec_certificates.specs.Certificate.{Numbered, numbered_from, Pair, pairs_with, pairs_of_solved}
 use Rattle.term_tree.specs.declared.bank.Id.{Id}
 use Rattle.clause_form.specs.Fit.{clauses_at}
 use Rattle.cert_checker.specs.Stages.{Shows, AreShown, FirstUnshown, AreClosed, FirstOpen}

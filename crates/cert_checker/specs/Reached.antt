@@ -1,10 +1,10 @@
 -- How far the check of a certificate has come.
 use Rattle.std.specs.Prelude.{ℕ, List}
-use Rattle.calculus.specs.Syntax.{Query, Protocol}
-use Rattle.terms.specs.Term.{Term}
-use Rattle.clauses.specs.Fact.{Clause}
-use Rattle.translation.specs.Translation.{Clauses, IsTranslation}
-use Rattle.certificates.specs.Certificate.{Certificate, bad_arguments, CoverRowHolds, Numbered, numbered_from, pairs_of}
+use Rattle.spec_calculus.specs.Syntax.{Query, Protocol}
+use Rattle.spec_terms.specs.Term.{Term}
+use Rattle.spec_clauses.specs.Fact.{Clause}
+use Rattle.spec_translation.specs.Translation.{Clauses, IsTranslation}
+use Rattle.spec_certificates.specs.Certificate.{Certificate, bad_arguments, CoverRowHolds, Numbered, numbered_from, pairs_of}
 use Rattle.cert_checker.specs.Stages.{AreShown, AreClosed, AreInShape}
 
 -- a certificate's clauses with their numbers

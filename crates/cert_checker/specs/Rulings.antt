@@ -1,5 +1,5 @@
 -- What contracts see of a ruling.
-use Rattle.certificates.specs.Ruling as certificates
+use Rattle.spec_certificates.specs.Ruling as certificates
 use Rattle.cert_checker.specs.declared.ruling.Ruling.{Ruling}
 use Rattle.cert_checker.specs.declared.ruling.Ruling.TheVariants.{Accepted, Shape, Cover, Closure, Goal, Extra, Translation}
 

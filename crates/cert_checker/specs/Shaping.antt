@@ -1,8 +1,8 @@
 -- What is answered of the shapes of a certificate's clauses.
 use Rattle.std.specs.Prelude.{ℕ, List}
-use Rattle.terms.specs.Term.{Term}
-use Rattle.clauses.specs.Fact.{Clause}
-use Rattle.certificates.specs.Certificate.{numbered_from}
+use Rattle.spec_terms.specs.Term.{Term}
+use Rattle.spec_clauses.specs.Fact.{Clause}
+use Rattle.spec_certificates.specs.Certificate.{numbered_from}
 use Rattle.clause_form.specs.Seen.{NameClauses}
 use Rattle.cert_checker.specs.Stages.{AreInShape, FirstMisshapen}
 use Rattle.cert_checker.specs.declared.shaping.Shaped.{Shaped}

@@ -1,13 +1,13 @@
 -- The stages of what is ruled of a certificate: of each, that all its obligations are met and which rows are then left, or
 -- the first that isn't met.
 use Rattle.std.specs.Prelude.{◌≡◌, ◌⊎◌, ℕ, List, [], ◌∷◌, drop}
-use Rattle.terms.specs.Term.{Term}
-use Rattle.clauses.specs.Fact.{Clause}
-use Rattle.clauses.specs.Norm.{IsNormal}
-use Rattle.clauses.specs.Limits.{IsWithinLimit}
-use Rattle.clauses.specs.Resolvents.{Answer, NoUnifier, Large, Resolvents, Resolves}
-use Rattle.certificates.specs.Certificate.{HasArguments, CoverRowHolds, Numbered, numbered_from, Pair}
-use Rattle.certificates.specs.Ruling.{Ruling, Closure}
+use Rattle.spec_terms.specs.Term.{Term}
+use Rattle.spec_clauses.specs.Fact.{Clause}
+use Rattle.spec_clauses.specs.Norm.{IsNormal}
+use Rattle.spec_clauses.specs.Limits.{IsWithinLimit}
+use Rattle.spec_clauses.specs.Resolvents.{Answer, NoUnifier, Large, Resolvents, Resolves}
+use Rattle.spec_certificates.specs.Certificate.{HasArguments, CoverRowHolds, Numbered, numbered_from, Pair}
+use Rattle.spec_certificates.specs.Ruling.{Ruling, Closure}
 
 -- what a row has to show of a clause
 abbrev pub Shows : Type 1

@@ -1,9 +1,9 @@
 //! How many arguments `bad` has for a query.
 
 ghost use Rattle.std.specs.Prelude.{◌≡◌, IfOk};
-ghost use Rattle.well_formed.specs.Limits.{IsWithinLimits};
-ghost use Rattle.well_formed.specs.Queries.{HasProperQueries};
-ghost use Rattle.certificates.specs.Certificate.{bad_arguments};
+ghost use Rattle.spec_well_formed.specs.Limits.{IsWithinLimits};
+ghost use Rattle.spec_well_formed.specs.Queries.{HasProperQueries};
+ghost use Rattle.spec_certificates.specs.Certificate.{bad_arguments};
 ghost use Rattle.pi_tree.specs.Protocols.{protocol_of};
 ghost use Rattle.pi_tree.specs.Accessors.{IsThere};
 ghost use Rattle.pi_tree.specs.declared.accessors.Kind.TheVariants.{Query as OfQueries};

@@ -1,12 +1,12 @@
 //! The check of a certificate, from its text's data to its ruling.
 
 ghost use Rattle.std.specs.Prelude.{◌≡◌, IfOk};
-ghost use Rattle.calculus.specs.Secrecy.{Holds};
-ghost use Rattle.well_formed.specs.Limits.{IsWithinLimits};
-ghost use Rattle.well_formed.specs.Rules.{HasProperRules};
-ghost use Rattle.well_formed.specs.Queries.{HasProperQueries};
-ghost use Rattle.well_formed.specs.WellFormed.{IsWellScoped};
-ghost use Rattle.certificates.specs.Ruling.{IsRuled};
+ghost use Rattle.spec_calculus.specs.Secrecy.{Holds};
+ghost use Rattle.spec_well_formed.specs.Limits.{IsWithinLimits};
+ghost use Rattle.spec_well_formed.specs.Rules.{HasProperRules};
+ghost use Rattle.spec_well_formed.specs.Queries.{HasProperQueries};
+ghost use Rattle.spec_well_formed.specs.WellFormed.{IsWellScoped};
+ghost use Rattle.spec_certificates.specs.Ruling.{IsRuled};
 ghost use Rattle.pi_tree.specs.Protocols.{protocol_of};
 ghost use Rattle.pi_tree.specs.Accessors.{IsThere};
 ghost use Rattle.pi_tree.specs.declared.accessors.Kind.TheVariants.{Query as OfQueries};
@@ -24,9 +24,9 @@ use crate::judging::judge;
 use crate::ruling::Ruling;
 use crate::shaping::{Shaped, look_at_shapes};
 use cert_text::Cert;
-use soundness::accepted_queries_hold;
 use clause_translate::{Translated, translate};
 use pi_tree::Protocol;
+use spec_soundness::accepted_queries_hold;
 use std::alloc::{AllocError, Global};
 use term_tree::{Bank, TreeBank};
 

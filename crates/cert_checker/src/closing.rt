@@ -1,8 +1,8 @@
 //! Pairs of a solved clause with an unsolved one: each resolvent is covered by the next row.
 
 ghost use Rattle.std.specs.Prelude.{◌≡◌, ◌<◌, ◌+◌, ◌^◌, Some, length, slice_get, IfOk};
-ghost use Rattle.clauses.specs.Fact.{Clause};
-ghost use Rattle.certificates.specs.Certificate.{pairs_of};
+ghost use Rattle.spec_clauses.specs.Fact.{Clause};
+ghost use Rattle.spec_certificates.specs.Certificate.{pairs_of};
 ghost use Rattle.term_tree.specs.declared.bank.Id.{Id};
 ghost use Rattle.clause_resolve.specs.Apart.{IsSelectedAt};
 ghost use Rattle.clause_form.specs.Seen.{clause_at};

@@ -1,8 +1,8 @@
 //! Cover rows: each says which of the certificate's clauses subsumes a clause, and by which positions.
 
 ghost use Rattle.std.specs.Prelude.{◌≡◌, ◌↔◌, ◌<◌, ◌+◌, ◌^◌, ◌∷◌, IsTrue, drop, IfOk};
-ghost use Rattle.certificates.specs.Certificate.{CoverRowHolds, numbered_from};
-ghost use Rattle.clauses.specs.Limits.{IsWithinLimit};
+ghost use Rattle.spec_certificates.specs.Certificate.{CoverRowHolds, numbered_from};
+ghost use Rattle.spec_clauses.specs.Limits.{IsWithinLimit};
 ghost use Rattle.clause_form.specs.Seen.{clause_at, IsClauseIn};
 ghost use Rattle.cert_checker.specs.Stages.{NextShows};
 ghost use Rattle.clause_form.specs.Fit.{AreFit, clauses_at};

@@ -1,10 +1,10 @@
 //! The stages of a check, one after the other.
 
 ghost use Rattle.std.specs.Prelude.{◌≡◌, List, drop, IfOk};
-ghost use Rattle.terms.specs.Term.{Term};
-ghost use Rattle.clauses.specs.Fact.{Clause};
-ghost use Rattle.well_formed.specs.Limits.{IsWithinLimits};
-ghost use Rattle.certificates.specs.Ruling.{IsRuled};
+ghost use Rattle.spec_terms.specs.Term.{Term};
+ghost use Rattle.spec_clauses.specs.Fact.{Clause};
+ghost use Rattle.spec_well_formed.specs.Limits.{IsWithinLimits};
+ghost use Rattle.spec_certificates.specs.Ruling.{IsRuled};
 ghost use Rattle.pi_tree.specs.Protocols.{protocol_of};
 ghost use Rattle.pi_tree.specs.Accessors.{IsThere};
 ghost use Rattle.pi_tree.specs.declared.accessors.Kind.TheVariants.{Query as OfQueries};

@@ -1,7 +1,7 @@
 //! Rows that are left over where all obligations are met.
 
 ghost use Rattle.std.specs.Prelude.{drop};
-ghost use Rattle.certificates.specs.Ruling.{NoneLeft};
+ghost use Rattle.spec_certificates.specs.Ruling.{NoneLeft};
 ghost use Rattle.cert_checker.specs.Rulings.{ruling_of};
 
 use crate::checker::Checker;

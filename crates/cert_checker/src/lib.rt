@@ -3,14 +3,14 @@
 #![tactic(auto)]
 
 ghost use Rattle.std.specs.Prelude.{◌≡◌, ℕ, List};
-ghost use Rattle.calculus.specs.Syntax.{Query, Protocol};
-ghost use Rattle.terms.specs.Term.{Term};
-ghost use Rattle.clauses.specs.Fact.{Clause};
-ghost use Rattle.translation.specs.Translation.{LargeAt, IsTranslation};
-ghost use Rattle.certificates.specs.Certificate.{Certificate, bad_arguments, numbered_from, pairs_of};
-ghost use Rattle.certificates.specs.Certificate.{CoverRowHolds, GoalHolds};
-ghost use Rattle.certificates.specs.Ruling as certificates;
-ghost use Rattle.certificates.specs.Ruling.{Accepted, NoneLeft, bad_ones, IsRuled};
+ghost use Rattle.spec_calculus.specs.Syntax.{Query, Protocol};
+ghost use Rattle.spec_terms.specs.Term.{Term};
+ghost use Rattle.spec_clauses.specs.Fact.{Clause};
+ghost use Rattle.spec_translation.specs.Translation.{LargeAt, IsTranslation};
+ghost use Rattle.spec_certificates.specs.Certificate.{Certificate, bad_arguments, numbered_from, pairs_of};
+ghost use Rattle.spec_certificates.specs.Certificate.{CoverRowHolds, GoalHolds};
+ghost use Rattle.spec_certificates.specs.Ruling as certificates;
+ghost use Rattle.spec_certificates.specs.Ruling.{Accepted, NoneLeft, bad_ones, IsRuled};
 ghost use Rattle.cert_checker.specs.Stages.{FirstMisshapen, FirstUnshown, AreShown, FirstOpen};
 ghost use Rattle.cert_checker.specs.Reached.{clauses_of, HasShapes, IsTranslatedTo};
 ghost use Rattle.cert_checker.specs.Reached.{HasCovered, HasClosed};
@@ -29,9 +29,9 @@ mod shaping;
 
 pub use crate::checking::check_cert;
 pub use crate::ruling::Ruling;
-use certificates::accepted_certificates_show;
-use derivations::solved_clauses_suffice;
-use translation::one_translation;
+use spec_certificates::accepted_certificates_show;
+use spec_derivations::solved_clauses_suffice;
+use spec_translation::one_translation;
 
 /// What is ruled of a certificate, by how far its check comes: the first stage that fails says it, and where none does, the
 /// rows that are left.

@@ -1,11 +1,11 @@
 //! Goal rows: each says which alternative a clause that concludes `bad` satisfies, and by which positions.
 
 ghost use Rattle.std.specs.Prelude.{◌≡◌, ◌↔◌, ◌<◌, ◌+◌, ◌^◌, ◌∷◌, ◌&&◌, IsTrue, drop, IfOk};
-ghost use Rattle.well_formed.specs.Limits.{IsWithinLimits};
-ghost use Rattle.clauses.specs.Selection.{is_solved as is_solved_list};
-ghost use Rattle.translation.specs.Satisfied.{is_bad as is_bad_fact};
-ghost use Rattle.certificates.specs.Certificate.{GoalHolds};
-ghost use Rattle.certificates.specs.Ruling.{bad_ones};
+ghost use Rattle.spec_well_formed.specs.Limits.{IsWithinLimits};
+ghost use Rattle.spec_clauses.specs.Selection.{is_solved as is_solved_list};
+ghost use Rattle.spec_translation.specs.Satisfied.{is_bad as is_bad_fact};
+ghost use Rattle.spec_certificates.specs.Certificate.{GoalHolds};
+ghost use Rattle.spec_certificates.specs.Ruling.{bad_ones};
 ghost use Rattle.pi_tree.specs.Protocols.{protocol_of};
 ghost use Rattle.pi_tree.specs.Accessors.{IsThere};
 ghost use Rattle.pi_tree.specs.declared.accessors.Kind.TheVariants.{Query as OfQueries};

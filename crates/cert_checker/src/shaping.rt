@@ -1,7 +1,7 @@
 //! The shape of a certificate's clauses.
 
 ghost use Rattle.std.specs.Prelude.{◌≡◌, ◌↔◌, IsTrue, IfOk};
-ghost use Rattle.certificates.specs.Certificate.{HasArguments};
+ghost use Rattle.spec_certificates.specs.Certificate.{HasArguments};
 ghost use Rattle.term_tree.specs.Bank.{Grows};
 ghost use Rattle.clause_form.specs.Facts.{fact_of};
 ghost use Rattle.clause_form.specs.Seen.{fact_at, clause_at, IsClauseIn};

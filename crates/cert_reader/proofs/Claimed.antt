@@ -1,10 +1,10 @@
 -- Claims, of which some are read already.
 use Rattle.std.proofs.Common.{◌≡◌, ◌≢◌, ℕ, suc, ◌+◌, ◌-◌, ◌<◌, ◌≤◌, List, [], ◌∷◌, ◌++◌, length, drop, refl, sym, ap, subst, ◌∙◌, arith, Result, map, codes}
 use Rattle.std.proofs.lemmas.List.{map-append}
-use Rattle.calculus.specs.Syntax.{Protocol}
-use Rattle.certificate_reading.specs.Terms as terms
-use Rattle.certificate_reading.specs.Outcomes.{Outcome, Found, Faulty, next, read_fixed, read_number}
-use Rattle.certificate_reading.specs.Reports.{Claim, read_claim, behind_claims, claims_from, read_report}
+use Rattle.spec_calculus.specs.Syntax.{Protocol}
+use Rattle.spec_certificate_reading.specs.Terms as terms
+use Rattle.spec_certificate_reading.specs.Outcomes.{Outcome, Found, Faulty, next, read_fixed, read_number}
+use Rattle.spec_certificate_reading.specs.Reports.{Claim, read_claim, behind_claims, claims_from, read_report}
 use Rattle.fact_reader.specs.declared.error.CertError.{CertError}
 use Rattle.fact_reader.specs.Gives.{HasFault}
 use Rattle.cert_reader.specs.Seen.{GivesClaims}

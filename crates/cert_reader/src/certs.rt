@@ -3,8 +3,8 @@
 ghost use Rattle.std.specs.Prelude.{◌≤◌, [], drop, length};
 ghost use Rattle.pi_tree.specs.Protocols.{protocol_of};
 ghost use Rattle.term_reader.specs.Few.{HasFewNames};
-ghost use Rattle.certificate_reading.specs.Certificates as reading;
-ghost use Rattle.certificate_reading.specs.Outcomes.{lines_from};
+ghost use Rattle.spec_certificate_reading.specs.Certificates as reading;
+ghost use Rattle.spec_certificate_reading.specs.Outcomes.{lines_from};
 ghost use Rattle.fact_reader.specs.Gives.{Gives, StopsWithin, same};
 
 use crate::rows::rows;

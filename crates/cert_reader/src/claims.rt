@@ -4,7 +4,7 @@ ghost use Rattle.std.specs.Prelude.{◌≡◌, List, ◌+◌, ◌≤◌, ◌<◌
 ghost use Rattle.std.specs.List.{position_or_len};
 ghost use Rattle.pi_tree.specs.Protocols.{protocol_of};
 ghost use Rattle.term_reader.specs.Few.{HasFewNames};
-ghost use Rattle.certificate_reading.specs.Reports as reading;
+ghost use Rattle.spec_certificate_reading.specs.Reports as reading;
 ghost use Rattle.fact_reader.specs.Gives.{Gives, GivesPlace, StopsWithin, PlaceWithin};
 ghost use Rattle.cert_reader.specs.Seen.{claim_of, GivesClaims};
 

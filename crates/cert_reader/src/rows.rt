@@ -1,8 +1,8 @@
 //! Rows of numbers.
 
 ghost use Rattle.std.specs.Prelude.{◌≤◌, drop, length};
-ghost use Rattle.certificate_reading.specs.Certificates as reading;
-ghost use Rattle.certificate_reading.specs.Outcomes.{things};
+ghost use Rattle.spec_certificate_reading.specs.Certificates as reading;
+ghost use Rattle.spec_certificate_reading.specs.Outcomes.{things};
 ghost use Rattle.fact_reader.specs.Gives.{Gives, StopsWithin, same};
 ghost use Rattle.cert_reader.specs.Seen.{numbers_of};
 

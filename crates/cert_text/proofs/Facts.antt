@@ -1,11 +1,11 @@
 -- The texts of hypotheses are put one by one.
 use Rattle.std.proofs.Common.{◌≡◌, ℕ, zero, suc, ◌+◌, ◌<◌, ◌≤◌, List, [], ◌∷◌, length, map, get_or, refl, subst, arith}
-use Rattle.calculus.specs.Syntax.{Protocol}
-use Rattle.terms.specs.Term.{Term}
-use Rattle.clauses.specs.Fact.{Fact}
+use Rattle.spec_calculus.specs.Syntax.{Protocol}
+use Rattle.spec_terms.specs.Term.{Term}
+use Rattle.spec_clauses.specs.Fact.{Fact}
 use Rattle.clause_form.specs.declared.plain.PlainFact.{PlainFact}
 use Rattle.clause_form.specs.PlainFacts.{plain_fact_of}
-use Rattle.certificate_text.specs.Text.{fact_text, hypotheses_text}
+use Rattle.spec_certificate_text.specs.Text.{fact_text, hypotheses_text}
 use Rattle.cert_text.specs.Appends.{Appends}
 use Rattle.cert_text.specs.Parts.{gap_at, gap_behind}
 use Rattle.cert_text.specs.Remaining.{HasPut, hypotheses_from}

@@ -1,6 +1,6 @@
 -- The lines of rows are put one by one.
 use Rattle.std.proofs.Common.{◌≡◌, ℕ, ◌+◌, ◌<◌, List, ◌∷◌, length, map, get_or, refl, subst}
-use Rattle.certificate_text.specs.Text.{numbers_text}
+use Rattle.spec_certificate_text.specs.Text.{numbers_text}
 use Rattle.cert_text.specs.Appends.{Appends}
 use Rattle.cert_text.specs.Remaining.{HasPut, rows_from}
 use Rattle.cert_text.proofs.Items.{then, GoesOn, one_more}

@@ -1,12 +1,12 @@
 -- Words by their number.
 use Rattle.std.proofs.Common.{◌≡◌, ℕ, zero, suc, ◌+◌, ◌<◌, List, [], Some, None, map, length, get_or, slice_get, option_map, unwrap_or, refl, ap, ◌∙◌, sym, arith, add-one, ◌∷◌}
 use Rattle.std.proofs.lemmas.Option.{slice_get-map, slice_get_read}
-use Rattle.calculus.specs.Syntax as calculus
-use Rattle.calculus.specs.Points.{numbered, nodes}
-use Rattle.calculus.proofs.Items.{numbered-past}
+use Rattle.spec_calculus.specs.Syntax as calculus
+use Rattle.spec_calculus.specs.Points.{numbered, nodes}
+use Rattle.spec_calculus.proofs.Items.{numbered-past}
 use Rattle.pi_tree.specs.declared.names.Declared.{Declared}
 use Rattle.pi_tree.specs.Names.{declared_of}
-use Rattle.certificate_text.specs.Words.{declared_word, word_at, word_of_process}
+use Rattle.spec_certificate_text.specs.Words.{declared_word, word_at, word_of_process}
 
 numbered-suc : {A : Type 0} (xs : List A) (number index : ℕ) → number ≡ index + 1 → numbered xs number ≡ slice_get xs index
 numbered-suc xs number index next = rw (next, add-one) refl

@@ -1,16 +1,16 @@
 -- The text of a term is put part by part.
 use Rattle.std.proofs.Common.{◌≡◌, ℕ, zero, suc, ◌+◌, ◌<◌, ◌≤◌, Bool, List, [], ◌∷◌, ◌++◌, length, map, get_or, refl, sym, ◌∙◌, ap, subst, arith}
-use Rattle.trees.specs.Tree.{node, trees, depth, depths}
-use Rattle.calculus.specs.Syntax.{Protocol}
-use Rattle.terms.specs.Term.{Sym, Ctor, Data, Tuple, Free, Point, Attacker, Term}
+use Rattle.spec_trees.specs.Tree.{node, trees, depth, depths}
+use Rattle.spec_calculus.specs.Syntax.{Protocol}
+use Rattle.spec_terms.specs.Term.{Sym, Ctor, Data, Tuple, Free, Point, Attacker, Term}
 use Rattle.term_tree.specs.declared.bank.Sym as declared
 use Rattle.term_tree.specs.Bank.{symbol_of}
 use Rattle.clause_form.specs.declared.plain.Tree.{Tree}
 use Rattle.clause_form.specs.declared.plain.Tree.TheVariants.{App}
 use Rattle.clause_form.specs.Plain.{term_of}
-use Rattle.certificate_text.specs.Loose.{row}
-use Rattle.certificate_text.specs.Written.{written_row}
-use Rattle.certificate_text.specs.Text.{term_text}
+use Rattle.spec_certificate_text.specs.Loose.{row}
+use Rattle.spec_certificate_text.specs.Written.{written_row}
+use Rattle.spec_certificate_text.specs.Text.{term_text}
 use Rattle.cert_text.specs.Appends.{Appends}
 use Rattle.cert_text.specs.Parts.{is_alone, symbol_opening, symbol_closing, comma_at}
 use Rattle.cert_text.specs.Remaining.{HasPut, arguments_from}

@@ -1,9 +1,9 @@
 -- How contracts store certificates and rows of numbers.
 use Rattle.std.specs.Prelude.{ℕ, List, refl}
 use Rattle.std.specs.Coded.{Coded, code_by, coded×, coded_ℕ, coded_list}
-use Rattle.terms.specs.Term.{Term, coded_term}
-use Rattle.clauses.specs.Fact.{Clause}
-use Rattle.certificates.specs.Certificate.{Certificate}
+use Rattle.spec_terms.specs.Term.{Term, coded_term}
+use Rattle.spec_clauses.specs.Fact.{Clause}
+use Rattle.spec_certificates.specs.Certificate.{Certificate}
 use Rattle.clause_form.specs.Codes.{coded_clauses}
 
 abbrev pub coded_rows : Coded (List (List ℕ))

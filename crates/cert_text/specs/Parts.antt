@@ -1,9 +1,9 @@
 -- The parts of a text that stand round the arguments of a symbol or an event.
 use Rattle.std.specs.Prelude.{ℕ, zero, suc, Bool, true, false, List, [], ◌∷◌, ◌++◌}
 use Rattle.std.specs.Fmt.{decimal}
-use Rattle.calculus.specs.Syntax.{Protocol}
-use Rattle.terms.specs.Term.{Sym, Ctor, Data, Tuple, Free, Point, Attacker, Term}
-use Rattle.certificate_text.specs.Words.{word_at, symbol_word}
+use Rattle.spec_calculus.specs.Syntax.{Protocol}
+use Rattle.spec_terms.specs.Term.{Sym, Ctor, Data, Tuple, Free, Point, Attacker, Term}
+use Rattle.spec_certificate_text.specs.Words.{word_at, symbol_word}
 
 -- whether there are no arguments
 abbrev pub is_alone : List Term → Bool

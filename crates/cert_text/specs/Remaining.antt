@@ -1,12 +1,12 @@
 -- What of a text is still to be put where so many of its items were.
 use Rattle.std.specs.Prelude.{◌≡◌, ℕ, zero, suc, List, ◌++◌, drop}
-use Rattle.trees.specs.Tree.{trees}
-use Rattle.calculus.specs.Syntax.{Protocol}
-use Rattle.terms.specs.Term.{Term}
-use Rattle.clauses.specs.Fact.{Fact, Clause}
-use Rattle.certificate_text.specs.Loose.{row, behind}
-use Rattle.certificate_text.specs.Written.{written_row}
-use Rattle.certificate_text.specs.Text.{later_hypotheses, hypotheses_text, clause_lines, numbers_text, row_lines}
+use Rattle.spec_trees.specs.Tree.{trees}
+use Rattle.spec_calculus.specs.Syntax.{Protocol}
+use Rattle.spec_terms.specs.Term.{Term}
+use Rattle.spec_clauses.specs.Fact.{Fact, Clause}
+use Rattle.spec_certificate_text.specs.Loose.{row, behind}
+use Rattle.spec_certificate_text.specs.Written.{written_row}
+use Rattle.spec_certificate_text.specs.Text.{later_hypotheses, hypotheses_text, clause_lines, numbers_text, row_lines}
 
 -- of the items, whose text from a place on is as told, those before the place were put
 pub record HasPut {X : Type 0} (from : ℕ → List X → List ℕ → List ℕ) (place : ℕ) (items : List X) (before after : List ℕ) : Type 0 where

@@ -2,7 +2,7 @@
 
 ghost use Rattle.std.specs.Prelude.{◌≡◌, [], ◌∷◌, IfOk, OnOk};
 ghost use Rattle.pi_tree.specs.Protocols.{protocol_of};
-ghost use Rattle.certificate_text.specs.Text.{clause_lines, numbers_text, row_lines, certificate_text};
+ghost use Rattle.spec_certificate_text.specs.Text.{clause_lines, numbers_text, row_lines, certificate_text};
 ghost use Rattle.cert_text.specs.Appends.{Appends};
 
 use crate::clause_text::put_clause;
@@ -20,8 +20,8 @@ pub struct PlainClauses {
 
 impl Model for PlainClauses {
     ghost use Rattle.std.specs.Prelude.{List};
-    ghost use Rattle.terms.specs.Term.{Term, coded_term};
-    ghost use Rattle.clauses.specs.Fact as horn;
+    ghost use Rattle.spec_terms.specs.Term.{Term, coded_term};
+    ghost use Rattle.spec_clauses.specs.Fact as horn;
     ghost use Rattle.clause_form.specs.Codes.{coded_clauses};
 
     ghost Value = { List (horn.Clause Term) };
@@ -58,7 +58,7 @@ pub struct Cert {
 }
 
 impl Model for Cert {
-    ghost use Rattle.certificates.specs.Certificate.{Certificate};
+    ghost use Rattle.spec_certificates.specs.Certificate.{Certificate};
     ghost use Rattle.cert_text.specs.Codes.{coded_certificate};
 
     ghost Value = { Certificate };

@@ -1,13 +1,13 @@
 //! The texts of facts and clauses.
 
 ghost use Rattle.std.specs.Prelude.{◌≡◌, [], IfOk, OnOk};
-ghost use Rattle.trees.specs.Tree.{trees};
+ghost use Rattle.spec_trees.specs.Tree.{trees};
 ghost use Rattle.pi_tree.specs.Protocols.{protocol_of};
 ghost use Rattle.clause_form.specs.Plain.{term_of};
 ghost use Rattle.clause_form.specs.PlainFacts.{plain_fact_of};
-ghost use Rattle.certificate_text.specs.Loose.{onto};
-ghost use Rattle.certificate_text.specs.Written.{written_event};
-ghost use Rattle.certificate_text.specs.Text.{fact_text, hypotheses_text, clause_text};
+ghost use Rattle.spec_certificate_text.specs.Loose.{onto};
+ghost use Rattle.spec_certificate_text.specs.Written.{written_event};
+ghost use Rattle.spec_certificate_text.specs.Text.{fact_text, hypotheses_text, clause_text};
 ghost use Rattle.cert_text.specs.Appends.{Appends};
 
 use crate::parts::{is_alone, put, put_gap, put_gap_end, put_word, put_word_end};

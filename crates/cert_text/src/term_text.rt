@@ -1,12 +1,12 @@
 //! The texts of terms.
 
 ghost use Rattle.std.specs.Prelude.{◌≡◌, OnOk};
-ghost use Rattle.trees.specs.Tree.{trees};
+ghost use Rattle.spec_trees.specs.Tree.{trees};
 ghost use Rattle.pi_tree.specs.Protocols.{protocol_of};
 ghost use Rattle.clause_form.specs.Plain.{term_of};
-ghost use Rattle.certificate_text.specs.Loose.{row};
-ghost use Rattle.certificate_text.specs.Written.{written_row};
-ghost use Rattle.certificate_text.specs.Text.{term_text};
+ghost use Rattle.spec_certificate_text.specs.Loose.{row};
+ghost use Rattle.spec_certificate_text.specs.Written.{written_row};
+ghost use Rattle.spec_certificate_text.specs.Text.{term_text};
 ghost use Rattle.cert_text.specs.Appends.{Appends};
 
 use crate::parts::{is_alone, put, put_closing, put_comma, put_number, put_opening};

@@ -3,7 +3,7 @@
 ghost use Rattle.std.specs.Prelude.{◌≡◌};
 ghost use Rattle.pi_tree.specs.Protocols.{protocol_of};
 ghost use Rattle.pi_tree.specs.Processes.{process_of};
-ghost use Rattle.certificate_text.specs.Words.{declared_word, word_at, word_of_process};
+ghost use Rattle.spec_certificate_text.specs.Words.{declared_word, word_at, word_of_process};
 
 use pi_tree::{Declarations, Kind, Process, Protocol};
 

@@ -1,16 +1,16 @@
 -- Rows that are added one after another, and what the pairs of clauses add.
 use Rattle.std.proofs.Common.{◌≡◌, ◌∙◌, ℕ, ◌+◌, ◌≤◌, true, false, Option, Some, None, List, [], ◌∷◌, ◌++◌, length, take, refl, ap, sym, subst, append_assoc}
 use Rattle.std.specs.Prelude.{slice_get}
-use Rattle.terms.specs.Term.{Term}
-use Rattle.clauses.specs.Fact.{Clause}
-use Rattle.clauses.specs.Selection.{Selection, select, is_solved}
-use Rattle.clauses.specs.Resolvents.{Answer, NoUnifier, Large}
-use Rattle.clauses.specs.Inclusion.{Has}
-use Rattle.clauses.proofs.Selection.{select-none}
-use Rattle.certificates.specs.Certificate.{Numbered, numbered_from, Pair, pairs_with, pairs_of_solved, pairs_of}
-use Rattle.verdicts.specs.FirstRows.{IsFirstCover, AreFirstCovers}
-use Rattle.verdicts.specs.First.{resolvents_of, all_pairs}
-use Rattle.verdicts.proofs.Building.{covers_append, give_append, append_none, one_gives, take_next, take_past, number_at, pairs_with_next, pairs_of_next}
+use Rattle.spec_terms.specs.Term.{Term}
+use Rattle.spec_clauses.specs.Fact.{Clause}
+use Rattle.spec_clauses.specs.Selection.{Selection, select, is_solved}
+use Rattle.spec_clauses.specs.Resolvents.{Answer, NoUnifier, Large}
+use Rattle.spec_clauses.specs.Inclusion.{Has}
+use Rattle.spec_clauses.proofs.Selection.{select-none}
+use Rattle.spec_certificates.specs.Certificate.{Numbered, numbered_from, Pair, pairs_with, pairs_of_solved, pairs_of}
+use Rattle.spec_verdicts.specs.FirstRows.{IsFirstCover, AreFirstCovers}
+use Rattle.spec_verdicts.specs.First.{resolvents_of, all_pairs}
+use Rattle.spec_verdicts.proofs.Building.{covers_append, give_append, append_none, one_gives, take_next, take_past, number_at, pairs_with_next, pairs_of_next}
 use Rattle.clause_resolve.specs.Answers.{Gives}
 use Rattle.cert_writer.specs.Adding.{AddsRows, AddsPairs, with_number, pairs_of_two, pairs_of_one, pairs_if_solved, MustClose, AreRowsOf}
 

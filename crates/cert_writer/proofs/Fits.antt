@@ -1,14 +1,14 @@
 -- The entries of a closed log of a query's translation, its live clauses and the given ones are fit.
 use Rattle.std.proofs.Common.{◌≡◌, ℕ, Some, List}
-use Rattle.calculus.specs.Syntax.{Query, Protocol}
-use Rattle.calculus.specs.Points.{numbered}
-use Rattle.well_formed.specs.Limits.{IsWithinLimits}
-use Rattle.terms.specs.Term.{Term}
-use Rattle.translation.specs.Translation.{Clauses, IsTranslation}
+use Rattle.spec_calculus.specs.Syntax.{Query, Protocol}
+use Rattle.spec_calculus.specs.Points.{numbered}
+use Rattle.spec_well_formed.specs.Limits.{IsWithinLimits}
+use Rattle.spec_terms.specs.Term.{Term}
+use Rattle.spec_translation.specs.Translation.{Clauses, IsTranslation}
 use Rattle.pi_tree.specs.Accessors.{IsThere}
 use Rattle.pi_tree.specs.declared.accessors.Kind.TheVariants.{Query as OfQueries}
 use Rattle.term_tree.specs.declared.bank.Id.{Id}
-use Rattle.clauses.specs.Fact.{Clause}
+use Rattle.spec_clauses.specs.Fact.{Clause}
 use Rattle.clause_form.specs.Seen.{AreClausesIn}
 use Rattle.query_derive.specs.GoalRows.{OfQuery}
 use Rattle.clause_saturate.specs.declared.log.Entry.{Entry}

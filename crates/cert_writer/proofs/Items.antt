@@ -2,13 +2,13 @@
 use Rattle.std.proofs.Common.{◌≡◌, ℕ, suc, ◌<◌, ◌≤◌, Option, Some, None, List, [], ◌∷◌, length, get_or, subst, arith}
 use Rattle.std.specs.Prelude.{slice_get, MatchOption}
 use Rattle.std.proofs.lemmas.List.{length-map}
-use Rattle.terms.specs.Term.{Term}
-use Rattle.clauses.specs.Fact.{Clause}
-use Rattle.clauses.specs.Norm.{IsNormal}
-use Rattle.clauses.specs.Inclusion.{here, there, Has}
-use Rattle.certificates.specs.Certificate.{numbered_from}
-use Rattle.saturation.proofs.Pairs.{has_numbered}
-use Rattle.verdicts.proofs.Building.{numbers_length}
+use Rattle.spec_terms.specs.Term.{Term}
+use Rattle.spec_clauses.specs.Fact.{Clause}
+use Rattle.spec_clauses.specs.Norm.{IsNormal}
+use Rattle.spec_clauses.specs.Inclusion.{here, there, Has}
+use Rattle.spec_certificates.specs.Certificate.{numbered_from}
+use Rattle.spec_saturation.proofs.Pairs.{has_numbered}
+use Rattle.spec_verdicts.proofs.Building.{numbers_length}
 use Rattle.term_tree.specs.declared.bank.Id.{Id}
 use Rattle.clause_form.specs.Seen.{clause_at}
 use Rattle.clause_form.specs.Fit.{AreFit, clauses_at}

@@ -2,7 +2,7 @@
 use Rattle.std.proofs.Common.{◌≡◌, ◌∙◌, ℕ, ◌+◌, ◌≤◌, Some, None, List, [], ◌∷◌, ◌++◌, map, length, take, refl, ap}
 use Rattle.std.specs.Prelude.{slice_get, filter}
 use Rattle.std.proofs.lemmas.List.{map-append}
-use Rattle.verdicts.proofs.Building.{take_next, take_past}
+use Rattle.spec_verdicts.proofs.Building.{take_next, take_past}
 use Rattle.clause_form.proofs.Counting.{filter-append}
 use Rattle.clause_saturate.specs.declared.log.Entry.{Entry}
 use Rattle.clause_saturate.specs.Logs.{is_unbeaten}

@@ -3,15 +3,15 @@ use Rattle.std.proofs.Common.{◌≡◌, ◌∙◌, ℕ, zero, suc, ◌+◌, ◌
 use Rattle.std.specs.Prelude.{slice_get, filter}
 use Rattle.std.proofs.lemmas.List.{map-append}
 use Rattle.std.proofs.lemmas.Bool.{cases_lt}
-use Rattle.calculus.specs.Syntax.{Query, Protocol}
-use Rattle.calculus.specs.Points.{numbered}
-use Rattle.terms.specs.Term.{Term}
-use Rattle.clauses.specs.Fact.{Clause}
-use Rattle.clauses.specs.Selection.{is_solved}
-use Rattle.translation.specs.Satisfied.{is_bad}
-use Rattle.verdicts.specs.FirstRows.{AreFirstGoals, bad_clauses}
-use Rattle.verdicts.proofs.Goals.{goal_satisfies}
-use Rattle.verdicts.proofs.Building.{goals_append, append_none, take_next, take_past, bad_append}
+use Rattle.spec_calculus.specs.Syntax.{Query, Protocol}
+use Rattle.spec_calculus.specs.Points.{numbered}
+use Rattle.spec_terms.specs.Term.{Term}
+use Rattle.spec_clauses.specs.Fact.{Clause}
+use Rattle.spec_clauses.specs.Selection.{is_solved}
+use Rattle.spec_translation.specs.Satisfied.{is_bad}
+use Rattle.spec_verdicts.specs.FirstRows.{AreFirstGoals, bad_clauses}
+use Rattle.spec_verdicts.proofs.Goals.{goal_satisfies}
+use Rattle.spec_verdicts.proofs.Building.{goals_append, append_none, take_next, take_past, bad_append}
 use Rattle.clause_form.specs.Seen.{clause_at}
 use Rattle.clause_form.proofs.Counting.{filter-append}
 use Rattle.clause_saturate.specs.declared.log.Entry.{Entry}

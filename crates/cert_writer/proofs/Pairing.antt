@@ -1,11 +1,11 @@
 -- What a pair of live clauses gives, in a bank that goes back.
 use Rattle.std.proofs.Common.{◌≡◌, ℕ, true, List, refl, subst}
-use Rattle.terms.specs.Term.{Term}
-use Rattle.clauses.specs.Fact as horn
-use Rattle.clauses.specs.Selection.{is_solved}
-use Rattle.clauses.specs.Resolvents as answer
-use Rattle.clauses.specs.Inclusion.{Has}
-use Rattle.saturation.specs.Live.{MustBeCovered}
+use Rattle.spec_terms.specs.Term.{Term}
+use Rattle.spec_clauses.specs.Fact as horn
+use Rattle.spec_clauses.specs.Selection.{is_solved}
+use Rattle.spec_clauses.specs.Resolvents as answer
+use Rattle.spec_clauses.specs.Inclusion.{Has}
+use Rattle.spec_saturation.specs.Live.{MustBeCovered}
 use Rattle.term_tree.specs.declared.bank.Id.{Id}
 use Rattle.clause_resolve.specs.Answers.{IsAnswerOf}
 use Rattle.clause_resolve.specs.declared.resolving.Resolved.{Resolved}

@@ -3,25 +3,25 @@ use Rattle.std.proofs.Common.{◌≡◌, ◌∙◌, ℕ, zero, suc, ◌<◌, ◌
 use Rattle.std.specs.Prelude.{slice_get, drop, filter}
 use Rattle.std.proofs.lemmas.List.{length-map}
 use Rattle.std.proofs.lemmas.Simd.{map-map}
-use Rattle.trees.proofs.Equality.{and_true}
-use Rattle.calculus.specs.Syntax.{Query, Protocol}
-use Rattle.calculus.specs.Points.{numbered}
-use Rattle.well_formed.specs.Limits.{IsSmallQuery, IsWithinLimits}
-use Rattle.terms.specs.Term.{Term}
-use Rattle.clauses.specs.Fact.{Clause}
-use Rattle.clauses.specs.Norm.{IsNormal}
-use Rattle.clauses.specs.Limits.{IsWithinLimit}
-use Rattle.clauses.specs.Selection.{is_solved}
-use Rattle.clauses.specs.Inclusion.{here, there, Has}
-use Rattle.translation.specs.Satisfied.{is_bad, IsSatisfied}
-use Rattle.translation.specs.Translation.{Clauses, IsTranslation}
-use Rattle.certificates.specs.Certificate.{IsInShape}
-use Rattle.saturation.specs.Key as offered
-use Rattle.saturation.specs.Log.{IsBeaten}
-use Rattle.saturation.specs.End as ending
-use Rattle.saturation.specs.End.{IsLog}
-use Rattle.verdicts.specs.Verdict.{IsUnmet, IsFirstUnmet}
-use Rattle.verdicts.proofs.Entries.{given_shape, entries_shape}
+use Rattle.spec_trees.proofs.Equality.{and_true}
+use Rattle.spec_calculus.specs.Syntax.{Query, Protocol}
+use Rattle.spec_calculus.specs.Points.{numbered}
+use Rattle.spec_well_formed.specs.Limits.{IsSmallQuery, IsWithinLimits}
+use Rattle.spec_terms.specs.Term.{Term}
+use Rattle.spec_clauses.specs.Fact.{Clause}
+use Rattle.spec_clauses.specs.Norm.{IsNormal}
+use Rattle.spec_clauses.specs.Limits.{IsWithinLimit}
+use Rattle.spec_clauses.specs.Selection.{is_solved}
+use Rattle.spec_clauses.specs.Inclusion.{here, there, Has}
+use Rattle.spec_translation.specs.Satisfied.{is_bad, IsSatisfied}
+use Rattle.spec_translation.specs.Translation.{Clauses, IsTranslation}
+use Rattle.spec_certificates.specs.Certificate.{IsInShape}
+use Rattle.spec_saturation.specs.Key as offered
+use Rattle.spec_saturation.specs.Log.{IsBeaten}
+use Rattle.spec_saturation.specs.End as ending
+use Rattle.spec_saturation.specs.End.{IsLog}
+use Rattle.spec_verdicts.specs.Verdict.{IsUnmet, IsFirstUnmet}
+use Rattle.spec_verdicts.proofs.Entries.{given_shape, entries_shape}
 use Rattle.term_tree.specs.declared.bank.Id.{Id}
 use Rattle.clause_form.specs.Seen.{clause_at, AreClausesIn}
 use Rattle.clause_saturate.specs.declared.log.Entry.{Entry}

@@ -2,20 +2,20 @@
 use Rattle.std.proofs.Common.{◌≡◌, ◌∙◌, ℕ, zero, suc, ◌<◌, ◌≤◌, Some, List, [], ◌∷◌, length, refl, sym, subst, inr, arith}
 use Rattle.std.specs.Prelude.{slice_get}
 use Rattle.std.specs.List.{AllByRecursion}
-use Rattle.calculus.specs.Syntax.{Query, Protocol}
-use Rattle.calculus.specs.Points.{numbered}
-use Rattle.well_formed.specs.Limits.{IsSmallQuery, IsWithinLimits}
-use Rattle.terms.specs.Term.{Term}
-use Rattle.clauses.specs.Fact.{Clause}
-use Rattle.clauses.specs.Inclusion.{Has}
-use Rattle.translation.specs.Translation.{Clauses, IsTranslation}
-use Rattle.translation.proofs.Goal.{clauses_normal}
-use Rattle.certificates.specs.Certificate.{Certificate}
-use Rattle.saturation.specs.Key as offered
-use Rattle.saturation.specs.Live.{AreLive, MustBeCovered, MeetsCovers}
-use Rattle.saturation.proofs.Pairs.{closed_covers}
-use Rattle.verdicts.specs.FirstRows.{AreFirstGoals, bad_clauses}
-use Rattle.verdicts.specs.Verdict.{Proved, Unmet, IsVerdict}
+use Rattle.spec_calculus.specs.Syntax.{Query, Protocol}
+use Rattle.spec_calculus.specs.Points.{numbered}
+use Rattle.spec_well_formed.specs.Limits.{IsSmallQuery, IsWithinLimits}
+use Rattle.spec_terms.specs.Term.{Term}
+use Rattle.spec_clauses.specs.Fact.{Clause}
+use Rattle.spec_clauses.specs.Inclusion.{Has}
+use Rattle.spec_translation.specs.Translation.{Clauses, IsTranslation}
+use Rattle.spec_translation.proofs.Goal.{clauses_normal}
+use Rattle.spec_certificates.specs.Certificate.{Certificate}
+use Rattle.spec_saturation.specs.Key as offered
+use Rattle.spec_saturation.specs.Live.{AreLive, MustBeCovered, MeetsCovers}
+use Rattle.spec_saturation.proofs.Pairs.{closed_covers}
+use Rattle.spec_verdicts.specs.FirstRows.{AreFirstGoals, bad_clauses}
+use Rattle.spec_verdicts.specs.Verdict.{Proved, Unmet, IsVerdict}
 use Rattle.term_tree.specs.declared.bank.Id.{Id}
 use Rattle.clause_saturate.specs.declared.log.Entry.{Entry}
 use Rattle.clause_saturate.specs.Logs.{TellLog, IsClosedLog, live_clauses}

@@ -1,14 +1,14 @@
 -- Rows that are added to others: the first of clauses, and of what pairs give.
 use Rattle.std.specs.Prelude.{◌≡◌, ℕ, true, Some, List, ◌++◌, map, flat_map}
-use Rattle.terms.specs.Term.{Term}
-use Rattle.clauses.specs.Fact.{Clause}
-use Rattle.clauses.specs.Selection.{Selection, select, is_solved}
-use Rattle.clauses.specs.Resolvents.{Answer, Resolves}
-use Rattle.clauses.specs.Inclusion.{Has}
-use Rattle.certificates.specs.Certificate.{Numbered, Pair, pairs_with, pairs_of_solved}
-use Rattle.saturation.specs.Live.{MustBeAnswered}
-use Rattle.verdicts.specs.FirstRows.{AreFirstCovers}
-use Rattle.verdicts.specs.First.{AllGive, all_pairs}
+use Rattle.spec_terms.specs.Term.{Term}
+use Rattle.spec_clauses.specs.Fact.{Clause}
+use Rattle.spec_clauses.specs.Selection.{Selection, select, is_solved}
+use Rattle.spec_clauses.specs.Resolvents.{Answer, Resolves}
+use Rattle.spec_clauses.specs.Inclusion.{Has}
+use Rattle.spec_certificates.specs.Certificate.{Numbered, Pair, pairs_with, pairs_of_solved}
+use Rattle.spec_saturation.specs.Live.{MustBeAnswered}
+use Rattle.spec_verdicts.specs.FirstRows.{AreFirstCovers}
+use Rattle.spec_verdicts.specs.First.{AllGive, all_pairs}
 
 -- the rows after are those before, and then the first rows of these clauses
 pub record AddsRows (clauses cs : List (Clause Term)) (before after : List (List ℕ)) : Type 0 where

@@ -1,14 +1,14 @@
 -- What comes of a closed log: a certificate, and with it the verdict; or the first entry that is unmet.
 use Rattle.std.specs.Prelude.{◌≡◌, ℕ, List}
-use Rattle.calculus.specs.Syntax.{Query, Protocol}
-use Rattle.calculus.specs.Secrecy.{Holds}
-use Rattle.terms.specs.Term.{Term}
-use Rattle.clauses.specs.Fact.{Clause}
-use Rattle.certificates.specs.Shown.{IsProper}
-use Rattle.certificates.specs.Certificate.{Certificate}
-use Rattle.certificates.specs.Ruling.{Accepted, IsRuled}
-use Rattle.saturation.specs.Key as offered
-use Rattle.verdicts.specs.Verdict.{Proved, Unmet, IsVerdict}
+use Rattle.spec_calculus.specs.Syntax.{Query, Protocol}
+use Rattle.spec_calculus.specs.Secrecy.{Holds}
+use Rattle.spec_terms.specs.Term.{Term}
+use Rattle.spec_clauses.specs.Fact.{Clause}
+use Rattle.spec_certificates.specs.Shown.{IsProper}
+use Rattle.spec_certificates.specs.Certificate.{Certificate}
+use Rattle.spec_certificates.specs.Ruling.{Accepted, IsRuled}
+use Rattle.spec_saturation.specs.Key as offered
+use Rattle.spec_verdicts.specs.Verdict.{Proved, Unmet, IsVerdict}
 use Rattle.clause_saturate.specs.declared.log.Entry.{Entry}
 use Rattle.clause_saturate.specs.Logs.{TellLog}
 use Rattle.cert_writer.specs.Adding.{AreRowsOf}

@@ -1,11 +1,11 @@
 -- Goal rows of the entries of a log.
 use Rattle.std.specs.Prelude.{◌≡◌, ◌⊎◌, ℕ, ◌<◌, Bool, true, false, ◌&&◌, Some, List, [], ◌∷◌, ◌++◌}
-use Rattle.calculus.specs.Syntax.{Query, Protocol}
-use Rattle.calculus.specs.Points.{numbered}
-use Rattle.terms.specs.Term.{Term}
-use Rattle.clauses.specs.Selection.{is_solved}
-use Rattle.translation.specs.Satisfied.{is_bad, IsSatisfied}
-use Rattle.verdicts.specs.FirstRows.{IsFirstGoal, AreFirstGoals, bad_clauses}
+use Rattle.spec_calculus.specs.Syntax.{Query, Protocol}
+use Rattle.spec_calculus.specs.Points.{numbered}
+use Rattle.spec_terms.specs.Term.{Term}
+use Rattle.spec_clauses.specs.Selection.{is_solved}
+use Rattle.spec_translation.specs.Satisfied.{is_bad, IsSatisfied}
+use Rattle.spec_verdicts.specs.FirstRows.{IsFirstGoal, AreFirstGoals, bad_clauses}
 use Rattle.clause_form.specs.Seen.{clause_at}
 use Rattle.clause_saturate.specs.declared.log.Entry.{Entry}
 use Rattle.clause_saturate.specs.Logs.{is_unbeaten, live_clauses}

@@ -1,12 +1,12 @@
 //! The certificate of a closed log.
 
 ghost use Rattle.std.specs.Prelude.{◌≡◌, ◌<◌, ◌^◌, ℕ, length, IfOk};
-ghost use Rattle.well_formed.specs.Limits.{IsWithinLimits};
-ghost use Rattle.terms.specs.Term.{Term};
-ghost use Rattle.clauses.specs.Fact.{Clause as ClauseOf};
-ghost use Rattle.clauses.specs.Inclusion.{Has};
-ghost use Rattle.translation.specs.Translation.{Clauses as TranslatedTo, IsTranslation};
-ghost use Rattle.saturation.specs.Live.{MustBeCovered};
+ghost use Rattle.spec_well_formed.specs.Limits.{IsWithinLimits};
+ghost use Rattle.spec_terms.specs.Term.{Term};
+ghost use Rattle.spec_clauses.specs.Fact.{Clause as ClauseOf};
+ghost use Rattle.spec_clauses.specs.Inclusion.{Has};
+ghost use Rattle.spec_translation.specs.Translation.{Clauses as TranslatedTo, IsTranslation};
+ghost use Rattle.spec_saturation.specs.Live.{MustBeCovered};
 ghost use Rattle.pi_tree.specs.Protocols.{protocol_of};
 ghost use Rattle.pi_tree.specs.Accessors.{IsThere};
 ghost use Rattle.pi_tree.specs.declared.accessors.Kind.TheVariants.{Query as OfQueries};
@@ -27,9 +27,9 @@ use cert_text::{Cert, Rows};
 use clause_form::Clause;
 use clause_saturate::Log;
 use pi_tree::Protocol;
+use spec_verdicts::proved_queries_hold;
 use std::alloc::{AllocError, Global};
 use term_tree::Bank;
-use verdicts::proved_queries_hold;
 
 /// The first rows of the given clauses, and then of what all pairs of live clauses give. The bank is as before.
 fn rows_of<B: Bank>(bank: &mut B, writer: &Writer<'_>, given: &[Clause]) -> Result<Rows, AllocError>

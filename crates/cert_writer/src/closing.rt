@@ -1,12 +1,12 @@
 //! The rows of what pairs of a solved clause with an unsolved one give.
 
 ghost use Rattle.std.specs.Prelude.{◌≡◌, ◌<◌, ◌≤◌, ◌^◌, ℕ, true, length, take, OnOk};
-ghost use Rattle.terms.specs.Term.{Term};
-ghost use Rattle.clauses.specs.Fact.{Clause as ClauseOf};
-ghost use Rattle.clauses.specs.Selection.{select, is_solved as is_solved_list};
-ghost use Rattle.clauses.specs.Inclusion.{Has};
-ghost use Rattle.saturation.specs.Live.{MustBeCovered};
-ghost use Rattle.certificates.specs.Certificate.{numbered_from, pairs_of};
+ghost use Rattle.spec_terms.specs.Term.{Term};
+ghost use Rattle.spec_clauses.specs.Fact.{Clause as ClauseOf};
+ghost use Rattle.spec_clauses.specs.Selection.{select, is_solved as is_solved_list};
+ghost use Rattle.spec_clauses.specs.Inclusion.{Has};
+ghost use Rattle.spec_saturation.specs.Live.{MustBeCovered};
+ghost use Rattle.spec_certificates.specs.Certificate.{numbered_from, pairs_of};
 ghost use Rattle.clause_form.specs.Seen.{clause_at};
 ghost use Rattle.clause_form.specs.Fit.{IsFit, AreFit, clauses_at};
 ghost use Rattle.cert_writer.specs.Adding.{AddsRows, AddsPairs, MustClose};

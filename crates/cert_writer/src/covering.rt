@@ -1,12 +1,12 @@
 //! Cover rows: the first that show that the live clauses cover others.
 
 ghost use Rattle.std.specs.Prelude.{◌≡◌, ◌<◌, ◌^◌, ◌∷◌, length, map, IfOk, OnOk};
-ghost use Rattle.terms.specs.Term.{Term};
-ghost use Rattle.clauses.specs.Fact.{Clause as ClauseOf};
-ghost use Rattle.clauses.specs.Limits.{IsWithinLimit};
-ghost use Rattle.clauses.specs.Inclusion.{Has};
-ghost use Rattle.saturation.specs.Live.{MustBeCovered};
-ghost use Rattle.verdicts.specs.FirstRows.{IsFirstCover};
+ghost use Rattle.spec_terms.specs.Term.{Term};
+ghost use Rattle.spec_clauses.specs.Fact.{Clause as ClauseOf};
+ghost use Rattle.spec_clauses.specs.Limits.{IsWithinLimit};
+ghost use Rattle.spec_clauses.specs.Inclusion.{Has};
+ghost use Rattle.spec_saturation.specs.Live.{MustBeCovered};
+ghost use Rattle.spec_verdicts.specs.FirstRows.{IsFirstCover};
 ghost use Rattle.clause_form.specs.Seen.{clause_at, IsClauseIn};
 ghost use Rattle.clause_form.specs.Fit.{AreFit, clauses_at};
 ghost use Rattle.cert_writer.specs.Adding.{AddsRows};

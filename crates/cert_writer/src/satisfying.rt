@@ -1,10 +1,10 @@
 //! Goal rows: the first that show that live solved clauses which conclude `bad` satisfy the query.
 
 ghost use Rattle.std.specs.Prelude.{◌≡◌, ◌<◌, ◌^◌, ◌∷◌, ◌&&◌, ℕ, length, IfOk, MatchBool, MatchOption};
-ghost use Rattle.well_formed.specs.Limits.{IsWithinLimits};
-ghost use Rattle.clauses.specs.Selection.{is_solved as is_solved_list};
-ghost use Rattle.translation.specs.Satisfied.{is_bad as is_bad_fact, IsSatisfied};
-ghost use Rattle.verdicts.specs.FirstRows.{IsFirstGoal};
+ghost use Rattle.spec_well_formed.specs.Limits.{IsWithinLimits};
+ghost use Rattle.spec_clauses.specs.Selection.{is_solved as is_solved_list};
+ghost use Rattle.spec_translation.specs.Satisfied.{is_bad as is_bad_fact, IsSatisfied};
+ghost use Rattle.spec_verdicts.specs.FirstRows.{IsFirstGoal};
 ghost use Rattle.pi_tree.specs.Protocols.{protocol_of};
 ghost use Rattle.pi_tree.specs.Accessors.{IsThere};
 ghost use Rattle.pi_tree.specs.declared.accessors.Kind.TheVariants.{Query as OfQueries};

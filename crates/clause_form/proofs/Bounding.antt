@@ -2,10 +2,10 @@
 use Rattle.std.proofs.Common.{◌≡◌, ℕ, ◌+◌, ◌<◌, ◌≤◌, max, List, [], ◌∷◌, ◌++◌, length, flat_map, take, get_or, refl, ap, sym, ◌∙◌, subst, arith}
 use Rattle.std.specs.List.{AllByRecursion}
 use Rattle.std.proofs.lemmas.Grind.{flat_map-append}
-use Rattle.terms.specs.Term.{Term}
-use Rattle.clauses.specs.Fact.{Fact, Clause, terms_of, facts_of, clause_terms}
-use Rattle.clauses.specs.Variables.{leaves, fact_variables, clause_variables, AreBelow}
-use Rattle.clauses.proofs.Lists.{all-flat_map, all-from_flat_map}
+use Rattle.spec_terms.specs.Term.{Term}
+use Rattle.spec_clauses.specs.Fact.{Fact, Clause, terms_of, facts_of, clause_terms}
+use Rattle.spec_clauses.specs.Variables.{leaves, fact_variables, clause_variables, AreBelow}
+use Rattle.spec_clauses.proofs.Lists.{all-flat_map, all-from_flat_map}
 use Rattle.clause_form.specs.Bounds.{above}
 use Rattle.clause_form.proofs.Lists.{flat_map_more, flat_map_all}
 

@@ -2,10 +2,10 @@
 use Rattle.std.proofs.Common.{◌≡◌, ◌↔◌, ℕ, ◌+◌, ◌<◌, ◌≤◌, Bool, true, false, ◌&&◌, ◌||◌, List, [], ◌∷◌, length, map, drop, get_or, ap, sym, ◌∙◌, add-one, drop-cons, drop_of_length-le}
 use Rattle.std.proofs.lemmas.List.{length-map}
 use Rattle.std.specs.List.{list_any, list_all}
-use Rattle.trees.specs.Tree.{size}
-use Rattle.terms.specs.Term.{Term}
-use Rattle.clauses.specs.Fact.{same_term, same_terms}
-use Rattle.clauses.proofs.Equality.{tests_same, same_term-decides, same_terms-decides}
+use Rattle.spec_trees.specs.Tree.{size}
+use Rattle.spec_terms.specs.Term.{Term}
+use Rattle.spec_clauses.specs.Fact.{same_term, same_terms}
+use Rattle.spec_clauses.proofs.Equality.{tests_same, same_term-decides, same_terms-decides}
 use Rattle.term_tree.specs.Bank.{tree_at, capped}
 use Rattle.term_tree.specs.declared.bank.Id.{Id}
 

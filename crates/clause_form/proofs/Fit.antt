@@ -1,12 +1,12 @@
 -- Clauses that are fit for resolution stay so as the bank grows, and so are resolvents.
 use Rattle.std.proofs.Common.{◌≡◌, ℕ, zero, suc, ◌<◌, Option, List, [], ◌∷◌, length, map, get_or, refl, sym, subst, arith}
-use Rattle.terms.specs.Term.{Term}
-use Rattle.clauses.specs.Fact.{Clause}
-use Rattle.clauses.specs.Norm.{IsNormal}
-use Rattle.clauses.specs.Limits.{IsWithinLimit}
-use Rattle.clauses.specs.Resolvents.{Resolvents, answer_of}
-use Rattle.clauses.specs.Inclusion.{here, there, Has}
-use Rattle.clauses.proofs.Made.{made_small, made_normal}
+use Rattle.spec_terms.specs.Term.{Term}
+use Rattle.spec_clauses.specs.Fact.{Clause}
+use Rattle.spec_clauses.specs.Norm.{IsNormal}
+use Rattle.spec_clauses.specs.Limits.{IsWithinLimit}
+use Rattle.spec_clauses.specs.Resolvents.{Resolvents, answer_of}
+use Rattle.spec_clauses.specs.Inclusion.{here, there, Has}
+use Rattle.spec_clauses.proofs.Made.{made_small, made_normal}
 use Rattle.term_tree.specs.Bank.{Grows}
 use Rattle.term_tree.specs.declared.bank.Id.{Id}
 use Rattle.clause_form.specs.Seen.{clause_at, IsClauseIn, NamesClause, AreClausesIn, NameClauses}

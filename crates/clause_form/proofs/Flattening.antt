@@ -4,10 +4,10 @@ use Rattle.std.specs.declared.alloc.AllocError.{AllocError}
 use Rattle.std.proofs.lemmas.List.{map-append, map-id}
 use Rattle.std.proofs.lemmas.Simd.{map-map}
 use Rattle.std.proofs.lemmas.List.Folds.{flat_map-map}
-use Rattle.trees.specs.Tree.{Leaf, node, trees}
-use Rattle.terms.specs.Term.{Sym, Term}
-use Rattle.clauses.specs.Fact.{Fact, Att, Clause}
-use Rattle.clauses.specs.Flat.{is_data, parts, row_parts, flat, flat_parts}
+use Rattle.spec_trees.specs.Tree.{Leaf, node, trees}
+use Rattle.spec_terms.specs.Term.{Sym, Term}
+use Rattle.spec_clauses.specs.Fact.{Fact, Att, Clause}
+use Rattle.spec_clauses.specs.Flat.{is_data, parts, row_parts, flat, flat_parts}
 use Rattle.term_tree.specs.Bank.{tree_at}
 use Rattle.term_tree.specs.declared.bank.Id.{Id}
 use Rattle.clause_form.specs.declared.facts.Fact as declared

@@ -2,10 +2,10 @@
 use Rattle.std.proofs.Common.{◌≡◌, ℕ, Bool, true, not, Result, IfOk, List, [], map, filter, ap, sym, ◌∙◌, subst}
 use Rattle.std.specs.declared.alloc.AllocError.{AllocError}
 use Rattle.std.specs.List.{list_all}
-use Rattle.terms.specs.Term.{Term}
-use Rattle.clauses.specs.Fact.{Fact, Bad, Clause, same_fact}
-use Rattle.clauses.specs.Norm.{distinct, is_lonely}
-use Rattle.clauses.proofs.Distinct.{filter-all}
+use Rattle.spec_terms.specs.Term.{Term}
+use Rattle.spec_clauses.specs.Fact.{Fact, Bad, Clause, same_fact}
+use Rattle.spec_clauses.specs.Norm.{distinct, is_lonely}
+use Rattle.spec_clauses.proofs.Distinct.{filter-all}
 use Rattle.term_tree.specs.declared.bank.Id.{Id}
 use Rattle.clause_form.specs.Normality.{are_different}
 use Rattle.clause_form.specs.Seen.{fact_at, AreFactsIn, NameFacts}

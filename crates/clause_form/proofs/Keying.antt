@@ -6,10 +6,10 @@ use Rattle.std.specs.List.{list_any}
 use Rattle.std.specs.HashMap.{HashMap, get}
 use Rattle.std.specs.declared.hash.BuildHasherDefault.{BuildHasherDefault}
 use Rattle.std.specs.declared.hash.FoldHasher.{FoldHasher}
-use Rattle.trees.specs.Tree.{node, trees}
-use Rattle.terms.specs.Term.{Sym, Term}
-use Rattle.clauses.specs.Fact.{Fact, same_fact, is_among}
-use Rattle.clauses.proofs.Equality.{same_fact-decides}
+use Rattle.spec_trees.specs.Tree.{node, trees}
+use Rattle.spec_terms.specs.Term.{Sym, Term}
+use Rattle.spec_clauses.specs.Fact.{Fact, same_fact, is_among}
+use Rattle.spec_clauses.proofs.Equality.{same_fact-decides}
 use Rattle.term_tree.specs.Bank.{tree_at}
 use Rattle.term_tree.specs.declared.bank.Id.{Id}
 use Rattle.clause_form.specs.declared.facts.Fact as declared

@@ -1,9 +1,9 @@
 -- A fact that is made of a head and of ids that name terms.
 use Rattle.std.proofs.Common.{◌≡◌, List, [], ◌∷◌, map, ap}
-use Rattle.terms.specs.Term.{Term}
-use Rattle.clauses.specs.Fact.{Fact, terms_of, map_fact}
-use Rattle.clauses.specs.Fact as fact
-use Rattle.clauses.specs.Head.{head_of, made_of}
+use Rattle.spec_terms.specs.Term.{Term}
+use Rattle.spec_clauses.specs.Fact.{Fact, terms_of, map_fact}
+use Rattle.spec_clauses.specs.Fact as fact
+use Rattle.spec_clauses.specs.Head.{head_of, made_of}
 use Rattle.term_tree.specs.Bank.{tree_at}
 use Rattle.term_tree.specs.declared.bank.Id.{Id}
 use Rattle.clause_form.specs.Seen.{fact_at, NameTerms, NamesFact}

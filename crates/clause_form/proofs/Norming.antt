@@ -4,14 +4,14 @@ use Rattle.std.specs.declared.alloc.AllocError.{AllocError}
 use Rattle.std.specs.List.{list_any}
 use Rattle.std.proofs.lemmas.List.{map-append, map_more, take_all, length-map}
 use Rattle.std.proofs.lemmas.Simd.{map-map}
-use Rattle.trees.specs.Tree.{Leaf, Node}
-use Rattle.terms.specs.Term.{Term}
-use Rattle.terms.proofs.Replace.{eqb_self}
-use Rattle.clauses.specs.Fact.{Fact, Att, Mess, Ev, Mev, Bad, Clause, same_fact, is_among, is_variable_known, fact_under}
-use Rattle.clauses.specs.Variables.{fact_variables, clause_variables}
-use Rattle.clauses.specs.Selection.{is_solved}
-use Rattle.clauses.specs.Norm.{distinct, is_lonely, generalized, numbered_anew, norm}
-use Rattle.clauses.proofs.Equality.{same_fact-decides}
+use Rattle.spec_trees.specs.Tree.{Leaf, Node}
+use Rattle.spec_terms.specs.Term.{Term}
+use Rattle.spec_terms.proofs.Replace.{eqb_self}
+use Rattle.spec_clauses.specs.Fact.{Fact, Att, Mess, Ev, Mev, Bad, Clause, same_fact, is_among, is_variable_known, fact_under}
+use Rattle.spec_clauses.specs.Variables.{fact_variables, clause_variables}
+use Rattle.spec_clauses.specs.Selection.{is_solved}
+use Rattle.spec_clauses.specs.Norm.{distinct, is_lonely, generalized, numbered_anew, norm}
+use Rattle.spec_clauses.proofs.Equality.{same_fact-decides}
 use Rattle.term_tree.specs.Bank.{Grows}
 use Rattle.term_tree.specs.declared.bank.Id.{Id}
 use Rattle.clause_form.specs.declared.facts.Fact as declared

@@ -3,11 +3,11 @@ use Rattle.std.proofs.Common.{◌≡◌, ◌↔◌, ℕ, ◌+◌, ◌<◌, ◌�
 use Rattle.std.proofs.lemmas.List.{map_more, take_all}
 use Rattle.std.proofs.lemmas.Simd.{map-map}
 use Rattle.std.proofs.Math.Seq.{drop-append_seam}
-use Rattle.trees.specs.Tree.{Leaf, node, bind}
-use Rattle.trees.proofs.Rows.{bind-node}
-use Rattle.terms.specs.Term.{Sym, Term, Subst}
-use Rattle.clauses.specs.Fact.{Fact, fact_under}
-use Rattle.clauses.specs.Norm.{place_of}
+use Rattle.spec_trees.specs.Tree.{Leaf, node, bind}
+use Rattle.spec_trees.proofs.Rows.{bind-node}
+use Rattle.spec_terms.specs.Term.{Sym, Term, Subst}
+use Rattle.spec_clauses.specs.Fact.{Fact, fact_under}
+use Rattle.spec_clauses.specs.Norm.{place_of}
 use Rattle.term_tree.specs.Bank.{tree_at, AreKnown, Names, Grows}
 use Rattle.term_tree.specs.declared.bank.Id.{Id}
 use Rattle.term_tree.proofs.BankLaws.{Grows_refl, Grows_trans, Grows-length, tree_at-grows, trees_at-grow}

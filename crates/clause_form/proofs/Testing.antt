@@ -1,11 +1,11 @@
 -- The tests of a clause that is its own norm, item by item, and what they tell.
 use Rattle.std.proofs.Common.{◌≡◌, ℕ, zero, suc, ◌+◌, ◌-◌, ◌^◌, ◌<◌, ◌≤◌, min, Bool, not, ◌&&◌, Option, Some, List, [], ◌∷◌, ◌++◌, length, map, flat_map, take, drop, get_or, refl, ap, sym, ◌∙◌, subst, arith}
-use Rattle.terms.specs.Term.{Term}
-use Rattle.clauses.specs.Fact.{Fact, Clause, is_among}
+use Rattle.spec_terms.specs.Term.{Term}
+use Rattle.spec_clauses.specs.Fact.{Fact, Clause, is_among}
 use Rattle.clause_form.specs.declared.facts.Fact as declared
 use Rattle.clause_form.specs.Facts.{fact_of}
 use Rattle.clause_form.specs.Seen.{fact_at, AreFactsIn}
-use Rattle.clauses.specs.Variables.{fact_variables, clause_variables, times}
+use Rattle.spec_clauses.specs.Variables.{fact_variables, clause_variables, times}
 use Rattle.clause_form.specs.Normality.{are_different, number_after, numbers_after}
 use Rattle.std.proofs.lemmas.List.{take_rest}
 use Rattle.std.proofs.lemmas.Simd.{map-map}

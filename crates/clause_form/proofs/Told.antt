@@ -1,19 +1,19 @@
 -- What the tests of a clause that is its own norm tell: each of them, that a rule leaves the clause as it is.
 use Rattle.std.proofs.Common.{◌≡◌, ◌↔◌, ℕ, zero, suc, ◌+◌, ◌<◌, ◌≤◌, Bool, true, false, not, ◌&&◌, ◌||◌, cond, nat_eq, nat_lt, None, Some, is_some, List, [], ◌∷◌, length, filter, refl, ap, sym, ◌∙◌, subst, eqb-true, eq-eqb, ne_eqb, ltb-true, ltb-false, lt-ltb, le-ltb, arith}
 use Rattle.std.specs.List.{AllByRecursion, IsDistinct, list_any, list_all, range_with_len}
-use Rattle.trees.specs.Tree.{Leaf}
-use Rattle.trees.proofs.Equality.{and_true}
-use Rattle.trees.proofs.Occurrence.{or_false}
-use Rattle.terms.specs.Term.{Term}
-use Rattle.clauses.specs.Fact.{Fact, Clause, same_fact, is_among}
-use Rattle.clauses.specs.Variables.{clause_variables}
-use Rattle.clauses.specs.Norm.{distinct, place_of, numbering, without_repeats, is_lonely, without_lonely, numbered_anew, IsNormal}
-use Rattle.clauses.proofs.Lists.{all_weaker}
-use Rattle.clauses.proofs.Facts.{clause_under-agree, clause_under-Leaf}
-use Rattle.clauses.proofs.Renaming.{clause_variables-renamed, variables_distinct-renamed}
-use Rattle.clauses.proofs.Distinct.{all-filter_passes, filter-all, distinct-distinct, distinct-fixed, nat_eq-decides, stand_all, stands_distinct, at_places, places_of_distinct}
-use Rattle.clauses.proofs.Norm.{names_of, back_of}
-use Rattle.clauses.proofs.NormKeeps.{own_norm}
+use Rattle.spec_trees.specs.Tree.{Leaf}
+use Rattle.spec_trees.proofs.Equality.{and_true}
+use Rattle.spec_trees.proofs.Occurrence.{or_false}
+use Rattle.spec_terms.specs.Term.{Term}
+use Rattle.spec_clauses.specs.Fact.{Fact, Clause, same_fact, is_among}
+use Rattle.spec_clauses.specs.Variables.{clause_variables}
+use Rattle.spec_clauses.specs.Norm.{distinct, place_of, numbering, without_repeats, is_lonely, without_lonely, numbered_anew, IsNormal}
+use Rattle.spec_clauses.proofs.Lists.{all_weaker}
+use Rattle.spec_clauses.proofs.Facts.{clause_under-agree, clause_under-Leaf}
+use Rattle.spec_clauses.proofs.Renaming.{clause_variables-renamed, variables_distinct-renamed}
+use Rattle.spec_clauses.proofs.Distinct.{all-filter_passes, filter-all, distinct-distinct, distinct-fixed, nat_eq-decides, stand_all, stands_distinct, at_places, places_of_distinct}
+use Rattle.spec_clauses.proofs.Norm.{names_of, back_of}
+use Rattle.spec_clauses.proofs.NormKeeps.{own_norm}
 use Rattle.clause_form.specs.Normality.{are_different, number_after, numbers_after, KeepsItsFacts, KeepsItsVariables}
 
 of_not : (b : Bool) → not b ≡ true → b ≡ false

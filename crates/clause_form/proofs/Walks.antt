@@ -1,8 +1,8 @@
 -- Going down a term of a bank: the arguments are known, and lower than the term.
 use Rattle.std.proofs.Common.{◌≡◌, ℕ, zero, suc, ◌<◌, ◌≤◌, List, [], ◌∷◌, length, map, get_or, ap, sym, subst, refl, arith}
-use Rattle.trees.specs.Tree.{trees, node, depth, depths}
-use Rattle.terms.specs.Term.{Sym, Term}
-use Rattle.clauses.specs.Fact.{Clause}
+use Rattle.spec_trees.specs.Tree.{trees, node, depth, depths}
+use Rattle.spec_terms.specs.Term.{Sym, Term}
+use Rattle.spec_clauses.specs.Fact.{Clause}
 use Rattle.term_tree.specs.Bank.{tree_at, AreKnown, Grows}
 use Rattle.term_tree.specs.declared.bank.Id.{Id}
 use Rattle.clause_form.specs.declared.facts.Fact.{Fact}

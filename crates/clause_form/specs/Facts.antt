@@ -1,6 +1,6 @@
 -- What contracts see of facts over ids, and the trees that they name.
-use Rattle.clauses.specs.Fact.{Clause, terms_of, map_fact, map_clause}
-use Rattle.clauses.specs.Fact as horn
+use Rattle.spec_clauses.specs.Fact.{Clause, terms_of, map_fact, map_clause}
+use Rattle.spec_clauses.specs.Fact as horn
 use Rattle.term_tree.specs.declared.bank.Id.{Id}
 use Rattle.clause_form.specs.declared.facts.Fact.{Fact}
 use Rattle.clause_form.specs.declared.facts.Fact.TheVariants.{Att, Mess, Ev, Mev, Bad}

@@ -1,7 +1,7 @@
 -- What contracts see of the parts of a fact over ids.
 use Rattle.std.specs.Prelude.{List}
 use Rattle.term_tree.specs.declared.bank.Id.{Id}
-use Rattle.clauses.specs.Head as horn
+use Rattle.spec_clauses.specs.Head as horn
 use Rattle.clause_form.specs.declared.heads.Head.{Head}
 use Rattle.clause_form.specs.declared.heads.Head.TheVariants.{Att, Mess, Ev, Mev, Bad}
 use Rattle.clause_form.specs.declared.heads.Parts.{Parts}

@@ -1,10 +1,10 @@
 -- A number that facts which are the same share: of the numbers of their predicate, their event, their symbols and their
 -- variables, in order.
 use Rattle.std.specs.Prelude.{ℕ, ◌+◌, ◌*◌, ◌%◌, ◌^◌, List, [], ◌∷◌, ◌++◌, flat_map}
-use Rattle.trees.specs.Tree.{Trees, Leaf, Node, none, more}
-use Rattle.terms.specs.Term.{Sym, Ctor, Data, Tuple, Free, Point, Attacker, Term}
-use Rattle.clauses.specs.Fact.{Fact, terms_of}
-use Rattle.clauses.specs.Head.{Head, Att, Mess, Ev, Mev, Bad, head_of}
+use Rattle.spec_trees.specs.Tree.{Trees, Leaf, Node, none, more}
+use Rattle.spec_terms.specs.Term.{Sym, Ctor, Data, Tuple, Free, Point, Attacker, Term}
+use Rattle.spec_clauses.specs.Fact.{Fact, terms_of}
+use Rattle.spec_clauses.specs.Head.{Head, Att, Mess, Ev, Mev, Bad, head_of}
 
 -- the number of a symbol; those of variables are 7, 15, 23 and so on
 abbrev pub symbol_number : Sym → ℕ

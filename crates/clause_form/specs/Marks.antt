@@ -1,7 +1,7 @@
 -- Marks for the keys of facts: each key has two places among 2 ^ 15.
 use Rattle.std.specs.Prelude.{◌≡◌, ℕ, ◌/◌, ◌%◌, ◌^◌, Bool, true, false, ◌&&◌, List, slice_index_or, slice_set}
-use Rattle.terms.specs.Term.{Term}
-use Rattle.clauses.specs.Fact.{Fact, is_among}
+use Rattle.spec_terms.specs.Term.{Term}
+use Rattle.spec_clauses.specs.Fact.{Fact, is_among}
 use Rattle.clause_form.specs.Keys.{mixed, fact_key}
 
 -- the places of a key: fifteen bits of its product with a number, and the fifteen below

@@ -1,9 +1,9 @@
 -- The tests of a clause that is its own norm.
 use Rattle.std.specs.Prelude.{◌≡◌, ℕ, ◌+◌, Bool, true, false, not, ◌&&◌, cond, nat_eq, nat_lt, Option, Some, None, List, [], ◌∷◌}
-use Rattle.terms.specs.Term.{Term}
-use Rattle.clauses.specs.Fact.{Fact, Clause, is_among}
-use Rattle.clauses.specs.Flat.{is_flat_clause}
-use Rattle.clauses.specs.Norm.{without_repeats, is_tautology, without_lonely, generalized, numbered_anew}
+use Rattle.spec_terms.specs.Term.{Term}
+use Rattle.spec_clauses.specs.Fact.{Fact, Clause, is_among}
+use Rattle.spec_clauses.specs.Flat.{is_flat_clause}
+use Rattle.spec_clauses.specs.Norm.{without_repeats, is_tautology, without_lonely, generalized, numbered_anew}
 
 -- whether no fact is the same as a later one
 abbrev pub are_different : List (Fact Term) → Bool

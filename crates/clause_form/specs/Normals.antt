@@ -1,7 +1,7 @@
 -- What contracts see of the answer of `norm`.
 use Rattle.std.specs.Prelude.{◌≡◌, Option, Some, None, List}
-use Rattle.terms.specs.Term.{Term}
-use Rattle.clauses.specs.Fact as horn
+use Rattle.spec_terms.specs.Term.{Term}
+use Rattle.spec_clauses.specs.Fact as horn
 use Rattle.clause_form.specs.declared.normal.Normal.{Normal}
 use Rattle.clause_form.specs.declared.normal.Normal.TheVariants.{Tautology, Clause}
 use Rattle.clause_form.specs.Seen.{NamesClause}

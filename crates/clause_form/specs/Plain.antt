@@ -1,6 +1,6 @@
 -- What contracts see of owned trees, and of facts over them.
-use Rattle.trees.specs.Tree.{Leaf, node}
-use Rattle.terms.specs.Term.{Term}
+use Rattle.spec_trees.specs.Tree.{Leaf, node}
+use Rattle.spec_terms.specs.Term.{Term}
 use Rattle.term_tree.specs.Bank.{symbol_of}
 use Rattle.clause_form.specs.declared.plain.Tree.{Tree}
 use Rattle.clause_form.specs.declared.plain.Tree.TheVariants.{Var, App}

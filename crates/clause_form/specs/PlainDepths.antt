@@ -2,7 +2,7 @@
 use Rattle.std.specs.Prelude.{◌≤◌, max, List, [], ◌∷◌, map}
 use Rattle.std.proofs.Common.{arith}
 use denote.Param.Weighed.{most}
-use Rattle.trees.specs.Tree.{depth, depths, trees}
+use Rattle.spec_trees.specs.Tree.{depth, depths, trees}
 use Rattle.clause_form.specs.declared.plain.Tree.{Tree}
 use Rattle.clause_form.specs.declared.plain.Tree.TheVariants.{Var, App}
 use Rattle.clause_form.specs.declared.plain.Trees.TheDeep.{deep-Tree}

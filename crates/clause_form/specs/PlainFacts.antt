@@ -1,6 +1,6 @@
 -- What contracts see of facts over owned trees.
-use Rattle.terms.specs.Term.{Term}
-use Rattle.clauses.specs.Fact as horn
+use Rattle.spec_terms.specs.Term.{Term}
+use Rattle.spec_clauses.specs.Fact as horn
 use Rattle.clause_form.specs.Plain.{term_of}
 use Rattle.clause_form.specs.declared.plain.PlainFact.{PlainFact}
 use Rattle.clause_form.specs.declared.plain.PlainFact.TheVariants.{Att, Mess, Ev, Mev, Bad}

@@ -1,7 +1,7 @@
 -- Facts and clauses over the ids of a bank, with the trees that these name.
 use Rattle.std.specs.Prelude.{◌≡◌, List, [], ◌∷◌, map}
-use Rattle.terms.specs.Term.{Term}
-use Rattle.clauses.specs.Fact.{Fact, Clause, terms_of, map_fact, map_clause}
+use Rattle.spec_terms.specs.Term.{Term}
+use Rattle.spec_clauses.specs.Fact.{Fact, Clause, terms_of, map_fact, map_clause}
 use Rattle.term_tree.specs.Bank.{tree_at, AreKnown}
 use Rattle.term_tree.specs.declared.bank.Id.{Id}
 

@@ -3,10 +3,10 @@ use Rattle.std.specs.Prelude.{◌≡◌, ℕ, false, nat_eq, Option, Some, None,
 use Rattle.std.specs.HashMap.{HashMap, get}
 use Rattle.std.specs.declared.hash.BuildHasherDefault.{BuildHasherDefault}
 use Rattle.std.specs.declared.hash.FoldHasher.{FoldHasher}
-use Rattle.terms.specs.Term.{Term}
-use Rattle.clauses.specs.Fact.{Fact, is_among}
-use Rattle.clauses.specs.Variables.{times}
-use Rattle.clauses.specs.Norm.{place_of}
+use Rattle.spec_terms.specs.Term.{Term}
+use Rattle.spec_clauses.specs.Fact.{Fact, is_among}
+use Rattle.spec_clauses.specs.Variables.{times}
+use Rattle.spec_clauses.specs.Norm.{place_of}
 use Rattle.term_tree.specs.declared.bank.Id.{Id}
 use Rattle.clause_form.specs.Keys.{fact_key}
 use Rattle.clause_form.specs.Seen.{fact_at}

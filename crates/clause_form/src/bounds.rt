@@ -1,8 +1,8 @@
 //! The numbers of a clause's variables: what sets the variables of two clauses apart.
 
 ghost use Rattle.std.specs.Prelude.{◌≡◌, ℕ, ◌<◌, ◌≤◌, ◌^◌, max, length, map, flat_map};
-ghost use Rattle.clauses.specs.Fact.{clause_terms};
-ghost use Rattle.clauses.specs.Variables.{leaves, fact_variables, AreBelow};
+ghost use Rattle.spec_clauses.specs.Fact.{clause_terms};
+ghost use Rattle.spec_clauses.specs.Variables.{leaves, fact_variables, AreBelow};
 ghost use Rattle.term_tree.specs.Bank.{tree_at, AreKnown};
 ghost use Rattle.clause_form.specs.Facts.{fact_of};
 ghost use Rattle.clause_form.specs.Bounds.{above};

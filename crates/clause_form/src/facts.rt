@@ -47,7 +47,7 @@ pub struct Facts {
 
 impl Model for Facts {
     ghost use Rattle.std.specs.Prelude.{List, map};
-    ghost use Rattle.clauses.specs.Fact as horn;
+    ghost use Rattle.spec_clauses.specs.Fact as horn;
     ghost use Rattle.term_tree.specs.declared.bank.Id.{Id};
     ghost use Rattle.clause_form.specs.Codes.{coded_id, coded_facts};
 
@@ -68,7 +68,7 @@ pub struct Clause {
 }
 
 impl Model for Clause {
-    ghost use Rattle.clauses.specs.Fact as horn;
+    ghost use Rattle.spec_clauses.specs.Fact as horn;
     ghost use Rattle.term_tree.specs.declared.bank.Id.{Id};
     ghost use Rattle.clause_form.specs.Codes.{coded_id, coded_clause};
 
@@ -89,7 +89,7 @@ pub struct Clauses {
 
 impl Model for Clauses {
     ghost use Rattle.std.specs.Prelude.{List};
-    ghost use Rattle.clauses.specs.Fact as horn;
+    ghost use Rattle.spec_clauses.specs.Fact as horn;
     ghost use Rattle.term_tree.specs.declared.bank.Id.{Id};
     ghost use Rattle.clause_form.specs.Codes.{coded_id, coded_clauses};
 

@@ -1,9 +1,9 @@
 //! The flat parts of clauses (Blanchet 2016, section 3.3.1).
 
 ghost use Rattle.std.specs.Prelude.{◌≡◌, ◌<◌, ◌++◌, length, map, flat_map, IfOk, OnOk};
-ghost use Rattle.trees.specs.Tree.{Leaf};
-ghost use Rattle.clauses.specs.Fact.{Att};
-ghost use Rattle.clauses.specs.Flat.{is_data, flat, flat_parts};
+ghost use Rattle.spec_trees.specs.Tree.{Leaf};
+ghost use Rattle.spec_clauses.specs.Fact.{Att};
+ghost use Rattle.spec_clauses.specs.Flat.{is_data, flat, flat_parts};
 ghost use Rattle.term_tree.specs.Bank.{symbol_of, tree_at};
 ghost use Rattle.clause_form.specs.Facts.{fact_of};
 ghost use Rattle.clause_form.specs.Seen.{fact_at, clause_at, IsFactIn, AreFactsIn, IsClauseIn, NameFacts, NameClauses};

@@ -1,8 +1,8 @@
 //! A fact by its parts: its head, which says all but the terms, and its terms in order.
 
 ghost use Rattle.std.specs.Prelude.{◌≡◌};
-ghost use Rattle.clauses.specs.Fact.{terms_of};
-ghost use Rattle.clauses.specs.Head.{head_of, made_of};
+ghost use Rattle.spec_clauses.specs.Fact.{terms_of};
+ghost use Rattle.spec_clauses.specs.Head.{head_of, made_of};
 ghost use Rattle.clause_form.specs.Facts.{fact_of};
 ghost use Rattle.clause_form.specs.Heads.{head_seen, terms_seen};
 

@@ -32,4 +32,4 @@ pub use crate::plain::{PlainClause, PlainFact, PlainFacts, Tree, Trees};
 pub use crate::same::{is_among, same_fact};
 pub use crate::selectable::{are_solved, is_selectable, is_variable_known};
 pub use crate::size::{head_symbols, size_of, size_of_fact};
-pub use derivations::norm_keeps_instances;
+pub use spec_derivations::norm_keeps_instances;

@@ -2,7 +2,7 @@
 //! none of those that were marked.
 
 ghost use Rattle.std.specs.Prelude.{◌≡◌, map};
-ghost use Rattle.clauses.specs.Fact.{is_among as is_among_facts};
+ghost use Rattle.spec_clauses.specs.Fact.{is_among as is_among_facts};
 ghost use Rattle.clause_form.specs.Facts.{fact_of};
 ghost use Rattle.clause_form.specs.Seen.{fact_at, IsFactIn, AreFactsIn};
 ghost use Rattle.clause_form.specs.Keys.{fact_key};

@@ -3,10 +3,10 @@
 
 ghost use Rattle.std.specs.Prelude.{◌≡◌, ◌&&◌, not, cond, [], ◌∷◌, ◌++◌, filter, map, flat_map, IfOk, OnOk, OnErr};
 ghost use Rattle.std.specs.List.{list_all};
-ghost use Rattle.clauses.specs.Fact.{is_variable_known as is_variable_known_fact};
-ghost use Rattle.clauses.specs.Selection.{is_solved};
-ghost use Rattle.clauses.specs.Variables.{fact_variables};
-ghost use Rattle.clauses.specs.Norm.{norm as norm_of, is_lonely as is_lonely_fact, generalized, numbered_anew};
+ghost use Rattle.spec_clauses.specs.Fact.{is_variable_known as is_variable_known_fact};
+ghost use Rattle.spec_clauses.specs.Selection.{is_solved};
+ghost use Rattle.spec_clauses.specs.Variables.{fact_variables};
+ghost use Rattle.spec_clauses.specs.Norm.{norm as norm_of, is_lonely as is_lonely_fact, generalized, numbered_anew};
 ghost use Rattle.term_tree.specs.Bank.{Grows};
 ghost use Rattle.clause_form.specs.Facts.{fact_of};
 ghost use Rattle.clause_form.specs.Seen.{fact_at, clause_at, IsFactIn, AreFactsIn, IsClauseIn, NameFacts, NamesClause};

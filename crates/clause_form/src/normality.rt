@@ -2,10 +2,10 @@
 
 ghost use Rattle.std.specs.Prelude.{◌≡◌, ◌↔◌, ◌+◌, ◌-◌, ◌^◌, ◌<◌, true, false, not, ◌&&◌, cond, nat_eq, min, length, map, flat_map, Some};
 ghost use Rattle.std.specs.List.{count_by, list_all};
-ghost use Rattle.clauses.specs.Fact.{is_variable_known as is_variable_known_fact};
-ghost use Rattle.clauses.specs.Flat.{is_flat as is_flat_fact, is_flat_clause as is_flat_clause_of};
-ghost use Rattle.clauses.specs.Norm.{without_repeats, is_tautology as is_tautology_of, is_lonely as is_lonely_fact, without_lonely, generalized, everything_known, numbered_anew, IsNormal};
-ghost use Rattle.clauses.specs.Variables.{leaves, fact_variables, clause_variables, times};
+ghost use Rattle.spec_clauses.specs.Fact.{is_variable_known as is_variable_known_fact};
+ghost use Rattle.spec_clauses.specs.Flat.{is_flat as is_flat_fact, is_flat_clause as is_flat_clause_of};
+ghost use Rattle.spec_clauses.specs.Norm.{without_repeats, is_tautology as is_tautology_of, is_lonely as is_lonely_fact, without_lonely, generalized, everything_known, numbered_anew, IsNormal};
+ghost use Rattle.spec_clauses.specs.Variables.{leaves, fact_variables, clause_variables, times};
 ghost use Rattle.term_tree.specs.Bank.{tree_at, AreKnown};
 ghost use Rattle.clause_form.specs.Facts.{fact_of};
 ghost use Rattle.clause_form.specs.Seen.{fact_at, clause_at, IsFactIn, AreFactsIn, IsClauseIn};

@@ -2,8 +2,8 @@
 
 ghost use Rattle.std.specs.Prelude.{◌≡◌, ◌≤◌, ◌++◌, [], ◌∷◌, nat_eq, cond, IfOk, OnOk};
 ghost use Rattle.std.specs.HashMap.{get};
-ghost use Rattle.clauses.specs.Variables.{times};
-ghost use Rattle.clauses.specs.Norm.{distinct, place_of};
+ghost use Rattle.spec_clauses.specs.Variables.{times};
+ghost use Rattle.spec_clauses.specs.Norm.{distinct, place_of};
 ghost use Rattle.clause_form.specs.Tables.{FindsPlaces, count_of, CountsTimes};
 
 use std::alloc::{AllocError, Global};

@@ -1,7 +1,7 @@
 //! Which variables of a clause occur once: counted in a table of the caller's, which takes no memory.
 
 ghost use Rattle.std.specs.Prelude.{◌≡◌, ◌<◌, length, map, flat_map};
-ghost use Rattle.clauses.specs.Variables.{leaves, fact_variables, clause_variables};
+ghost use Rattle.spec_clauses.specs.Variables.{leaves, fact_variables, clause_variables};
 ghost use Rattle.term_tree.specs.Bank.{tree_at, AreKnown};
 ghost use Rattle.clause_form.specs.Facts.{fact_of};
 ghost use Rattle.clause_form.specs.Seen.{fact_at, clause_at, IsFactIn, AreFactsIn, IsClauseIn};

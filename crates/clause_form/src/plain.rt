@@ -22,8 +22,8 @@ pub struct Trees {
 
 impl Model for Trees {
     ghost use Rattle.std.specs.Prelude.{List, map};
-    ghost use Rattle.trees.specs.Tree.{depths, trees};
-    ghost use Rattle.terms.specs.Term.{Term, coded_terms};
+    ghost use Rattle.spec_trees.specs.Tree.{depths, trees};
+    ghost use Rattle.spec_terms.specs.Term.{Term, coded_terms};
 
     ghost Value = { List Term };
 
@@ -58,8 +58,8 @@ pub struct PlainFacts {
 
 impl Model for PlainFacts {
     ghost use Rattle.std.specs.Prelude.{List, map};
-    ghost use Rattle.terms.specs.Term.{Term, coded_term};
-    ghost use Rattle.clauses.specs.Fact as horn;
+    ghost use Rattle.spec_terms.specs.Term.{Term, coded_term};
+    ghost use Rattle.spec_clauses.specs.Fact as horn;
     ghost use Rattle.clause_form.specs.Codes.{coded_facts};
 
     ghost Value = { List (horn.Fact Term) };
@@ -79,8 +79,8 @@ pub struct PlainClause {
 }
 
 impl Model for PlainClause {
-    ghost use Rattle.terms.specs.Term.{Term, coded_term};
-    ghost use Rattle.clauses.specs.Fact as horn;
+    ghost use Rattle.spec_terms.specs.Term.{Term, coded_term};
+    ghost use Rattle.spec_clauses.specs.Fact as horn;
     ghost use Rattle.clause_form.specs.Codes.{coded_clause};
 
     ghost Value = { horn.Clause Term };

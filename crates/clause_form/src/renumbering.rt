@@ -1,10 +1,10 @@
 //! Facts and clauses with their variables renumbered.
 
 ghost use Rattle.std.specs.Prelude.{◌≡◌, ◌↔◌, ◌<◌, true, IsTrue, ◌∷◌, nat_eq, length, map, flat_map, slice_index_or, IfOk, OnOk};
-ghost use Rattle.trees.specs.Tree.{Leaf, bind};
-ghost use Rattle.clauses.specs.Fact.{fact_under};
-ghost use Rattle.clauses.specs.Variables.{fact_variables};
-ghost use Rattle.clauses.specs.Norm.{distinct, numbered_anew};
+ghost use Rattle.spec_trees.specs.Tree.{Leaf, bind};
+ghost use Rattle.spec_clauses.specs.Fact.{fact_under};
+ghost use Rattle.spec_clauses.specs.Variables.{fact_variables};
+ghost use Rattle.spec_clauses.specs.Norm.{distinct, numbered_anew};
 ghost use Rattle.term_tree.specs.Bank.{tree_at, AreKnown, Names, Grows};
 ghost use Rattle.unify_match.specs.Substitution.{arguments};
 ghost use Rattle.clause_form.specs.Facts.{fact_of};

@@ -1,8 +1,8 @@
 //! Facts without those that are the same as an earlier one. Many facts are looked for by their keys.
 
 ghost use Rattle.std.specs.Prelude.{◌≡◌, true, false, cond, None, [], ◌∷◌, ◌++◌, map, IfOk, OnOk};
-ghost use Rattle.clauses.specs.Fact.{same_fact as is_same_fact, is_among as is_among_facts};
-ghost use Rattle.clauses.specs.Norm.{distinct};
+ghost use Rattle.spec_clauses.specs.Fact.{same_fact as is_same_fact, is_among as is_among_facts};
+ghost use Rattle.spec_clauses.specs.Norm.{distinct};
 ghost use Rattle.clause_form.specs.Facts.{fact_of};
 ghost use Rattle.clause_form.specs.Seen.{fact_at, IsFactIn, AreFactsIn, NameFacts};
 ghost use Rattle.clause_form.specs.Tables.{HaveKeys};

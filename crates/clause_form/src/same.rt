@@ -1,7 +1,7 @@
 //! Whether facts are the same.
 
 ghost use Rattle.std.specs.Prelude.{◌≡◌, ◌<◌, length, map};
-ghost use Rattle.clauses.specs.Fact.{same_term as is_same_tree, same_terms as are_same_trees, same_fact as is_same_fact, is_among as is_among_facts};
+ghost use Rattle.spec_clauses.specs.Fact.{same_term as is_same_tree, same_terms as are_same_trees, same_fact as is_same_fact, is_among as is_among_facts};
 ghost use Rattle.term_tree.specs.Bank.{tree_at, AreKnown};
 ghost use Rattle.clause_form.specs.Facts.{fact_of};
 ghost use Rattle.clause_form.specs.Seen.{fact_at, IsFactIn, AreFactsIn};

@@ -1,8 +1,8 @@
 //! Which hypotheses can be selected (Blanchet 2016, section 3.3.1).
 
 ghost use Rattle.std.specs.Prelude.{◌≡◌, map};
-ghost use Rattle.clauses.specs.Fact.{is_variable_known as is_variable_known_fact};
-ghost use Rattle.clauses.specs.Selection.{is_selectable as is_selectable_fact, is_solved};
+ghost use Rattle.spec_clauses.specs.Fact.{is_variable_known as is_variable_known_fact};
+ghost use Rattle.spec_clauses.specs.Selection.{is_selectable as is_selectable_fact, is_solved};
 ghost use Rattle.clause_form.specs.Facts.{fact_of};
 ghost use Rattle.clause_form.specs.Seen.{fact_at, IsFactIn, AreFactsIn};
 

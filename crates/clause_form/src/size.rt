@@ -1,11 +1,11 @@
 //! Sizes of facts and of clauses.
 
 ghost use Rattle.std.specs.Prelude.{◌≡◌, ℕ, ◌+◌, map};
-ghost use Rattle.trees.specs.Tree.{size};
-ghost use Rattle.clauses.specs.Fact.{total, fact_size, clause_size};
+ghost use Rattle.spec_trees.specs.Tree.{size};
+ghost use Rattle.spec_clauses.specs.Fact.{total, fact_size, clause_size};
 ghost use Rattle.term_tree.specs.Bank.{tree_at, AreKnown, capped};
 ghost use Rattle.clause_form.specs.Facts.{fact_of};
-ghost use Rattle.clauses.specs.Head.{head_size};
+ghost use Rattle.spec_clauses.specs.Head.{head_size};
 ghost use Rattle.clause_form.specs.Heads.{head_seen};
 ghost use Rattle.clause_form.specs.Seen.{fact_at, clause_at, IsFactIn, AreFactsIn, IsClauseIn};
 

@@ -1,7 +1,7 @@
 //! The variables of terms, facts and clauses, in order.
 
 ghost use Rattle.std.specs.Prelude.{◌≡◌, ◌<◌, ◌++◌, ◌∷◌, length, map, flat_map, IfOk, OnOk};
-ghost use Rattle.clauses.specs.Variables.{leaves, fact_variables};
+ghost use Rattle.spec_clauses.specs.Variables.{leaves, fact_variables};
 ghost use Rattle.term_tree.specs.Bank.{tree_at, AreKnown};
 ghost use Rattle.clause_form.specs.Facts.{fact_of};
 ghost use Rattle.clause_form.specs.Seen.{fact_at, IsFactIn, AreFactsIn};

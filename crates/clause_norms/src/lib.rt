@@ -2,9 +2,9 @@
 #![tactic(auto)]
 
 ghost use Rattle.std.specs.Prelude.{◌≡◌, List, [], ◌∷◌, ◌++◌, map, filter_map, IfOk, OnOk, OnErr};
-ghost use Rattle.terms.specs.Term.{Term};
-ghost use Rattle.clauses.specs.Fact.{Clause as ClauseOf};
-ghost use Rattle.clauses.specs.Norm.{norm as norm_of, norms};
+ghost use Rattle.spec_terms.specs.Term.{Term};
+ghost use Rattle.spec_clauses.specs.Fact.{Clause as ClauseOf};
+ghost use Rattle.spec_clauses.specs.Norm.{norm as norm_of, norms};
 ghost use Rattle.term_tree.specs.Bank.{Grows};
 ghost use Rattle.clause_form.specs.Seen.{clause_at, IsClauseIn, AreClausesIn, NameClauses};
 

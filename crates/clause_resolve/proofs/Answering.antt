@@ -4,20 +4,20 @@ use Rattle.std.specs.Prelude.{filter_map}
 use Rattle.std.specs.declared.alloc.AllocError.{AllocError}
 use Rattle.std.proofs.lemmas.List.{map-append, map_more, take_all}
 use Rattle.std.proofs.lemmas.List.Elements.{filter_map-append}
-use Rattle.trees.specs.Tree.{after}
-use Rattle.terms.specs.Term.{Term, Subst}
-use Rattle.terms.specs.Unifier.{moved, IsMostGeneral}
-use Rattle.calculus.specs.Bounds.{most_symbols}
-use Rattle.clauses.specs.Fact.{Fact, Clause, clause_size, fact_under, clause_under, clause_terms}
-use Rattle.clauses.specs.Variables.{IsBelow}
-use Rattle.clauses.specs.Norm.{norm, norms, IsNormal}
-use Rattle.clauses.specs.Limits.{IsWithinLimit}
-use Rattle.clauses.specs.Resolvents.{joined, IsRawResolvent, Resolves}
-use Rattle.clauses.specs.Resolvents as answer
-use Rattle.clauses.proofs.Lists.{all_weaker}
-use Rattle.clauses.proofs.Facts.{fact_under-fact_under}
-use Rattle.clauses.proofs.NormNumbers.{norm-below}
-use Rattle.clauses.proofs.Answers.{no_unifier, large_answer, clauses_answer}
+use Rattle.spec_trees.specs.Tree.{after}
+use Rattle.spec_terms.specs.Term.{Term, Subst}
+use Rattle.spec_terms.specs.Unifier.{moved, IsMostGeneral}
+use Rattle.spec_calculus.specs.Bounds.{most_symbols}
+use Rattle.spec_clauses.specs.Fact.{Fact, Clause, clause_size, fact_under, clause_under, clause_terms}
+use Rattle.spec_clauses.specs.Variables.{IsBelow}
+use Rattle.spec_clauses.specs.Norm.{norm, norms, IsNormal}
+use Rattle.spec_clauses.specs.Limits.{IsWithinLimit}
+use Rattle.spec_clauses.specs.Resolvents.{joined, IsRawResolvent, Resolves}
+use Rattle.spec_clauses.specs.Resolvents as answer
+use Rattle.spec_clauses.proofs.Lists.{all_weaker}
+use Rattle.spec_clauses.proofs.Facts.{fact_under-fact_under}
+use Rattle.spec_clauses.proofs.NormNumbers.{norm-below}
+use Rattle.spec_clauses.proofs.Answers.{no_unifier, large_answer, clauses_answer}
 use Rattle.term_tree.specs.Bank.{Grows}
 use Rattle.term_tree.specs.declared.bank.Id.{Id}
 use Rattle.term_tree.proofs.BankLaws.{Grows_trans, Grows_same, take-grows}

@@ -1,12 +1,12 @@
 -- Facts meet where their heads are the same and their terms meet, item by item.
 use Rattle.std.proofs.Common.{◌≡◌, Bool, true, false, List, map, ap, sym, ◌∙◌, subst, Result, Ok, Err, IfOk, MatchBool}
 use Rattle.std.specs.declared.alloc.AllocError.{AllocError}
-use Rattle.trees.specs.Tree.{bind}
-use Rattle.terms.specs.Term.{Term, Subst}
-use Rattle.terms.specs.Unifier.{UnifiesAll}
-use Rattle.clauses.specs.Fact.{Fact, terms_of, fact_under}
-use Rattle.clauses.specs.Head.{head_of}
-use Rattle.clauses.proofs.Parts.{parts_determine, head_of-map, terms_of-map}
+use Rattle.spec_trees.specs.Tree.{bind}
+use Rattle.spec_terms.specs.Term.{Term, Subst}
+use Rattle.spec_terms.specs.Unifier.{UnifiesAll}
+use Rattle.spec_clauses.specs.Fact.{Fact, terms_of, fact_under}
+use Rattle.spec_clauses.specs.Head.{head_of}
+use Rattle.spec_clauses.proofs.Parts.{parts_determine, head_of-map, terms_of-map}
 use Rattle.term_tree.specs.Bank.{tree_at}
 use Rattle.term_tree.specs.declared.bank.Id.{Id}
 use Rattle.clause_form.specs.Seen.{fact_at}

@@ -1,9 +1,9 @@
 -- Terms and facts that nothing unifies, since their roots differ.
 use Rattle.std.proofs.Common.{◌≡◌, ℕ, zero, suc, ◌<◌, List, [], ◌∷◌, length, map, get_or, ap, sym, ◌∙◌, arith}
 use Rattle.std.proofs.lemmas.List.{length-map}
-use Rattle.trees.specs.Tree.{node, bind}
-use Rattle.trees.proofs.Rows.{node-injective, bind-node}
-use Rattle.terms.specs.Term.{Sym, Term, Subst}
+use Rattle.spec_trees.specs.Tree.{node, bind}
+use Rattle.spec_trees.proofs.Rows.{node-injective, bind-node}
+use Rattle.spec_terms.specs.Term.{Sym, Term, Subst}
 use Rattle.term_tree.specs.Bank.{tree_at}
 use Rattle.term_tree.specs.declared.bank.Id.{Id}
 

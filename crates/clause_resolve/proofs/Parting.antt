@@ -2,11 +2,11 @@
 use Rattle.std.proofs.Common.{◌≡◌, ℕ, ◌+◌, ◌<◌, ◌≤◌, true, false, ◌||◌, List, [], ◌∷◌, length, map, flat_map, take, drop, get_or, refl, ap, sym, ◌∙◌, add-one, drop-cons, drop_of_length-le, arith}
 use Rattle.std.specs.List.{list_any}
 use Rattle.std.proofs.lemmas.List.Folds.{list_any-append, flat_map-map}
-use Rattle.terms.specs.Term.{Sym, Term}
-use Rattle.trees.specs.Tree.{node}
-use Rattle.clauses.specs.Fact.{Fact, total, fact_size}
-use Rattle.clauses.specs.Flat.{is_data, flat}
-use Rattle.clauses.specs.Limits.{is_large_clause}
+use Rattle.spec_terms.specs.Term.{Sym, Term}
+use Rattle.spec_trees.specs.Tree.{node}
+use Rattle.spec_clauses.specs.Fact.{Fact, total, fact_size}
+use Rattle.spec_clauses.specs.Flat.{is_data, flat}
+use Rattle.spec_clauses.specs.Limits.{is_large_clause}
 use Rattle.term_tree.specs.Bank.{tree_at, capped}
 use Rattle.term_tree.specs.declared.bank.Id.{Id}
 use Rattle.clause_form.specs.declared.facts.Fact as declared

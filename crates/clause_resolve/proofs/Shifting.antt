@@ -3,18 +3,18 @@ use Rattle.std.proofs.Common.{◌≡◌, ℕ, zero, suc, ◌+◌, ◌<◌, inl, 
 use Rattle.std.specs.Prelude.{option_map}
 use Rattle.std.specs.List.{AllByRecursion}
 use Rattle.std.proofs.lemmas.List.{map-append, take-map, drop-map, length-map}
-use Rattle.trees.specs.Tree.{Trees, Leaf, Node, none, more, some_leaves}
-use Rattle.trees.specs.Leaves.{leaves, row_leaves}
-use Rattle.trees.proofs.Occurrence.{or_true}
-use Rattle.terms.specs.Term.{Sym, Term, has_var}
-use Rattle.terms.specs.Unifier.{moved}
-use Rattle.calculus.specs.Bounds.{most_symbols}
-use Rattle.clauses.specs.Fact.{Fact, Att, Mess, Ev, Mev, Bad, terms_of, clause_terms, fact_under}
-use Rattle.clauses.specs.Fact as horn
-use Rattle.clauses.specs.Variables.{IsBelow, AreBelow}
-use Rattle.clauses.specs.Selection.{Selection, select, IsFirstOfLargest}
-use Rattle.clauses.proofs.Lists.{all_first, all_second}
-use Rattle.clauses.proofs.Selection.{select-first_of_largest}
+use Rattle.spec_trees.specs.Tree.{Trees, Leaf, Node, none, more, some_leaves}
+use Rattle.spec_trees.specs.Leaves.{leaves, row_leaves}
+use Rattle.spec_trees.proofs.Occurrence.{or_true}
+use Rattle.spec_terms.specs.Term.{Sym, Term, has_var}
+use Rattle.spec_terms.specs.Unifier.{moved}
+use Rattle.spec_calculus.specs.Bounds.{most_symbols}
+use Rattle.spec_clauses.specs.Fact.{Fact, Att, Mess, Ev, Mev, Bad, terms_of, clause_terms, fact_under}
+use Rattle.spec_clauses.specs.Fact as horn
+use Rattle.spec_clauses.specs.Variables.{IsBelow, AreBelow}
+use Rattle.spec_clauses.specs.Selection.{Selection, select, IsFirstOfLargest}
+use Rattle.spec_clauses.proofs.Lists.{all_first, all_second}
+use Rattle.spec_clauses.proofs.Selection.{select-first_of_largest}
 use Rattle.term_tree.specs.Bank.{tree_at, AreKnown, Grows}
 use Rattle.term_tree.specs.declared.bank.Id.{Id}
 use Rattle.term_tree.proofs.BankLaws.{Grows_trans, Grows-length, tree_at-grows}

@@ -2,14 +2,14 @@
 use Rattle.std.proofs.Common.{◌≡◌, ℕ, zero, suc, ◌+◌, ◌<◌, ◌≤◌, List, [], ◌∷◌, ◌++◌, length, map, take, get_or, ap, sym, ◌∙◌, subst, arith}
 use Rattle.std.proofs.lemmas.List.{take_all}
 use Rattle.std.proofs.lemmas.Simd.{map-map}
-use Rattle.trees.specs.Tree.{bind, size}
-use Rattle.terms.specs.Term.{Term, Subst}
-use Rattle.terms.specs.Binding.{resolved}
-use Rattle.calculus.specs.Bounds.{most_symbols}
-use Rattle.clauses.specs.Fact.{Fact, Clause, terms_of, total, fact_size, clause_size, fact_under, clause_under}
-use Rattle.clauses.specs.Head.{head_of, made_of, head_size}
-use Rattle.clauses.specs.Limits.{IsWithinLimit}
-use Rattle.clauses.proofs.Parts.{fact_size-parts}
+use Rattle.spec_trees.specs.Tree.{bind, size}
+use Rattle.spec_terms.specs.Term.{Term, Subst}
+use Rattle.spec_terms.specs.Binding.{resolved}
+use Rattle.spec_calculus.specs.Bounds.{most_symbols}
+use Rattle.spec_clauses.specs.Fact.{Fact, Clause, terms_of, total, fact_size, clause_size, fact_under, clause_under}
+use Rattle.spec_clauses.specs.Head.{head_of, made_of, head_size}
+use Rattle.spec_clauses.specs.Limits.{IsWithinLimit}
+use Rattle.spec_clauses.proofs.Parts.{fact_size-parts}
 use Rattle.term_tree.specs.Bank.{tree_at, Names, Grows}
 use Rattle.term_tree.specs.declared.bank.Id.{Id}
 use Rattle.term_tree.proofs.BankLaws.{Grows_refl}

@@ -1,10 +1,10 @@
 -- What a pair of clauses gives.
 use Rattle.std.specs.Prelude.{◌≡◌, Some, List}
-use Rattle.terms.specs.Term.{Term}
-use Rattle.clauses.specs.Fact as horn
-use Rattle.clauses.specs.Selection.{Selection, select}
-use Rattle.clauses.specs.Resolvents.{Answer, Resolves}
-use Rattle.clauses.specs.Resolvents as answer
+use Rattle.spec_terms.specs.Term.{Term}
+use Rattle.spec_clauses.specs.Fact as horn
+use Rattle.spec_clauses.specs.Selection.{Selection, select}
+use Rattle.spec_clauses.specs.Resolvents.{Answer, Resolves}
+use Rattle.spec_clauses.specs.Resolvents as answer
 use Rattle.clause_form.specs.Seen.{NameClauses}
 use Rattle.clause_resolve.specs.declared.resolving.Resolved.{Resolved}
 use Rattle.clause_resolve.specs.declared.resolving.Resolved.TheVariants.{NoUnifier, Large, Clauses}

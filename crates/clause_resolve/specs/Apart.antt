@@ -1,11 +1,11 @@
 -- Unsolved clauses set apart from all solved ones.
 use Rattle.std.specs.Prelude.{◌≡◌, ℕ, Some, option_map, List, map}
-use Rattle.terms.specs.Term.{Term}
-use Rattle.terms.specs.Unifier.{moved}
-use Rattle.calculus.specs.Bounds.{most_symbols}
-use Rattle.clauses.specs.Fact.{fact_under}
-use Rattle.clauses.specs.Fact as horn
-use Rattle.clauses.specs.Selection.{Selection, select}
+use Rattle.spec_terms.specs.Term.{Term}
+use Rattle.spec_terms.specs.Unifier.{moved}
+use Rattle.spec_calculus.specs.Bounds.{most_symbols}
+use Rattle.spec_clauses.specs.Fact.{fact_under}
+use Rattle.spec_clauses.specs.Fact as horn
+use Rattle.spec_clauses.specs.Selection.{Selection, select}
 use Rattle.clause_form.specs.Facts.{fact_of}
 use Rattle.clause_form.specs.Seen.{IsFactIn, IsClauseIn, NamesFact, NamesClause}
 use Rattle.clause_resolve.specs.declared.apart.Apart.{Apart}

@@ -1,9 +1,9 @@
 -- What is over the limit of size.
 use Rattle.std.specs.Prelude.{ℕ, ◌+◌, Bool, not, nat_le, List}
 use Rattle.std.specs.List.{list_any}
-use Rattle.terms.specs.Term.{Term}
-use Rattle.calculus.specs.Bounds.{most_symbols}
-use Rattle.clauses.specs.Fact.{Fact, fact_size}
+use Rattle.spec_terms.specs.Term.{Term}
+use Rattle.spec_calculus.specs.Bounds.{most_symbols}
+use Rattle.spec_clauses.specs.Fact.{Fact, fact_size}
 
 -- whether so many symbols are over the limit
 abbrev pub is_over : ℕ → Bool

@@ -1,9 +1,9 @@
 -- Two clauses with no variable in common, of which one's conclusion meets a hypothesis of the other.
 use Rattle.std.specs.Prelude.{◌≡◌, true, false, List, ◌++◌}
-use Rattle.terms.specs.Term.{Term}
-use Rattle.clauses.specs.Fact.{Clause}
-use Rattle.clauses.specs.Norm.{norms}
-use Rattle.clauses.specs.Limits.{is_large_raw}
+use Rattle.spec_terms.specs.Term.{Term}
+use Rattle.spec_clauses.specs.Fact.{Clause}
+use Rattle.spec_clauses.specs.Norm.{norms}
+use Rattle.spec_clauses.specs.Limits.{is_large_raw}
 use Rattle.clause_form.specs.Seen.{NameClauses}
 use Rattle.clause_resolve.specs.declared.resolving.Resolved.{Resolved}
 use Rattle.clause_resolve.specs.declared.resolving.Resolved.TheVariants.{NoUnifier, Large, Clauses}

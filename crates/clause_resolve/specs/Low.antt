@@ -1,9 +1,9 @@
 -- Clauses, and terms and facts of a bank, whose variables are below the limit of size.
 use Rattle.std.specs.Prelude.{◌<◌, List, [], ◌∷◌, length}
-use Rattle.terms.specs.Term.{Term}
-use Rattle.calculus.specs.Bounds.{most_symbols}
-use Rattle.clauses.specs.Fact.{Fact, Clause, terms_of, clause_terms}
-use Rattle.clauses.specs.Variables.{IsBelow, AreBelow}
+use Rattle.spec_terms.specs.Term.{Term}
+use Rattle.spec_calculus.specs.Bounds.{most_symbols}
+use Rattle.spec_clauses.specs.Fact.{Fact, Clause, terms_of, clause_terms}
+use Rattle.spec_clauses.specs.Variables.{IsBelow, AreBelow}
 use Rattle.term_tree.specs.Bank.{tree_at}
 use Rattle.term_tree.specs.declared.bank.Id.{Id}
 

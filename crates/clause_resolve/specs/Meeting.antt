@@ -1,8 +1,8 @@
 -- Unification of facts, and of their terms.
 use Rattle.std.specs.Prelude.{◌≡◌, List}
-use Rattle.terms.specs.Term.{Term, Subst}
-use Rattle.terms.specs.Unifier.{UnifiesAll, IsMostGeneral}
-use Rattle.clauses.specs.Fact.{Fact, fact_under}
+use Rattle.spec_terms.specs.Term.{Term, Subst}
+use Rattle.spec_terms.specs.Unifier.{UnifiesAll, IsMostGeneral}
+use Rattle.spec_clauses.specs.Fact.{Fact, fact_under}
 
 -- s is a most general unifier of the two lists of terms, item by item
 abbrev pub IsMguOfAll : List Term → List Term → Subst → Type 0

@@ -1,10 +1,10 @@
 //! An unsolved clause whose variables are set apart from those of all solved clauses, by one offset.
 
 ghost use Rattle.std.specs.Prelude.{◌≡◌, ◌<◌, ◌++◌, ◌+◌, length, map, take, drop, IfOk, OnErr};
-ghost use Rattle.trees.specs.Tree.{bind};
-ghost use Rattle.terms.specs.Unifier.{moved};
-ghost use Rattle.calculus.specs.Bounds.{most_symbols};
-ghost use Rattle.clauses.specs.Fact.{fact_under};
+ghost use Rattle.spec_trees.specs.Tree.{bind};
+ghost use Rattle.spec_terms.specs.Unifier.{moved};
+ghost use Rattle.spec_calculus.specs.Bounds.{most_symbols};
+ghost use Rattle.spec_clauses.specs.Fact.{fact_under};
 ghost use Rattle.term_tree.specs.Bank.{tree_at, Grows};
 ghost use Rattle.clause_form.specs.Facts.{fact_of};
 ghost use Rattle.clause_form.specs.Seen.{fact_at, clause_at, IsClauseIn, NameTerms, NamesFact, NameFacts};

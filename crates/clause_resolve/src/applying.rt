@@ -2,11 +2,11 @@
 //! limit is counted before each term is built.
 
 ghost use Rattle.std.specs.Prelude.{◌≡◌, ◌+◌, ◌<◌, ◌≤◌, length, map, MatchResult};
-ghost use Rattle.trees.specs.Tree.{bind, size};
-ghost use Rattle.terms.specs.Binding.{resolved};
-ghost use Rattle.calculus.specs.Bounds.{most_symbols};
-ghost use Rattle.clauses.specs.Fact.{total, fact_size, clause_size, fact_under, clause_under};
-ghost use Rattle.clauses.specs.Limits.{IsWithinLimit};
+ghost use Rattle.spec_trees.specs.Tree.{bind, size};
+ghost use Rattle.spec_terms.specs.Binding.{resolved};
+ghost use Rattle.spec_calculus.specs.Bounds.{most_symbols};
+ghost use Rattle.spec_clauses.specs.Fact.{total, fact_size, clause_size, fact_under, clause_under};
+ghost use Rattle.spec_clauses.specs.Limits.{IsWithinLimit};
 ghost use Rattle.term_tree.specs.Bank.{tree_at, AreKnown, Names, Grows};
 ghost use Rattle.unify_match.specs.Seen.{seen, IsReady};
 ghost use Rattle.clause_form.specs.Facts.{fact_of};

@@ -1,8 +1,8 @@
 //! A quick look at two facts that often tells that nothing unifies them. Takes no memory.
 
 ghost use Rattle.std.specs.Prelude.{◌≡◌, ◌<◌, true, length, map};
-ghost use Rattle.trees.specs.Tree.{bind};
-ghost use Rattle.terms.specs.Term.{Subst};
+ghost use Rattle.spec_trees.specs.Tree.{bind};
+ghost use Rattle.spec_terms.specs.Term.{Subst};
 ghost use Rattle.term_tree.specs.Bank.{symbol_of, tree_at, AreKnown};
 ghost use Rattle.clause_form.specs.Facts.{fact_of};
 ghost use Rattle.clause_form.specs.Seen.{fact_at, IsFactIn};

@@ -3,10 +3,10 @@
 #![tactic(auto)]
 
 ghost use Rattle.std.specs.Prelude.{List};
-ghost use Rattle.terms.specs.Term.{Term};
-ghost use Rattle.clauses.specs.Fact.{Clause as ClauseOf};
-ghost use Rattle.clauses.specs.Norm.{IsNormal};
-ghost use Rattle.clauses.specs.Limits.{IsWithinLimit};
+ghost use Rattle.spec_terms.specs.Term.{Term};
+ghost use Rattle.spec_clauses.specs.Fact.{Clause as ClauseOf};
+ghost use Rattle.spec_clauses.specs.Norm.{IsNormal};
+ghost use Rattle.spec_clauses.specs.Limits.{IsWithinLimit};
 ghost use Rattle.term_tree.specs.Bank.{Grows};
 ghost use Rattle.clause_resolve.specs.Low.{HasLowVariables};
 ghost use Rattle.clause_resolve.specs.declared.apart.Apart.{Apart};
@@ -22,7 +22,7 @@ mod stop;
 
 pub use crate::apart::{Apart, set_apart};
 pub use crate::resolving::{Resolved, resolve_apart, resolvents};
-pub use derivations::resolution_keeps_instances;
+pub use spec_derivations::resolution_keeps_instances;
 
 /// A clause that is set apart stays so as the bank grows, and its ids name trees.
 pub fn what_is_apart_outlasts_growth()

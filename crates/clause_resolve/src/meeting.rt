@@ -1,7 +1,7 @@
 //! Unification of facts: of their terms, item by item.
 
 ghost use Rattle.std.specs.Prelude.{◌≡◌, [], length, map, IfOk, MatchBool};
-ghost use Rattle.terms.specs.Binding.{resolved};
+ghost use Rattle.spec_terms.specs.Binding.{resolved};
 ghost use Rattle.term_tree.specs.Bank.{tree_at, AreKnown};
 ghost use Rattle.unify_match.specs.Seen.{seen, IsReady};
 ghost use Rattle.clause_form.specs.Facts.{fact_of};

@@ -2,9 +2,9 @@
 
 ghost use Rattle.std.specs.Prelude.{◌≡◌, ℕ, ◌+◌, ◌<◌, length, map, flat_map};
 ghost use Rattle.std.specs.List.{list_any};
-ghost use Rattle.clauses.specs.Fact.{Att, total, fact_size};
-ghost use Rattle.clauses.specs.Flat.{flat, flat_parts};
-ghost use Rattle.clauses.specs.Limits.{is_large_clause};
+ghost use Rattle.spec_clauses.specs.Fact.{Att, total, fact_size};
+ghost use Rattle.spec_clauses.specs.Flat.{flat, flat_parts};
+ghost use Rattle.spec_clauses.specs.Limits.{is_large_clause};
 ghost use Rattle.term_tree.specs.Bank.{tree_at, capped};
 ghost use Rattle.clause_form.specs.Facts.{fact_of};
 ghost use Rattle.clause_form.specs.Seen.{fact_at, clause_at, IsFactIn, AreFactsIn, IsClauseIn};

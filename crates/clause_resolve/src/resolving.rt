@@ -2,11 +2,11 @@
 //! resolution with free selection, Bachmair and Ganzinger 2001).
 
 ghost use Rattle.std.specs.Prelude.{◌≡◌, List, ◌∷◌, [], ◌++◌, true, false, filter_map, map, IfOk, OnOk, OnErr, MatchResult};
-ghost use Rattle.terms.specs.Binding.{resolved};
-ghost use Rattle.clauses.specs.Fact.{Clause as ClauseOf, clause_under};
-ghost use Rattle.clauses.specs.Norm.{norm as norm_of, norms};
-ghost use Rattle.clauses.specs.Limits.{is_large_raw, IsWithinLimit};
-ghost use Rattle.terms.specs.Term.{Term};
+ghost use Rattle.spec_terms.specs.Binding.{resolved};
+ghost use Rattle.spec_clauses.specs.Fact.{Clause as ClauseOf, clause_under};
+ghost use Rattle.spec_clauses.specs.Norm.{norm as norm_of, norms};
+ghost use Rattle.spec_clauses.specs.Limits.{is_large_raw, IsWithinLimit};
+ghost use Rattle.spec_terms.specs.Term.{Term};
 ghost use Rattle.term_tree.specs.Bank.{Grows};
 ghost use Rattle.unify_match.specs.Seen.{seen, IsReady};
 ghost use Rattle.clause_form.specs.Seen.{clause_at, IsClauseIn, AreClausesIn, NameClauses};

@@ -1,21 +1,21 @@
 -- The clauses of a log are normal and within the limit of size, and stay so as the bank grows.
 use Rattle.std.proofs.Common.{◌≡◌, ◌∙◌, ℕ, zero, suc, ◌-◌, ◌<◌, ◌≤◌, ◌^◌, Bool, true, false, cond, Option, Some, None, List, [], ◌∷◌, length, map, get_or, refl, ap, sym, subst, inl, inr, arith}
 use Rattle.std.proofs.lemmas.List.{length-map}
-use Rattle.terms.specs.Term.{Term}
-use Rattle.calculus.specs.Bounds.{most_symbols}
-use Rattle.calculus.specs.Points.{numbered}
-use Rattle.clauses.specs.Fact.{Clause, clause_terms, clause_size}
-use Rattle.clauses.specs.Variables.{leaves, IsBelow}
-use Rattle.clauses.specs.Norm.{IsNormal}
-use Rattle.clauses.specs.Limits.{IsWithinLimit}
-use Rattle.clauses.specs.Inclusion.{here, there, Has}
-use Rattle.clauses.proofs.Made.{made_small}
-use Rattle.clauses.proofs.Lists.{all_weaker}
-use Rattle.clauses.proofs.NormNumbers.{norm-below}
-use Rattle.saturation.specs.Key.{Key, below}
-use Rattle.saturation.specs.Key as offered
-use Rattle.saturation.specs.Log.{IsOffered}
-use Rattle.saturation.proofs.Pairs.{has_numbered, offers_normal}
+use Rattle.spec_terms.specs.Term.{Term}
+use Rattle.spec_calculus.specs.Bounds.{most_symbols}
+use Rattle.spec_calculus.specs.Points.{numbered}
+use Rattle.spec_clauses.specs.Fact.{Clause, clause_terms, clause_size}
+use Rattle.spec_clauses.specs.Variables.{leaves, IsBelow}
+use Rattle.spec_clauses.specs.Norm.{IsNormal}
+use Rattle.spec_clauses.specs.Limits.{IsWithinLimit}
+use Rattle.spec_clauses.specs.Inclusion.{here, there, Has}
+use Rattle.spec_clauses.proofs.Made.{made_small}
+use Rattle.spec_clauses.proofs.Lists.{all_weaker}
+use Rattle.spec_clauses.proofs.NormNumbers.{norm-below}
+use Rattle.spec_saturation.specs.Key.{Key, below}
+use Rattle.spec_saturation.specs.Key as offered
+use Rattle.spec_saturation.specs.Log.{IsOffered}
+use Rattle.spec_saturation.proofs.Pairs.{has_numbered, offers_normal}
 use Rattle.term_tree.specs.Bank.{Grows}
 use Rattle.term_tree.specs.declared.bank.Id.{Id}
 use Rattle.clause_form.specs.Seen.{clause_at}

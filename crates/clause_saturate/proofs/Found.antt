@@ -1,12 +1,12 @@
 -- Two entries by their numbers: whether they are a due pair.
 use Rattle.std.proofs.Common.{◌≡◌, ◌∙◌, ℕ, zero, suc, ◌-◌, ◌<◌, ◌≤◌, true, false, Option, Some, None, List, [], ◌∷◌, IsNone, length, take, get_or, refl, ap, sym, subst, true≢false, arith}
 use Rattle.std.specs.Prelude.{slice_get}
-use Rattle.terms.specs.Term.{Term}
-use Rattle.calculus.specs.Points.{numbered}
-use Rattle.clauses.specs.Selection.{select, is_solved}
-use Rattle.clauses.specs.Resolvents.{Resolves}
-use Rattle.clauses.specs.Resolvents as answer
-use Rattle.saturation.proofs.Places.{numbered_within}
+use Rattle.spec_terms.specs.Term.{Term}
+use Rattle.spec_calculus.specs.Points.{numbered}
+use Rattle.spec_clauses.specs.Selection.{select, is_solved}
+use Rattle.spec_clauses.specs.Resolvents.{Resolves}
+use Rattle.spec_clauses.specs.Resolvents as answer
+use Rattle.spec_saturation.proofs.Places.{numbered_within}
 use Rattle.term_tree.specs.Bank.{Grows}
 use Rattle.clause_resolve.specs.declared.resolving.Resolved.{Resolved}
 use Rattle.clause_resolve.specs.declared.resolving.Resolved.TheVariants.{NoUnifier, Large, Clauses}

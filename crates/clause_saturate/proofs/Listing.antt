@@ -1,11 +1,11 @@
 -- The lists of live entries: as the bank grows, as entries are marked, and with an entry more.
 use Rattle.std.proofs.Common.{◌≡◌, ◌⊎◌, ◌∙◌, ℕ, zero, suc, ◌+◌, ◌<◌, ◌≤◌, Bool, true, false, Option, Some, None, List, [], ◌∷◌, ◌++◌, length, filter, refl, ap, sym, subst, inl, inr, arith}
 use Rattle.std.specs.Prelude.{slice_get}
-use Rattle.terms.specs.Term.{Term}
-use Rattle.calculus.specs.Points.{numbered}
-use Rattle.clauses.specs.Fact.{Clause}
-use Rattle.clauses.specs.Selection.{is_solved}
-use Rattle.saturation.proofs.Places.{numbered_within}
+use Rattle.spec_terms.specs.Term.{Term}
+use Rattle.spec_calculus.specs.Points.{numbered}
+use Rattle.spec_clauses.specs.Fact.{Clause}
+use Rattle.spec_clauses.specs.Selection.{is_solved}
+use Rattle.spec_saturation.proofs.Places.{numbered_within}
 use Rattle.term_tree.specs.Bank.{Grows}
 use Rattle.clause_form.specs.Seen.{clause_at}
 use Rattle.clause_form.proofs.Copying.{NamesClause-grows}

@@ -1,11 +1,11 @@
 -- Entries name trees, and those that none is told to subsume have the live clauses of the log.
 use Rattle.std.proofs.Common.{◌≡◌, ℕ, suc, Bool, true, false, Option, Some, None, List, [], ◌∷◌, refl, ap, inl, inr}
-use Rattle.terms.specs.Term.{Term}
-use Rattle.clauses.specs.Fact.{Clause}
-use Rattle.clauses.specs.Inclusion.{here, there}
-use Rattle.saturation.specs.Key as offered
-use Rattle.saturation.specs.Log.{IsBeaten}
-use Rattle.saturation.specs.Live.{AreLive}
+use Rattle.spec_terms.specs.Term.{Term}
+use Rattle.spec_clauses.specs.Fact.{Clause}
+use Rattle.spec_clauses.specs.Inclusion.{here, there}
+use Rattle.spec_saturation.specs.Key as offered
+use Rattle.spec_saturation.specs.Log.{IsBeaten}
+use Rattle.spec_saturation.specs.Live.{AreLive}
 use Rattle.clause_form.specs.Seen.{AreClausesIn}
 use Rattle.clause_saturate.specs.declared.log.Entry.{Entry}
 use Rattle.clause_saturate.specs.Logs.{IsFirstSubsumer, TellEntries, is_unbeaten, live_clauses}

@@ -1,7 +1,7 @@
 -- Walks over entries: which of them a clause beats.
 use Rattle.std.proofs.Common.{◌≡◌, ℕ, zero, suc, ◌+◌, ◌<◌, ◌≤◌, Bool, true, false, List, [], ◌∷◌, length, get_or, set, MatchBool, refl, ap, sym, subst, arith}
-use Rattle.terms.specs.Term.{Term}
-use Rattle.clauses.specs.Fact.{Clause}
+use Rattle.spec_terms.specs.Term.{Term}
+use Rattle.spec_clauses.specs.Fact.{Clause}
 use Rattle.clause_form.specs.Seen.{IsClauseIn, AreClausesIn}
 use Rattle.clause_saturate.specs.declared.log.Entry.{Entry}
 use Rattle.clause_form.specs.Fit.{IsFit, AreFit}

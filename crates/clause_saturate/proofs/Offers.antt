@@ -1,10 +1,10 @@
 -- What an offer does to the log that the entries tell.
 use Rattle.std.proofs.Common.{◌≡◌, ◌∙◌, ℕ, ◌<◌, Bool, true, false, None, List, length, MatchBool, refl, ap, sym, subst, arith}
-use Rattle.terms.specs.Term.{Term}
-use Rattle.clauses.specs.Fact.{Clause}
-use Rattle.saturation.specs.Key.{Key}
-use Rattle.saturation.specs.Key as offered
-use Rattle.saturation.specs.Log.{IsCoveredBy}
+use Rattle.spec_terms.specs.Term.{Term}
+use Rattle.spec_clauses.specs.Fact.{Clause}
+use Rattle.spec_saturation.specs.Key.{Key}
+use Rattle.spec_saturation.specs.Key as offered
+use Rattle.spec_saturation.specs.Log.{IsCoveredBy}
 use Rattle.term_tree.specs.declared.bank.Id.{Id}
 use Rattle.clause_form.specs.Seen.{clause_at}
 use Rattle.clause_saturate.specs.declared.log.Origin.{Origin}

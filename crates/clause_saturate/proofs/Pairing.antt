@@ -3,19 +3,19 @@ use Rattle.std.proofs.Common.{◌≡◌, ◌⊎◌, ◌∙◌, ℕ, zero, suc, �
 use Rattle.std.specs.Prelude.{slice_get}
 use Rattle.std.proofs.lemmas.Bool.{cases_lt}
 use Rattle.std.proofs.lemmas.Bool.Decides.{nat_tests}
-use Rattle.terms.specs.Term.{Term}
-use Rattle.calculus.specs.Points.{numbered}
-use Rattle.clauses.specs.Fact.{Clause}
-use Rattle.clauses.specs.Selection.{select, is_solved}
-use Rattle.clauses.specs.Resolvents.{Answer, NoUnifier, Large, Resolvents, Resolves}
-use Rattle.saturation.specs.Key.{Key, key, is_before}
-use Rattle.saturation.specs.Key as offered
-use Rattle.saturation.specs.Log.{IsBeaten, IsLive, IsDue, Gives, IsOffered, goal_key}
-use Rattle.saturation.specs.End.{IsLogUpTo}
-use Rattle.saturation.proofs.Keys.{parts_of_key}
-use Rattle.saturation.proofs.Pairs.{live_behind}
-use Rattle.saturation.proofs.Moving.{next, below_all, self_not_before}
-use Rattle.saturation.proofs.Turns.{pair_undue, pair_apart, pair_offered, gives_push}
+use Rattle.spec_terms.specs.Term.{Term}
+use Rattle.spec_calculus.specs.Points.{numbered}
+use Rattle.spec_clauses.specs.Fact.{Clause}
+use Rattle.spec_clauses.specs.Selection.{select, is_solved}
+use Rattle.spec_clauses.specs.Resolvents.{Answer, NoUnifier, Large, Resolvents, Resolves}
+use Rattle.spec_saturation.specs.Key.{Key, key, is_before}
+use Rattle.spec_saturation.specs.Key as offered
+use Rattle.spec_saturation.specs.Log.{IsBeaten, IsLive, IsDue, Gives, IsOffered, goal_key}
+use Rattle.spec_saturation.specs.End.{IsLogUpTo}
+use Rattle.spec_saturation.proofs.Keys.{parts_of_key}
+use Rattle.spec_saturation.proofs.Pairs.{live_behind}
+use Rattle.spec_saturation.proofs.Moving.{next, below_all, self_not_before}
+use Rattle.spec_saturation.proofs.Turns.{pair_undue, pair_apart, pair_offered, gives_push}
 use Rattle.term_tree.specs.Bank.{Grows}
 use Rattle.term_tree.specs.declared.bank.Id.{Id}
 use Rattle.clause_form.specs.Seen.{clause_at, NameClauses}

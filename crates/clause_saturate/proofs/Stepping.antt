@@ -1,15 +1,15 @@
 -- A walk goes on: with an offer, and from pair to pair and turn to turn.
 use Rattle.std.proofs.Common.{◌≡◌, ◌⊎◌, ◌∙◌, ℕ, suc, ◌+◌, ◌<◌, ◌≤◌, Bool, true, false, Option, Some, None, List, [], ◌∷◌, ◌++◌, length, refl, ap, sym, subst, inl, inr, length-append, arith}
 use Rattle.std.proofs.lemmas.Bool.Decides.{nat_tests}
-use Rattle.terms.specs.Term.{Term}
-use Rattle.calculus.specs.Points.{numbered}
-use Rattle.clauses.specs.Fact.{Clause}
-use Rattle.saturation.specs.Key.{Key, key, is_before, below}
-use Rattle.saturation.specs.Key as offered
-use Rattle.saturation.specs.Log.{IsCoveredBy, IsOffered, goal_key, EndsAt}
-use Rattle.saturation.proofs.Keys.{before_trans, parts_of_key}
-use Rattle.saturation.proofs.Moving.{next, before_next, next_least, below_push, below_all, self_not_before, skipped, pushed}
-use Rattle.saturation.proofs.Turns.{begun, turn_ends, turn_begins, closed, goal_passed, goal_offered}
+use Rattle.spec_terms.specs.Term.{Term}
+use Rattle.spec_calculus.specs.Points.{numbered}
+use Rattle.spec_clauses.specs.Fact.{Clause}
+use Rattle.spec_saturation.specs.Key.{Key, key, is_before, below}
+use Rattle.spec_saturation.specs.Key as offered
+use Rattle.spec_saturation.specs.Log.{IsCoveredBy, IsOffered, goal_key, EndsAt}
+use Rattle.spec_saturation.proofs.Keys.{before_trans, parts_of_key}
+use Rattle.spec_saturation.proofs.Moving.{next, before_next, next_least, below_push, below_all, self_not_before, skipped, pushed}
+use Rattle.spec_saturation.proofs.Turns.{begun, turn_ends, turn_begins, closed, goal_passed, goal_offered}
 use Rattle.clause_saturate.specs.declared.log.Entry.{Entry}
 use Rattle.clause_saturate.specs.declared.log.Origin.TheVariants.{Given}
 use Rattle.clause_saturate.specs.declared.walk.Walk.{Walk}

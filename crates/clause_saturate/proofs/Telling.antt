@@ -1,15 +1,15 @@
 -- Entries that tell a log: what covers a clause among them covers it in the log, and the other way round; and an entry more.
 use Rattle.std.proofs.Common.{◌≡◌, ◌⊎◌, ◌∙◌, ℕ, zero, suc, ◌+◌, Option, Some, None, List, [], ◌∷◌, ◌++◌, length, refl, ap, sym, subst, inl, inr, arith}
 use Rattle.std.specs.Prelude.{slice_get}
-use Rattle.terms.specs.Term.{Term}
-use Rattle.calculus.specs.Points.{numbered}
-use Rattle.clauses.specs.Fact.{Clause}
-use Rattle.clauses.specs.Subsumption.{Subsumes}
-use Rattle.clauses.specs.Inclusion.{Picks, here, there, Has}
-use Rattle.saturation.specs.Key.{Key}
-use Rattle.saturation.specs.Key as offered
-use Rattle.saturation.specs.Log.{IsBeaten, IsLive, IsCoveredBy}
-use Rattle.saturation.proofs.Pairs.{live_behind}
+use Rattle.spec_terms.specs.Term.{Term}
+use Rattle.spec_calculus.specs.Points.{numbered}
+use Rattle.spec_clauses.specs.Fact.{Clause}
+use Rattle.spec_clauses.specs.Subsumption.{Subsumes}
+use Rattle.spec_clauses.specs.Inclusion.{Picks, here, there, Has}
+use Rattle.spec_saturation.specs.Key.{Key}
+use Rattle.spec_saturation.specs.Key as offered
+use Rattle.spec_saturation.specs.Log.{IsBeaten, IsLive, IsCoveredBy}
+use Rattle.spec_saturation.proofs.Pairs.{live_behind}
 use Rattle.term_tree.specs.Bank.{Grows}
 use Rattle.clause_form.specs.Seen.{clause_at, NamesClause}
 use Rattle.clause_form.proofs.Copying.{NamesClause-grows}

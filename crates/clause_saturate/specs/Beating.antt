@@ -1,11 +1,11 @@
 -- Entries and a clause that is offered: which live ones subsume it, and which it subsumes.
 use Rattle.std.specs.Prelude.{◌≡◌, ◌⊎◌, ℕ, ◌+◌, ◌<◌, Option, Some, None, List, [], ◌∷◌, ◌++◌, length, map}
-use Rattle.terms.specs.Term.{Term}
-use Rattle.clauses.specs.Fact.{Clause}
-use Rattle.clauses.specs.Subsumption.{Subsumes}
-use Rattle.saturation.specs.Key.{Key}
-use Rattle.saturation.specs.Key as offered
-use Rattle.saturation.specs.Log.{IsCoveredBy}
+use Rattle.spec_terms.specs.Term.{Term}
+use Rattle.spec_clauses.specs.Fact.{Clause}
+use Rattle.spec_clauses.specs.Subsumption.{Subsumes}
+use Rattle.spec_saturation.specs.Key.{Key}
+use Rattle.spec_saturation.specs.Key as offered
+use Rattle.spec_saturation.specs.Log.{IsCoveredBy}
 use Rattle.term_tree.specs.declared.bank.Id.{Id}
 use Rattle.clause_form.specs.Seen.{clause_at}
 use Rattle.clause_saturate.specs.declared.log.Entry.{Entry}

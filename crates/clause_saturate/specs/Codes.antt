@@ -2,8 +2,8 @@
 use Rattle.std.specs.Prelude.{◌≡◌, ◌⊎◌, ℕ, Option, List, refl}
 use Rattle.std.proofs.Common.{inl, inr}
 use Rattle.std.specs.Coded.{Coded, code_by, coded×, coded⊎, coded_ℕ, coded_list, coded_option}
-use Rattle.terms.specs.Term.{Term, coded_term}
-use Rattle.clauses.specs.Fact.{Clause}
+use Rattle.spec_terms.specs.Term.{Term, coded_term}
+use Rattle.spec_clauses.specs.Fact.{Clause}
 use Rattle.term_tree.specs.declared.bank.Id.{Id}
 use Rattle.clause_form.specs.Codes.{coded_id, coded_clause}
 use Rattle.clause_saturate.specs.declared.log.Origin.{Origin}

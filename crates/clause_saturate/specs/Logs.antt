@@ -1,14 +1,14 @@
 -- What the entries of a log tell: clauses, the keys at which they were offered, and which later one subsumes them first.
 use Rattle.std.specs.Prelude.{◌≡◌, ◌⊎◌, ℕ, suc, min, max, Bool, true, false, Option, Some, None, List, [], ◌∷◌, map, filter}
-use Rattle.terms.specs.Term.{Term}
-use Rattle.calculus.specs.Points.{numbered}
-use Rattle.clauses.specs.Fact.{Clause}
-use Rattle.clauses.specs.Selection.{is_solved}
-use Rattle.clauses.specs.Subsumption.{Subsumes}
-use Rattle.saturation.specs.Key.{Key, key}
-use Rattle.saturation.specs.Key as offered
-use Rattle.saturation.specs.End.{End, IsLog}
-use Rattle.saturation.specs.End as ending
+use Rattle.spec_terms.specs.Term.{Term}
+use Rattle.spec_calculus.specs.Points.{numbered}
+use Rattle.spec_clauses.specs.Fact.{Clause}
+use Rattle.spec_clauses.specs.Selection.{is_solved}
+use Rattle.spec_clauses.specs.Subsumption.{Subsumes}
+use Rattle.spec_saturation.specs.Key.{Key, key}
+use Rattle.spec_saturation.specs.Key as offered
+use Rattle.spec_saturation.specs.End.{End, IsLog}
+use Rattle.spec_saturation.specs.End as ending
 use Rattle.clause_form.specs.Seen.{clause_at, NamesClause}
 use Rattle.clause_saturate.specs.declared.log.Origin.{Origin}
 use Rattle.clause_saturate.specs.declared.log.Origin.TheVariants.{Given, Resolvent}

@@ -1,11 +1,11 @@
 -- Pairs of entries, and what they give.
 use Rattle.std.specs.Prelude.{◌≡◌, ◌⊎◌, ℕ, ◌<◌, ◌≤◌, min, max, true, false, Option, Some, None, List, length}
-use Rattle.terms.specs.Term.{Term}
-use Rattle.calculus.specs.Points.{numbered}
-use Rattle.clauses.specs.Fact as horn
-use Rattle.clauses.specs.Selection.{Selection, select, is_solved}
-use Rattle.clauses.specs.Resolvents.{Answer, Resolves}
-use Rattle.clauses.specs.Resolvents as answer
+use Rattle.spec_terms.specs.Term.{Term}
+use Rattle.spec_calculus.specs.Points.{numbered}
+use Rattle.spec_clauses.specs.Fact as horn
+use Rattle.spec_clauses.specs.Selection.{Selection, select, is_solved}
+use Rattle.spec_clauses.specs.Resolvents.{Answer, Resolves}
+use Rattle.spec_clauses.specs.Resolvents as answer
 use Rattle.term_tree.specs.declared.bank.Id.{Id}
 use Rattle.clause_form.specs.Seen.{clause_at, NameClauses}
 use Rattle.clause_resolve.specs.declared.resolving.Resolved.{Resolved}

@@ -1,6 +1,6 @@
 -- Entries over owned trees.
 use Rattle.std.specs.Prelude.{List}
-use Rattle.terms.specs.Term.{Term}
+use Rattle.spec_terms.specs.Term.{Term}
 use Rattle.clause_form.specs.Seen.{clause_at}
 use Rattle.clause_saturate.specs.declared.log.Entry.{Entry}
 use Rattle.clause_saturate.specs.declared.log.PlainEntry.{PlainEntry}

@@ -1,14 +1,14 @@
 -- What holds of a log as it is walked along: it is the log up to some key.
 use Rattle.std.specs.Prelude.{◌≡◌, ℕ, suc, ◌<◌, ◌≤◌, Bool, true, false, Option, Some, None, List, length}
-use Rattle.terms.specs.Term.{Term}
-use Rattle.clauses.specs.Fact.{Clause}
-use Rattle.clauses.specs.Norm.{IsNormal}
-use Rattle.clauses.specs.Limits.{IsWithinLimit}
-use Rattle.clauses.specs.Inclusion.{Has}
-use Rattle.saturation.specs.Key.{Key, key, is_before}
-use Rattle.saturation.specs.Key as offered
-use Rattle.saturation.specs.Log.{goal_key, EndsAt}
-use Rattle.saturation.specs.End.{IsLogUpTo}
+use Rattle.spec_terms.specs.Term.{Term}
+use Rattle.spec_clauses.specs.Fact.{Clause}
+use Rattle.spec_clauses.specs.Norm.{IsNormal}
+use Rattle.spec_clauses.specs.Limits.{IsWithinLimit}
+use Rattle.spec_clauses.specs.Inclusion.{Has}
+use Rattle.spec_saturation.specs.Key.{Key, key, is_before}
+use Rattle.spec_saturation.specs.Key as offered
+use Rattle.spec_saturation.specs.Log.{goal_key, EndsAt}
+use Rattle.spec_saturation.specs.End.{IsLogUpTo}
 use Rattle.clause_saturate.specs.declared.log.Entry.{Entry}
 use Rattle.clause_saturate.specs.declared.walk.Walk.{Walk}
 use Rattle.clause_saturate.specs.declared.walk.Stop.{Stop}

@@ -2,9 +2,9 @@
 #![tactic(auto)]
 
 ghost use Rattle.std.specs.Prelude.{List};
-ghost use Rattle.terms.specs.Term.{Term};
-ghost use Rattle.saturation.specs.Key.{Entry as OfferedEntry};
-ghost use Rattle.saturation.specs.Live.{AreLive};
+ghost use Rattle.spec_terms.specs.Term.{Term};
+ghost use Rattle.spec_saturation.specs.Key.{Entry as OfferedEntry};
+ghost use Rattle.spec_saturation.specs.Live.{AreLive};
 ghost use Rattle.term_tree.specs.Bank.{Grows};
 ghost use Rattle.clause_form.specs.Seen.{AreClausesIn};
 ghost use Rattle.clause_saturate.specs.declared.log.Entry.{Entry as ToldEntry};

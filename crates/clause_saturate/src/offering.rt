@@ -1,9 +1,9 @@
 //! Clauses that are offered to a log.
 
 ghost use Rattle.std.specs.Prelude.{◌≡◌, ◌+◌, ◌<◌, ◌≤◌, ℕ, Some, None, List, length, filter, IfOk, OnOk, MatchBool};
-ghost use Rattle.clauses.specs.Selection.{is_solved as is_solved_list};
-ghost use Rattle.clauses.specs.Subsumption.{Subsumes};
-ghost use Rattle.saturation.specs.Key.{Key, Entry as EntryOf};
+ghost use Rattle.spec_clauses.specs.Selection.{is_solved as is_solved_list};
+ghost use Rattle.spec_clauses.specs.Subsumption.{Subsumes};
+ghost use Rattle.spec_saturation.specs.Key.{Key, Entry as EntryOf};
 ghost use Rattle.clause_form.specs.Seen.{clause_at, IsClauseIn};
 ghost use Rattle.clause_form.specs.Fit.{IsFit, AreFit};
 ghost use Rattle.clause_saturate.specs.Logs.{TellLog, IsOrigin};

@@ -1,7 +1,7 @@
 //! Pairs of entries, and what they give.
 
 ghost use Rattle.std.specs.Prelude.{◌+◌, ◌<◌, ◌≤◌, length, take, IfOk, OnOk};
-ghost use Rattle.saturation.specs.Key.{key};
+ghost use Rattle.spec_saturation.specs.Key.{key};
 ghost use Rattle.term_tree.specs.Bank.{Grows};
 ghost use Rattle.clause_resolve.specs.Answers.{LeavesBank};
 ghost use Rattle.clause_form.specs.Fit.{AreFit};

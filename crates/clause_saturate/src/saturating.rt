@@ -2,9 +2,9 @@
 //! goal where the entries end.
 
 ghost use Rattle.std.specs.Prelude.{◌≡◌, ◌<◌, Some, None, List, length, map, IfOk, OnErr};
-ghost use Rattle.terms.specs.Term.{Term};
-ghost use Rattle.saturation.specs.Key.{key};
-ghost use Rattle.saturation.specs.Log.{goal_key};
+ghost use Rattle.spec_terms.specs.Term.{Term};
+ghost use Rattle.spec_saturation.specs.Key.{key};
+ghost use Rattle.spec_saturation.specs.Log.{goal_key};
 ghost use Rattle.term_tree.specs.Bank.{Grows};
 ghost use Rattle.clause_form.specs.Seen.{clause_at};
 ghost use Rattle.clause_form.specs.Fit.{AreFit};

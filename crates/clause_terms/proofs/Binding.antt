@@ -3,11 +3,11 @@ use Rattle.std.proofs.Common.{◌≡◌, ℕ, ◌+◌, ◌<◌, ◌≤◌, List,
 use Rattle.std.specs.declared.alloc.AllocError.{AllocError}
 use Rattle.std.proofs.lemmas.List.Elements.{filter_map-append}
 use Rattle.std.proofs.lemmas.List.Folds.{flat_map-map}
-use Rattle.trees.specs.Tree.{Leaf, Node, trees}
-use Rattle.trees.specs.Leaves.{leaves, row_leaves}
-use Rattle.calculus.specs.Syntax.{Name, Symbol, Variable, Bind, Pattern}
-use Rattle.terms.specs.Term.{Term}
-use Rattle.translation.specs.Conversion.{Scope, Fresh, fresh_leaf, hole_standing, pattern_scope}
+use Rattle.spec_trees.specs.Tree.{Leaf, Node, trees}
+use Rattle.spec_trees.specs.Leaves.{leaves, row_leaves}
+use Rattle.spec_calculus.specs.Syntax.{Name, Symbol, Variable, Bind, Pattern}
+use Rattle.spec_terms.specs.Term.{Term}
+use Rattle.spec_translation.specs.Conversion.{Scope, Fresh, fresh_leaf, hole_standing, pattern_scope}
 use Rattle.term_tree.specs.Bank.{Names, Grows}
 use Rattle.term_tree.proofs.BankLaws.{Grows_refl, Grows_trans}
 use Rattle.clause_form.proofs.Lists.{flat_map_more, flat_map_all}

@@ -1,19 +1,19 @@
 -- What is read meets the conditions, and terms of queries are made as those of rules.
 use Rattle.std.proofs.Common.{◌≡◌, ℕ, ◌+◌, ◌-◌, ◌^◌, ◌≤◌, max, List, [], ◌∷◌, length, length-append, refl, ap, arith}
 use Rattle.std.specs.List.{AllByRecursion}
-use Rattle.trees.specs.Tree.{Tree, Trees, Leaf, Node, none, more, trees, size, sizes}
-use Rattle.trees.specs.Leaves.{leaves, row_leaves}
-use Rattle.calculus.specs.Syntax.{Name, Free, Made, Variable, Symbol, Constructor, Tuple, Hole, Bind, Equal, Pattern, Rule, EventTerm, Protocol}
-use Rattle.calculus.specs.Syntax as calculus
-use Rattle.well_formed.specs.Signature.{Signature}
-use Rattle.well_formed.specs.Leaves.{leaves_of, AreNumberedBehind}
-use Rattle.well_formed.specs.Terms.{EachSymbol, EachSymbolInRow, TakesArguments, TakesPatterns, IsTermOver, IsHoleBelow, IsPatternBelow}
-use Rattle.well_formed.specs.Rules.{IsVariable, rule_leaves, IsProperRule}
-use Rattle.well_formed.specs.WellFormed.{IsRuleOver}
-use Rattle.well_formed.specs.Limits.{IsSmallRule}
-use Rattle.clauses.proofs.Lists.{all_weaker}
-use Rattle.translation.specs.Conversion.{converted, rule_leaf, rule_term}
-use Rattle.translation.specs.Goal.{query_leaf, query_term}
+use Rattle.spec_trees.specs.Tree.{Tree, Trees, Leaf, Node, none, more, trees, size, sizes}
+use Rattle.spec_trees.specs.Leaves.{leaves, row_leaves}
+use Rattle.spec_calculus.specs.Syntax.{Name, Free, Made, Variable, Symbol, Constructor, Tuple, Hole, Bind, Equal, Pattern, Rule, EventTerm, Protocol}
+use Rattle.spec_calculus.specs.Syntax as calculus
+use Rattle.spec_well_formed.specs.Signature.{Signature}
+use Rattle.spec_well_formed.specs.Leaves.{leaves_of, AreNumberedBehind}
+use Rattle.spec_well_formed.specs.Terms.{EachSymbol, EachSymbolInRow, TakesArguments, TakesPatterns, IsTermOver, IsHoleBelow, IsPatternBelow}
+use Rattle.spec_well_formed.specs.Rules.{IsVariable, rule_leaves, IsProperRule}
+use Rattle.spec_well_formed.specs.WellFormed.{IsRuleOver}
+use Rattle.spec_well_formed.specs.Limits.{IsSmallRule}
+use Rattle.spec_clauses.proofs.Lists.{all_weaker}
+use Rattle.spec_translation.specs.Conversion.{converted, rule_leaf, rule_term}
+use Rattle.spec_translation.specs.Goal.{query_leaf, query_term}
 use Rattle.clause_terms.specs.Conditions.{IsShort, HasShortTuples, IsShortHole, IsShortPattern, IsShortRule, IsRoomFor, HasRoomForRule}
 
 -- what holds of each symbol and the number of its arguments

@@ -3,10 +3,10 @@ use Rattle.std.proofs.Common.{◌≡◌, ℕ, ◌+◌, ◌<◌, ◌≤◌, List,
 use Rattle.std.specs.declared.alloc.AllocError.{AllocError}
 use Rattle.std.proofs.lemmas.List.{take_all, map_more}
 use Rattle.std.proofs.lemmas.Simd.{map-map}
-use Rattle.trees.specs.Tree.{Tree, Node, trees, node}
-use Rattle.calculus.specs.Syntax.{Symbol, Protocol}
-use Rattle.terms.specs.Term.{Sym, Term}
-use Rattle.translation.specs.Conversion.{row_length, symbol_over, converted}
+use Rattle.spec_trees.specs.Tree.{Tree, Node, trees, node}
+use Rattle.spec_calculus.specs.Syntax.{Symbol, Protocol}
+use Rattle.spec_terms.specs.Term.{Sym, Term}
+use Rattle.spec_translation.specs.Conversion.{row_length, symbol_over, converted}
 use Rattle.term_tree.specs.Bank.{tree_at, Names, Grows}
 use Rattle.term_tree.specs.declared.bank.Id.{Id}
 use Rattle.term_tree.proofs.BankLaws.{Grows_refl, Grows_trans}

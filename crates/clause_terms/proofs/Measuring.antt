@@ -1,10 +1,10 @@
 -- Sizes of what is converted, told as they are added up.
 use Rattle.std.proofs.Common.{◌≡◌, ◌+◌, List, [], ◌∷◌, map, refl, sym, ap, ◌∙◌, arith}
-use Rattle.trees.specs.Tree.{Tree, Node, trees, size, sizes}
-use Rattle.calculus.specs.Syntax.{Symbol, Protocol}
-use Rattle.terms.specs.Term.{Term}
-use Rattle.clauses.specs.Fact.{total}
-use Rattle.translation.specs.Conversion.{converted}
+use Rattle.spec_trees.specs.Tree.{Tree, Node, trees, size, sizes}
+use Rattle.spec_calculus.specs.Syntax.{Symbol, Protocol}
+use Rattle.spec_terms.specs.Term.{Term}
+use Rattle.spec_clauses.specs.Fact.{total}
+use Rattle.spec_translation.specs.Conversion.{converted}
 use Rattle.clause_terms.proofs.Rows.{converted_row-trees}
 
 sizes-trees : (ts : List Term) → sizes (trees ts) ≡ total size ts

@@ -2,7 +2,7 @@
 use Rattle.std.proofs.Common.{◌≡◌, ℕ, zero, suc, ◌+◌, ◌<◌, ◌≤◌, false, List, [], ◌∷◌, Some, None, map, length, get_or, slice_get, option_map, refl, ap, ◌∙◌, sym, arith}
 use Rattle.std.specs.Option.{option_map_or}
 use Rattle.std.proofs.lemmas.Option.{slice_get-map, slice_get_read}
-use Rattle.calculus.specs.Points.{numbered}
+use Rattle.spec_calculus.specs.Points.{numbered}
 use Rattle.pi_tree.specs.declared.names.Declared.{Declared}
 use Rattle.pi_tree.specs.Names.{declared_of}
 

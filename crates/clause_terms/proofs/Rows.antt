@@ -2,15 +2,15 @@
 use Rattle.std.proofs.Common.{◌≡◌, ℕ, zero, suc, ◌+◌, ◌-◌, ◌^◌, ◌<◌, ◌≤◌, List, [], ◌∷◌, length, map, filter_map, get_or, subst, sym, ap, ◌∙◌, refl, arith}
 use Rattle.std.specs.List.{AllByRecursion}
 use Rattle.std.proofs.lemmas.List.Elements.{filter_map-append}
-use Rattle.trees.specs.Tree.{Tree, Node, more, trees, depth, depths}
-use Rattle.trees.specs.Leaves.{leaves, row_leaves}
-use Rattle.calculus.specs.Syntax.{Name, Symbol, Term, Hole, Pattern}
-use Rattle.well_formed.specs.Terms.{EachSymbol, EachSymbolInRow}
-use Rattle.well_formed.specs.Terms as well
-use Rattle.clauses.proofs.Lists.{all_first, all_second}
-use Rattle.terms.specs.Term as terms
-use Rattle.translation.specs.Conversion.{row_length, converted, converted_row, Fresh, bound_number}
-use Rattle.calculus.specs.Syntax as calculus
+use Rattle.spec_trees.specs.Tree.{Tree, Node, more, trees, depth, depths}
+use Rattle.spec_trees.specs.Leaves.{leaves, row_leaves}
+use Rattle.spec_calculus.specs.Syntax.{Name, Symbol, Term, Hole, Pattern}
+use Rattle.spec_well_formed.specs.Terms.{EachSymbol, EachSymbolInRow}
+use Rattle.spec_well_formed.specs.Terms as well
+use Rattle.spec_clauses.proofs.Lists.{all_first, all_second}
+use Rattle.spec_terms.specs.Term as terms
+use Rattle.spec_translation.specs.Conversion.{row_length, converted, converted_row, Fresh, bound_number}
+use Rattle.spec_calculus.specs.Syntax as calculus
 use Rattle.clause_terms.specs.Conditions.{IsShort, HasShortTuples, IsShortHole, IsShortPattern, IsRoomFor, HasRoomFrom, HasRoomAt}
 
 -- how long rows are

@@ -1,10 +1,10 @@
 -- Scopes over ids: what is found in them, and that they outlast growth.
 use Rattle.std.proofs.Common.{◌≡◌, ◌<◌, Bool, true, false, cond, Some, None, List, [], ◌∷◌, ◌++◌, length, map, option_map, unwrap_or, refl, sym, ap, ◌∙◌, subst}
 use Rattle.std.proofs.lemmas.List.{map-append}
-use Rattle.calculus.specs.Syntax.{Name}
-use Rattle.calculus.specs.Values.{same_name}
-use Rattle.terms.specs.Term.{Term}
-use Rattle.translation.specs.Conversion.{Scope, found_in, free_term, leaf_term}
+use Rattle.spec_calculus.specs.Syntax.{Name}
+use Rattle.spec_calculus.specs.Values.{same_name}
+use Rattle.spec_terms.specs.Term.{Term}
+use Rattle.spec_translation.specs.Conversion.{Scope, found_in, free_term, leaf_term}
 use Rattle.term_tree.specs.Bank.{tree_at, AreKnown, Names, Grows}
 use Rattle.term_tree.specs.declared.bank.Id.{Id}
 use Rattle.term_tree.proofs.BankLaws.{tree_at-grows, AreKnown-grows, AreKnown-append}

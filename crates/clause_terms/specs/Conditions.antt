@@ -1,13 +1,13 @@
 -- What is asked of terms and patterns that are made terms of clauses: what those of a protocol have that bytes spell.
 use Rattle.std.specs.Prelude.{ℕ, ◌+◌, ◌-◌, ◌^◌, ◌<◌, ◌≤◌}
 use Rattle.std.specs.List.{AllByRecursion}
-use Rattle.trees.specs.Tree.{Tree}
-use Rattle.calculus.specs.Syntax.{Name, Free, Made, Variable, Symbol, Constructor, Tuple, Term, Hole, Bind, Equal, Pattern, Rule}
-use Rattle.calculus.specs.Bounds.{most_arguments}
-use Rattle.well_formed.specs.Terms.{EachSymbol}
-use Rattle.well_formed.specs.Leaves.{leaves}
-use Rattle.well_formed.specs.Rules.{rule_leaves}
-use Rattle.translation.specs.Conversion.{Fresh, bound_numbers}
+use Rattle.spec_trees.specs.Tree.{Tree}
+use Rattle.spec_calculus.specs.Syntax.{Name, Free, Made, Variable, Symbol, Constructor, Tuple, Term, Hole, Bind, Equal, Pattern, Rule}
+use Rattle.spec_calculus.specs.Bounds.{most_arguments}
+use Rattle.spec_well_formed.specs.Terms.{EachSymbol}
+use Rattle.spec_well_formed.specs.Leaves.{leaves}
+use Rattle.spec_well_formed.specs.Rules.{rule_leaves}
+use Rattle.spec_translation.specs.Conversion.{Fresh, bound_numbers}
 
 -- a tuple has no more parts than the limit
 abbrev pub IsShort : Symbol → ℕ → Type 0

@@ -1,11 +1,11 @@
 -- Scopes over the ids of a bank, and the scopes of terms that they stand for.
 use Rattle.std.specs.Prelude.{◌≡◌, cond, Option, Some, None, List, [], ◌∷◌, map, refl}
 use Rattle.std.specs.Coded.{Coded, code_by, coded×, coded_list}
-use Rattle.calculus.specs.Syntax.{Name}
-use Rattle.calculus.specs.Codes.{coded_name}
-use Rattle.calculus.specs.Values.{same_name}
-use Rattle.terms.specs.Term.{Term}
-use Rattle.translation.specs.Conversion.{StandsFor, Scope}
+use Rattle.spec_calculus.specs.Syntax.{Name}
+use Rattle.spec_calculus.specs.Codes.{coded_name}
+use Rattle.spec_calculus.specs.Values.{same_name}
+use Rattle.spec_terms.specs.Term.{Term}
+use Rattle.spec_translation.specs.Conversion.{StandsFor, Scope}
 use Rattle.term_tree.specs.Bank.{tree_at, AreKnown}
 use Rattle.term_tree.specs.declared.bank.Id.{Id}
 use Rattle.clause_form.specs.Codes.{coded_id}

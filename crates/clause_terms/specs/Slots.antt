@@ -1,5 +1,5 @@
 -- What contracts see of what is bound where a process is visited, and of what it stands for.
-use Rattle.calculus.specs.Syntax as calculus
+use Rattle.spec_calculus.specs.Syntax as calculus
 use Rattle.clause_terms.specs.declared.scopes.Slot.{Slot}
 use Rattle.clause_terms.specs.declared.scopes.Slot.TheVariants.{Var, Made}
 use Rattle.clause_terms.specs.declared.scopes.Standing as source

@@ -2,7 +2,7 @@
 
 ghost use Rattle.std.specs.Prelude.{◌≡◌, List, ◌++◌, flat_map, IfOk, OnOk, OnErr};
 ghost use Rattle.std.specs.List.{AllByRecursion};
-ghost use Rattle.translation.specs.Conversion as translation;
+ghost use Rattle.spec_translation.specs.Conversion as translation;
 ghost use Rattle.term_tree.specs.Bank.{Grows};
 ghost use Rattle.pi_tree.specs.Patterns.{pattern_of};
 ghost use Rattle.clause_terms.specs.Conditions.{HasRoomAt};

@@ -3,17 +3,17 @@
 
 ghost use Rattle.std.specs.Prelude.{◌≡◌, ◌+◌, ◌^◌, ℕ, ◌<◌, ◌≤◌, List, length, Some, option_map};
 ghost use Rattle.std.specs.List.{AllByRecursion};
-ghost use Rattle.calculus.specs.Syntax as calculus;
-ghost use Rattle.calculus.specs.Syntax.{Name, Pattern, Rule, EventTerm, Protocol};
-ghost use Rattle.well_formed.specs.Signature.{Signature};
-ghost use Rattle.well_formed.specs.Terms.{IsTermOver, IsTermBelow, IsPatternBelow, IsEventOver};
-ghost use Rattle.well_formed.specs.Rules.{IsProperRule};
-ghost use Rattle.well_formed.specs.Queries.{IsDeclaredFree, IsFreeOrVariable};
-ghost use Rattle.well_formed.specs.WellFormed.{IsRuleOver};
-ghost use Rattle.well_formed.specs.Limits.{IsSmallRule};
-ghost use Rattle.terms.specs.Term.{Term};
-ghost use Rattle.translation.specs.Conversion.{rule_term as rule_term_of, found_in};
-ghost use Rattle.translation.specs.Goal.{query_term};
+ghost use Rattle.spec_calculus.specs.Syntax as calculus;
+ghost use Rattle.spec_calculus.specs.Syntax.{Name, Pattern, Rule, EventTerm, Protocol};
+ghost use Rattle.spec_well_formed.specs.Signature.{Signature};
+ghost use Rattle.spec_well_formed.specs.Terms.{IsTermOver, IsTermBelow, IsPatternBelow, IsEventOver};
+ghost use Rattle.spec_well_formed.specs.Rules.{IsProperRule};
+ghost use Rattle.spec_well_formed.specs.Queries.{IsDeclaredFree, IsFreeOrVariable};
+ghost use Rattle.spec_well_formed.specs.WellFormed.{IsRuleOver};
+ghost use Rattle.spec_well_formed.specs.Limits.{IsSmallRule};
+ghost use Rattle.spec_terms.specs.Term.{Term};
+ghost use Rattle.spec_translation.specs.Conversion.{rule_term as rule_term_of, found_in};
+ghost use Rattle.spec_translation.specs.Goal.{query_term};
 ghost use Rattle.term_tree.specs.Bank.{tree_at, Grows};
 ghost use Rattle.term_tree.specs.declared.bank.Id.{Id};
 ghost use Rattle.clause_terms.specs.Conditions.{HasShortTuples, IsShortPattern, IsShortRule, HasRoomForRule};

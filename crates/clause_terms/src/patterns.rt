@@ -2,7 +2,7 @@
 
 ghost use Rattle.std.specs.Prelude.{◌≡◌, ◌+◌, ◌-◌, ◌^◌, ◌<◌, map, IfOk, OnErr};
 ghost use Rattle.std.specs.List.{AllByRecursion};
-ghost use Rattle.translation.specs.Conversion as translation;
+ghost use Rattle.spec_translation.specs.Conversion as translation;
 ghost use Rattle.term_tree.specs.Bank.{Names, Grows};
 ghost use Rattle.clause_form.specs.Seen.{NameTerms};
 ghost use Rattle.pi_tree.specs.Patterns.{pattern_of};

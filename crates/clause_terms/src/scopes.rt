@@ -1,7 +1,7 @@
 //! What the names that are bound stand for where a process is visited.
 
 ghost use Rattle.std.specs.Prelude.{◌≡◌, [], ◌∷◌, ◌++◌, IfOk, OnOk, OnErr};
-ghost use Rattle.calculus.specs.Values.{same_name};
+ghost use Rattle.spec_calculus.specs.Values.{same_name};
 ghost use Rattle.clause_terms.specs.Scopes.{id_in};
 ghost use Rattle.clause_terms.specs.Slots.{name_of, held_of};
 

@@ -1,10 +1,10 @@
 //! Sizes of terms where a process is visited, told without making the terms.
 
 ghost use Rattle.std.specs.Prelude.{◌≡◌, ℕ, ◌+◌, map};
-ghost use Rattle.trees.specs.Tree.{size};
-ghost use Rattle.calculus.specs.Syntax.{Protocol};
-ghost use Rattle.clauses.specs.Fact.{total};
-ghost use Rattle.translation.specs.Conversion as translation;
+ghost use Rattle.spec_trees.specs.Tree.{size};
+ghost use Rattle.spec_calculus.specs.Syntax.{Protocol};
+ghost use Rattle.spec_clauses.specs.Fact.{total};
+ghost use Rattle.spec_translation.specs.Conversion as translation;
 ghost use Rattle.term_tree.specs.Bank.{capped};
 ghost use Rattle.pi_tree.specs.Terms.{term_of};
 ghost use Rattle.clause_terms.specs.Scopes.{scope_at, IsScopeIn};

@@ -1,9 +1,9 @@
 //! The symbols of clauses for the constructors of a protocol.
 
 ghost use Rattle.std.specs.Prelude.{◌≡◌, ℕ};
-ghost use Rattle.calculus.specs.Runs as calculus;
-ghost use Rattle.calculus.specs.Syntax.{Constructor};
-ghost use Rattle.translation.specs.Conversion.{symbol_over};
+ghost use Rattle.spec_calculus.specs.Runs as calculus;
+ghost use Rattle.spec_calculus.specs.Syntax.{Constructor};
+ghost use Rattle.spec_translation.specs.Conversion.{symbol_over};
 ghost use Rattle.term_tree.specs.Bank.{symbol_of};
 ghost use Rattle.pi_tree.specs.Protocols.{protocol_of};
 

@@ -1,13 +1,13 @@
 -- Clauses that are added, unless they are too large.
 use Rattle.std.proofs.Common.{◌≡◌, Bool, true, false, ◌||◌, Ok, Err, Result, List, map, refl, ap, sym, subst, ◌∙◌}
 use Rattle.std.specs.Prelude.{IfOk, MatchBool}
-use Rattle.terms.specs.Term.{Term}
-use Rattle.clauses.specs.Fact.{Fact, Clause}
-use Rattle.clauses.specs.Limits.{is_large_raw}
-use Rattle.clauses.specs.Norm.{norms}
+use Rattle.spec_terms.specs.Term.{Term}
+use Rattle.spec_clauses.specs.Fact.{Fact, Clause}
+use Rattle.spec_clauses.specs.Limits.{is_large_raw}
+use Rattle.spec_clauses.specs.Norm.{norms}
 use Rattle.term_tree.specs.Bank.{Grows}
 use Rattle.term_tree.specs.declared.bank.Id.{Id}
-use Rattle.translation.specs.Visit.{Visit, raw_clause}
+use Rattle.spec_translation.specs.Visit.{Visit, raw_clause}
 use Rattle.clause_form.specs.Seen.{clause_at, NamesFact, NameFacts, NamesClause, AreClausesIn, NameClauses}
 use Rattle.clause_form.proofs.Copying.{NameClauses-grow}
 use Rattle.clause_translate.specs.declared.listing.Listing.{Listing}

@@ -2,15 +2,15 @@
 use Rattle.std.proofs.Common.{ℕ, ◌+◌, ◌-◌, ◌<◌, Bool, true, false, cond, Some, List, [], ◌∷◌, map, filter_map, arith}
 use Rattle.std.specs.Prelude.{unwrap_or}
 use Rattle.std.specs.List.{AllByRecursion}
-use Rattle.trees.specs.Tree.{Tree, Trees, Leaf, Node, none, more}
-use Rattle.trees.specs.Leaves.{leaves, row_leaves}
-use Rattle.calculus.specs.Syntax.{Name, Made, Variable, Symbol, Hole, Bind, Equal, Pattern, Protocol}
-use Rattle.calculus.specs.Syntax as calculus
-use Rattle.calculus.specs.Values.{same_name}
-use Rattle.terms.specs.Term.{Term}
-use Rattle.clauses.specs.Variables.{IsBelow, AreBelow}
-use Rattle.clauses.proofs.Lists.{all_append, all_first, all_second, all_weaker}
-use Rattle.translation.specs.Conversion.{Scope, free_term, converted, converted_row, found_in, leaf_term, term_in, Fresh, hole_term, pattern_term, bound_number, hole_standing, rule_leaf, rule_term}
+use Rattle.spec_trees.specs.Tree.{Tree, Trees, Leaf, Node, none, more}
+use Rattle.spec_trees.specs.Leaves.{leaves, row_leaves}
+use Rattle.spec_calculus.specs.Syntax.{Name, Made, Variable, Symbol, Hole, Bind, Equal, Pattern, Protocol}
+use Rattle.spec_calculus.specs.Syntax as calculus
+use Rattle.spec_calculus.specs.Values.{same_name}
+use Rattle.spec_terms.specs.Term.{Term}
+use Rattle.spec_clauses.specs.Variables.{IsBelow, AreBelow}
+use Rattle.spec_clauses.proofs.Lists.{all_append, all_first, all_second, all_weaker}
+use Rattle.spec_translation.specs.Conversion.{Scope, free_term, converted, converted_row, found_in, leaf_term, term_in, Fresh, hole_term, pattern_term, bound_number, hole_standing, rule_leaf, rule_term}
 use Rattle.clause_terms.specs.Conditions.{IsRoomFor, HasRoomFrom}
 use Rattle.clause_translate.specs.Spans.{EndsBelow, HasEnd, HaveEnd}
 

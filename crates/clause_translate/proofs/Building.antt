@@ -2,13 +2,13 @@
 use Rattle.std.proofs.Common.{◌≡◌, ℕ, zero, suc, ◌+◌, ◌<◌, ◌≤◌, Bool, true, false, cond, nat_eq, Option, Some, List, [], ◌∷◌, length, map, get_or, refl, ap, sym, subst, ◌∙◌, arith, eqb-true}
 use Rattle.std.specs.Prelude.{MatchOption}
 use Rattle.std.specs.Map.{lookup}
-use Rattle.trees.specs.Tree.{Leaf, trees, node, size, sizes, bind, depth, depths}
-use Rattle.trees.proofs.Rows.{bind-node}
-use Rattle.calculus.specs.Bounds.{most_symbols}
-use Rattle.terms.specs.Term.{Sym, Term, Subst}
-use Rattle.terms.specs.Binding.{resolved}
-use Rattle.terms.proofs.Replace.{some_none, some_same}
-use Rattle.terms.proofs.Resolve.{Solves-at}
+use Rattle.spec_trees.specs.Tree.{Leaf, trees, node, size, sizes, bind, depth, depths}
+use Rattle.spec_trees.proofs.Rows.{bind-node}
+use Rattle.spec_calculus.specs.Bounds.{most_symbols}
+use Rattle.spec_terms.specs.Term.{Sym, Term, Subst}
+use Rattle.spec_terms.specs.Binding.{resolved}
+use Rattle.spec_terms.proofs.Replace.{some_none, some_same}
+use Rattle.spec_terms.proofs.Resolve.{Solves-at}
 use Rattle.term_tree.specs.Bank.{tree_at, AreKnown, Names, Grows}
 use Rattle.term_tree.specs.declared.bank.Id.{Id}
 use Rattle.term_tree.proofs.BankLaws.{Grows-length, Names-grows, tree_at-grows, trees_at-grow}

@@ -1,14 +1,14 @@
 -- The choices of a destructor and of a term, by those of its rules and by one way.
 use Rattle.std.proofs.Common.{◌≡◌, ℕ, false, ◌||◌, Ok, Err, Result, Option, Some, None, List, [], ◌∷◌, map, refl, ap, sym, subst}
 use Rattle.std.specs.Prelude.{IfOk, MatchOption}
-use Rattle.calculus.specs.Syntax.{Pattern, Plain, Call, Protocol}
-use Rattle.calculus.specs.Syntax as calculus
-use Rattle.calculus.specs.Matching.{rules_of}
-use Rattle.terms.specs.Term.{Term}
-use Rattle.translation.specs.Conversion.{term_in}
-use Rattle.translation.specs.Visit.{Visit}
-use Rattle.translation.specs.Choice.{TermGoesOn, RuleGoesOn, RulesGoOn}
-use Rattle.translation.specs.Visited.{some_large}
+use Rattle.spec_calculus.specs.Syntax.{Pattern, Plain, Call, Protocol}
+use Rattle.spec_calculus.specs.Syntax as calculus
+use Rattle.spec_calculus.specs.Matching.{rules_of}
+use Rattle.spec_terms.specs.Term.{Term}
+use Rattle.spec_translation.specs.Conversion.{term_in}
+use Rattle.spec_translation.specs.Visit.{Visit}
+use Rattle.spec_translation.specs.Choice.{TermGoesOn, RuleGoesOn, RulesGoOn}
+use Rattle.spec_translation.specs.Visited.{some_large}
 use Rattle.clause_translate.specs.declared.visit.Visit as source
 use Rattle.clause_translate.specs.declared.visit.Visits.{Visits}
 use Rattle.clause_translate.specs.declared.choices.Way.{Way}

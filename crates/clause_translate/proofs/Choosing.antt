@@ -1,20 +1,20 @@
 -- Choices of a `let`: how each goes on.
 use Rattle.std.proofs.Common.{◌≡◌, ℕ, Bool, true, false, Option, Some, None, List, [], ◌∷◌, map, refl, ap, sym, subst, ◌∙◌}
 use Rattle.std.specs.Prelude.{MatchOption, MatchBool, IfSome}
-use Rattle.calculus.specs.Syntax.{Pattern, Rule, Protocol}
-use Rattle.calculus.specs.Syntax as calculus
-use Rattle.terms.specs.Term.{Term}
-use Rattle.terms.specs.Binding.{resolved}
-use Rattle.terms.proofs.Resolve.{resolved-most_general}
-use Rattle.clauses.specs.Variables.{AreBelow}
+use Rattle.spec_calculus.specs.Syntax.{Pattern, Rule, Protocol}
+use Rattle.spec_calculus.specs.Syntax as calculus
+use Rattle.spec_terms.specs.Term.{Term}
+use Rattle.spec_terms.specs.Binding.{resolved}
+use Rattle.spec_terms.proofs.Resolve.{resolved-most_general}
+use Rattle.spec_clauses.specs.Variables.{AreBelow}
 use Rattle.term_tree.specs.Bank.{tree_at, Names}
 use Rattle.term_tree.specs.declared.bank.Id.{Id}
 use Rattle.unify_match.specs.declared.bound.Bound.{Bound}
 use Rattle.unify_match.specs.Seen.{seen}
 use Rattle.unify_match.proofs.SeenLemmas.{IsReady-sound}
-use Rattle.translation.specs.Conversion.{term_in, rule_term}
-use Rattle.translation.specs.Visit.{Visit, visit_under, visit_terms, is_large_visit}
-use Rattle.translation.specs.Choice.{Choice, choice_under, IsUnified, GoesOn, TermGoesOn}
+use Rattle.spec_translation.specs.Conversion.{term_in, rule_term}
+use Rattle.spec_translation.specs.Visit.{Visit, visit_under, visit_terms, is_large_visit}
+use Rattle.spec_translation.specs.Choice.{Choice, choice_under, IsUnified, GoesOn, TermGoesOn}
 use Rattle.clause_translate.specs.declared.visit.Visit as source
 use Rattle.clause_translate.specs.declared.choices.Way.{Way}
 use Rattle.clause_translate.specs.declared.choices.Way.TheVariants as ways

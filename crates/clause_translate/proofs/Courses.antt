@@ -1,10 +1,10 @@
 -- Courses, one after another.
 use Rattle.std.proofs.Common.{◌≡◌, ℕ, Bool, true, false, Option, Some, None, List, [], ◌∷◌, ◌++◌, map, refl, ap, sym, subst, ◌∙◌}
-use Rattle.terms.specs.Term.{Term}
-use Rattle.clauses.specs.Fact.{Clause}
-use Rattle.translation.specs.Visit.{Visit}
-use Rattle.translation.specs.Course.{Outcome, Done, TooLarge, Course, Finished, Unless, preceded, After}
-use Rattle.translation.specs.Visited.{EachThen}
+use Rattle.spec_terms.specs.Term.{Term}
+use Rattle.spec_clauses.specs.Fact.{Clause}
+use Rattle.spec_translation.specs.Visit.{Visit}
+use Rattle.spec_translation.specs.Course.{Outcome, Done, TooLarge, Course, Finished, Unless, preceded, After}
+use Rattle.spec_translation.specs.Visited.{EachThen}
 use Rattle.clause_translate.specs.Forms.{present}
 
 pub appended_twice : {A : Type 0} (xs ys zs : List A) → (xs ++ ys) ++ zs ≡ xs ++ (ys ++ zs)

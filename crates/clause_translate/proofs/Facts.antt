@@ -1,9 +1,9 @@
 -- Facts under bindings, over a bank that grows.
 use Rattle.std.proofs.Common.{◌≡◌, ℕ, true, Option, Some, None, List, sym, subst, ◌∙◌}
 use Rattle.std.specs.Prelude.{MatchOption}
-use Rattle.terms.specs.Term.{Term}
-use Rattle.terms.specs.Binding.{resolved}
-use Rattle.clauses.specs.Fact.{Fact, fact_under}
+use Rattle.spec_terms.specs.Term.{Term}
+use Rattle.spec_terms.specs.Binding.{resolved}
+use Rattle.spec_clauses.specs.Fact.{Fact, fact_under}
 use Rattle.term_tree.specs.Bank.{Grows}
 use Rattle.term_tree.specs.declared.bank.Id.{Id}
 use Rattle.unify_match.specs.declared.bound.Bound.{Bound}

@@ -1,14 +1,14 @@
 -- Events: the raw clause, and the visit below.
 use Rattle.std.proofs.Common.{◌≡◌, ℕ, Bool, true, false, ◌||◌, Option, Some, None, List, [], ◌∷◌, ◌++◌, map, refl, ap, sym, subst}
 use Rattle.std.specs.Prelude.{flat_map, MatchBool}
-use Rattle.terms.specs.Term.{Term}
-use Rattle.clauses.specs.Fact.{Fact, Ev, Mev, Clause, terms_of}
-use Rattle.clauses.specs.Variables.{IsBelow, AreBelow}
-use Rattle.clauses.proofs.Lists.{all_append, all_first, all_second}
-use Rattle.calculus.specs.Syntax.{EventTerm, Protocol}
-use Rattle.clauses.specs.Limits.{is_large_raw}
-use Rattle.clauses.specs.Norm.{norms}
-use Rattle.translation.specs.Visit.{Visit, is_large_visit, after_event}
+use Rattle.spec_terms.specs.Term.{Term}
+use Rattle.spec_clauses.specs.Fact.{Fact, Ev, Mev, Clause, terms_of}
+use Rattle.spec_clauses.specs.Variables.{IsBelow, AreBelow}
+use Rattle.spec_clauses.proofs.Lists.{all_append, all_first, all_second}
+use Rattle.spec_calculus.specs.Syntax.{EventTerm, Protocol}
+use Rattle.spec_clauses.specs.Limits.{is_large_raw}
+use Rattle.spec_clauses.specs.Norm.{norms}
+use Rattle.spec_translation.specs.Visit.{Visit, is_large_visit, after_event}
 use Rattle.term_tree.specs.Bank.{tree_at, AreKnown}
 use Rattle.term_tree.specs.declared.bank.Id.{Id}
 use Rattle.term_tree.proofs.BankLaws.{Grows_refl}

@@ -1,11 +1,11 @@
 -- Well-scoped protocols have linear patterns.
 use Rattle.std.proofs.Common.{ℕ, ◌+◌, List, [], ◌∷◌, ◌++◌}
-use Rattle.calculus.specs.Syntax.{Name, Made, Process, Nil, Output, Input, Parallel, Replication, New, Let, Event, Protocol}
-use Rattle.calculus.specs.Points.{point_after}
-use Rattle.well_formed.specs.Signature.{Signature, signature_of}
-use Rattle.well_formed.specs.Terms.{bound_by}
-use Rattle.well_formed.specs.Processes.{HasLinearPatterns, IsProcessBelow}
-use Rattle.well_formed.specs.WellFormed.{IsWellScoped}
+use Rattle.spec_calculus.specs.Syntax.{Name, Made, Process, Nil, Output, Input, Parallel, Replication, New, Let, Event, Protocol}
+use Rattle.spec_calculus.specs.Points.{point_after}
+use Rattle.spec_well_formed.specs.Signature.{Signature, signature_of}
+use Rattle.spec_well_formed.specs.Terms.{bound_by}
+use Rattle.spec_well_formed.specs.Processes.{HasLinearPatterns, IsProcessBelow}
+use Rattle.spec_well_formed.specs.WellFormed.{IsWellScoped}
 
 linear : (signature : Signature) (bound : List Name) (point : ℕ) (p : Process) → IsProcessBelow signature bound point p → HasLinearPatterns p
 linear signature bound point Nil below = tt

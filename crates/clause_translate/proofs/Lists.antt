@@ -3,7 +3,7 @@ use Rattle.std.proofs.Common.{◌≡◌, ℕ, zero, suc, ◌+◌, ◌<◌, Bool,
 use Rattle.std.specs.Prelude.{MatchOption}
 use Rattle.std.specs.List.{AllByRecursion, list_any}
 use Rattle.std.proofs.lemmas.List.{take_more, map_more}
-use Rattle.clauses.proofs.Lists.{all_append, all_weaker}
+use Rattle.spec_clauses.proofs.Lists.{all_append, all_weaker}
 
 -- the branches of an answer that may be none
 pub none_of : {X : Type 0} (o : Option X) (A : Type 0) (B : X → Type 0) → o ≡ None → MatchOption o A B → A

@@ -2,14 +2,14 @@
 use Rattle.std.proofs.Common.{◌≡◌, ℕ, ◌+◌, ◌<◌, ◌≤◌, Ok, Err, Result, List, [], ◌∷◌, ◌++◌, map, refl, sym, subst, ◌∙◌, arith}
 use Rattle.std.specs.Prelude.{flat_map, IfOk}
 use Rattle.std.proofs.lemmas.List.{map-append}
-use Rattle.trees.specs.Tree.{Leaf, node, trees}
-use Rattle.calculus.specs.Syntax.{Name, Made}
-use Rattle.terms.specs.Term.{Point, Term}
-use Rattle.clauses.specs.Fact.{terms_of}
-use Rattle.clauses.specs.Variables.{leaves, row_leaves, IsBelow, AreBelow}
-use Rattle.clauses.proofs.Lists.{all_append, all_first, all_second, all_weaker}
-use Rattle.translation.specs.Conversion.{Scope, name_term}
-use Rattle.translation.specs.Visit.{Visit, visit_terms, after_copy, after_new}
+use Rattle.spec_trees.specs.Tree.{Leaf, node, trees}
+use Rattle.spec_calculus.specs.Syntax.{Name, Made}
+use Rattle.spec_terms.specs.Term.{Point, Term}
+use Rattle.spec_clauses.specs.Fact.{terms_of}
+use Rattle.spec_clauses.specs.Variables.{leaves, row_leaves, IsBelow, AreBelow}
+use Rattle.spec_clauses.proofs.Lists.{all_append, all_first, all_second, all_weaker}
+use Rattle.spec_translation.specs.Conversion.{Scope, name_term}
+use Rattle.spec_translation.specs.Visit.{Visit, visit_terms, after_copy, after_new}
 use Rattle.term_tree.specs.Bank.{tree_at, Names, Grows}
 use Rattle.term_tree.specs.declared.bank.Id.{Id}
 use Rattle.clause_form.specs.Seen.{fact_at, NameTerms, NameFacts}

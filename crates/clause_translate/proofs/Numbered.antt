@@ -2,14 +2,14 @@
 use Rattle.std.proofs.Common.{◌≡◌, ℕ, suc, ◌+◌, ◌<◌, ◌≤◌, false, List, [], ◌∷◌, Some, map, length, get_or, slice_get, option_map, refl, ap, ◌∙◌, sym, arith}
 use Rattle.std.specs.Option.{option_map_or}
 use Rattle.std.proofs.lemmas.Option.{slice_get-map, slice_get_read}
-use Rattle.trees.specs.Tree.{node}
-use Rattle.calculus.specs.Syntax.{Protocol}
-use Rattle.calculus.specs.Points.{numbered}
+use Rattle.spec_trees.specs.Tree.{node}
+use Rattle.spec_calculus.specs.Syntax.{Protocol}
+use Rattle.spec_calculus.specs.Points.{numbered}
 use Rattle.pi_tree.specs.declared.names.Declared.{Declared}
 use Rattle.pi_tree.specs.Names.{declared_of}
-use Rattle.terms.specs.Term.{Term}
-use Rattle.terms.specs.Term as term
-use Rattle.translation.specs.Visit.{is_public_channel}
+use Rattle.spec_terms.specs.Term.{Term}
+use Rattle.spec_terms.specs.Term as term
+use Rattle.spec_translation.specs.Visit.{is_public_channel}
 use Rattle.clause_translate.specs.Channels.{is_public_root}
 
 numbered-next : {A : Type 0} (items : List A) (index number : ℕ) → number ≡ index + 1 → numbered items number ≡ slice_get items index

@@ -1,12 +1,12 @@
 -- The parts of visits under bindings, over a bank that grows.
 use Rattle.std.proofs.Common.{◌≡◌, true, Option, None, List, map, ap, sym, subst}
 use Rattle.std.specs.Prelude.{MatchOption}
-use Rattle.trees.specs.Tree.{bind}
-use Rattle.calculus.specs.Bounds.{most_symbols}
-use Rattle.terms.specs.Term.{Term, Subst}
-use Rattle.terms.specs.Binding.{resolved}
-use Rattle.clauses.specs.Fact.{Fact, fact_under}
-use Rattle.translation.specs.Visit.{standing_under, visit_under, is_large_visit}
+use Rattle.spec_trees.specs.Tree.{bind}
+use Rattle.spec_calculus.specs.Bounds.{most_symbols}
+use Rattle.spec_terms.specs.Term.{Term, Subst}
+use Rattle.spec_terms.specs.Binding.{resolved}
+use Rattle.spec_clauses.specs.Fact.{Fact, fact_under}
+use Rattle.spec_translation.specs.Visit.{standing_under, visit_under, is_large_visit}
 use Rattle.term_tree.specs.Bank.{tree_at, AreKnown, Grows}
 use Rattle.term_tree.specs.declared.bank.Id.{Id}
 use Rattle.term_tree.proofs.BankLaws.{trees_at-grow}

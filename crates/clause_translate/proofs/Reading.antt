@@ -2,12 +2,12 @@
 use Rattle.std.proofs.Common.{ℕ, zero, suc, ◌+◌, List, [], ◌∷◌, ◌++◌}
 use Rattle.std.specs.List.{AllByRecursion, slice_get}
 use Rattle.std.specs.Option.{option_map_or}
-use Rattle.calculus.specs.Syntax.{Name, Made, Process, Nil, Output, Input, Parallel, Replication, New, Let, Event, Expression, Plain, Call, Rule, Destructor, Protocol}
-use Rattle.calculus.specs.Points.{point_after}
-use Rattle.well_formed.specs.Signature.{Signature, signature_of}
-use Rattle.well_formed.specs.Terms.{IsKnown, IsExpressionBelow, bound_by}
-use Rattle.well_formed.specs.Processes.{IsProcessBelow}
-use Rattle.well_formed.specs.WellFormed.{IsRuleOver, IsWellScoped}
+use Rattle.spec_calculus.specs.Syntax.{Name, Made, Process, Nil, Output, Input, Parallel, Replication, New, Let, Event, Expression, Plain, Call, Rule, Destructor, Protocol}
+use Rattle.spec_calculus.specs.Points.{point_after}
+use Rattle.spec_well_formed.specs.Signature.{Signature, signature_of}
+use Rattle.spec_well_formed.specs.Terms.{IsKnown, IsExpressionBelow, bound_by}
+use Rattle.spec_well_formed.specs.Processes.{IsProcessBelow}
+use Rattle.spec_well_formed.specs.WellFormed.{IsRuleOver, IsWellScoped}
 use Rattle.clause_terms.specs.Conditions.{IsShortRule}
 use Rattle.clause_terms.proofs.Laws.{short_term, short_terms, short_pattern, short_rule}
 use Rattle.clause_translate.specs.Short.{IsShortExpression, IsShortProcess, HasShortRules}

@@ -2,17 +2,17 @@
 use Rattle.std.proofs.Common.{◌≡◌, ℕ, ◌+◌, ◌-◌, ◌<◌, ◌≤◌, Bool, true, false, ◌||◌, cond, List, [], ◌∷◌, ◌++◌, map, refl, ap, sym, subst, ◌∙◌, arith}
 use Rattle.std.specs.List.{AllByRecursion}
 use Rattle.std.proofs.lemmas.List.{map-append}
-use Rattle.trees.specs.Leaves.{leaves}
-use Rattle.calculus.specs.Syntax.{Pattern, Protocol}
-use Rattle.calculus.specs.Syntax as calculus
-use Rattle.calculus.specs.Limits.{compared}
-use Rattle.terms.specs.Term.{Term}
-use Rattle.clauses.specs.Fact.{Fact, Att, Mess, terms_of}
-use Rattle.clauses.specs.Variables.{IsBelow, AreBelow}
-use Rattle.clauses.proofs.Lists.{all_append}
-use Rattle.translation.specs.Conversion.{Scope, term_in, Fresh, pattern_term, bound_numbers, pattern_scope}
-use Rattle.translation.specs.Visit.{Visit, visit_terms, is_large_term, is_large_visit, is_public_channel, sent, IsFresh, after_input}
-use Rattle.translation.specs.Choice.{with_pattern}
+use Rattle.spec_trees.specs.Leaves.{leaves}
+use Rattle.spec_calculus.specs.Syntax.{Pattern, Protocol}
+use Rattle.spec_calculus.specs.Syntax as calculus
+use Rattle.spec_calculus.specs.Limits.{compared}
+use Rattle.spec_terms.specs.Term.{Term}
+use Rattle.spec_clauses.specs.Fact.{Fact, Att, Mess, terms_of}
+use Rattle.spec_clauses.specs.Variables.{IsBelow, AreBelow}
+use Rattle.spec_clauses.proofs.Lists.{all_append}
+use Rattle.spec_translation.specs.Conversion.{Scope, term_in, Fresh, pattern_term, bound_numbers, pattern_scope}
+use Rattle.spec_translation.specs.Visit.{Visit, visit_terms, is_large_term, is_large_visit, is_public_channel, sent, IsFresh, after_input}
+use Rattle.spec_translation.specs.Choice.{with_pattern}
 use Rattle.term_tree.specs.Bank.{tree_at, Names, Grows}
 use Rattle.term_tree.specs.declared.bank.Id.{Id}
 use Rattle.term_tree.proofs.BankLaws.{Names-grows}

@@ -1,13 +1,13 @@
 -- A process that is visited once for each of some visits.
 use Rattle.std.proofs.Common.{◌≡◌, ℕ, zero, suc, ◌+◌, ◌<◌, ◌≤◌, Option, Some, None, List, [], ◌∷◌, ◌++◌, length, map, take, drop, get_or, refl, ap, sym, subst, ◌∙◌, arith}
 use Rattle.std.proofs.lemmas.List.{map-append, map_more, take_all, take-append-drop}
-use Rattle.calculus.specs.Syntax.{Process, Protocol}
-use Rattle.terms.specs.Term.{Term}
+use Rattle.spec_calculus.specs.Syntax.{Process, Protocol}
+use Rattle.spec_terms.specs.Term.{Term}
 use Rattle.term_tree.specs.Bank.{Grows}
 use Rattle.term_tree.proofs.BankLaws.{Grows_refl, Grows_trans}
-use Rattle.translation.specs.Visit.{Visit}
-use Rattle.translation.specs.Course.{Outcome, TooLarge, Finished, preceded}
-use Rattle.translation.specs.Visited.{EachThen, Visited}
+use Rattle.spec_translation.specs.Visit.{Visit}
+use Rattle.spec_translation.specs.Course.{Outcome, TooLarge, Finished, preceded}
+use Rattle.spec_translation.specs.Visited.{EachThen, Visited}
 use Rattle.clause_translate.specs.declared.listing.Listing.{Listing}
 use Rattle.clause_translate.specs.declared.visit.Visit as source
 use Rattle.clause_translate.specs.Visits.{visit_at, IsVisitIn}

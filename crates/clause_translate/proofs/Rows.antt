@@ -3,13 +3,13 @@ use Rattle.std.proofs.Common.{◌≡◌, ℕ, zero, suc, ◌+◌, ◌<◌, ◌�
 use Rattle.std.specs.Prelude.{IfSome}
 use Rattle.std.specs.List.{AllByRecursion}
 use Rattle.std.proofs.lemmas.List.Elements.{filter_map-append}
-use Rattle.trees.specs.Tree.{Node, trees}
-use Rattle.trees.specs.Leaves.{leaves, row_leaves}
-use Rattle.calculus.specs.Syntax.{Name, Free, Made, Variable, Symbol, Term}
+use Rattle.spec_trees.specs.Tree.{Node, trees}
+use Rattle.spec_trees.specs.Leaves.{leaves, row_leaves}
+use Rattle.spec_calculus.specs.Syntax.{Name, Free, Made, Variable, Symbol, Term}
 use Rattle.pi_tree.specs.declared.syntax.Pat.{Pat}
 use Rattle.pi_tree.specs.Patterns.{pattern_of}
-use Rattle.clauses.proofs.Lists.{all_append, all_weaker}
-use Rattle.translation.specs.Conversion.{bound_number, bound_numbers}
+use Rattle.spec_clauses.proofs.Lists.{all_append, all_weaker}
+use Rattle.spec_translation.specs.Conversion.{bound_number, bound_numbers}
 use Rattle.clause_translate.specs.Numbers.{row_numbers}
 use Rattle.clause_translate.specs.Spans.{EndsBelow, HasEnd, HaveEnd}
 

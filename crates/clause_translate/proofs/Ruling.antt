@@ -3,16 +3,16 @@ use Rattle.std.proofs.Common.{◌≡◌, ℕ, zero, suc, ◌+◌, ◌<◌, ◌�
 use Rattle.std.specs.List.{AllByRecursion}
 use Rattle.std.specs.Option.{option_map_or}
 use Rattle.std.proofs.lemmas.List.{map_more, take_all}
-use Rattle.calculus.specs.Syntax.{Pattern, Protocol}
-use Rattle.calculus.specs.Syntax as calculus
+use Rattle.spec_calculus.specs.Syntax.{Pattern, Protocol}
+use Rattle.spec_calculus.specs.Syntax as calculus
 use Rattle.pi_tree.specs.declared.destructors.Rule.{Rule}
 use Rattle.pi_tree.specs.Rules.{rule_of}
-use Rattle.terms.specs.Term.{Term}
+use Rattle.spec_terms.specs.Term.{Term}
 use Rattle.term_tree.specs.Bank.{Grows}
 use Rattle.clause_terms.specs.Conditions.{IsShortRule}
 use Rattle.term_tree.proofs.BankLaws.{Grows_refl, Grows_trans}
-use Rattle.translation.specs.Visit.{Visit, is_large_visit}
-use Rattle.translation.specs.Visited.{some_large}
+use Rattle.spec_translation.specs.Visit.{Visit, is_large_visit}
+use Rattle.spec_translation.specs.Visited.{some_large}
 use Rattle.clause_translate.specs.declared.visit.Visit as source
 use Rattle.clause_translate.specs.declared.choices.Way.TheVariants as ways
 use Rattle.clause_translate.specs.Visits.{NamesVisit, NameVisits}

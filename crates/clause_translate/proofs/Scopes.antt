@@ -1,7 +1,7 @@
 -- Scopes of a bank that grows.
 use Rattle.std.proofs.Common.{◌≡◌, ℕ, zero, suc, ◌<◌, List, [], ◌∷◌, length, map, get_or, refl, ◌∙◌, arith}
-use Rattle.terms.specs.Term.{Term}
-use Rattle.translation.specs.Conversion.{Scope}
+use Rattle.spec_terms.specs.Term.{Term}
+use Rattle.spec_translation.specs.Conversion.{Scope}
 use Rattle.term_tree.specs.Bank.{Grows}
 use Rattle.term_tree.proofs.BankLaws.{Grows-length, tree_at-grows, AreKnown-grows}
 use Rattle.clause_terms.specs.declared.scopes.Standing.{Standing}

@@ -3,20 +3,20 @@ use Rattle.std.proofs.Common.{◌≡◌, ℕ, ◌<◌, Bool, true, false, cond, 
 use Rattle.std.specs.List.{AllByRecursion}
 use Rattle.std.proofs.lemmas.Bool.Decides.{nat_tests}
 use Rattle.std.proofs.lemmas.List.{length-map}
-use Rattle.trees.specs.Tree.{Tree, Trees, Leaf, Node, none, more, node, bind, binds}
-use Rattle.trees.specs.Leaves.{leaves, row_leaves}
-use Rattle.terms.specs.Term.{Attacker, Sym, Term, Subst}
-use Rattle.terms.specs.Binding.{Solves, resolved}
-use Rattle.terms.proofs.Resolve.{resolved-factor}
-use Rattle.clauses.specs.Variables.{IsBelow, AreBelow}
-use Rattle.clauses.proofs.Lists.{all_append, all_weaker}
+use Rattle.spec_trees.specs.Tree.{Tree, Trees, Leaf, Node, none, more, node, bind, binds}
+use Rattle.spec_trees.specs.Leaves.{leaves, row_leaves}
+use Rattle.spec_terms.specs.Term.{Attacker, Sym, Term, Subst}
+use Rattle.spec_terms.specs.Binding.{Solves, resolved}
+use Rattle.spec_terms.proofs.Resolve.{resolved-factor}
+use Rattle.spec_clauses.specs.Variables.{IsBelow, AreBelow}
+use Rattle.spec_clauses.proofs.Lists.{all_append, all_weaker}
 use Rattle.term_tree.specs.Bank.{tree_at}
 use Rattle.term_tree.specs.declared.bank.Id.{Id}
 use Rattle.unify_match.specs.declared.bound.Bound.{Bound}
 use Rattle.unify_match.specs.Seen.{seen, IsReady}
 use Rattle.unify_match.specs.Outcome.{Unified, NoUnifier, UnifiedAll, NoUnifierOfAll}
 use Rattle.unify_match.proofs.SeenLemmas.{IsReady-solves}
-use Rattle.translation.proofs.Visits.{below_agree, terms_agree}
+use Rattle.spec_translation.proofs.Visits.{below_agree, terms_agree}
 use Rattle.clause_translate.specs.Solving.{AreRowsApart, AreRowsSolved, SolvesChoice, AreSolved, AreUnsolvable, HasBelow}
 
 -- rows of different lengths are apart

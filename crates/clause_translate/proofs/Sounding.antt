@@ -1,12 +1,12 @@
 -- What the clauses of a translation that was made say of runs.
 use Rattle.std.proofs.Common.{◌≡◌, ℕ, List, map, sym, subst}
-use Rattle.calculus.specs.Syntax.{Query, Protocol}
-use Rattle.well_formed.specs.Rules.{HasProperRules}
-use Rattle.well_formed.specs.Processes.{HasLinearPatterns}
-use Rattle.well_formed.specs.WellFormed.{IsWellScoped}
-use Rattle.terms.specs.Term.{Term}
-use Rattle.clauses.specs.Fact.{Clause}
-use Rattle.translation.specs.Translation.{Clauses, IsTranslation}
+use Rattle.spec_calculus.specs.Syntax.{Query, Protocol}
+use Rattle.spec_well_formed.specs.Rules.{HasProperRules}
+use Rattle.spec_well_formed.specs.Processes.{HasLinearPatterns}
+use Rattle.spec_well_formed.specs.WellFormed.{IsWellScoped}
+use Rattle.spec_terms.specs.Term.{Term}
+use Rattle.spec_clauses.specs.Fact.{Clause}
+use Rattle.spec_translation.specs.Translation.{Clauses, IsTranslation}
 use Rattle.term_tree.specs.declared.bank.Id.{Id}
 use Rattle.clause_form.specs.Seen.{clause_at}
 use Rattle.clause_translate.specs.Whole.{TranslatesTo, Translates}

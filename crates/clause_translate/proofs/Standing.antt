@@ -4,15 +4,15 @@ use Rattle.std.specs.Prelude.{flat_map}
 use Rattle.std.specs.List.{AllByRecursion, list_any}
 use Rattle.std.proofs.lemmas.Bool.Decides.{nat_tests}
 use Rattle.std.proofs.lemmas.List.{map-append, map_more, take_all}
-use Rattle.trees.specs.Tree.{Trees, Leaf, Node, none, more, bind, binds, size}
-use Rattle.trees.specs.Leaves.{leaves, row_leaves}
-use Rattle.calculus.specs.Bounds.{most_symbols}
-use Rattle.terms.specs.Term.{Sym, Term, Subst}
-use Rattle.clauses.specs.Fact.{Fact, Att, Mess, Ev, Mev, Bad, terms_of, fact_under, fact_size, total}
-use Rattle.clauses.specs.Variables.{IsBelow, AreBelow}
-use Rattle.clauses.proofs.Lists.{all_append, all_first, all_second}
-use Rattle.translation.specs.Conversion.{StandsFor, Scope}
-use Rattle.translation.specs.Visit.{Visit, standing_under, visit_under, is_large_term, is_large_visit}
+use Rattle.spec_trees.specs.Tree.{Trees, Leaf, Node, none, more, bind, binds, size}
+use Rattle.spec_trees.specs.Leaves.{leaves, row_leaves}
+use Rattle.spec_calculus.specs.Bounds.{most_symbols}
+use Rattle.spec_terms.specs.Term.{Sym, Term, Subst}
+use Rattle.spec_clauses.specs.Fact.{Fact, Att, Mess, Ev, Mev, Bad, terms_of, fact_under, fact_size, total}
+use Rattle.spec_clauses.specs.Variables.{IsBelow, AreBelow}
+use Rattle.spec_clauses.proofs.Lists.{all_append, all_first, all_second}
+use Rattle.spec_translation.specs.Conversion.{StandsFor, Scope}
+use Rattle.spec_translation.specs.Visit.{Visit, standing_under, visit_under, is_large_term, is_large_visit}
 use Rattle.term_tree.specs.Bank.{tree_at, Names, Grows}
 use Rattle.term_tree.specs.declared.bank.Id.{Id}
 use Rattle.term_tree.proofs.BankLaws.{Grows_refl, Grows_trans}

@@ -1,12 +1,12 @@
 -- Tests of lists in two parts.
 use Rattle.std.proofs.Common.{◌≡◌, Bool, true, false, ◌||◌, List, [], ◌∷◌, ◌++◌, refl, ap, sym, ◌∙◌}
 use Rattle.std.specs.List.{list_any}
-use Rattle.calculus.specs.Syntax as calculus
-use Rattle.calculus.specs.Syntax.{Protocol}
-use Rattle.translation.specs.Conversion.{Scope}
+use Rattle.spec_calculus.specs.Syntax as calculus
+use Rattle.spec_calculus.specs.Syntax.{Protocol}
+use Rattle.spec_translation.specs.Conversion.{Scope}
 use Rattle.clause_translate.specs.Forms.{are_large_in}
-use Rattle.translation.specs.Conversion.{term_in}
-use Rattle.translation.specs.Visit.{is_large_term}
+use Rattle.spec_translation.specs.Conversion.{term_in}
+use Rattle.spec_translation.specs.Visit.{is_large_term}
 
 or_assoc : (a b c : Bool) → ((a || b) || c) ≡ (a || (b || c))
 or_assoc true b c = refl

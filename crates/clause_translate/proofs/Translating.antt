@@ -1,17 +1,17 @@
 -- The translation, by the attacker's clauses, those of the visits, and the goal.
 use Rattle.std.proofs.Common.{◌≡◌, ℕ, zero, suc, ◌<◌, ◌≤◌, Some, None, true, List, [], ◌∷◌, ◌++◌, length, get_or, map, refl, ap, sym, subst, ◌∙◌, arith}
 use Rattle.std.proofs.lemmas.Option.{slice_get-get_or}
-use Rattle.calculus.specs.Syntax.{Query, Protocol}
-use Rattle.calculus.specs.Points.{numbered}
-use Rattle.calculus.specs.Bounds.{most_visits}
-use Rattle.terms.specs.Term.{Term}
-use Rattle.clauses.specs.Fact.{Clause}
+use Rattle.spec_calculus.specs.Syntax.{Query, Protocol}
+use Rattle.spec_calculus.specs.Points.{numbered}
+use Rattle.spec_calculus.specs.Bounds.{most_visits}
+use Rattle.spec_terms.specs.Term.{Term}
+use Rattle.spec_clauses.specs.Fact.{Clause}
 use Rattle.term_tree.specs.Bank.{Grows}
 use Rattle.term_tree.specs.declared.bank.Id.{Id}
-use Rattle.translation.specs.Visit.{first_visit}
-use Rattle.translation.specs.Course.{Done, TooLarge}
-use Rattle.translation.specs.Visited.{Visited}
-use Rattle.translation.specs.Translation.{attacker_clauses, goal_clauses}
+use Rattle.spec_translation.specs.Visit.{first_visit}
+use Rattle.spec_translation.specs.Course.{Done, TooLarge}
+use Rattle.spec_translation.specs.Visited.{Visited}
+use Rattle.spec_translation.specs.Translation.{attacker_clauses, goal_clauses}
 use Rattle.clause_form.specs.Seen.{clause_at, AreClausesIn, NameClauses}
 use Rattle.query_derive.specs.GoalRows.{OfQuery}
 use Rattle.clause_translate.specs.declared.listing.Listing.{Listing}

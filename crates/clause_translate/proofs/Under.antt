@@ -2,11 +2,11 @@
 use Rattle.std.proofs.Common.{◌≡◌, ℕ, ◌<◌, Bool, true, false, not, ◌||◌, nat_le, Option, Some, None, List, [], ◌∷◌, length, map, get_or, refl, ap, sym, subst, ◌∙◌, arith}
 use Rattle.std.specs.List.{list_any}
 use Rattle.std.proofs.lemmas.Bool.Decides.{nat_tests}
-use Rattle.trees.specs.Tree.{bind, size}
-use Rattle.calculus.specs.Bounds.{most_symbols}
-use Rattle.terms.specs.Term.{Term, Subst}
-use Rattle.terms.specs.Binding.{resolved}
-use Rattle.clauses.specs.Fact.{Mess, fact_under}
+use Rattle.spec_trees.specs.Tree.{bind, size}
+use Rattle.spec_calculus.specs.Bounds.{most_symbols}
+use Rattle.spec_terms.specs.Term.{Term, Subst}
+use Rattle.spec_terms.specs.Binding.{resolved}
+use Rattle.spec_clauses.specs.Fact.{Mess, fact_under}
 use Rattle.term_tree.specs.Bank.{tree_at, Names, Grows}
 use Rattle.term_tree.specs.declared.bank.Id.{Id}
 use Rattle.term_tree.proofs.BankLaws.{Names-grows, tree_at-grows}

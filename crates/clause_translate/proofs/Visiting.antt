@@ -1,21 +1,21 @@
 -- How the visits of each form of process end, by how those below it do.
 use Rattle.std.proofs.Common.{◌≡◌, ◌≤◌, ℕ, suc, ◌+◌, Bool, true, false, Result, Option, Some, None, List, [], ◌∷◌, ◌++◌, length, map, refl, ap, sym, subst, ◌∙◌}
 use Rattle.std.specs.Prelude.{IfOk}
-use Rattle.calculus.specs.Syntax.{Process, Nil, Output, Input, Parallel, Replication, New, Let, Event, EventTerm, Pattern, Expression, Protocol}
-use Rattle.calculus.specs.Syntax as calculus
-use Rattle.calculus.specs.Points.{point_after}
-use Rattle.calculus.specs.Limits.{compared, terms_in}
-use Rattle.terms.specs.Term.{Term}
-use Rattle.clauses.specs.Fact.{Clause}
-use Rattle.clauses.specs.Norm.{norms}
-use Rattle.clauses.specs.Variables.{AreBelow}
+use Rattle.spec_calculus.specs.Syntax.{Process, Nil, Output, Input, Parallel, Replication, New, Let, Event, EventTerm, Pattern, Expression, Protocol}
+use Rattle.spec_calculus.specs.Syntax as calculus
+use Rattle.spec_calculus.specs.Points.{point_after}
+use Rattle.spec_calculus.specs.Limits.{compared, terms_in}
+use Rattle.spec_terms.specs.Term.{Term}
+use Rattle.spec_clauses.specs.Fact.{Clause}
+use Rattle.spec_clauses.specs.Norm.{norms}
+use Rattle.spec_clauses.specs.Variables.{AreBelow}
 use Rattle.term_tree.specs.Bank.{Grows}
 use Rattle.term_tree.specs.declared.bank.Id.{Id}
-use Rattle.translation.specs.Visit.{Visit, visit_terms, is_large_visit, after_input, after_copy, after_new, after_event}
-use Rattle.translation.specs.Course as course
-use Rattle.translation.specs.Course.{Outcome, Done, TooLarge, Course, Finished, Unless, preceded}
-use Rattle.translation.specs.Choice.{AllGoOn}
-use Rattle.translation.specs.Visited.{some_large, EachThen, Received, Chosen, Visited}
+use Rattle.spec_translation.specs.Visit.{Visit, visit_terms, is_large_visit, after_input, after_copy, after_new, after_event}
+use Rattle.spec_translation.specs.Course as course
+use Rattle.spec_translation.specs.Course.{Outcome, Done, TooLarge, Course, Finished, Unless, preceded}
+use Rattle.spec_translation.specs.Choice.{AllGoOn}
+use Rattle.spec_translation.specs.Visited.{some_large, EachThen, Received, Chosen, Visited}
 use Rattle.clause_translate.specs.declared.listing.Listing.{Listing}
 use Rattle.clause_translate.specs.declared.place.Place.{Place}
 use Rattle.clause_translate.specs.declared.visit.Visit as source

@@ -1,6 +1,6 @@
 -- How much of a process is left to be visited.
 use Rattle.std.proofs.Common.{ℕ, ◌+◌}
-use Rattle.calculus.specs.Syntax.{Process, Nil, Output, Input, Parallel, Replication, New, Let, Event}
+use Rattle.spec_calculus.specs.Syntax.{Process, Nil, Output, Input, Parallel, Replication, New, Let, Event}
 
 abbrev pub weight : Process → ℕ
 weight Nil = 1

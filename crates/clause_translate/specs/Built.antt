@@ -1,10 +1,10 @@
 -- Terms under bindings, and those of them that were built.
 use Rattle.std.specs.Prelude.{◌≡◌, ◌<◌, true, Option, Some, List, nat_eq, length, MatchOption}
 use Rattle.std.specs.HashMap.{get}
-use Rattle.trees.specs.Tree.{bind}
-use Rattle.calculus.specs.Bounds.{most_symbols}
-use Rattle.terms.specs.Term.{Term}
-use Rattle.terms.specs.Binding.{resolved}
+use Rattle.spec_trees.specs.Tree.{bind}
+use Rattle.spec_calculus.specs.Bounds.{most_symbols}
+use Rattle.spec_terms.specs.Term.{Term}
+use Rattle.spec_terms.specs.Binding.{resolved}
 use Rattle.term_tree.specs.Bank.{tree_at, Names}
 use Rattle.term_tree.specs.declared.bank.Id.{Id}
 use Rattle.unify_match.specs.declared.bound.Bound.{Bound}

@@ -1,12 +1,12 @@
 -- The choices of a `let` by rules, of values of the arguments that are made already.
 use Rattle.std.specs.Prelude.{◌≡◌, ℕ, true, false, Option, Some, None, List, [], ◌∷◌, map}
-use Rattle.calculus.specs.Syntax.{Pattern, Rule, Protocol}
-use Rattle.terms.specs.Term.{Term}
-use Rattle.clauses.specs.Variables.{AreBelow}
-use Rattle.translation.specs.Conversion.{rule_term, Fresh, pattern_term}
-use Rattle.translation.specs.Visit.{Visit, visit_terms, IsFresh}
-use Rattle.translation.specs.Choice.{Choice, with_pattern, GoesOn}
-use Rattle.translation.specs.Visited.{some_large}
+use Rattle.spec_calculus.specs.Syntax.{Pattern, Rule, Protocol}
+use Rattle.spec_terms.specs.Term.{Term}
+use Rattle.spec_clauses.specs.Variables.{AreBelow}
+use Rattle.spec_translation.specs.Conversion.{rule_term, Fresh, pattern_term}
+use Rattle.spec_translation.specs.Visit.{Visit, visit_terms, IsFresh}
+use Rattle.spec_translation.specs.Choice.{Choice, with_pattern, GoesOn}
+use Rattle.spec_translation.specs.Visited.{some_large}
 use Rattle.clause_translate.specs.declared.visit.Visit as source
 use Rattle.clause_translate.specs.declared.visit.Visits.{Visits}
 use Rattle.clause_translate.specs.declared.choices.Way.{Way}

@@ -1,18 +1,18 @@
 -- What each form of process adds, and where it is too large.
 use Rattle.std.specs.Prelude.{◌≡◌, ℕ, Bool, true, false, ◌||◌, Option, Some, None, List, [], ◌∷◌, ◌++◌, filter_map}
 use Rattle.std.specs.List.{list_any}
-use Rattle.calculus.specs.Syntax.{EventTerm, Pattern, Expression, Protocol}
-use Rattle.calculus.specs.Syntax as calculus
-use Rattle.calculus.specs.Limits.{compared}
-use Rattle.terms.specs.Term.{Term}
-use Rattle.clauses.specs.Fact.{Ev, Mev, Clause}
-use Rattle.clauses.specs.Limits.{is_large_raw}
-use Rattle.clauses.specs.Norm.{norms}
+use Rattle.spec_calculus.specs.Syntax.{EventTerm, Pattern, Expression, Protocol}
+use Rattle.spec_calculus.specs.Syntax as calculus
+use Rattle.spec_calculus.specs.Limits.{compared}
+use Rattle.spec_terms.specs.Term.{Term}
+use Rattle.spec_clauses.specs.Fact.{Ev, Mev, Clause}
+use Rattle.spec_clauses.specs.Limits.{is_large_raw}
+use Rattle.spec_clauses.specs.Norm.{norms}
 use Rattle.term_tree.specs.declared.bank.Id.{Id}
-use Rattle.translation.specs.Conversion.{Scope, term_in, Fresh}
-use Rattle.translation.specs.Visit.{Visit, is_large_term, is_large_visit, sent, raw_clause, IsFresh, after_input, event_terms, after_event}
-use Rattle.translation.specs.Choice.{AllGoOn}
-use Rattle.translation.specs.Visited.{some_large}
+use Rattle.spec_translation.specs.Conversion.{Scope, term_in, Fresh}
+use Rattle.spec_translation.specs.Visit.{Visit, is_large_term, is_large_visit, sent, raw_clause, IsFresh, after_input, event_terms, after_event}
+use Rattle.spec_translation.specs.Choice.{AllGoOn}
+use Rattle.spec_translation.specs.Visited.{some_large}
 use Rattle.clause_form.specs.Seen.{NameClauses}
 use Rattle.clause_translate.specs.declared.listing.Listing.{Listing}
 use Rattle.clause_translate.specs.declared.visit.Visit as source

@@ -1,11 +1,11 @@
 -- What is visited, and how it ends.
 use Rattle.std.specs.Prelude.{ℕ, suc, Option, Some, None, List, [], ◌∷◌, map}
-use Rattle.calculus.specs.Syntax.{Process, Protocol}
-use Rattle.terms.specs.Term.{Term}
-use Rattle.clauses.specs.Fact.{Clause}
-use Rattle.translation.specs.Visit.{Visit}
-use Rattle.translation.specs.Course.{Outcome, Done, TooLarge, Finished}
-use Rattle.translation.specs.Visited.{EachThen, Visited}
+use Rattle.spec_calculus.specs.Syntax.{Process, Protocol}
+use Rattle.spec_terms.specs.Term.{Term}
+use Rattle.spec_clauses.specs.Fact.{Clause}
+use Rattle.spec_translation.specs.Visit.{Visit}
+use Rattle.spec_translation.specs.Course.{Outcome, Done, TooLarge, Finished}
+use Rattle.spec_translation.specs.Visited.{EachThen, Visited}
 use Rattle.clause_translate.specs.declared.listing.Listing.{Listing}
 use Rattle.clause_translate.specs.declared.visit.Visit as source
 use Rattle.clause_translate.specs.Forms.{Lists}

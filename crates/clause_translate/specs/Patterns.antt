@@ -1,13 +1,13 @@
 -- Visits with what patterns bind.
 use Rattle.std.specs.Prelude.{◌≡◌, ◌≤◌, ℕ, List}
-use Rattle.calculus.specs.Syntax.{Pattern, Protocol}
-use Rattle.terms.specs.Term.{Term}
-use Rattle.clauses.specs.Variables.{IsBelow}
+use Rattle.spec_calculus.specs.Syntax.{Pattern, Protocol}
+use Rattle.spec_terms.specs.Term.{Term}
+use Rattle.spec_clauses.specs.Variables.{IsBelow}
 use Rattle.term_tree.specs.Bank.{Names}
 use Rattle.term_tree.specs.declared.bank.Id.{Id}
-use Rattle.translation.specs.Conversion.{Fresh, pattern_term}
-use Rattle.translation.specs.Visit.{Visit, IsFresh}
-use Rattle.translation.specs.Choice.{with_pattern}
+use Rattle.spec_translation.specs.Conversion.{Fresh, pattern_term}
+use Rattle.spec_translation.specs.Visit.{Visit, IsFresh}
+use Rattle.spec_translation.specs.Choice.{with_pattern}
 use Rattle.clause_translate.specs.declared.visit.Visit as source
 use Rattle.clause_translate.specs.Visits.{NamesVisit}
 

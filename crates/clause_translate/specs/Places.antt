@@ -1,6 +1,6 @@
 -- What contracts see of places.
 use Rattle.std.specs.Prelude.{◌≡◌, ℕ}
-use Rattle.calculus.specs.Syntax as calculus
+use Rattle.spec_calculus.specs.Syntax as calculus
 use Rattle.pi_tree.specs.Protocols.{protocol_of}
 use Rattle.clause_translate.specs.declared.place.Place.{Place}
 

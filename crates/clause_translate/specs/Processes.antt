@@ -1,5 +1,5 @@
 -- The processes that the forms are, by their parts.
-use Rattle.calculus.specs.Syntax as calculus
+use Rattle.spec_calculus.specs.Syntax as calculus
 use Rattle.pi_tree.specs.Terms.{term_of}
 use Rattle.pi_tree.specs.Patterns.{pattern_of, expression_of}
 use Rattle.pi_tree.specs.Events.{event_of}

@@ -1,8 +1,8 @@
 -- Processes and rules whose tuples have no more parts than the limit.
 use Rattle.std.specs.Prelude.{ℕ}
 use Rattle.std.specs.List.{AllByRecursion}
-use Rattle.calculus.specs.Syntax.{Process, Nil, Output, Input, Parallel, Replication, New, Let, Event, Expression, Plain, Call, Protocol}
-use Rattle.calculus.specs.Matching.{rules_of}
+use Rattle.spec_calculus.specs.Syntax.{Process, Nil, Output, Input, Parallel, Replication, New, Let, Event, Expression, Plain, Call, Protocol}
+use Rattle.spec_calculus.specs.Matching.{rules_of}
 use Rattle.clause_terms.specs.Conditions.{HasShortTuples, IsShortPattern, IsShortRule}
 
 -- an expression has short tuples

@@ -2,9 +2,9 @@
 use Rattle.std.proofs.Props.{props}
 use Rattle.std.specs.Prelude.{ℕ}
 use Rattle.std.specs.Coded.{×_prop, Unit-prop, le_prop}
-use Rattle.trees.specs.Tree.{Tree, Trees, Leaf, Node, none, more}
-use Rattle.calculus.specs.Syntax.{Symbol, Constructor, Tuple, Hole, Bind, Equal}
-use Rattle.well_formed.specs.Terms.{row_length, EachSymbol, EachSymbolInRow}
+use Rattle.spec_trees.specs.Tree.{Tree, Trees, Leaf, Node, none, more}
+use Rattle.spec_calculus.specs.Syntax.{Symbol, Constructor, Tuple, Hole, Bind, Equal}
+use Rattle.spec_well_formed.specs.Terms.{row_length, EachSymbol, EachSymbolInRow}
 use Rattle.clause_terms.specs.Conditions.{IsShort, IsShortHole}
 
 pub IsShort-prop : (f : Symbol) (count : ℕ) → IsProp (IsShort f count)

@@ -1,10 +1,10 @@
 -- Terms and facts over a size.
 use Rattle.std.specs.Prelude.{ℕ, Bool, not, nat_le, List}
 use Rattle.std.specs.List.{list_any}
-use Rattle.trees.specs.Tree.{size}
-use Rattle.terms.specs.Term.{Term}
-use Rattle.clauses.specs.Fact.{Fact, terms_of}
-use Rattle.translation.specs.Conversion.{Scope}
+use Rattle.spec_trees.specs.Tree.{size}
+use Rattle.spec_terms.specs.Term.{Term}
+use Rattle.spec_clauses.specs.Fact.{Fact, terms_of}
+use Rattle.spec_translation.specs.Conversion.{Scope}
 
 -- whether the term has more symbols
 abbrev pub is_over : ℕ → Term → Bool

@@ -1,16 +1,16 @@
 -- Equations and what solves them.
 use Rattle.std.specs.Prelude.{◌≡◌, ◌↔◌, ◌<◌, ℕ, List, map}
-use Rattle.trees.specs.Tree.{bind}
-use Rattle.terms.specs.Term.{Term, Subst}
-use Rattle.terms.specs.Binding.{Solves}
-use Rattle.clauses.specs.Variables.{IsBelow}
-use Rattle.clauses.specs.Fact.{Fact}
+use Rattle.spec_trees.specs.Tree.{bind}
+use Rattle.spec_terms.specs.Term.{Term, Subst}
+use Rattle.spec_terms.specs.Binding.{Solves}
+use Rattle.spec_clauses.specs.Variables.{IsBelow}
+use Rattle.spec_clauses.specs.Fact.{Fact}
 use Rattle.term_tree.specs.declared.bank.Id.{Id}
 use Rattle.unify_match.specs.declared.bound.Bound.{Bound}
 use Rattle.unify_match.specs.Seen.{seen, IsReady}
 use Rattle.clause_form.specs.Seen.{NameFacts}
 use Rattle.clause_terms.specs.Scopes.{Held, NamesScope}
-use Rattle.translation.specs.Visit.{Visit}
+use Rattle.spec_translation.specs.Visit.{Visit}
 
 -- the bindings are ready, and their solutions are what makes the rows one
 pub record AreRowsSolved (all : List Term) (pairs : List Bound) (xs ys : List Term) : Type 0 where

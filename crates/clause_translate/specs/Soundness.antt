@@ -1,16 +1,16 @@
 -- What a list of clauses says of the runs of a protocol: the abstraction of each run is one to one, and what happens in the run is
 -- derived (Blanchet 2016, section 3.3.4: soundness of the clauses).
 use Rattle.std.specs.Prelude.{◌≡◌, Some, List, map, Contains}
-use Rattle.calculus.specs.Syntax.{Protocol}
-use Rattle.calculus.specs.Values.{Value}
-use Rattle.calculus.specs.Runs.{Configuration, Step, run}
-use Rattle.calculus.specs.Standing.{IsLacking}
-use Rattle.terms.specs.Term.{Term}
-use Rattle.clauses.specs.Fact.{Clause}
-use Rattle.abstraction.specs.Trace.{MadeAt, trace_of}
-use Rattle.abstraction.specs.Naming.{Naming, Names, naming, abstracted}
-use Rattle.abstraction.specs.Derived.{IsDerived}
-use Rattle.abstraction.specs.OneToOne.{is_foreign, AreOnce, IsOneToOne}
+use Rattle.spec_calculus.specs.Syntax.{Protocol}
+use Rattle.spec_calculus.specs.Values.{Value}
+use Rattle.spec_calculus.specs.Runs.{Configuration, Step, run}
+use Rattle.spec_calculus.specs.Standing.{IsLacking}
+use Rattle.spec_terms.specs.Term.{Term}
+use Rattle.spec_clauses.specs.Fact.{Clause}
+use Rattle.spec_abstraction.specs.Trace.{MadeAt, trace_of}
+use Rattle.spec_abstraction.specs.Naming.{Naming, Names, naming, abstracted}
+use Rattle.spec_abstraction.specs.Derived.{IsDerived}
+use Rattle.spec_abstraction.specs.OneToOne.{is_foreign, AreOnce, IsOneToOne}
 use Rattle.clause_form.specs.Seen.{clause_at}
 use Rattle.clause_translate.specs.declared.whole.Translated.{Translated}
 use Rattle.clause_translate.specs.declared.whole.Translated.TheVariants as made

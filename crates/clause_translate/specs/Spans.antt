@@ -1,8 +1,8 @@
 -- The numbers that new variables take.
 use Rattle.std.specs.Prelude.{◌≡◌, ℕ, ◌+◌, ◌-◌, ◌<◌, ◌≤◌, List}
 use Rattle.std.specs.List.{AllByRecursion}
-use Rattle.trees.specs.Leaves.{leaves}
-use Rattle.calculus.specs.Syntax.{Name, Free, Made, Variable, Term, Rule}
+use Rattle.spec_trees.specs.Leaves.{leaves}
+use Rattle.spec_calculus.specs.Syntax.{Name, Free, Made, Variable, Term, Rule}
 use Rattle.clause_translate.specs.declared.spans.Span.{Span}
 
 -- new variables for the numbers begin at the base, and all are below the next one

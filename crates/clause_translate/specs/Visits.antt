@@ -1,10 +1,10 @@
 -- What contracts see of visits.
 use Rattle.std.specs.Prelude.{◌≡◌, List, [], ◌∷◌, map}
-use Rattle.terms.specs.Term.{Term}
-use Rattle.clauses.specs.Variables.{AreBelow}
+use Rattle.spec_terms.specs.Term.{Term}
+use Rattle.spec_clauses.specs.Variables.{AreBelow}
 use Rattle.term_tree.specs.Bank.{tree_at, AreKnown}
 use Rattle.clause_form.specs.Seen.{fact_at, AreFactsIn}
-use Rattle.translation.specs.Visit as translation
+use Rattle.spec_translation.specs.Visit as translation
 use Rattle.clause_terms.specs.Scopes.{scope_at, IsScopeIn}
 use Rattle.clause_translate.specs.declared.visit.Visit.{Visit}
 

@@ -1,10 +1,10 @@
 -- How the choices of a `let` go on.
 use Rattle.std.specs.Prelude.{◌≡◌, ℕ, true, false, Option, Some, None, List, map}
-use Rattle.terms.specs.Term.{Term}
-use Rattle.clauses.specs.Variables.{IsBelow, AreBelow}
+use Rattle.spec_terms.specs.Term.{Term}
+use Rattle.spec_clauses.specs.Variables.{IsBelow, AreBelow}
 use Rattle.term_tree.specs.Bank.{tree_at}
-use Rattle.translation.specs.Visit.{Visit, is_large_visit}
-use Rattle.translation.specs.Choice.{Choice}
+use Rattle.spec_translation.specs.Visit.{Visit, is_large_visit}
+use Rattle.spec_translation.specs.Choice.{Choice}
 use Rattle.clause_translate.specs.declared.visit.Visit as source
 use Rattle.clause_translate.specs.declared.choices.Way.{Way}
 use Rattle.clause_translate.specs.declared.choices.Way.TheVariants as ways

@@ -1,15 +1,15 @@
 -- Translations: the clauses that are one, and those that are too large.
 use Rattle.std.specs.Prelude.{◌≡◌, ℕ, Some, List, ◌++◌, map}
-use Rattle.calculus.specs.Syntax.{Query, Protocol}
-use Rattle.calculus.specs.Points.{numbered}
-use Rattle.calculus.specs.Bounds.{most_visits}
-use Rattle.terms.specs.Term.{Term}
-use Rattle.clauses.specs.Fact.{Clause}
+use Rattle.spec_calculus.specs.Syntax.{Query, Protocol}
+use Rattle.spec_calculus.specs.Points.{numbered}
+use Rattle.spec_calculus.specs.Bounds.{most_visits}
+use Rattle.spec_terms.specs.Term.{Term}
+use Rattle.spec_clauses.specs.Fact.{Clause}
 use Rattle.term_tree.specs.declared.bank.Id.{Id}
-use Rattle.translation.specs.Visit.{first_visit}
-use Rattle.translation.specs.Course.{Done, TooLarge}
-use Rattle.translation.specs.Visited.{Visited}
-use Rattle.translation.specs.Translation.{Clauses, LargeAt, IsTranslation}
+use Rattle.spec_translation.specs.Visit.{first_visit}
+use Rattle.spec_translation.specs.Course.{Done, TooLarge}
+use Rattle.spec_translation.specs.Visited.{Visited}
+use Rattle.spec_translation.specs.Translation.{Clauses, LargeAt, IsTranslation}
 use Rattle.clause_form.specs.Seen.{clause_at, NameClauses}
 use Rattle.clause_translate.specs.declared.whole.Translated.{Translated}
 use Rattle.clause_translate.specs.declared.whole.Translated.TheVariants as made

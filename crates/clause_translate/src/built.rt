@@ -1,7 +1,7 @@
 //! What was built already of terms under bindings.
 
 ghost use Rattle.std.specs.Prelude.{◌≡◌, Some, List, nat_eq, cond, OnOk};
-ghost use Rattle.terms.specs.Term.{Term};
+ghost use Rattle.spec_terms.specs.Term.{Term};
 ghost use Rattle.term_tree.specs.declared.bank.Id.{Id};
 ghost use Rattle.unify_match.specs.declared.bound.Bound.{Bound};
 ghost use Rattle.clause_translate.specs.Built.{built_of, AreBuilt};

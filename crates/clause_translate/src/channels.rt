@@ -2,11 +2,11 @@
 
 ghost use Rattle.std.specs.Prelude.{◌≡◌, ◌<◌, false, length};
 ghost use Rattle.std.specs.Option.{option_map_or};
-ghost use Rattle.calculus.specs.Points.{numbered};
+ghost use Rattle.spec_calculus.specs.Points.{numbered};
 ghost use Rattle.pi_tree.specs.Protocols.{protocol_of};
 ghost use Rattle.term_tree.specs.Bank.{symbol_of, tree_at};
 ghost use Rattle.clause_translate.specs.Channels.{is_public_root};
-ghost use Rattle.translation.specs.Visit.{is_public_channel, sent};
+ghost use Rattle.spec_translation.specs.Visit.{is_public_channel, sent};
 ghost use Rattle.clause_form.specs.Facts.{fact_of};
 ghost use Rattle.clause_form.specs.Seen.{NamesFact};
 

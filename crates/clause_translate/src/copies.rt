@@ -1,7 +1,7 @@
 //! Replications: a new variable for the number of a copy.
 
 ghost use Rattle.std.specs.Prelude.{IfOk};
-ghost use Rattle.translation.specs.Visit as translation;
+ghost use Rattle.spec_translation.specs.Visit as translation;
 ghost use Rattle.term_tree.specs.Bank.{Grows};
 ghost use Rattle.clause_translate.specs.Visits.{visit_at, IsVisitIn, NamesVisit};
 

@@ -3,8 +3,8 @@
 ghost use Rattle.std.specs.Prelude.{◌≡◌, map, IfOk};
 ghost use Rattle.std.specs.List.{AllByRecursion};
 ghost use Rattle.pi_tree.specs.Events.{event_of};
-ghost use Rattle.clauses.specs.Fact as horn;
-ghost use Rattle.clauses.specs.Variables.{AreBelow};
+ghost use Rattle.spec_clauses.specs.Fact as horn;
+ghost use Rattle.spec_clauses.specs.Variables.{AreBelow};
 ghost use Rattle.term_tree.specs.Bank.{tree_at, AreKnown, Grows};
 ghost use Rattle.clause_terms.specs.Conditions.{HasShortTuples};
 ghost use Rattle.clause_translate.specs.Places.{protocol_at};

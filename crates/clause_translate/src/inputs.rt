@@ -3,10 +3,10 @@
 ghost use Rattle.std.specs.Prelude.{◌≡◌, ◌≤◌, IfOk, MatchOption};
 ghost use Rattle.pi_tree.specs.Terms.{term_of};
 ghost use Rattle.pi_tree.specs.Patterns.{pattern_of};
-ghost use Rattle.translation.specs.Conversion.{Fresh, bound_numbers};
-ghost use Rattle.translation.specs.Visit as translation;
-ghost use Rattle.translation.specs.Visit.{IsFresh};
-ghost use Rattle.translation.specs.Choice.{with_pattern};
+ghost use Rattle.spec_translation.specs.Conversion.{Fresh, bound_numbers};
+ghost use Rattle.spec_translation.specs.Visit as translation;
+ghost use Rattle.spec_translation.specs.Visit.{IsFresh};
+ghost use Rattle.spec_translation.specs.Choice.{with_pattern};
 ghost use Rattle.term_tree.specs.Bank.{Grows};
 ghost use Rattle.clause_terms.specs.Fresh.{fresh_of};
 ghost use Rattle.clause_terms.specs.Conditions.{HasShortTuples, IsShortPattern};

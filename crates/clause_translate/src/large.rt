@@ -2,14 +2,14 @@
 
 ghost use Rattle.std.specs.Prelude.{◌≡◌, ◌<◌, not, nat_le, length, map};
 ghost use Rattle.std.specs.List.{list_any};
-ghost use Rattle.trees.specs.Tree.{trees};
-ghost use Rattle.calculus.specs.Bounds.{most_symbols};
-ghost use Rattle.calculus.specs.Limits.{compared, compared_row, terms_in};
+ghost use Rattle.spec_trees.specs.Tree.{trees};
+ghost use Rattle.spec_calculus.specs.Bounds.{most_symbols};
+ghost use Rattle.spec_calculus.specs.Limits.{compared, compared_row, terms_in};
 ghost use Rattle.pi_tree.specs.Terms.{term_of};
 ghost use Rattle.pi_tree.specs.Patterns.{pattern_of, expression_of};
-ghost use Rattle.clauses.specs.Fact.{fact_size};
-ghost use Rattle.translation.specs.Conversion.{term_in};
-ghost use Rattle.translation.specs.Visit as translation;
+ghost use Rattle.spec_clauses.specs.Fact.{fact_size};
+ghost use Rattle.spec_translation.specs.Conversion.{term_in};
+ghost use Rattle.spec_translation.specs.Visit as translation;
 ghost use Rattle.clause_form.specs.Facts.{fact_of};
 ghost use Rattle.term_tree.specs.Bank.{tree_at};
 ghost use Rattle.clause_form.specs.Seen.{fact_at, IsFactIn, AreFactsIn};

@@ -1,8 +1,8 @@
 //! The clauses that visits have added, and how many visits are left.
 
 ghost use Rattle.std.specs.Prelude.{◌≡◌, ◌++◌, false, true, length, IfOk, OnOk, MatchBool};
-ghost use Rattle.clauses.specs.Limits.{is_large_raw};
-ghost use Rattle.clauses.specs.Norm.{norms};
+ghost use Rattle.spec_clauses.specs.Limits.{is_large_raw};
+ghost use Rattle.spec_clauses.specs.Norm.{norms};
 ghost use Rattle.term_tree.specs.Bank.{Grows};
 ghost use Rattle.clause_form.specs.Seen.{clause_at, IsClauseIn};
 ghost use Rattle.clause_translate.specs.Forms.{Adds};

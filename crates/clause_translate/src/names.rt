@@ -1,7 +1,7 @@
 //! Restrictions: the name over the messages and the sessions.
 
 ghost use Rattle.std.specs.Prelude.{◌≡◌, false, true, IfOk, IfSome, MatchOption};
-ghost use Rattle.translation.specs.Visit as translation;
+ghost use Rattle.spec_translation.specs.Visit as translation;
 ghost use Rattle.term_tree.specs.Bank.{Grows};
 ghost use Rattle.clause_translate.specs.Visits.{visit_at, IsVisitIn, NamesVisit};
 

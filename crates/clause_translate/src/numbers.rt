@@ -1,9 +1,9 @@
 //! New variables: the numbers that patterns and rules take.
 
 ghost use Rattle.std.specs.Prelude.{◌≡◌, ◌++◌, IfOk, OnOk};
-ghost use Rattle.trees.specs.Tree.{trees};
+ghost use Rattle.spec_trees.specs.Tree.{trees};
 ghost use Rattle.pi_tree.specs.Patterns.{pattern_of};
-ghost use Rattle.translation.specs.Conversion.{bound_numbers};
+ghost use Rattle.spec_translation.specs.Conversion.{bound_numbers};
 ghost use Rattle.clause_translate.specs.Numbers.{row_numbers};
 
 use pi_tree::{Pat, Pats};

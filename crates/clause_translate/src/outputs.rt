@@ -1,9 +1,9 @@
 //! Outputs: the clause that the message may be sent.
 
 ghost use Rattle.std.specs.Prelude.{◌≡◌, false, true, IfOk, MatchBool};
-ghost use Rattle.clauses.specs.Norm.{norms};
-ghost use Rattle.translation.specs.Conversion as translation;
-ghost use Rattle.translation.specs.Visit.{sent};
+ghost use Rattle.spec_clauses.specs.Norm.{norms};
+ghost use Rattle.spec_translation.specs.Conversion as translation;
+ghost use Rattle.spec_translation.specs.Visit.{sent};
 ghost use Rattle.pi_tree.specs.Terms.{term_of};
 ghost use Rattle.term_tree.specs.Bank.{Grows};
 ghost use Rattle.clause_form.specs.Facts.{fact_of};

@@ -1,7 +1,7 @@
 //! The points that come after a point.
 
 ghost use Rattle.std.specs.Prelude.{◌+◌, IfOk};
-ghost use Rattle.calculus.specs.Points.{point_after};
+ghost use Rattle.spec_calculus.specs.Points.{point_after};
 ghost use Rattle.pi_tree.specs.Processes.{process_of};
 ghost use Rattle.pi_tree.specs.Protocols.{protocol_of};
 ghost use Rattle.clause_translate.specs.Places.{IsAt};

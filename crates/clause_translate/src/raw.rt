@@ -2,7 +2,7 @@
 
 ghost use Rattle.std.specs.Prelude.{◌≡◌, map, IfOk};
 ghost use Rattle.std.specs.List.{list_any};
-ghost use Rattle.clauses.specs.Limits.{is_large_clause, is_large_raw};
+ghost use Rattle.spec_clauses.specs.Limits.{is_large_clause, is_large_raw};
 ghost use Rattle.clause_form.specs.Seen.{clause_at, IsClauseIn, AreClausesIn};
 
 use clause_form::{Clause, Clauses, flatten, size_of};

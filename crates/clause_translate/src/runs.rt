@@ -1,15 +1,15 @@
 //! What a translation says of runs (Blanchet 2016, section 3.3.4: soundness of the clauses).
 
 ghost use Rattle.std.specs.Prelude.{List};
-ghost use Rattle.calculus.specs.Syntax.{Query, Protocol};
-ghost use Rattle.well_formed.specs.Rules.{HasProperRules};
-ghost use Rattle.well_formed.specs.Processes.{HasLinearPatterns};
-ghost use Rattle.terms.specs.Term.{Term};
-ghost use Rattle.clauses.specs.Fact.{Clause};
-ghost use Rattle.translation.specs.Translation.{Clauses, IsTranslation};
+ghost use Rattle.spec_calculus.specs.Syntax.{Query, Protocol};
+ghost use Rattle.spec_well_formed.specs.Rules.{HasProperRules};
+ghost use Rattle.spec_well_formed.specs.Processes.{HasLinearPatterns};
+ghost use Rattle.spec_terms.specs.Term.{Term};
+ghost use Rattle.spec_clauses.specs.Fact.{Clause};
+ghost use Rattle.spec_translation.specs.Translation.{Clauses, IsTranslation};
 ghost use Rattle.clause_translate.specs.Soundness.{AbstractsRuns};
 
-use abstraction::{
+use spec_abstraction::{
     abstraction_is_one_to_one, names_of_runs_have_entries, restrictions_run_once, runs_are_derived,
     runs_are_named,
 };

@@ -1,11 +1,11 @@
 //! Terms and facts under bindings. Each part is built once, in however many of them it stands.
 
 ghost use Rattle.std.specs.Prelude.{◌≡◌, ◌<◌, true, length, map, IfOk, OnOk, MatchOption};
-ghost use Rattle.trees.specs.Tree.{Leaf, node, bind};
-ghost use Rattle.calculus.specs.Bounds.{most_symbols};
-ghost use Rattle.terms.specs.Binding.{resolved};
-ghost use Rattle.clauses.specs.Fact as horn;
-ghost use Rattle.clauses.specs.Fact.{fact_under};
+ghost use Rattle.spec_trees.specs.Tree.{Leaf, node, bind};
+ghost use Rattle.spec_calculus.specs.Bounds.{most_symbols};
+ghost use Rattle.spec_terms.specs.Binding.{resolved};
+ghost use Rattle.spec_clauses.specs.Fact as horn;
+ghost use Rattle.spec_clauses.specs.Fact.{fact_under};
 ghost use Rattle.term_tree.specs.Bank.{symbol_of, tree_at, AreKnown, Names, Grows};
 ghost use Rattle.unify_match.specs.Seen.{seen, IsReady};
 ghost use Rattle.clause_form.specs.Facts.{fact_of};

@@ -1,12 +1,12 @@
 //! Visits under unifiers.
 
 ghost use Rattle.std.specs.Prelude.{◌≡◌, ◌<◌, true, length, map, IfOk, OnOk, MatchOption};
-ghost use Rattle.trees.specs.Tree.{bind};
-ghost use Rattle.calculus.specs.Bounds.{most_symbols};
-ghost use Rattle.terms.specs.Binding.{resolved};
+ghost use Rattle.spec_trees.specs.Tree.{bind};
+ghost use Rattle.spec_calculus.specs.Bounds.{most_symbols};
+ghost use Rattle.spec_terms.specs.Binding.{resolved};
 ghost use Rattle.term_tree.specs.Bank.{tree_at, AreKnown, Grows};
 ghost use Rattle.unify_match.specs.Seen.{seen, IsReady};
-ghost use Rattle.translation.specs.Visit as translation;
+ghost use Rattle.spec_translation.specs.Visit as translation;
 ghost use Rattle.clause_form.specs.Seen.{NameTerms};
 ghost use Rattle.clause_terms.specs.Scopes.{scope_at, IsScopeIn, NamesScope};
 ghost use Rattle.clause_terms.specs.Slots.{held_of};

@@ -1,7 +1,7 @@
 //! Visits: what is known where a point is visited.
 
 ghost use Rattle.std.specs.Prelude.{◌≡◌, [], ◌∷◌, ◌++◌, IfOk};
-ghost use Rattle.clauses.specs.Fact.{Mev};
+ghost use Rattle.spec_clauses.specs.Fact.{Mev};
 ghost use Rattle.clause_form.specs.Facts.{fact_of};
 ghost use Rattle.clause_terms.specs.Slots.{held_of};
 

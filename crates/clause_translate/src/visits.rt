@@ -1,10 +1,10 @@
 //! The visits of a process in pre-order (Blanchet 2016, section 3.3.2).
 
 ghost use Rattle.std.specs.Prelude.{◌≡◌, [], ◌++◌, IfOk};
-ghost use Rattle.calculus.specs.Limits.{compared, terms_in};
+ghost use Rattle.spec_calculus.specs.Limits.{compared, terms_in};
 ghost use Rattle.clause_terms.specs.Scopes.{scope_at, IsScopeIn};
 ghost use Rattle.clause_translate.specs.Forms.{are_large_in};
-ghost use Rattle.calculus.specs.Syntax as calculus;
+ghost use Rattle.spec_calculus.specs.Syntax as calculus;
 ghost use Rattle.pi_tree.specs.Patterns.{pattern_of, expression_of};
 ghost use Rattle.pi_tree.specs.Processes.{process_of};
 ghost use Rattle.term_tree.specs.Bank.{Grows};

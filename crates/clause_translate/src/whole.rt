@@ -1,16 +1,16 @@
 //! The whole translation: the attacker's clauses, those of the visits, and the goal (Blanchet 2016, section 3.3).
 
 ghost use Rattle.std.specs.Prelude.{◌≡◌, ◌++◌, map, IfOk, MatchOption, OnErr};
-ghost use Rattle.well_formed.specs.Limits.{IsWithinLimits};
-ghost use Rattle.well_formed.specs.Rules.{HasProperRules};
-ghost use Rattle.well_formed.specs.Queries.{HasProperQueries};
-ghost use Rattle.well_formed.specs.WellFormed.{IsWellScoped};
+ghost use Rattle.spec_well_formed.specs.Limits.{IsWithinLimits};
+ghost use Rattle.spec_well_formed.specs.Rules.{HasProperRules};
+ghost use Rattle.spec_well_formed.specs.Queries.{HasProperQueries};
+ghost use Rattle.spec_well_formed.specs.WellFormed.{IsWellScoped};
 ghost use Rattle.pi_tree.specs.Protocols.{protocol_of};
 ghost use Rattle.pi_tree.specs.Accessors.{IsThere};
 ghost use Rattle.pi_tree.specs.declared.accessors.Kind.TheVariants.{Query as OfQueries};
 ghost use Rattle.term_tree.specs.Bank.{Grows};
-ghost use Rattle.translation.specs.Visit.{first_visit};
-ghost use Rattle.translation.specs.Translation.{goal_clauses};
+ghost use Rattle.spec_translation.specs.Visit.{first_visit};
+ghost use Rattle.spec_translation.specs.Translation.{goal_clauses};
 ghost use Rattle.clause_form.specs.Seen.{clause_at, AreClausesIn, NameClauses};
 ghost use Rattle.query_derive.specs.GoalRows.{OfQuery};
 ghost use Rattle.clause_translate.specs.Short.{IsShortProcess, HasShortRules};

@@ -1,12 +1,12 @@
 -- Lists of values beside one another.
 use Rattle.std.proofs.Common.{◌≡◌, ◌≢◌, ℕ, zero, suc, ◌≤◌, Bool, true, false, ◌&&◌, List, [], ◌∷◌, length, map, drop, refl, sym, ap, arith}
-use Rattle.trees.specs.Tree.{Trees, none, more, trees, binds}
-use Rattle.trees.specs.Same.{same_trees}
-use Rattle.trees.proofs.Rows.{binds-trees}
-use Rattle.calculus.specs.Syntax.{Name, Symbol, Term}
-use Rattle.calculus.specs.Values as calculus
-use Rattle.calculus.specs.Values.{Environment, same_atom, same_symbol, same_value, same_values, value_of_bound}
-use Rattle.calculus.specs.Matching.{places_row, instance_of}
+use Rattle.spec_trees.specs.Tree.{Trees, none, more, trees, binds}
+use Rattle.spec_trees.specs.Same.{same_trees}
+use Rattle.spec_trees.proofs.Rows.{binds-trees}
+use Rattle.spec_calculus.specs.Syntax.{Name, Symbol, Term}
+use Rattle.spec_calculus.specs.Values as calculus
+use Rattle.spec_calculus.specs.Values.{Environment, same_atom, same_symbol, same_value, same_values, value_of_bound}
+use Rattle.spec_calculus.specs.Matching.{places_row, instance_of}
 use Rattle.pi_tree.specs.declared.syntax.Term as source
 use Rattle.pi_tree.specs.declared.value_trees.Value.{Value}
 use Rattle.pi_tree.specs.Terms.{term_of}

@@ -1,10 +1,10 @@
 -- The sides of a rule whose variables find room behind a base.
 use Rattle.std.proofs.Common.{ℕ}
 use Rattle.std.specs.List.{AllByRecursion}
-use Rattle.trees.specs.Leaves.{leaves}
-use Rattle.calculus.specs.Syntax.{Rule}
-use Rattle.well_formed.specs.Leaves.{leaves_of}
-use Rattle.clauses.proofs.Lists.{all_first, all_second}
+use Rattle.spec_trees.specs.Leaves.{leaves}
+use Rattle.spec_calculus.specs.Syntax.{Rule}
+use Rattle.spec_well_formed.specs.Leaves.{leaves_of}
+use Rattle.spec_clauses.proofs.Lists.{all_first, all_second}
 use Rattle.clause_terms.proofs.Rows.{leaves_row}
 use Rattle.clause_terms.specs.Conditions.{IsRoomFor, HasRoomFrom, HasRoomForRule}
 

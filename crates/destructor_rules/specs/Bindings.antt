@@ -1,5 +1,5 @@
 -- What contracts see of a binding.
-use Rattle.calculus.specs.Values as calculus
+use Rattle.spec_calculus.specs.Values as calculus
 use Rattle.destructor_rules.specs.declared.bindings.Binding.{Binding}
 use Rattle.destructor_rules.specs.Leaves.{leaf_of}
 use Rattle.pi_tree.specs.Values.{value_of}

@@ -1,5 +1,5 @@
 -- What contracts see of a rule's leaf.
-use Rattle.calculus.specs.Syntax as calculus
+use Rattle.spec_calculus.specs.Syntax as calculus
 use Rattle.destructor_rules.specs.declared.bindings.Leaf.{Leaf}
 use Rattle.destructor_rules.specs.declared.bindings.Leaf.TheVariants.{Var, Free, Made}
 

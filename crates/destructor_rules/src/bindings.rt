@@ -2,9 +2,9 @@
 //! place in the arguments.
 
 ghost use Rattle.std.specs.Prelude.{◌≡◌, [], ◌∷◌, ◌++◌, map, option_map, OnOk};
-ghost use Rattle.trees.specs.Tree.{trees};
-ghost use Rattle.calculus.specs.Values.{same_name, bound_to};
-ghost use Rattle.calculus.specs.Matching.{places, places_row};
+ghost use Rattle.spec_trees.specs.Tree.{trees};
+ghost use Rattle.spec_calculus.specs.Values.{same_name, bound_to};
+ghost use Rattle.spec_calculus.specs.Matching.{places, places_row};
 ghost use Rattle.pi_tree.specs.Terms.{term_of};
 ghost use Rattle.pi_tree.specs.Values.{value_of};
 ghost use Rattle.destructor_rules.specs.Leaves.{leaf_of};
@@ -58,8 +58,8 @@ pub struct Bindings {
 
 impl Model for Bindings {
     ghost use Rattle.std.specs.Prelude.{map};
-    ghost use Rattle.calculus.specs.Values.{Environment};
-    ghost use Rattle.calculus.specs.Codes.{coded_environment};
+    ghost use Rattle.spec_calculus.specs.Values.{Environment};
+    ghost use Rattle.spec_calculus.specs.Codes.{coded_environment};
 
     ghost Value = { Environment };
 

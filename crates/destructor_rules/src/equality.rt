@@ -1,7 +1,7 @@
 //! Equality of values.
 
 ghost use Rattle.std.specs.Prelude.{◌≡◌, map};
-ghost use Rattle.calculus.specs.Values.{same_value, same_values};
+ghost use Rattle.spec_calculus.specs.Values.{same_value, same_values};
 ghost use Rattle.pi_tree.specs.Values.{value_of};
 
 use pi_tree::Value;

@@ -1,8 +1,8 @@
 //! Instances of a rule's terms.
 
 ghost use Rattle.std.specs.Prelude.{◌≡◌, map, IfOk};
-ghost use Rattle.calculus.specs.Values.{same_value, same_values, value_of_bound};
-ghost use Rattle.calculus.specs.Matching.{instance_of};
+ghost use Rattle.spec_calculus.specs.Values.{same_value, same_values, value_of_bound};
+ghost use Rattle.spec_calculus.specs.Matching.{instance_of};
 ghost use Rattle.pi_tree.specs.Terms.{term_of};
 ghost use Rattle.pi_tree.specs.Values.{value_of};
 ghost use Rattle.destructor_rules.specs.Leaves.{leaf_of};

@@ -1,7 +1,7 @@
 //! Rules as terms of clauses, with variables of their own.
 
 ghost use Rattle.std.specs.Prelude.{◌≡◌, map, IfOk, OnErr};
-ghost use Rattle.translation.specs.Conversion.{rule_term as rule_term_of};
+ghost use Rattle.spec_translation.specs.Conversion.{rule_term as rule_term_of};
 ghost use Rattle.term_tree.specs.Bank.{Names, Grows};
 ghost use Rattle.clause_form.specs.Seen.{NameTerms};
 ghost use Rattle.pi_tree.specs.Protocols.{protocol_of};

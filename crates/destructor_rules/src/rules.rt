@@ -1,7 +1,7 @@
 //! The value that a rule gives of its arguments.
 
 ghost use Rattle.std.specs.Prelude.{◌≡◌, map, option_map, IfOk};
-ghost use Rattle.calculus.specs.Matching.{rule_value};
+ghost use Rattle.spec_calculus.specs.Matching.{rule_value};
 ghost use Rattle.pi_tree.specs.Rules.{rule_of};
 ghost use Rattle.pi_tree.specs.Values.{value_of};
 

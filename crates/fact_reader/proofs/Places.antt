@@ -2,8 +2,8 @@
 use Rattle.std.proofs.Common.{◌≡◌, ℕ, zero, suc, ◌+◌, ◌<◌, ◌≤◌, ◌==◌, if◌then◌else◌, ◌≢◌, true, false, List, [], ◌∷◌, length, drop, get_or, refl, sym, ◌∙◌, ap, arith, add-one}
 use Rattle.std.proofs.lemmas.Bool.Decides.{nat_tests}
 use Rattle.std.proofs.lemmas.List.{drop-drop}
-use Rattle.certificate_reading.specs.Terms.{Syntax}
-use Rattle.certificate_reading.specs.Outcomes.{Found, Faulty, front, read_fixed}
+use Rattle.spec_certificate_reading.specs.Terms.{Syntax}
+use Rattle.spec_certificate_reading.specs.Outcomes.{Found, Faulty, front, read_fixed}
 
 pub next_byte : (bytes : List ℕ) (place : ℕ) → place < length bytes → drop place bytes ≡ get_or bytes place 0 ∷ drop (place + 1) bytes
 next_byte [] place below = absurd (omega (arith, below))

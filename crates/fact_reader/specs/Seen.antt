@@ -1,12 +1,12 @@
 -- What contracts see of events, and of what is read of a row.
 use Rattle.std.specs.Prelude.{Bool}
-use Rattle.terms.specs.Term.{Term}
-use Rattle.clauses.specs.Fact as horn
+use Rattle.spec_terms.specs.Term.{Term}
+use Rattle.spec_clauses.specs.Fact as horn
 use Rattle.clause_form.specs.Plain.{term_of}
 use Rattle.clause_form.specs.PlainFacts.{plain_fact_of}
 use Rattle.clause_form.specs.declared.plain.Tree.{Tree}
 use Rattle.clause_form.specs.declared.plain.PlainFact.{PlainFact}
-use Rattle.certificate_reading.specs.Facts as facts
+use Rattle.spec_certificate_reading.specs.Facts as facts
 use Rattle.fact_reader.specs.declared.events.Performed.{Performed}
 
 abbrev pub performed_of : Performed → facts.Performed

@@ -4,7 +4,7 @@ ghost use Rattle.std.specs.Prelude.{◌≡◌, ◌≤◌, drop, length};
 ghost use Rattle.clause_form.specs.Plain.{term_of};
 ghost use Rattle.pi_tree.specs.Protocols.{protocol_of};
 ghost use Rattle.term_reader.specs.Few.{HasFewNames};
-ghost use Rattle.certificate_reading.specs.Facts as reading;
+ghost use Rattle.spec_certificate_reading.specs.Facts as reading;
 ghost use Rattle.fact_reader.specs.Gives.{Gives, StopsWithin, same};
 ghost use Rattle.fact_reader.specs.Seen.{argument_of};
 

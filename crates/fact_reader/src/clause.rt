@@ -3,8 +3,8 @@
 ghost use Rattle.std.specs.Prelude.{◌≤◌, drop, length};
 ghost use Rattle.pi_tree.specs.Protocols.{protocol_of};
 ghost use Rattle.term_reader.specs.Few.{HasFewNames};
-ghost use Rattle.certificate_reading.specs.Clauses as reading;
-ghost use Rattle.certificate_reading.specs.Outcomes.{things};
+ghost use Rattle.spec_certificate_reading.specs.Clauses as reading;
+ghost use Rattle.spec_certificate_reading.specs.Outcomes.{things};
 ghost use Rattle.fact_reader.specs.Gives.{Gives, StopsWithin, same};
 ghost use Rattle.fact_reader.specs.Seen.{hypothesis_of};
 

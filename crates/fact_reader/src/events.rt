@@ -3,11 +3,11 @@
 ghost use Rattle.std.specs.Prelude.{◌≡◌, ℕ, List, ◌+◌, ◌≤◌, drop, length, Some};
 ghost use Rattle.std.specs.List.{prefix_len};
 ghost use Rattle.pi_tree.specs.Protocols.{protocol_of};
-ghost use Rattle.protocol_tokens.specs.Bytes.{is_in_word};
+ghost use Rattle.spec_protocol_tokens.specs.Bytes.{is_in_word};
 ghost use Rattle.term_reader.specs.Few.{HasFewNames};
 ghost use Rattle.term_reader.specs.Seen.{called_of, event_of};
-ghost use Rattle.certificate_reading.specs.Facts as facts;
-ghost use Rattle.certificate_reading.specs.Facts.{event_named, read_event};
+ghost use Rattle.spec_certificate_reading.specs.Facts as facts;
+ghost use Rattle.spec_certificate_reading.specs.Facts.{event_named, read_event};
 ghost use Rattle.fact_reader.specs.Gives.{Gives, StopsWithin};
 ghost use Rattle.fact_reader.specs.Seen.{performed_of};
 

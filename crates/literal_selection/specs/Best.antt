@@ -1,8 +1,8 @@
 -- Where a selection stands, and how large the selected fact is.
 use Rattle.std.specs.Prelude.{ℕ, ◌+◌, Option, option_map, List}
-use Rattle.terms.specs.Term.{Term}
-use Rattle.clauses.specs.Fact.{Fact, fact_size}
-use Rattle.clauses.specs.Selection.{Selection, select}
+use Rattle.spec_terms.specs.Term.{Term}
+use Rattle.spec_clauses.specs.Fact.{Fact, fact_size}
+use Rattle.spec_clauses.specs.Selection.{Selection, select}
 use Rattle.literal_selection.specs.declared.Best.{Best}
 
 -- the place of what is selected of the hypotheses, from 0

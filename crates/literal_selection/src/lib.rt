@@ -2,9 +2,9 @@
 #![tactic(auto)]
 
 ghost use Rattle.std.specs.Prelude.{◌≡◌, ◌↔◌, ◌+◌, ◌^◌, ◌<◌, List, ◌∷◌, map, true, IsNone};
-ghost use Rattle.terms.specs.Term.{Term};
-ghost use Rattle.clauses.specs.Fact.{Fact as FactOf, total, fact_size, clause_size};
-ghost use Rattle.clauses.specs.Selection.{select, is_solved as is_solved_list};
+ghost use Rattle.spec_terms.specs.Term.{Term};
+ghost use Rattle.spec_clauses.specs.Fact.{Fact as FactOf, total, fact_size, clause_size};
+ghost use Rattle.spec_clauses.specs.Selection.{select, is_solved as is_solved_list};
 ghost use Rattle.clause_form.specs.Facts.{fact_of};
 ghost use Rattle.clause_form.specs.Seen.{fact_at, clause_at, IsFactIn, AreFactsIn, IsClauseIn};
 ghost use Rattle.literal_selection.specs.Best.{selected_place, remembered};

@@ -3,26 +3,26 @@ use Rattle.std.proofs.Common.{◌≡◌, ◌↔◌, ◌∙◌, inl, inr, ℕ, pr
 use Rattle.std.specs.declared.alloc.AllocError.{AllocError}
 use Rattle.std.proofs.lemmas.Bool.{false≢true}
 use Rattle.std.proofs.lemmas.List.{length-map}
-use Rattle.terms.specs.Term.{Term}
-use Rattle.terms.specs.Binding.{Binding}
-use Rattle.clauses.specs.Fact as horn
-use Rattle.clauses.specs.Fact.{Att, Mess, Ev, Mev, Bad, Clause, total, fact_size, clause_size}
-use Rattle.clauses.specs.Norm.{IsNormal}
-use Rattle.clauses.specs.Limits.{IsWithinLimit}
-use Rattle.clauses.specs.Inclusion.{IsWithin}
-use Rattle.clauses.specs.Subsumption.{firm, RowHolds}
-use Rattle.clauses.proofs.NormKeeps.{own_norm}
+use Rattle.spec_terms.specs.Term.{Term}
+use Rattle.spec_terms.specs.Binding.{Binding}
+use Rattle.spec_clauses.specs.Fact as horn
+use Rattle.spec_clauses.specs.Fact.{Att, Mess, Ev, Mev, Bad, Clause, total, fact_size, clause_size}
+use Rattle.spec_clauses.specs.Norm.{IsNormal}
+use Rattle.spec_clauses.specs.Limits.{IsWithinLimit}
+use Rattle.spec_clauses.specs.Inclusion.{IsWithin}
+use Rattle.spec_clauses.specs.Subsumption.{firm, RowHolds}
+use Rattle.spec_clauses.proofs.NormKeeps.{own_norm}
 use Rattle.term_tree.specs.declared.bank.Id.{Id}
 use Rattle.unify_match.specs.declared.bound.Bound.{Bound}
 use Rattle.unify_match.specs.Seen.{seen}
 use Rattle.clause_form.specs.Seen.{fact_at, clause_at, IsClauseIn, NameFacts}
-use Rattle.placements.specs.Takes.{left}
-use Rattle.placements.specs.Placing.{FactMatched, HoldsFrom, AreLinked, loose_variables}
-use Rattle.placements.specs.LooseParts.{bound_parts, Removes, HasNoRoom}
-use Rattle.placements.proofs.Holding.{inner_row, holds_from, from_holds}
-use Rattle.placements.proofs.Linked.{rules_link, linked_first}
-use Rattle.placements.proofs.Removing.{removed_within, loose_placed, loose_unplaced}
-use Rattle.placements.proofs.Standing.{holds_nothing, row_placed}
+use Rattle.spec_placements.specs.Takes.{left}
+use Rattle.spec_placements.specs.Placing.{FactMatched, HoldsFrom, AreLinked, loose_variables}
+use Rattle.spec_placements.specs.LooseParts.{bound_parts, Removes, HasNoRoom}
+use Rattle.spec_placements.proofs.Holding.{inner_row, holds_from, from_holds}
+use Rattle.spec_placements.proofs.Linked.{rules_link, linked_first}
+use Rattle.spec_placements.proofs.Removing.{removed_within, loose_placed, loose_unplaced}
+use Rattle.spec_placements.proofs.Standing.{holds_nothing, row_placed}
 use Rattle.multiset_subsume.specs.Boards.{facts_at, IsBoard, IsPlacing, IsBegun, ArePut, HoldsOn, AreLinkedOn, HoldsNotOn, HoldsByOn, HoldsFirst, HoldsWith, FailsWith}
 use Rattle.multiset_subsume.proofs.Putting.{positions_back}
 

@@ -2,16 +2,16 @@
 use Rattle.std.proofs.Common.{◌≡◌, ◌∙◌, ℕ, suc, ◌+◌, ◌<◌, ◌≤◌, Bool, true, false, cond, Some, List, [], ◌∷◌, ◌++◌, length, map, take, drop, get_or, refl, ap, sym, subst, arith, add-one, drop-cons, Bor}
 use Rattle.std.proofs.lemmas.List.{map-append, take_more}
 use Rattle.std.proofs.lemmas.Option.{slice_get_within}
-use Rattle.terms.specs.Term.{Term}
-use Rattle.terms.specs.Binding.{Binding}
-use Rattle.clauses.specs.Fact as horn
+use Rattle.spec_terms.specs.Term.{Term}
+use Rattle.spec_terms.specs.Binding.{Binding}
+use Rattle.spec_clauses.specs.Fact as horn
 use Rattle.term_tree.specs.declared.bank.Id.{Id}
 use Rattle.unify_match.specs.declared.bound.Bound.{Bound}
 use Rattle.unify_match.specs.Seen.{seen}
 use Rattle.clause_form.specs.declared.facts.Fact.{Fact}
 use Rattle.clause_form.specs.Seen.{fact_at}
-use Rattle.placements.specs.Crowds.{room, IsConfined, AreConfined}
-use Rattle.placements.proofs.Crowding.{confined_more, confined_same}
+use Rattle.spec_placements.specs.Crowds.{room, IsConfined, AreConfined}
+use Rattle.spec_placements.proofs.Crowding.{confined_more, confined_same}
 use Rattle.multiset_subsume.specs.Boards.{facts_at, CannotPut}
 use Rattle.multiset_subsume.proofs.Listing.{unref}
 

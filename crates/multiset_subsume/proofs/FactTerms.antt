@@ -3,13 +3,13 @@ use Rattle.std.proofs.Common.{◌≡◌, ℕ, Bool, true, false, ◌||◌, cond,
 use Rattle.std.specs.declared.alloc.AllocError.{AllocError}
 use Rattle.std.specs.List.{list_any}
 use Rattle.std.proofs.lemmas.List.{length-map}
-use Rattle.trees.specs.Tree.{bind}
-use Rattle.terms.specs.Term.{Term, has_var}
-use Rattle.terms.specs.Unifier.{MatchesAll}
-use Rattle.terms.specs.Binding.{bound_to, replaced_once}
-use Rattle.clauses.specs.Fact.{Fact, terms_of, outline}
-use Rattle.clauses.specs.Head.{head_of}
-use Rattle.clauses.proofs.Parts.{head_of-map, terms_of-map, outline-parts}
+use Rattle.spec_trees.specs.Tree.{bind}
+use Rattle.spec_terms.specs.Term.{Term, has_var}
+use Rattle.spec_terms.specs.Unifier.{MatchesAll}
+use Rattle.spec_terms.specs.Binding.{bound_to, replaced_once}
+use Rattle.spec_clauses.specs.Fact.{Fact, terms_of, outline}
+use Rattle.spec_clauses.specs.Head.{head_of}
+use Rattle.spec_clauses.proofs.Parts.{head_of-map, terms_of-map, outline-parts}
 use Rattle.term_tree.specs.Bank.{tree_at}
 use Rattle.term_tree.specs.declared.bank.Id.{Id}
 use Rattle.clause_form.specs.Seen.{fact_at}
@@ -17,8 +17,8 @@ use Rattle.unify_match.specs.declared.bound.Bound.{Bound}
 use Rattle.unify_match.specs.Trail.{id_of}
 use Rattle.unify_match.specs.Seen.{seen}
 use Rattle.unify_match.specs.Outcome.{MatchedAll, NoMatchOfAll}
-use Rattle.placements.specs.Placing.{FactMatched, NoFactMatch}
-use Rattle.placements.proofs.FactMatching.{fact_matched, fact_unmatched}
+use Rattle.spec_placements.specs.Placing.{FactMatched, NoFactMatch}
+use Rattle.spec_placements.proofs.FactMatching.{fact_matched, fact_unmatched}
 
 pub is_some_seen : (all : List Term) (pairs : List Bound) (x : ℕ) → is_some (bound_to (seen all pairs) x) ≡ is_some (id_of pairs x)
 is_some_seen all [] x = refl

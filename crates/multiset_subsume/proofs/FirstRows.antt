@@ -5,25 +5,25 @@ use Rattle.std.specs.List.{list_all}
 use Rattle.std.specs.declared.alloc.AllocError.{AllocError}
 use Rattle.std.proofs.lemmas.List.{length-map, map-append, take_all}
 use Rattle.std.proofs.lemmas.Option.{slice_get_within}
-use Rattle.trees.proofs.Equality.{and_true}
-use Rattle.terms.specs.Term.{Term}
-use Rattle.clauses.specs.Fact as horn
-use Rattle.clauses.specs.Fact.{Clause}
-use Rattle.clauses.specs.Flat.{is_flat}
-use Rattle.clauses.specs.Norm.{IsNormal}
-use Rattle.clauses.specs.Subsumption.{firm, Subsumes, RowHolds, IsFirstRow}
-use Rattle.clauses.proofs.Subsumption.{row_subsumes, subsumes_by_row}
+use Rattle.spec_trees.proofs.Equality.{and_true}
+use Rattle.spec_terms.specs.Term.{Term}
+use Rattle.spec_clauses.specs.Fact as horn
+use Rattle.spec_clauses.specs.Fact.{Clause}
+use Rattle.spec_clauses.specs.Flat.{is_flat}
+use Rattle.spec_clauses.specs.Norm.{IsNormal}
+use Rattle.spec_clauses.specs.Subsumption.{firm, Subsumes, RowHolds, IsFirstRow}
+use Rattle.spec_clauses.proofs.Subsumption.{row_subsumes, subsumes_by_row}
 use Rattle.term_tree.specs.declared.bank.Id.{Id}
 use Rattle.unify_match.specs.declared.bound.Bound.{Bound}
 use Rattle.unify_match.specs.Seen.{seen}
 use Rattle.clause_form.specs.declared.facts.Fact.{Fact}
 use Rattle.clause_form.specs.Seen.{fact_at, clause_at, AreFactsIn, NameFacts}
 use Rattle.clause_form.proofs.Comparing.{map_drop}
-use Rattle.placements.specs.Placing.{IsFirstFrom, CanPlace, loose_variables}
-use Rattle.placements.specs.Stages.{PlacesFirst}
-use Rattle.placements.proofs.Holding.{from_first, no_row}
-use Rattle.placements.proofs.Leading.{leads_first_nowhere, leads_first_on, leads_first_to_end}
-use Rattle.placements.proofs.Standing.{one_holds, row_placed}
+use Rattle.spec_placements.specs.Placing.{IsFirstFrom, CanPlace, loose_variables}
+use Rattle.spec_placements.specs.Stages.{PlacesFirst}
+use Rattle.spec_placements.proofs.Holding.{from_first, no_row}
+use Rattle.spec_placements.proofs.Leading.{leads_first_nowhere, leads_first_on, leads_first_to_end}
+use Rattle.spec_placements.proofs.Standing.{one_holds, row_placed}
 use Rattle.multiset_subsume.specs.Boards.{facts_at, IsPlacing, IsAsBefore, IsBegun, IsPut, CannotPut, CanPlaceOn, CanStandOn, HoldsOn, IsFirstOn, IsFirstByOn, IsLeastRow, IsNextRow, IsFirstWith, NowhereWith}
 use Rattle.multiset_subsume.proofs.Listing.{unref}
 use Rattle.multiset_subsume.proofs.Keeping.{as_back}

@@ -1,7 +1,7 @@
 -- What stays as it was while positions are tried.
 use Rattle.std.proofs.Common.{◌≡◌, ◌∙◌, ℕ, ◌-◌, Bool, false, List, length, drop, set, refl, ap, sym, subst}
-use Rattle.terms.specs.Term.{Term}
-use Rattle.clauses.specs.Fact as horn
+use Rattle.spec_terms.specs.Term.{Term}
+use Rattle.spec_clauses.specs.Fact as horn
 use Rattle.term_tree.specs.declared.bank.Id.{Id}
 use Rattle.unify_match.specs.declared.bound.Bound.{Bound}
 use Rattle.unify_match.specs.Trail.{Extends}

@@ -3,10 +3,10 @@ use Rattle.std.proofs.Common.{◌≡◌, ℕ, ◌+◌, ◌<◌, ◌≤◌, Bool,
 use Rattle.std.specs.Prelude.{filter}
 use Rattle.std.proofs.lemmas.List.{map-append}
 use Rattle.std.proofs.lemmas.Simd.{map-map}
-use Rattle.terms.specs.Term.{Term}
-use Rattle.clauses.specs.Fact as horn
-use Rattle.clauses.specs.Fact.{is_variable_known}
-use Rattle.clauses.specs.Subsumption.{firm}
+use Rattle.spec_terms.specs.Term.{Term}
+use Rattle.spec_clauses.specs.Fact as horn
+use Rattle.spec_clauses.specs.Fact.{is_variable_known}
+use Rattle.spec_clauses.specs.Subsumption.{firm}
 use Rattle.term_tree.specs.declared.bank.Id.{Id}
 use Rattle.clause_form.specs.declared.facts.Fact.{Fact}
 use Rattle.clause_form.specs.Facts.{fact_of}

@@ -1,19 +1,19 @@
 -- Some of the facts can be placed by themselves where all can.
 use Rattle.std.proofs.Common.{◌≡◌, ◌∙◌, ℕ, ◌+◌, ◌<◌, ◌≤◌, Bool, true, false, cond, Option, None, MatchOption, List, [], ◌∷◌, ◌++◌, length, map, take, get_or, ap, sym, subst, append-nil, Bor}
 use Rattle.std.proofs.lemmas.List.{map-append, take_more, take_all}
-use Rattle.terms.specs.Term.{Term}
-use Rattle.clauses.specs.Fact as horn
-use Rattle.clauses.specs.Fact.{fact_under}
-use Rattle.clauses.specs.Flat.{flat_under}
-use Rattle.clauses.specs.Inclusion.{Picks, IsWithin}
-use Rattle.clauses.specs.Inclusion as inclusion
-use Rattle.clauses.proofs.Inclusion.{within_self, within-trans, within-map, within-append, within-more_right}
+use Rattle.spec_terms.specs.Term.{Term}
+use Rattle.spec_clauses.specs.Fact as horn
+use Rattle.spec_clauses.specs.Fact.{fact_under}
+use Rattle.spec_clauses.specs.Flat.{flat_under}
+use Rattle.spec_clauses.specs.Inclusion.{Picks, IsWithin}
+use Rattle.spec_clauses.specs.Inclusion as inclusion
+use Rattle.spec_clauses.proofs.Inclusion.{within_self, within-trans, within-map, within-append, within-more_right}
 use Rattle.term_tree.specs.declared.bank.Id.{Id}
 use Rattle.unify_match.specs.declared.bound.Bound.{Bound}
 use Rattle.clause_form.specs.declared.facts.Fact.{Fact}
 use Rattle.clause_form.specs.Seen.{fact_at, IsFactIn, AreFactsIn}
-use Rattle.placements.specs.Takes.{left}
-use Rattle.placements.specs.Placing.{all_known}
+use Rattle.spec_placements.specs.Takes.{left}
+use Rattle.spec_placements.specs.Placing.{all_known}
 use Rattle.multiset_subsume.specs.Boards.{facts_at, CanPlaceOn}
 use Rattle.multiset_subsume.proofs.Listing.{unref}
 

@@ -2,10 +2,10 @@
 use Rattle.std.proofs.Common.{◌≡◌, ◌↔◌, ℕ, zero, suc, pred, ◌+◌, ◌-◌, ◌<◌, ◌≤◌, Bool, true, false, Some, None, List, [], ◌∷◌, ◌++◌, length, map, take, drop, get_or, set, refl, ap, sym, ◌∙◌, subst, arith, Bor}
 use Rattle.std.specs.Prelude.{slice_get}
 use Rattle.std.proofs.lemmas.List.{map-append, take_more}
-use Rattle.terms.specs.Term.{Term}
-use Rattle.clauses.specs.Fact as horn
-use Rattle.clauses.specs.Fact.{fact_under}
-use Rattle.clauses.specs.Inclusion.{here}
+use Rattle.spec_terms.specs.Term.{Term}
+use Rattle.spec_clauses.specs.Fact as horn
+use Rattle.spec_clauses.specs.Fact.{fact_under}
+use Rattle.spec_clauses.specs.Inclusion.{here}
 use Rattle.term_tree.specs.declared.bank.Id.{Id}
 use Rattle.unify_match.specs.declared.bound.Bound.{Bound}
 use Rattle.unify_match.specs.Trail.{Extends}
@@ -14,9 +14,9 @@ use Rattle.unify_match.proofs.Trails.{undone}
 use Rattle.clause_form.specs.declared.facts.Fact.{Fact}
 use Rattle.clause_form.specs.Facts.{fact_of}
 use Rattle.clause_form.specs.Seen.{fact_at, IsFactIn, AreFactsIn}
-use Rattle.placements.specs.Placing.{NoFactMatch}
-use Rattle.placements.proofs.Linked.{linked_next}
-use Rattle.placements.proofs.Standing.{holds_one, one_holds, row_long}
+use Rattle.spec_placements.specs.Placing.{NoFactMatch}
+use Rattle.spec_placements.proofs.Linked.{linked_next}
+use Rattle.spec_placements.proofs.Standing.{holds_one, one_holds, row_long}
 use Rattle.multiset_subsume.specs.Boards.{facts_at, IsAsBefore, IsPut, CannotPut, HoldsOn, HoldsNotOn, AreLinkedOn}
 
 some_same : {X : Type 0} {x y : X} → Some x ≡ Some y → x ≡ y

@@ -4,15 +4,15 @@ use Rattle.std.specs.Prelude.{slice_get}
 use Rattle.std.proofs.lemmas.List.{length-map}
 use Rattle.std.proofs.lemmas.Option.{slice_get_within}
 use Rattle.std.proofs.lemmas.Simd.{map-map}
-use Rattle.trees.specs.Tree.{bind, node}
-use Rattle.terms.specs.Term.{Sym, Term, Subst}
-use Rattle.clauses.specs.Fact as horn
-use Rattle.clauses.specs.Fact.{Clause, terms_of, fact_under, is_variable_known}
-use Rattle.clauses.specs.Inclusion.{Picks, here, there, IsWithin}
-use Rattle.clauses.specs.Subsumption.{firm, RowHolds}
-use Rattle.clauses.proofs.Inclusion.{Has-filter, Has-map, Has-within, Has-from_Contains, Contains-from_Has}
-use Rattle.clauses.proofs.Parts.{terms_of-map}
-use Rattle.clauses.proofs.Rows.{takes_within}
+use Rattle.spec_trees.specs.Tree.{bind, node}
+use Rattle.spec_terms.specs.Term.{Sym, Term, Subst}
+use Rattle.spec_clauses.specs.Fact as horn
+use Rattle.spec_clauses.specs.Fact.{Clause, terms_of, fact_under, is_variable_known}
+use Rattle.spec_clauses.specs.Inclusion.{Picks, here, there, IsWithin}
+use Rattle.spec_clauses.specs.Subsumption.{firm, RowHolds}
+use Rattle.spec_clauses.proofs.Inclusion.{Has-filter, Has-map, Has-within, Has-from_Contains, Contains-from_Has}
+use Rattle.spec_clauses.proofs.Parts.{terms_of-map}
+use Rattle.spec_clauses.proofs.Rows.{takes_within}
 use Rattle.term_tree.specs.Bank.{tree_at}
 use Rattle.term_tree.specs.declared.bank.Id.{Id}
 use Rattle.unify_match.proofs.Matchings.{match_applications_fail}

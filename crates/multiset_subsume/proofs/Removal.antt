@@ -4,10 +4,10 @@ use Rattle.std.specs.Prelude.{slice_get}
 use Rattle.std.proofs.lemmas.List.{take-append-drop}
 use Rattle.std.proofs.lemmas.Option.{slice_get_within}
 use Rattle.std.proofs.lemmas.Grind.{flat_map-append}
-use Rattle.terms.specs.Term.{Term}
-use Rattle.terms.specs.Binding.{Binding, bound_to}
-use Rattle.clauses.specs.Fact.{Fact, Att}
-use Rattle.clauses.specs.Flat.{flat}
+use Rattle.spec_terms.specs.Term.{Term}
+use Rattle.spec_terms.specs.Binding.{Binding, bound_to}
+use Rattle.spec_clauses.specs.Fact.{Fact, Att}
+use Rattle.spec_clauses.specs.Flat.{flat}
 use Rattle.term_tree.specs.Bank.{tree_at}
 use Rattle.term_tree.specs.declared.bank.Id.{Id}
 use Rattle.unify_match.specs.declared.bound.Bound.{Bound}
@@ -15,8 +15,8 @@ use Rattle.unify_match.specs.Trail.{id_of}
 use Rattle.unify_match.specs.Seen.{seen}
 use Rattle.unify_match.proofs.SeenLemmas.{bound_to-seen, bound_to-seen_none}
 use Rattle.clause_form.proofs.Lists.{flat_map_more, flat_map_all}
-use Rattle.placements.specs.LooseParts.{flat_of, Removes, Lacks, HasNoRoom}
-use Rattle.placements.proofs.Removing.{removes_both, no_room_more, no_room_later}
+use Rattle.spec_placements.specs.LooseParts.{flat_of, Removes, Lacks, HasNoRoom}
+use Rattle.spec_placements.proofs.Removing.{removes_both, no_room_more, no_room_later}
 
 -- what stands at no free position before the end stands at none
 pub lacks : (hs : List (Fact Term)) (flags : List Bool) (y : Fact Term) (n : ℕ) → length hs ≤ n → ((k : ℕ) → k < n → get_or flags k false ≡ false → slice_get hs k ≡ Some y → ⊥) → Lacks hs flags y

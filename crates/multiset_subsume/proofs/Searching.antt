@@ -4,20 +4,20 @@ use Rattle.std.specs.Prelude.{slice_get, remove}
 use Rattle.std.specs.List.{list_any, AllByRecursion}
 use Rattle.std.specs.declared.alloc.AllocError.{AllocError}
 use Rattle.std.proofs.lemmas.List.{length-map}
-use Rattle.terms.specs.Term.{Term}
-use Rattle.terms.specs.Binding.{bound_to}
-use Rattle.clauses.specs.Fact as horn
-use Rattle.clauses.specs.Inclusion.{IsWithin}
+use Rattle.spec_terms.specs.Term.{Term}
+use Rattle.spec_terms.specs.Binding.{bound_to}
+use Rattle.spec_clauses.specs.Fact as horn
+use Rattle.spec_clauses.specs.Inclusion.{IsWithin}
 use Rattle.term_tree.specs.declared.bank.Id.{Id}
 use Rattle.unify_match.specs.declared.bound.Bound.{Bound}
 use Rattle.unify_match.specs.Seen.{seen}
 use Rattle.clause_form.specs.declared.facts.Fact.{Fact}
 use Rattle.clause_form.specs.Seen.{fact_at, AreFactsIn}
-use Rattle.placements.specs.Takes.{left}
-use Rattle.placements.specs.Placing.{some_fact_has, fact_has, HoldsFrom, CanStand}
-use Rattle.placements.specs.LooseParts.{bound_parts}
-use Rattle.placements.proofs.Removing.{loose_placed}
-use Rattle.placements.proofs.Standing.{holds_nothing, back_holds, some_stand, in_range, pick_removed, stand_placed, holds_one, row_long}
+use Rattle.spec_placements.specs.Takes.{left}
+use Rattle.spec_placements.specs.Placing.{some_fact_has, fact_has, HoldsFrom, CanStand}
+use Rattle.spec_placements.specs.LooseParts.{bound_parts}
+use Rattle.spec_placements.proofs.Removing.{loose_placed}
+use Rattle.spec_placements.proofs.Standing.{holds_nothing, back_holds, some_stand, in_range, pick_removed, stand_placed, holds_one, row_long}
 use Rattle.multiset_subsume.specs.Boards.{facts_at, IsPlacing, IsPut, CannotPut, CanPlaceOn, CanStandOn, HoldsOn, AreLinkedOn, HoldsInserted}
 use Rattle.multiset_subsume.proofs.Listing.{unref}
 

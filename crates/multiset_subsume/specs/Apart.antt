@@ -1,10 +1,10 @@
 -- What a first look at two clauses tells: that facts don't match, stand nowhere, or don't all stand.
 use Rattle.std.specs.Prelude.{◌≡◌, ℕ, Some, slice_get, List, map}
-use Rattle.terms.specs.Term.{Term, Subst}
-use Rattle.clauses.specs.Fact as horn
-use Rattle.clauses.specs.Fact.{fact_under}
-use Rattle.clauses.specs.Inclusion.{IsWithin}
-use Rattle.clauses.specs.Subsumption.{firm}
+use Rattle.spec_terms.specs.Term.{Term, Subst}
+use Rattle.spec_clauses.specs.Fact as horn
+use Rattle.spec_clauses.specs.Fact.{fact_under}
+use Rattle.spec_clauses.specs.Inclusion.{IsWithin}
+use Rattle.spec_clauses.specs.Subsumption.{firm}
 use Rattle.term_tree.specs.declared.bank.Id.{Id}
 use Rattle.clause_form.specs.Seen.{fact_at}
 use Rattle.multiset_subsume.specs.Boards.{facts_at}

@@ -1,14 +1,14 @@
 -- What contracts see of hypotheses over ids that are placed on positions of a clause, which count from 0 here.
 use Rattle.std.specs.Prelude.{◌≡◌, ◌↔◌, ◌⊎◌, ℕ, suc, ◌^◌, ◌<◌, pred, Bool, true, false, get_or, set, slice_get, replicate, insert, Some, List, [], ◌∷◌, length, map}
-use Rattle.terms.specs.Term.{Term, Subst}
-use Rattle.terms.specs.Binding.{Binding, Agrees}
-use Rattle.clauses.specs.Fact as horn
-use Rattle.clauses.specs.Fact.{fact_under}
+use Rattle.spec_terms.specs.Term.{Term, Subst}
+use Rattle.spec_terms.specs.Binding.{Binding, Agrees}
+use Rattle.spec_clauses.specs.Fact as horn
+use Rattle.spec_clauses.specs.Fact.{fact_under}
 use Rattle.term_tree.specs.declared.bank.Id.{Id}
 use Rattle.unify_match.specs.declared.bound.Bound.{Bound}
 use Rattle.unify_match.specs.Seen.{seen, AreBindings}
 use Rattle.clause_form.specs.Seen.{fact_at, AreFactsIn}
-use Rattle.placements.specs.Placing.{FactMatched, NoFactMatch, CanPlace, CanStand, HoldsFrom, IsFirstFrom, AreLinked}
+use Rattle.spec_placements.specs.Placing.{FactMatched, NoFactMatch, CanPlace, CanStand, HoldsFrom, IsFirstFrom, AreLinked}
 
 -- the facts that facts over ids name
 abbrev pub facts_at : List Term → List (horn.Fact Id) → List (horn.Fact Term)

@@ -1,9 +1,9 @@
 //! What is placed where: the hypotheses of the special clause, and those of the general one, firm and loose.
 
 ghost use Rattle.std.specs.Prelude.{◌≡◌, ◌++◌, [], ◌∷◌, cond, map, IfOk, OnOk};
-ghost use Rattle.clauses.specs.Fact.{is_variable_known as is_variable_known_fact};
-ghost use Rattle.clauses.specs.Subsumption.{firm};
-ghost use Rattle.placements.specs.Placing.{known_variable as known_variable_of, loose_variables};
+ghost use Rattle.spec_clauses.specs.Fact.{is_variable_known as is_variable_known_fact};
+ghost use Rattle.spec_clauses.specs.Subsumption.{firm};
+ghost use Rattle.spec_placements.specs.Placing.{known_variable as known_variable_of, loose_variables};
 ghost use Rattle.clause_form.specs.Facts.{fact_of};
 ghost use Rattle.clause_form.specs.Seen.{fact_at, IsFactIn, AreFactsIn, NameFacts};
 ghost use Rattle.multiset_subsume.specs.Boards.{facts_at};

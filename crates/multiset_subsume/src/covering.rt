@@ -1,11 +1,11 @@
 //! The first row.
 
 ghost use Rattle.std.specs.Prelude.{◌≡◌, ◌<◌, ◌∷◌, ℕ, List, [], length, map, IfOk, MatchOption};
-ghost use Rattle.terms.specs.Binding.{Binding};
-ghost use Rattle.clauses.specs.Norm.{IsNormal};
-ghost use Rattle.clauses.specs.Limits.{IsWithinLimit};
-ghost use Rattle.clauses.specs.Subsumption.{Subsumes, RowHolds, IsFirstRow};
-ghost use Rattle.placements.specs.Placing.{FactMatched, AreLinked};
+ghost use Rattle.spec_terms.specs.Binding.{Binding};
+ghost use Rattle.spec_clauses.specs.Norm.{IsNormal};
+ghost use Rattle.spec_clauses.specs.Limits.{IsWithinLimit};
+ghost use Rattle.spec_clauses.specs.Subsumption.{Subsumes, RowHolds, IsFirstRow};
+ghost use Rattle.spec_placements.specs.Placing.{FactMatched, AreLinked};
 ghost use Rattle.clause_form.specs.Facts.{fact_of};
 ghost use Rattle.clause_form.specs.Seen.{fact_at, clause_at, IsFactIn, AreFactsIn, IsClauseIn};
 ghost use Rattle.multiset_subsume.specs.Boards.{facts_at, IsBoard, IsPlacing, IsAsBefore};

@@ -5,7 +5,7 @@ ghost use Rattle.std.specs.Prelude.{IfOk, MatchOption};
 ghost use Rattle.unify_match.specs.Seen.{seen};
 ghost use Rattle.clause_form.specs.Facts.{fact_of};
 ghost use Rattle.clause_form.specs.Seen.{fact_at, IsFactIn, AreFactsIn};
-ghost use Rattle.placements.specs.Crowds.{room, IsConfined, AreConfined};
+ghost use Rattle.spec_placements.specs.Crowds.{room, IsConfined, AreConfined};
 ghost use Rattle.multiset_subsume.specs.Boards.{facts_at, IsBoard, IsPlacing, IsAsBefore};
 ghost use Rattle.multiset_subsume.specs.Boards.{CannotPut, CanPlaceOn};
 

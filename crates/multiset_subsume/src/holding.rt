@@ -1,11 +1,11 @@
 //! Whether a row holds: no search.
 
 ghost use Rattle.std.specs.Prelude.{◌≡◌, ◌↔◌, ℕ, suc, IsTrue, List, [], map, IfOk, MatchBool};
-ghost use Rattle.terms.specs.Binding.{Binding};
-ghost use Rattle.clauses.specs.Norm.{IsNormal};
-ghost use Rattle.clauses.specs.Limits.{IsWithinLimit};
-ghost use Rattle.clauses.specs.Subsumption.{RowHolds};
-ghost use Rattle.placements.specs.Placing.{FactMatched, AreLinked};
+ghost use Rattle.spec_terms.specs.Binding.{Binding};
+ghost use Rattle.spec_clauses.specs.Norm.{IsNormal};
+ghost use Rattle.spec_clauses.specs.Limits.{IsWithinLimit};
+ghost use Rattle.spec_clauses.specs.Subsumption.{RowHolds};
+ghost use Rattle.spec_placements.specs.Placing.{FactMatched, AreLinked};
 ghost use Rattle.clause_form.specs.Facts.{fact_of};
 ghost use Rattle.clause_form.specs.Seen.{fact_at, clause_at, IsFactIn, AreFactsIn, IsClauseIn};
 ghost use Rattle.multiset_subsume.specs.Boards.{facts_at, IsBoard, IsPlacing, IsPut, CannotPut};

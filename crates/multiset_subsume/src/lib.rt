@@ -26,4 +26,4 @@ mod search;
 pub use crate::covering::cover_row;
 pub use crate::holding::row_holds;
 pub use crate::row::Row;
-pub use derivations::subsumption_keeps_instances;
+pub use spec_derivations::subsumption_keeps_instances;

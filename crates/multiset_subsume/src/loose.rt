@@ -2,16 +2,16 @@
 
 ghost use Rattle.std.specs.Prelude.{◌≡◌, ◌↔◌, ◌<◌, [], ◌∷◌, false, IsTrue, length, map, IfOk};
 ghost use Rattle.std.specs.Prelude.{MatchBool};
-ghost use Rattle.clauses.specs.Fact.{Att};
-ghost use Rattle.clauses.specs.Flat.{flat};
-ghost use Rattle.clauses.specs.Inclusion.{IsWithin};
-ghost use Rattle.terms.specs.Binding.{bound_to};
+ghost use Rattle.spec_clauses.specs.Fact.{Att};
+ghost use Rattle.spec_clauses.specs.Flat.{flat};
+ghost use Rattle.spec_clauses.specs.Inclusion.{IsWithin};
+ghost use Rattle.spec_terms.specs.Binding.{bound_to};
 ghost use Rattle.term_tree.specs.Bank.{tree_at};
 ghost use Rattle.unify_match.specs.Seen.{seen, AreBindings};
 ghost use Rattle.clause_form.specs.Facts.{fact_of};
 ghost use Rattle.clause_form.specs.Seen.{fact_at, IsFactIn, AreFactsIn};
-ghost use Rattle.placements.specs.Takes.{left};
-ghost use Rattle.placements.specs.LooseParts.{flat_of, bound_parts, Removes, HasNoRoom};
+ghost use Rattle.spec_placements.specs.Takes.{left};
+ghost use Rattle.spec_placements.specs.LooseParts.{flat_of, bound_parts, Removes, HasNoRoom};
 ghost use Rattle.multiset_subsume.specs.Boards.{facts_at, IsBoard, IsPlacing};
 
 use crate::board::Board;

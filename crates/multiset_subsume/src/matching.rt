@@ -7,7 +7,7 @@ ghost use Rattle.unify_match.specs.Seen.{seen, AreBindings};
 ghost use Rattle.unify_match.specs.Outcome.{MatchedAll, NoMatchOfAll};
 ghost use Rattle.clause_form.specs.Facts.{fact_of};
 ghost use Rattle.clause_form.specs.Seen.{fact_at, IsFactIn};
-ghost use Rattle.placements.specs.Placing.{FactMatched, NoFactMatch};
+ghost use Rattle.spec_placements.specs.Placing.{FactMatched, NoFactMatch};
 
 use clause_form::Fact;
 use std::alloc::AllocError;

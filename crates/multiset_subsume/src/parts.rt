@@ -2,7 +2,7 @@
 //! of them can't be placed, no more can all, and the others needn't be tried in all ways for that.
 
 ghost use Rattle.std.specs.Prelude.{◌≡◌, ◌<◌, ◌∷◌, ◌++◌, [], false, cond, length, map, IfOk, OnOk, MatchOption};
-ghost use Rattle.clauses.specs.Inclusion.{IsWithin};
+ghost use Rattle.spec_clauses.specs.Inclusion.{IsWithin};
 ghost use Rattle.clause_form.specs.Facts.{fact_of};
 ghost use Rattle.clause_form.specs.Seen.{IsFactIn, AreFactsIn};
 ghost use Rattle.multiset_subsume.specs.Boards.{IsBoard, IsPlacing, IsAsBefore, AreLinkedOn};

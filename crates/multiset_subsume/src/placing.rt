@@ -5,7 +5,7 @@ ghost use Rattle.std.specs.Prelude.{OnErr, MatchBool, MatchOption};
 ghost use Rattle.unify_match.specs.Trail.{Extends};
 ghost use Rattle.clause_form.specs.Facts.{fact_of};
 ghost use Rattle.clause_form.specs.Seen.{fact_at, IsFactIn};
-ghost use Rattle.placements.specs.Placing.{NoFactMatch};
+ghost use Rattle.spec_placements.specs.Placing.{NoFactMatch};
 ghost use Rattle.multiset_subsume.specs.Boards.{IsBoard, IsPlacing, IsAsBefore, IsBegun, IsPut};
 ghost use Rattle.multiset_subsume.specs.Boards.{CannotPut};
 

@@ -2,10 +2,10 @@
 
 ghost use Rattle.std.specs.Prelude.{◌≡◌, ◌↔◌, ◌<◌, ◌≤◌, ℕ, IsTrue, List, [], ◌∷◌, true, false};
 ghost use Rattle.std.specs.Prelude.{length, map};
-ghost use Rattle.trees.specs.Tree.{bind};
-ghost use Rattle.terms.specs.Term.{Subst};
-ghost use Rattle.clauses.specs.Fact.{is_variable_known as is_variable_known_fact};
-ghost use Rattle.clauses.specs.Subsumption.{firm, RowHolds};
+ghost use Rattle.spec_trees.specs.Tree.{bind};
+ghost use Rattle.spec_terms.specs.Term.{Subst};
+ghost use Rattle.spec_clauses.specs.Fact.{is_variable_known as is_variable_known_fact};
+ghost use Rattle.spec_clauses.specs.Subsumption.{firm, RowHolds};
 ghost use Rattle.term_tree.specs.Bank.{tree_at, AreKnown};
 ghost use Rattle.clause_form.specs.Facts.{fact_of};
 ghost use Rattle.clause_form.specs.Seen.{fact_at, clause_at, IsFactIn, AreFactsIn, IsClauseIn};

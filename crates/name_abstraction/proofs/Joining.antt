@@ -1,6 +1,6 @@
 -- Ids of two lists, one behind the other.
 use Rattle.std.proofs.Common.{List, [], ◌∷◌, ◌++◌}
-use Rattle.terms.specs.Term.{Term}
+use Rattle.spec_terms.specs.Term.{Term}
 use Rattle.term_tree.specs.Bank.{AreKnown}
 use Rattle.term_tree.specs.declared.bank.Id.{Id}
 

@@ -3,9 +3,9 @@
 
 ghost use Rattle.std.specs.Prelude.{◌≡◌, map, IfOk, OnErr};
 ghost use Rattle.term_tree.specs.Bank.{tree_at, AreKnown, Names, Grows};
-ghost use Rattle.translation.specs.Conversion.{name_term};
+ghost use Rattle.spec_translation.specs.Conversion.{name_term};
 
-pub use abstraction::{abstraction_is_one_to_one, restrictions_run_once};
+pub use spec_abstraction::{abstraction_is_one_to_one, restrictions_run_once};
 use std::alloc::{AllocError, Global};
 use term_tree::{Bank, Id, Sym};
 

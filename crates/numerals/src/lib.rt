@@ -6,8 +6,8 @@ ghost use Rattle.std.specs.Char.{is_ascii_digit};
 ghost use Rattle.std.specs.List.{list_all};
 ghost use Rattle.std.specs.Str.{all_ascii_digits};
 ghost use Rattle.std.specs.Str.Parse.{digits_value};
-ghost use Rattle.calculus.specs.Bounds.{most_digits};
-ghost use Rattle.run_text.specs.Reading.{is_numeral, numeral};
+ghost use Rattle.spec_calculus.specs.Bounds.{most_digits};
+ghost use Rattle.spec_run_text.specs.Reading.{is_numeral, numeral};
 
 use pi_tree::MOST_DIGITS;
 

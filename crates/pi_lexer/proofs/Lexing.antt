@@ -1,11 +1,11 @@
 -- The lexer's answers, from what it has read.
 use Rattle.std.proofs.Common.{◌≡◌, ℕ, ◌+◌, ◌-◌, ◌<◌, ◌≤◌, List, ◌++◌, length, take, drop, sym, ◌∙◌, ap, subst, arith, length-drop}
 use Rattle.std.proofs.Math.Seq.{take-length}
-use Rattle.protocol_tokens.specs.Token.{Token}
-use Rattle.protocol_tokens.specs.Piece.{Piece, Refusal, Refused, piece, size_of}
-use Rattle.protocol_tokens.specs.Lexed.{LexedTo, Lexed, Stops, token_of}
-use Rattle.protocol_tokens.proofs.Covers.{LexedTo-push}
-use Rattle.protocol_tokens.proofs.Answers.{Stops-one, Lexed-not_Stops}
+use Rattle.spec_protocol_tokens.specs.Token.{Token}
+use Rattle.spec_protocol_tokens.specs.Piece.{Piece, Refusal, Refused, piece, size_of}
+use Rattle.spec_protocol_tokens.specs.Lexed.{LexedTo, Lexed, Stops, token_of}
+use Rattle.spec_protocol_tokens.proofs.Covers.{LexedTo-push}
+use Rattle.spec_protocol_tokens.proofs.Answers.{Stops-one, Lexed-not_Stops}
 
 -- the bytes before `at` are read, and these are their tokens
 pub record IsSoFar (bytes : List ℕ) (at : ℕ) (tokens : List Token) : Type 0 where

@@ -1,8 +1,8 @@
 -- What the lexer may answer.
 use Rattle.std.specs.Prelude.{◌≡◌, ℕ, List, Option, None, IfSome, Result, Ok, Err}
-use Rattle.protocol_tokens.specs.Token as own
-use Rattle.protocol_tokens.specs.Piece.{Refusal}
-use Rattle.protocol_tokens.specs.Lexed.{Stops}
+use Rattle.spec_protocol_tokens.specs.Token as own
+use Rattle.spec_protocol_tokens.specs.Piece.{Refusal}
+use Rattle.spec_protocol_tokens.specs.Lexed.{Stops}
 use Rattle.pi_lexer.specs.declared.error.LexError.{LexError}
 use Rattle.pi_lexer.specs.Error.{refusal_of}
 

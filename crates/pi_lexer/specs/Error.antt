@@ -1,6 +1,6 @@
 -- What an error says.
 use Rattle.std.specs.Prelude.{ℕ, Option, Some, None}
-use Rattle.protocol_tokens.specs.Piece as own
+use Rattle.spec_protocol_tokens.specs.Piece as own
 use Rattle.pi_lexer.specs.declared.error.LexError.{LexError}
 use Rattle.pi_lexer.specs.declared.error.LexError.TheVariants.{BadByte, OpenComment, LongNumber, Memory}
 

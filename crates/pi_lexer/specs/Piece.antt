@@ -1,5 +1,5 @@
 -- What stands at the front of some bytes, as contracts see it.
-use Rattle.protocol_tokens.specs.Piece as own
+use Rattle.spec_protocol_tokens.specs.Piece as own
 use Rattle.pi_lexer.specs.Token.{kind_of}
 use Rattle.pi_lexer.specs.declared.piece.Piece.{Piece}
 use Rattle.pi_lexer.specs.declared.piece.Piece.TheVariants.{Blank, Comment, Lexeme, BadByte, OpenComment, LongNumber}

@@ -1,5 +1,5 @@
 -- Tokens as contracts see them.
-use Rattle.protocol_tokens.specs.Token as own
+use Rattle.spec_protocol_tokens.specs.Token as own
 use Rattle.pi_lexer.specs.declared.token.Token.{Token}
 use Rattle.pi_lexer.specs.declared.token.TokenKind.{TokenKind}
 use Rattle.pi_lexer.specs.declared.token.TokenKind.TheVariants.{Ident, Reserved, Number, Symbol}

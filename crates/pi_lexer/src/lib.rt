@@ -4,9 +4,9 @@
 #![tactic(auto)]
 
 ghost use Rattle.std.specs.Prelude.{ℕ, List, IfOk, IfErr};
-ghost use Rattle.protocol_tokens.specs.Token as own;
-ghost use Rattle.protocol_tokens.specs.Piece.{Refusal};
-ghost use Rattle.protocol_tokens.specs.Lexed.{Lexed, Stops};
+ghost use Rattle.spec_protocol_tokens.specs.Token as own;
+ghost use Rattle.spec_protocol_tokens.specs.Piece.{Refusal};
+ghost use Rattle.spec_protocol_tokens.specs.Lexed.{Lexed, Stops};
 ghost use Rattle.pi_lexer.specs.Answer.{IsRefusalOf, GivesTokens, GivesRefusal};
 
 use std::alloc::Global;

@@ -2,9 +2,9 @@
 
 ghost use Rattle.std.specs.Prelude.{◌≡◌, ◌<◌, ◌≤◌, length, drop};
 ghost use Rattle.std.specs.List.{prefix_len};
-ghost use Rattle.protocol_tokens.specs.Bytes.{is_in_word};
-ghost use Rattle.protocol_tokens.specs.Piece.{piece, piece_from, word_of, word_kind, number_of, comment_of, symbol_of, closed_after};
-ghost use Rattle.protocol_tokens.specs.Laws.{FitsIn};
+ghost use Rattle.spec_protocol_tokens.specs.Bytes.{is_in_word};
+ghost use Rattle.spec_protocol_tokens.specs.Piece.{piece, piece_from, word_of, word_kind, number_of, comment_of, symbol_of, closed_after};
+ghost use Rattle.spec_protocol_tokens.specs.Laws.{FitsIn};
 ghost use Rattle.pi_lexer.specs.Token.{kind_of};
 ghost use Rattle.pi_lexer.specs.Piece.{piece_of};
 

@@ -2,7 +2,7 @@
 
 ghost use Rattle.std.specs.Prelude.{◌≡◌};
 ghost use Rattle.std.specs.Str.{bytes_eq};
-ghost use Rattle.protocol_tokens.specs.Bytes.{is_reserved};
+ghost use Rattle.spec_protocol_tokens.specs.Bytes.{is_reserved};
 
 fn is(word: &[u8], reserved: &[u8]) -> bool
     ensures { result ≡ bytes_eq word.now reserved.now }

@@ -3,8 +3,8 @@
 ghost use Rattle.std.specs.Prelude.{◌≡◌, ◌≤◌, length, IfSome};
 ghost use Rattle.std.specs.List.{prefix_len};
 ghost use Rattle.std.specs.Char.{is_ascii_digit};
-ghost use Rattle.protocol_tokens.specs.Bytes.{is_blank, begins_word, is_in_word, symbols};
-ghost use Rattle.protocol_tokens.specs.Piece.{closed_after, longest_front};
+ghost use Rattle.spec_protocol_tokens.specs.Bytes.{is_blank, begins_word, is_in_word, symbols};
+ghost use Rattle.spec_protocol_tokens.specs.Piece.{closed_after, longest_front};
 
 /// Whether the byte is white space: a space, a tab, a carriage return or a line feed.
 pub fn is_blank(byte: u8) -> bool
@@ -45,7 +45,7 @@ pub fn digits_len(bytes: &[u8]) -> usize
 }
 
 /// How many bytes there are up to and with the first `*)`, if there is one.
-#[tactic(auto, using(protocol_tokens::proofs::Closing::option_map_zero, protocol_tokens::proofs::Closing::closed_after_more, protocol_tokens::proofs::Closing::closed_after_here))]
+#[tactic(auto, using(spec_protocol_tokens::proofs::Closing::option_map_zero, spec_protocol_tokens::proofs::Closing::closed_after_more, spec_protocol_tokens::proofs::Closing::closed_after_here))]
 pub fn closed_after(bytes: &[u8]) -> Option<usize>
     ensures found { result ≡ closed_after bytes.now }
     ensures within { IfSome result (λ n. n ≤ length bytes.now) }

@@ -35,7 +35,7 @@ pub struct Tokens {
 
 impl Model for Tokens {
     ghost use Rattle.std.specs.Prelude.{List, map};
-    ghost use Rattle.protocol_tokens.specs.Token as own;
+    ghost use Rattle.spec_protocol_tokens.specs.Token as own;
 
     ghost Value = { List own.Token };
 

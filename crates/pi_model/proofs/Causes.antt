@@ -2,16 +2,16 @@
 use Rattle.std.proofs.Common.{◌≡◌, ◌≢◌, ℕ, zero, suc, ◌-◌, ◌≤◌, ◌<◌, Bool, true, false, not, ◌&&◌, ◌||◌, nat_eq, cond, List, [], ◌∷◌, length, get_or, map, Option, None, Some, is_some, is_none, option_and_then, option_map, option_to_list, refl, sym, ap, ◌∙◌}
 use Rattle.std.specs.List.{list_any}
 use Rattle.std.specs.Option.{option_map_or}
-use Rattle.trees.specs.Tree.{Leaf, Node, trees, items_of}
-use Rattle.trees.proofs.Rows.{items_of-trees}
-use Rattle.calculus.specs.Syntax.{Constructor, Declared, Rule, Protocol}
-use Rattle.calculus.specs.Points.{numbered}
-use Rattle.calculus.specs.Values.{AttackerName, Value}
-use Rattle.calculus.specs.Matching.{rule_value, rules_of}
-use Rattle.calculus.specs.Runs.{Configuration, Build, Reduce, Part, Fresh, learns, names, known_values, can_build, built, part_of}
-use Rattle.calculus.specs.Refusals as cause
-use Rattle.calculus.specs.Refusals.{Refusal, first_cause, where_true, takes, is_public_constructor, first_arity, reduces, refusal}
-use Rattle.calculus.specs.Limits.{is_large, evaluated}
+use Rattle.spec_trees.specs.Tree.{Leaf, Node, trees, items_of}
+use Rattle.spec_trees.proofs.Rows.{items_of-trees}
+use Rattle.spec_calculus.specs.Syntax.{Constructor, Declared, Rule, Protocol}
+use Rattle.spec_calculus.specs.Points.{numbered}
+use Rattle.spec_calculus.specs.Values.{AttackerName, Value}
+use Rattle.spec_calculus.specs.Matching.{rule_value, rules_of}
+use Rattle.spec_calculus.specs.Runs.{Configuration, Build, Reduce, Part, Fresh, learns, names, known_values, can_build, built, part_of}
+use Rattle.spec_calculus.specs.Refusals as cause
+use Rattle.spec_calculus.specs.Refusals.{Refusal, first_cause, where_true, takes, is_public_constructor, first_arity, reduces, refusal}
+use Rattle.spec_calculus.specs.Limits.{is_large, evaluated}
 use Rattle.pi_tree.specs.declared.value_trees.Value as source
 use Rattle.pi_tree.specs.Values as seen
 use Rattle.term_values.specs.ByRules.{by_rule}

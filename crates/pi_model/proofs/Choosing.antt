@@ -1,7 +1,7 @@
 -- The event that the fewest performed ones fit, as events are gone through.
 use Rattle.std.proofs.Common.{◌≡◌, ℕ, zero, ◌+◌, ◌<◌, ◌≤◌, true, false, List, length, get_or, map, Option, None, Some, ap, arith}
 use Rattle.std.specs.Option.{option_map_or}
-use Rattle.calculus.specs.Syntax.{EventTerm}
+use Rattle.spec_calculus.specs.Syntax.{EventTerm}
 use Rattle.pi_tree.specs.declared.syntax.Atom.{Atom}
 use Rattle.pi_tree.specs.Events.{event_of}
 use Rattle.pi_model.specs.Alternatives.{is_found, weight_at, IsLeast, IsFewest}

@@ -2,18 +2,18 @@
 use Rattle.std.proofs.Common.{◌≡◌, ℕ, zero, suc, Bool, true, false, not, ◌&&◌, ◌||◌, nat_eq, cond, List, [], ◌∷◌, ◌++◌, length, take, slice_get, Option, Some, is_some, unwrap_or, IsTrue, Contains, ◌↔◌, inl, inr, refl, sym, ap, ◌∙◌, subst, append_assoc}
 use Rattle.std.proofs.lemmas.Bool.{eq-eqb, eqb-true, or_left, or_right}
 use Rattle.std.specs.List.{AllByRecursion, list_any}
-use Rattle.trees.specs.Tree.{Trees, Leaf, Node, binds, trees, some_leaves}
-use Rattle.trees.proofs.Occurrence.{or_true}
-use Rattle.trees.proofs.Rows.{trees-injective, binds-trees}
-use Rattle.trees.proofs.Substitution.{binds-agree}
-use Rattle.calculus.specs.Syntax.{Name, Free, Made, Variable, Symbol, Term, EventTerm, Query, Secret, SecretNew, Correspondence}
-use Rattle.calculus.specs.Values.{FreeName, MadeName, AttackerName, Value, Environment, same_name, same_value, same_values, bound_to, value_of_bound, value_of_name, value_of, values_of}
-use Rattle.calculus.specs.Matching.{places_row}
-use Rattle.calculus.specs.Runs.{Performed, Configuration}
-use Rattle.calculus.specs.Secrecy.{instance, AllPerformed, IsUnpreceded, IsViolated}
-use Rattle.calculus.proofs.Items.{each-append}
-use Rattle.calculus.proofs.Equality.{same_value-sound, same_value-refl}
-use Rattle.calculus.proofs.Rules.{same_values-sound, same_values-refl, places_row_follow, places_row_bind, bound_right, bound_value, no_other, not_false, Follows}
+use Rattle.spec_trees.specs.Tree.{Trees, Leaf, Node, binds, trees, some_leaves}
+use Rattle.spec_trees.proofs.Occurrence.{or_true}
+use Rattle.spec_trees.proofs.Rows.{trees-injective, binds-trees}
+use Rattle.spec_trees.proofs.Substitution.{binds-agree}
+use Rattle.spec_calculus.specs.Syntax.{Name, Free, Made, Variable, Symbol, Term, EventTerm, Query, Secret, SecretNew, Correspondence}
+use Rattle.spec_calculus.specs.Values.{FreeName, MadeName, AttackerName, Value, Environment, same_name, same_value, same_values, bound_to, value_of_bound, value_of_name, value_of, values_of}
+use Rattle.spec_calculus.specs.Matching.{places_row}
+use Rattle.spec_calculus.specs.Runs.{Performed, Configuration}
+use Rattle.spec_calculus.specs.Secrecy.{instance, AllPerformed, IsUnpreceded, IsViolated}
+use Rattle.spec_calculus.proofs.Items.{each-append}
+use Rattle.spec_calculus.proofs.Equality.{same_value-sound, same_value-refl}
+use Rattle.spec_calculus.proofs.Rules.{same_values-sound, same_values-refl, places_row_follow, places_row_bind, bound_right, bound_value, no_other, not_false, Follows}
 use Rattle.pi_model.proofs.Members.{any-contains, any-of}
 use Rattle.pi_model.specs.Correspondences.{bound_by, fits, all_found, unpreceded, is_made_at, some_unpreceded, is_violated}
 

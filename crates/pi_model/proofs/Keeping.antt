@@ -1,14 +1,14 @@
 -- Each step leads from a configuration of the protocol to one.
 use Rattle.std.proofs.Common.{◌≡◌, ℕ, ◌+◌, ◌≤◌, List, [], ◌∷◌, ◌++◌, length, Option, Some, None, IfSome, option_and_then, option_map, is_some, arith, length-append}
 use Rattle.std.specs.List.{AllByRecursion, list_any}
-use Rattle.calculus.specs.Syntax.{Process, Output, Input, Parallel, Replication, New, Let, Event, Protocol}
-use Rattle.calculus.specs.Points.{numbered, nodes, point_after}
-use Rattle.calculus.specs.Values.{Value, Environment, same_value, value_of}
-use Rattle.calculus.specs.Matching.{matched, rule_value, rules_of, value_at, values_at}
-use Rattle.calculus.specs.Runs.{Thread, At, Ended, Configuration, Step, Build, Reduce, Part, Fresh, Split, Copy, Make, Pass, Hear, Say, Take, Fail, Mark, acts, acting, knows, learns, goes_on, known_values, can_build, built, part_of, received, after_split, after_copy, after_make, after_receipt, after_pass, after_hear, after_say, after_take, after_fail, after_mark, after_step}
-use Rattle.calculus.specs.Standing.{names_made}
-use Rattle.calculus.proofs.Items.{each-append, each-replaced, if_some-is, if_some-cond, if_some-choice, if_some-then, if_some-map}
-use Rattle.calculus.proofs.Growth.{numbers_are_taken}
+use Rattle.spec_calculus.specs.Syntax.{Process, Output, Input, Parallel, Replication, New, Let, Event, Protocol}
+use Rattle.spec_calculus.specs.Points.{numbered, nodes, point_after}
+use Rattle.spec_calculus.specs.Values.{Value, Environment, same_value, value_of}
+use Rattle.spec_calculus.specs.Matching.{matched, rule_value, rules_of, value_at, values_at}
+use Rattle.spec_calculus.specs.Runs.{Thread, At, Ended, Configuration, Step, Build, Reduce, Part, Fresh, Split, Copy, Make, Pass, Hear, Say, Take, Fail, Mark, acts, acting, knows, learns, goes_on, known_values, can_build, built, part_of, received, after_split, after_copy, after_make, after_receipt, after_pass, after_hear, after_say, after_take, after_fail, after_mark, after_step}
+use Rattle.spec_calculus.specs.Standing.{names_made}
+use Rattle.spec_calculus.proofs.Items.{each-append, each-replaced, if_some-is, if_some-cond, if_some-choice, if_some-then, if_some-map}
+use Rattle.spec_calculus.proofs.Growth.{numbers_are_taken}
 use Rattle.pi_model.specs.declared.configurations.Conf.{Conf}
 use Rattle.pi_model.specs.Configurations.{IsPointOf, IsConfigurationOf, configuration_of}
 use Rattle.pi_model.proofs.Points.{nodes-some, point-within}

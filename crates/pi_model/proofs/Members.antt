@@ -1,9 +1,9 @@
 -- Items that pass a test.
 use Rattle.std.proofs.Common.{◌≡◌, zero, suc, Bool, true, false, ◌||◌, List, [], ◌∷◌, Contains, inl, inr, refl, ap, ◌∙◌, arith}
 use Rattle.std.specs.List.{list_any}
-use Rattle.trees.proofs.Occurrence.{or_true}
-use Rattle.calculus.specs.Values.{Value, same_value}
-use Rattle.calculus.specs.Runs.{Configuration, knows}
+use Rattle.spec_trees.proofs.Occurrence.{or_true}
+use Rattle.spec_calculus.specs.Values.{Value, same_value}
+use Rattle.spec_calculus.specs.Runs.{Configuration, knows}
 
 -- some item passes a test
 pub any-contains : {A : Type 0} (test : A → Bool) (xs : List A) → list_any test xs ≡ true → (x : A) × Contains xs x × (test x ≡ true)

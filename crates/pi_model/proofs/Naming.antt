@@ -1,11 +1,11 @@
 -- Names that different steps make differ: a later one has a greater number.
 use Rattle.std.proofs.Common.{◌≡◌, ◌<◌, ◌≤◌, List, Some, IfSome, arith}
-use Rattle.calculus.specs.Syntax.{Protocol}
-use Rattle.calculus.specs.Runs.{Configuration, Step, after_step, after_steps}
-use Rattle.calculus.specs.Standing.{names_made}
-use Rattle.calculus.proofs.Items.{if_some-is, if_some-of}
-use Rattle.calculus.proofs.Steps.{steps_keep}
-use Rattle.calculus.proofs.Growth.{numbers_are_taken}
+use Rattle.spec_calculus.specs.Syntax.{Protocol}
+use Rattle.spec_calculus.specs.Runs.{Configuration, Step, after_step, after_steps}
+use Rattle.spec_calculus.specs.Standing.{names_made}
+use Rattle.spec_calculus.proofs.Items.{if_some-is, if_some-of}
+use Rattle.spec_calculus.proofs.Steps.{steps_keep}
+use Rattle.spec_calculus.proofs.Growth.{numbers_are_taken}
 
 numbers_grow : (P : Protocol) (c d : Configuration) (steps : List Step) → after_steps P c steps ≡ Some d → c.next ≤ d.next
 numbers_grow P c d steps h = if_some-is (λ e. c.next ≤ e.next) (after_steps P c steps) d (steps_keep P (λ e. c.next ≤ e.next) kept steps c (omega arith)) h

@@ -2,18 +2,18 @@
 use Rattle.std.proofs.Common.{◌≡◌, ℕ, ◌+◌, Bool, true, false, not, ◌||◌, cond, List, [], ◌∷◌, Option, None, Some, is_none, refl, sym, ap, subst, ◌∙◌}
 use Rattle.std.specs.List.{list_any}
 use Rattle.std.specs.Option.{option_map_or}
-use Rattle.calculus.specs.Syntax.{Term, Pattern, Process, Output, Input, Protocol}
-use Rattle.calculus.specs.Values.{Value, Environment, same_value, value_of, values_of}
-use Rattle.calculus.specs.Matching.{matched}
-use Rattle.calculus.specs.Runs.{At, Ended, Configuration, Pass, acting, goes_on, received, after_receipt, after_pass}
-use Rattle.calculus.specs.Refusals as cause
-use Rattle.calculus.specs.Refusals.{Refusal, Cause, first_cause, where_true, at_output, at_input, no_thread, refusal}
-use Rattle.calculus.specs.Limits.{is_large, terms_at, listed, written, evaluated}
+use Rattle.spec_calculus.specs.Syntax.{Term, Pattern, Process, Output, Input, Protocol}
+use Rattle.spec_calculus.specs.Values.{Value, Environment, same_value, value_of, values_of}
+use Rattle.spec_calculus.specs.Matching.{matched}
+use Rattle.spec_calculus.specs.Runs.{At, Ended, Configuration, Pass, acting, goes_on, received, after_receipt, after_pass}
+use Rattle.spec_calculus.specs.Refusals as cause
+use Rattle.spec_calculus.specs.Refusals.{Refusal, Cause, first_cause, where_true, at_output, at_input, no_thread, refusal}
+use Rattle.spec_calculus.specs.Limits.{is_large, terms_at, listed, written, evaluated}
 use Rattle.pi_model.specs.declared.errors.StepError.{StepError}
 use Rattle.pi_model.specs.declared.errors.StepError.TheVariants.{NoThread, WrongForm, UnknownChannel, ChannelsDiffer, NoKnowledge, NoRule, NotFailing, NotPublic, Large}
 use Rattle.pi_model.specs.Moves.{advanced}
 use Rattle.pi_model.specs.Plans.{IsPossible, IsRefused, Stands, StandsNowhere}
-use Rattle.calculus.proofs.Equality.{same_value-sound, same_value-refl}
+use Rattle.spec_calculus.proofs.Equality.{same_value-sound, same_value-refl}
 use Rattle.term_values.proofs.Room.{any-append}
 use Rattle.pi_model.proofs.ThreadSteps.{acting_stands, acting_thread, listed_stands, advanced_stands, possible, refused, large}
 

@@ -1,14 +1,14 @@
 -- The events of an alternative may be looked for in any order.
 use Rattle.std.proofs.Common.{◌≡◌, Bool, true, false, cond, ◌&&◌, nat_eq, List, [], ◌∷◌, ◌++◌, Some, is_some, Contains, refl, sym, ap, ◌∙◌, subst, append_assoc}
 use Rattle.std.specs.List.{AllByRecursion, list_any}
-use Rattle.trees.specs.Tree.{trees}
-use Rattle.calculus.specs.Syntax.{Name, Free, Made, Variable, EventTerm}
-use Rattle.calculus.specs.Values.{Value, Binding, Environment, same_values, bound_to, value_of_name, values_of}
-use Rattle.calculus.specs.Matching.{places_row}
-use Rattle.calculus.specs.Runs.{Performed}
-use Rattle.calculus.specs.Secrecy.{instance}
-use Rattle.calculus.proofs.Items.{each-weaker}
-use Rattle.calculus.proofs.Rules.{same_values-sound, same_name-refl, bound_right}
+use Rattle.spec_trees.specs.Tree.{trees}
+use Rattle.spec_calculus.specs.Syntax.{Name, Free, Made, Variable, EventTerm}
+use Rattle.spec_calculus.specs.Values.{Value, Binding, Environment, same_values, bound_to, value_of_name, values_of}
+use Rattle.spec_calculus.specs.Matching.{places_row}
+use Rattle.spec_calculus.specs.Runs.{Performed}
+use Rattle.spec_calculus.specs.Secrecy.{instance}
+use Rattle.spec_calculus.proofs.Items.{each-weaker}
+use Rattle.spec_calculus.proofs.Rules.{same_values-sound, same_name-refl, bound_right}
 use Rattle.pi_model.proofs.Members.{any-contains, any-of}
 use Rattle.pi_model.proofs.Deciding.{Within, and_true, both_true, within-places, fits-instance, fits-stays, value-stays, found-sound, found-complete}
 use Rattle.pi_model.specs.Correspondences.{bound_by, fits, all_found, IsConsistent}

@@ -1,10 +1,10 @@
 -- Points of threads, and of what comes after them.
 use Rattle.std.proofs.Common.{◌≡◌, ℕ, zero, suc, ◌+◌, ◌≤◌, ◌⊎◌, inl, inr, List, [], ◌∷◌, ◌++◌, length, slice_get, Some, IfSome, sym, ap, subst, arith, length-append}
 use Rattle.std.specs.List.{AllByRecursion}
-use Rattle.calculus.specs.Syntax.{Process, Nil, Output, Input, Parallel, Replication, New, Let, Event, Protocol}
-use Rattle.calculus.specs.Points.{numbered, nodes}
-use Rattle.calculus.specs.Runs.{Thread, Configuration, start}
-use Rattle.calculus.proofs.Items.{each-slice_get, if_some-is}
+use Rattle.spec_calculus.specs.Syntax.{Process, Nil, Output, Input, Parallel, Replication, New, Let, Event, Protocol}
+use Rattle.spec_calculus.specs.Points.{numbered, nodes}
+use Rattle.spec_calculus.specs.Runs.{Thread, Configuration, start}
+use Rattle.spec_calculus.proofs.Items.{each-slice_get, if_some-is}
 use Rattle.pi_model.specs.declared.configurations.Conf.{Conf}
 use Rattle.pi_model.specs.Configurations.{configuration_of, IsPointOf, IsConfigurationOf}
 

@@ -2,9 +2,9 @@
 use Rattle.std.proofs.Common.{◌≡◌, ℕ, zero, suc, ◌+◌, ◌<◌, Bool, true, false, cond, ◌&&◌, ◌||◌, nat_eq, List, [], ◌∷◌, ◌++◌, length, get_or, slice_get, map, Some, refl, sym, ap, ◌∙◌, subst, arith}
 use Rattle.std.proofs.lemmas.Bool.{eq-eqb, ne_eqb}
 use Rattle.std.specs.List.{list_any}
-use Rattle.calculus.specs.Syntax.{EventTerm}
-use Rattle.calculus.specs.Values.{Environment}
-use Rattle.calculus.specs.Runs.{Performed}
+use Rattle.spec_calculus.specs.Syntax.{EventTerm}
+use Rattle.spec_calculus.specs.Values.{Environment}
+use Rattle.spec_calculus.specs.Runs.{Performed}
 use Rattle.pi_tree.specs.declared.syntax.Atom.{Atom}
 use Rattle.pi_tree.specs.Events.{event_of}
 use Rattle.pi_model.specs.Alternatives.{is_found, missing_from, missing_of}

@@ -1,7 +1,7 @@
 -- Threads by their number.
 use Rattle.std.proofs.Common.{◌≡◌, ◌≢◌, ℕ, zero, suc, ◌-◌, ◌≤◌, ◌<◌, List, [], ◌∷◌, length, get_or, map, slice_set, refl, sym, ap, ◌∙◌, arith}
 use Rattle.std.specs.Option.{option_map_or}
-use Rattle.calculus.specs.Points.{replaced}
+use Rattle.spec_calculus.specs.Points.{replaced}
 use Rattle.term_values.proofs.Items.{numbered-none, numbered-read}
 use Rattle.pi_model.specs.declared.threads.Thread.{Thread}
 use Rattle.pi_model.specs.Threads.{thread_of}

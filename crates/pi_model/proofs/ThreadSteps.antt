@@ -2,15 +2,15 @@
 use Rattle.std.proofs.Common.{subst, ◌≡◌, ℕ, zero, suc, ◌+◌, Bool, true, false, not, ◌||◌, cond, List, [], ◌∷◌, ◌++◌, Option, None, Some, is_some, is_none, option_and_then, option_map, unwrap_or, option_to_list, slice_get, slice_set, refl, sym, ap, ◌∙◌}
 use Rattle.std.specs.List.{list_any}
 use Rattle.std.specs.Option.{option_map_or, option_or}
-use Rattle.trees.specs.Tree.{Leaf}
-use Rattle.calculus.specs.Syntax.{Made, Term, Pattern, Expression, EventTerm, Process, Output, Input, Parallel, Replication, New, Let, Event, Protocol}
-use Rattle.calculus.specs.Points.{numbered, replaced, point_after}
-use Rattle.calculus.specs.Values.{MadeName, Value, Environment, value_of, values_of}
-use Rattle.calculus.specs.Matching.{matched, value_at, values_at}
-use Rattle.calculus.specs.Runs.{Thread, At, Ended, Configuration, Step, Split, Copy, Make, Hear, Say, Take, Fail, Mark, acts, acting, learns, goes_on, begins, names, performs, knows, received, after_split, after_copy, after_make, after_hear, after_say, after_take, after_fail, after_mark, after_step}
-use Rattle.calculus.specs.Refusals as cause
-use Rattle.calculus.specs.Refusals.{Refusal, Cause, first_cause, where_true, takes, is_public_constructor, first_arity, reduces, at_split, at_copy, at_make, at_output, at_input, at_take, at_fail, at_mark, no_thread, refusal}
-use Rattle.calculus.specs.Limits.{is_large, terms_at, listed, written, tried, all_tried, evaluated}
+use Rattle.spec_trees.specs.Tree.{Leaf}
+use Rattle.spec_calculus.specs.Syntax.{Made, Term, Pattern, Expression, EventTerm, Process, Output, Input, Parallel, Replication, New, Let, Event, Protocol}
+use Rattle.spec_calculus.specs.Points.{numbered, replaced, point_after}
+use Rattle.spec_calculus.specs.Values.{MadeName, Value, Environment, value_of, values_of}
+use Rattle.spec_calculus.specs.Matching.{matched, value_at, values_at}
+use Rattle.spec_calculus.specs.Runs.{Thread, At, Ended, Configuration, Step, Split, Copy, Make, Hear, Say, Take, Fail, Mark, acts, acting, learns, goes_on, begins, names, performs, knows, received, after_split, after_copy, after_make, after_hear, after_say, after_take, after_fail, after_mark, after_step}
+use Rattle.spec_calculus.specs.Refusals as cause
+use Rattle.spec_calculus.specs.Refusals.{Refusal, Cause, first_cause, where_true, takes, is_public_constructor, first_arity, reduces, at_split, at_copy, at_make, at_output, at_input, at_take, at_fail, at_mark, no_thread, refusal}
+use Rattle.spec_calculus.specs.Limits.{is_large, terms_at, listed, written, tried, all_tried, evaluated}
 use Rattle.pi_model.specs.declared.errors.StepError.{StepError}
 use Rattle.pi_model.specs.declared.errors.StepError.TheVariants.{NoThread, WrongForm, UnknownChannel, ChannelsDiffer, NoKnowledge, NoRule, NotFailing, NotPublic, Large}
 use Rattle.pi_model.specs.Errors.{refusal_of}

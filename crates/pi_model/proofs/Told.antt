@@ -2,12 +2,12 @@
 use Rattle.std.proofs.Common.{◌≡◌, ◌≢◌, Bool, true, false, cond, [], ◌∷◌, Option, None, Some, IsNone, IsSome, ◌↔◌, refl}
 use Rattle.std.specs.List.{list_any}
 use Rattle.std.specs.Option.{option_or}
-use Rattle.calculus.specs.Syntax.{Protocol}
-use Rattle.calculus.specs.Runs.{Configuration, Step, Build, Reduce, Part, Fresh, Split, Copy, Make, Pass, Hear, Say, Take, Fail, Mark, after_step}
-use Rattle.calculus.specs.Refusals as cause
-use Rattle.calculus.specs.Refusals.{Refusal, first_cause, where_true, refusal, IsUniform}
-use Rattle.calculus.specs.Limits.{is_large, evaluated, limited_refusal}
-use Rattle.calculus.proofs.Refusals.{refusals_are_exact}
+use Rattle.spec_calculus.specs.Syntax.{Protocol}
+use Rattle.spec_calculus.specs.Runs.{Configuration, Step, Build, Reduce, Part, Fresh, Split, Copy, Make, Pass, Hear, Say, Take, Fail, Mark, after_step}
+use Rattle.spec_calculus.specs.Refusals as cause
+use Rattle.spec_calculus.specs.Refusals.{Refusal, first_cause, where_true, refusal, IsUniform}
+use Rattle.spec_calculus.specs.Limits.{is_large, evaluated, limited_refusal}
+use Rattle.spec_calculus.proofs.Refusals.{refusals_are_exact}
 use Rattle.pi_model.specs.declared.errors.StepError.TheVariants.{NoThread, WrongForm, UnknownChannel, ChannelsDiffer, NoKnowledge, NoRule, NotFailing, NotPublic, Large}
 use Rattle.pi_model.specs.declared.errors.ApplyError.{ApplyError}
 use Rattle.pi_model.specs.declared.errors.ApplyError.TheVariants.{Refused, Memory}

@@ -2,9 +2,9 @@
 use Rattle.std.specs.Prelude.{◌≡◌, ℕ, zero, suc, ◌<◌, ◌≤◌, Bool, true, false, cond, nat_eq, List, [], ◌∷◌, slice_get, Option, None, Some}
 use Rattle.std.specs.Option.{option_map_or}
 use Rattle.std.specs.List.{list_any, count_by}
-use Rattle.calculus.specs.Syntax.{EventTerm}
-use Rattle.calculus.specs.Values.{Environment}
-use Rattle.calculus.specs.Runs.{Performed}
+use Rattle.spec_calculus.specs.Syntax.{EventTerm}
+use Rattle.spec_calculus.specs.Values.{Environment}
+use Rattle.spec_calculus.specs.Runs.{Performed}
 use Rattle.pi_model.specs.Correspondences.{fits}
 use Rattle.pi_model.specs.declared.alternatives.Found.{Found, Nothing, And'}
 

@@ -1,9 +1,9 @@
 -- What the application of a step may answer.
 use Rattle.std.specs.Prelude.{◌≡◌, true, None, Some, IsSome}
 use Rattle.std.specs.List.{list_any}
-use Rattle.calculus.specs.Syntax.{Protocol}
-use Rattle.calculus.specs.Runs.{Configuration, Step, after_step}
-use Rattle.calculus.specs.Limits.{is_large, evaluated, limited_refusal}
+use Rattle.spec_calculus.specs.Syntax.{Protocol}
+use Rattle.spec_calculus.specs.Runs.{Configuration, Step, after_step}
+use Rattle.spec_calculus.specs.Limits.{is_large, evaluated, limited_refusal}
 use Rattle.pi_model.specs.declared.errors.StepError.TheVariants.{NoThread, WrongForm, UnknownChannel, ChannelsDiffer, NoKnowledge, NoRule, NotFailing, NotPublic, Large}
 use Rattle.pi_model.specs.declared.errors.ApplyError.{ApplyError}
 use Rattle.pi_model.specs.declared.errors.ApplyError.TheVariants.{Refused, Memory}

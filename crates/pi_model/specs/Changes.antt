@@ -1,7 +1,7 @@
 -- What a change makes of a configuration.
-use Rattle.trees.specs.Tree.{Leaf}
-use Rattle.calculus.specs.Values.{AttackerName}
-use Rattle.calculus.specs.Runs.{Configuration, learns, goes_on, begins, names, performs}
+use Rattle.spec_trees.specs.Tree.{Leaf}
+use Rattle.spec_calculus.specs.Values.{AttackerName}
+use Rattle.spec_calculus.specs.Runs.{Configuration, learns, goes_on, begins, names, performs}
 use Rattle.pi_tree.specs.Values.{value_of}
 use Rattle.pi_model.specs.declared.changes.Change.{Change}
 use Rattle.pi_model.specs.declared.changes.Change.TheVariants.{Learn, Name, Split, Begin, Make, Pass, Hear, Replace, Advance, Mark}

@@ -1,9 +1,9 @@
 -- What contracts see of a configuration.
 use Rattle.std.specs.Prelude.{◌<◌, ◌≤◌, length}
 use Rattle.std.specs.List.{AllByRecursion}
-use Rattle.calculus.specs.Syntax.{Protocol}
-use Rattle.calculus.specs.Points.{nodes}
-use Rattle.calculus.specs.Runs as calculus
+use Rattle.spec_calculus.specs.Syntax.{Protocol}
+use Rattle.spec_calculus.specs.Points.{nodes}
+use Rattle.spec_calculus.specs.Runs as calculus
 use Rattle.pi_model.specs.declared.configurations.Conf.{Conf}
 
 abbrev pub configuration_of : Conf → calculus.Configuration

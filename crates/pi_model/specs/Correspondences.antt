@@ -1,11 +1,11 @@
 -- A decision of queries: the events of an alternative are looked for one after another.
 use Rattle.std.specs.Prelude.{◌≡◌, ℕ, Bool, true, false, not, ◌&&◌, ◌||◌, nat_eq, List, [], ◌∷◌, ◌++◌}
 use Rattle.std.specs.List.{AllByRecursion, list_any}
-use Rattle.trees.specs.Tree.{Leaf, Node, trees}
-use Rattle.calculus.specs.Syntax.{EventTerm, Query, Secret, SecretNew, Correspondence}
-use Rattle.calculus.specs.Values.{FreeName, MadeName, AttackerName, Value, Environment, same_values, value_of_name, value_of, values_of}
-use Rattle.calculus.specs.Matching.{places_row}
-use Rattle.calculus.specs.Runs.{Performed, Configuration, knows}
+use Rattle.spec_trees.specs.Tree.{Leaf, Node, trees}
+use Rattle.spec_calculus.specs.Syntax.{EventTerm, Query, Secret, SecretNew, Correspondence}
+use Rattle.spec_calculus.specs.Values.{FreeName, MadeName, AttackerName, Value, Environment, same_values, value_of_name, value_of, values_of}
+use Rattle.spec_calculus.specs.Matching.{places_row}
+use Rattle.spec_calculus.specs.Runs.{Performed, Configuration, knows}
 
 -- what stands at the places of the event's arguments is bound after all that is bound already
 abbrev pub bound_by : Environment → EventTerm → Performed → Environment

@@ -1,5 +1,5 @@
 -- What contracts see of a refusal of a step.
-use Rattle.calculus.specs.Refusals as calculus
+use Rattle.spec_calculus.specs.Refusals as calculus
 use Rattle.pi_model.specs.declared.errors.StepError.{StepError}
 use Rattle.pi_model.specs.declared.errors.StepError.TheVariants.{NoThread, WrongForm, UnknownChannel, ChannelsDiffer, NoKnowledge, NoRule, NotFailing, NotPublic, Large}
 

@@ -1,5 +1,5 @@
 -- What contracts see of an event that was performed.
-use Rattle.calculus.specs.Runs as calculus
+use Rattle.spec_calculus.specs.Runs as calculus
 use Rattle.pi_model.specs.declared.happenings.Happened.{Happened}
 
 abbrev pub performed_of : Happened → calculus.Performed

@@ -1,8 +1,8 @@
 -- Threads that go to another point with what they have bound.
 use Rattle.std.specs.Prelude.{ℕ, List}
 use Rattle.std.specs.Option.{option_map_or}
-use Rattle.calculus.specs.Points.{numbered, replaced}
-use Rattle.calculus.specs.Runs.{Thread, At, Ended, Configuration}
+use Rattle.spec_calculus.specs.Points.{numbered, replaced}
+use Rattle.spec_calculus.specs.Runs.{Thread, At, Ended, Configuration}
 
 abbrev pub moved_to : ℕ → Thread → Thread
 moved_to point (At from environment) = At point environment

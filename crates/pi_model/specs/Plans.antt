@@ -1,11 +1,11 @@
 -- Where a thread stands, and whether a step is possible or refused within the limit of size.
 use Rattle.std.specs.Prelude.{◌≡◌, ℕ, None, Some}
-use Rattle.calculus.specs.Syntax.{Process, Protocol}
-use Rattle.calculus.specs.Points.{numbered, nodes}
-use Rattle.calculus.specs.Values.{Environment}
-use Rattle.calculus.specs.Runs.{At, Ended, Configuration, Step, after_step}
-use Rattle.calculus.specs.Refusals.{Refusal}
-use Rattle.calculus.specs.Limits.{limited_refusal}
+use Rattle.spec_calculus.specs.Syntax.{Process, Protocol}
+use Rattle.spec_calculus.specs.Points.{numbered, nodes}
+use Rattle.spec_calculus.specs.Values.{Environment}
+use Rattle.spec_calculus.specs.Runs.{At, Ended, Configuration, Step, after_step}
+use Rattle.spec_calculus.specs.Refusals.{Refusal}
+use Rattle.spec_calculus.specs.Limits.{limited_refusal}
 use Rattle.pi_model.specs.declared.errors.StepError.{StepError}
 use Rattle.pi_model.specs.declared.errors.StepError.TheVariants.{NoThread, WrongForm}
 use Rattle.pi_model.specs.declared.errors.ApplyError.{ApplyError}

@@ -1,8 +1,8 @@
 -- A fact on the points of a configuration has one proof at most.
 use Rattle.std.proofs.Props.{props}
 use mathlib.Core.HLevel.{Unit-prop}
-use Rattle.calculus.specs.Syntax.{Protocol}
-use Rattle.calculus.specs.Runs.{Thread, At, Ended}
+use Rattle.spec_calculus.specs.Syntax.{Protocol}
+use Rattle.spec_calculus.specs.Runs.{Thread, At, Ended}
 use Rattle.pi_model.specs.Configurations.{IsPointOf}
 
 pub IsPointOf-prop : (P : Protocol) (thread : Thread) → IsProp (IsPointOf P thread)

@@ -1,7 +1,7 @@
 -- Where a thread of a run stands, what a step changes in it, and why it is refused there.
 use Rattle.std.specs.Prelude.{ℕ, ◌+◌, ◌≤◌, length}
-use Rattle.calculus.specs.Points.{nodes}
-use Rattle.calculus.specs.Runs.{Step}
+use Rattle.spec_calculus.specs.Points.{nodes}
+use Rattle.spec_calculus.specs.Runs.{Step}
 use Rattle.pi_tree.specs.Processes.{process_of}
 use Rattle.pi_tree.specs.Protocols.{protocol_of}
 use Rattle.pi_model.specs.declared.changes.Change.{Change}

@@ -1,5 +1,5 @@
 -- What contracts see of a step.
-use Rattle.calculus.specs.Runs as calculus
+use Rattle.spec_calculus.specs.Runs as calculus
 use Rattle.pi_model.specs.declared.steps.Step.{Step}
 use Rattle.pi_model.specs.declared.steps.Step.TheVariants.{Build, Reduce, Part, Fresh, Split, Copy, Make, Pass, Hear, Say, Take, Fail, Mark}
 

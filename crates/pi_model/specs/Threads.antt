@@ -1,5 +1,5 @@
 -- What contracts see of a thread.
-use Rattle.calculus.specs.Runs as calculus
+use Rattle.spec_calculus.specs.Runs as calculus
 use Rattle.pi_model.specs.declared.threads.Thread.{Thread}
 use Rattle.pi_model.specs.declared.threads.Thread.TheVariants.{At, Ended}
 

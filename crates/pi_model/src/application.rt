@@ -1,10 +1,10 @@
 //! Applying steps to a configuration.
 
 ghost use Rattle.std.specs.Prelude.{◌≡◌, ◌+◌, ◌^◌, ◌<◌, None, Some, length, IfOk, IfErr, OnOk, OnErr};
-ghost use Rattle.calculus.specs.Limits.{limited_refusal};
-ghost use Rattle.calculus.specs.Points.{nodes};
-ghost use Rattle.calculus.specs.Refusals.{IsUniform};
-ghost use Rattle.calculus.specs.Runs.{after_step};
+ghost use Rattle.spec_calculus.specs.Limits.{limited_refusal};
+ghost use Rattle.spec_calculus.specs.Points.{nodes};
+ghost use Rattle.spec_calculus.specs.Refusals.{IsUniform};
+ghost use Rattle.spec_calculus.specs.Runs.{after_step};
 ghost use Rattle.pi_tree.specs.Processes.{process_of};
 ghost use Rattle.pi_tree.specs.Protocols.{protocol_of};
 ghost use Rattle.pi_model.specs.Answers.{IsRefusalOf, TellsWhether};

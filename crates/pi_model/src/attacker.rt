@@ -1,7 +1,7 @@
 //! The attacker's steps: what each changes where it is possible, and why it is refused.
 
 ghost use Rattle.std.specs.Prelude.{IfOk, IfErr};
-ghost use Rattle.calculus.specs.Runs as calculus;
+ghost use Rattle.spec_calculus.specs.Runs as calculus;
 ghost use Rattle.pi_model.specs.Running.{Changes, Refuses};
 
 use crate::changes::Change;

@@ -1,7 +1,7 @@
 //! The steps of a thread at a `let`: what each changes where it is possible, and why it is refused.
 
 ghost use Rattle.std.specs.Prelude.{◌≡◌, map, IfOk, IfErr};
-ghost use Rattle.calculus.specs.Runs as calculus;
+ghost use Rattle.spec_calculus.specs.Runs as calculus;
 ghost use Rattle.pi_tree.specs.Patterns.{pattern_of};
 ghost use Rattle.pi_tree.specs.Values.{value_of};
 ghost use Rattle.pi_model.specs.Choices.{some_matches};

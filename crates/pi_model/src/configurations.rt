@@ -2,9 +2,9 @@
 
 ghost use Rattle.std.specs.Prelude.{◌≡◌, ◌^◌, ◌<◌, not, length, filter_map, option_map, IfOk};
 ghost use Rattle.std.specs.List.{enumerate_from};
-ghost use Rattle.calculus.specs.Runs.{start, public_name};
-ghost use Rattle.calculus.specs.Points.{numbered};
-ghost use Rattle.calculus.specs.Refusals.{no_thread};
+ghost use Rattle.spec_calculus.specs.Runs.{start, public_name};
+ghost use Rattle.spec_calculus.specs.Points.{numbered};
+ghost use Rattle.spec_calculus.specs.Refusals.{no_thread};
 ghost use Rattle.pi_tree.specs.Protocols.{protocol_of};
 ghost use Rattle.pi_tree.specs.Values.{value_of};
 ghost use Rattle.pi_model.specs.Configurations.{configuration_of, IsConfigurationOf};

@@ -18,8 +18,8 @@ pub struct Happenings {
 
 impl Model for Happenings {
     ghost use Rattle.std.specs.Prelude.{List, map};
-    ghost use Rattle.calculus.specs.Runs as calculus;
-    ghost use Rattle.calculus.specs.Codes.{coded_performed};
+    ghost use Rattle.spec_calculus.specs.Runs as calculus;
+    ghost use Rattle.spec_calculus.specs.Codes.{coded_performed};
 
     ghost Value = { List calculus.Performed };
 

@@ -1,11 +1,11 @@
 //! What the attacker knows, and what can be made of it.
 
 ghost use Rattle.std.specs.Prelude.{◌≡◌, true, map, option_map, IfOk};
-ghost use Rattle.trees.specs.Tree.{items_of, trees};
-ghost use Rattle.calculus.specs.Points.{numbered};
-ghost use Rattle.calculus.specs.Values.{value_of};
-ghost use Rattle.calculus.specs.Runs.{knows, known_values, built, part_of};
-ghost use Rattle.calculus.specs.Refusals.{takes, is_public_constructor, first_arity};
+ghost use Rattle.spec_trees.specs.Tree.{items_of, trees};
+ghost use Rattle.spec_calculus.specs.Points.{numbered};
+ghost use Rattle.spec_calculus.specs.Values.{value_of};
+ghost use Rattle.spec_calculus.specs.Runs.{knows, known_values, built, part_of};
+ghost use Rattle.spec_calculus.specs.Refusals.{takes, is_public_constructor, first_arity};
 ghost use Rattle.pi_tree.specs.Names.{declared_of};
 ghost use Rattle.pi_tree.specs.Protocols.{protocol_of};
 ghost use Rattle.pi_tree.specs.Rules.{rule_of};

@@ -21,8 +21,8 @@ pub struct Known {
 
 impl Model for Known {
     ghost use Rattle.std.specs.Prelude.{List, map};
-    ghost use Rattle.calculus.specs.Values as calculus;
-    ghost use Rattle.calculus.specs.Codes.{coded_values};
+    ghost use Rattle.spec_calculus.specs.Values as calculus;
+    ghost use Rattle.spec_calculus.specs.Codes.{coded_values};
 
     ghost Value = { List calculus.Value };
 

@@ -3,27 +3,27 @@
 
 ghost use Rattle.std.specs.Prelude.{◌≡◌, ℕ, ◌+◌, ◌<◌, ◌++◌, true, List, length, map, Some, IsNone, IsSome, IsTrue, Contains, ◌↔◌};
 ghost use Rattle.std.specs.List.{AllByRecursion};
-ghost use Rattle.trees.specs.Tree.{Trees, Node, items_of, some_leaf};
-ghost use Rattle.calculus.specs.Syntax.{Variable, Symbol, Pattern, Protocol, Query, Rule};
-ghost use Rattle.calculus.specs.Values.{Atom, Value, Environment, same_value, value_of_bound};
-ghost use Rattle.calculus.specs.Points.{numbered};
-ghost use Rattle.calculus.specs.Matching.{matched, filled, is_binding, IsLinear, instance_of, rule_value, rules_of, IsClosedRule};
-ghost use Rattle.calculus.specs.Runs.{Performed, Configuration, Step, can_build, built, is_data, learns, after_step, after_steps, run};
-ghost use Rattle.calculus.specs.Refusals.{refusal, IsUniform};
-ghost use Rattle.calculus.specs.Secrecy.{IsViolated, Holds};
-ghost use Rattle.calculus.specs.Absence.{IsAbsent};
-ghost use Rattle.calculus.specs.Standing.{NextIsNew, names_made};
+ghost use Rattle.spec_trees.specs.Tree.{Trees, Node, items_of, some_leaf};
+ghost use Rattle.spec_calculus.specs.Syntax.{Variable, Symbol, Pattern, Protocol, Query, Rule};
+ghost use Rattle.spec_calculus.specs.Values.{Atom, Value, Environment, same_value, value_of_bound};
+ghost use Rattle.spec_calculus.specs.Points.{numbered};
+ghost use Rattle.spec_calculus.specs.Matching.{matched, filled, is_binding, IsLinear, instance_of, rule_value, rules_of, IsClosedRule};
+ghost use Rattle.spec_calculus.specs.Runs.{Performed, Configuration, Step, can_build, built, is_data, learns, after_step, after_steps, run};
+ghost use Rattle.spec_calculus.specs.Refusals.{refusal, IsUniform};
+ghost use Rattle.spec_calculus.specs.Secrecy.{IsViolated, Holds};
+ghost use Rattle.spec_calculus.specs.Absence.{IsAbsent};
+ghost use Rattle.spec_calculus.specs.Standing.{NextIsNew, names_made};
 
 /// A message with a private free name that no term of the main process holds is secret: no run makes
 /// it known, whatever its threads, its steps and the names of the attacker.
-#[tactic(auto, using(calculus::proofs::Absence::absent_is_secret))]
+#[tactic(auto, using(spec_calculus::proofs::Absence::absent_is_secret))]
 pub fn absence_is_secrecy()
     ensures { (P : Protocol) (q : Query) → IsAbsent P q → Holds P q }
 {}
 
 /// Steps take nothing from what the attacker knows, nor from the events, and so what is violated stays
 /// violated.
-#[tactic(auto, using(calculus::proofs::Growth::knowledge_grows, calculus::proofs::Growth::events_grow, calculus::proofs::Growth::violation_stays))]
+#[tactic(auto, using(spec_calculus::proofs::Growth::knowledge_grows, spec_calculus::proofs::Growth::events_grow, spec_calculus::proofs::Growth::violation_stays))]
 pub fn steps_only_add()
     ensures known { (P : Protocol) (c d : Configuration) (steps : List Step) →
         after_steps P c steps ≡ Some d → (more : List Value) × (d.known ≡ c.known ++ more) }
@@ -34,7 +34,7 @@ pub fn steps_only_add()
 {}
 
 /// The test by which a step compares channels is equality of values.
-#[tactic(auto, using(calculus::proofs::Equality::same_value_is_equality))]
+#[tactic(auto, using(spec_calculus::proofs::Equality::same_value_is_equality))]
 pub fn equality_is_decided()
     ensures { (v w : Value) → IsTrue (same_value v w) ↔ (v ≡ w) }
 {}
@@ -43,7 +43,7 @@ pub fn equality_is_decided()
 /// next stands in no value that is known, bound or performed. A step that makes a name takes that
 /// number, and no other step does. So names that different steps make differ: where a step makes a name,
 /// each name that is made after it has a greater number.
-#[tactic(auto, using(calculus::proofs::Freshness::next_is_new, calculus::proofs::Growth::numbers_are_taken, crate::proofs::Naming::later_names_differ))]
+#[tactic(auto, using(spec_calculus::proofs::Freshness::next_is_new, spec_calculus::proofs::Growth::numbers_are_taken, crate::proofs::Naming::later_names_differ))]
 pub fn made_names_are_new()
     ensures nowhere { (P : Protocol) (steps : List Step) (c : Configuration) →
         run P steps ≡ Some c → NextIsNew c }
@@ -56,7 +56,7 @@ pub fn made_names_are_new()
 
 /// A rule of a destructor gives a value exactly of the instances of its left side: that instance of
 /// its right side.
-#[tactic(auto, using(calculus::proofs::Rules::rules_of_destructors))]
+#[tactic(auto, using(spec_calculus::proofs::Rules::rules_of_destructors))]
 pub fn rules_give_instances()
     ensures instance { (rule : Rule) (vs : List Value) (v : Value) → rule_value rule vs ≡ Some v →
         (s : Environment) × (map (instance_of s) rule.left ≡ vs) × (v ≡ instance_of s rule.right) }
@@ -66,7 +66,7 @@ pub fn rules_give_instances()
 
 /// A value matches a pattern that binds no variable twice exactly where it is that pattern with its
 /// holes filled, and in one way: the variables' values are determined.
-#[tactic(auto, using(calculus::proofs::Patterns::matching))]
+#[tactic(auto, using(spec_calculus::proofs::Patterns::matching))]
 pub fn patterns_match_in_one_way()
     ensures filled { (environment bindings : Environment) (pattern : Pattern) (v : Value) →
         IsLinear pattern → matched environment pattern v ≡ Some bindings →
@@ -81,7 +81,7 @@ pub fn patterns_match_in_one_way()
 
 /// The attacker's knowledge is closed under what its steps can do: a public constructor or a tuple, a
 /// rule of a destructor, and the parts of data.
-#[tactic(auto, using(calculus::proofs::Closure::building_is_closed, calculus::proofs::Closure::reducing_is_closed))]
+#[tactic(auto, using(spec_calculus::proofs::Closure::building_is_closed, spec_calculus::proofs::Closure::reducing_is_closed))]
 pub fn knowledge_is_closed()
     ensures build { (P : Protocol) (c : Configuration) (f : ℕ) (vs : List Value) →
         AllByRecursion (Contains c.known) vs → can_build P f (length vs) ≡ true → (step : Step) ×
@@ -97,7 +97,7 @@ pub fn knowledge_is_closed()
 
 /// A step is refused exactly where it is not possible. The causes are looked at in the order in which
 /// the definition lists them; all rules of a destructor take as many arguments.
-#[tactic(auto, using(calculus::proofs::Refusals::refusals_are_exact))]
+#[tactic(auto, using(spec_calculus::proofs::Refusals::refusals_are_exact))]
 pub fn refusals_are_exact()
     ensures { (P : Protocol) (c : Configuration) (step : Step) → IsUniform P →
         IsNone (refusal P c step) ↔ IsSome (after_step P c step) }

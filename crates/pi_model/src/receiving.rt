@@ -3,11 +3,11 @@
 
 ghost use Rattle.std.specs.Prelude.{◌≡◌, ◌+◌, ◌^◌, ◌<◌, ◌||◌, IfOk, IfErr};
 ghost use Rattle.std.specs.List.{list_any};
-ghost use Rattle.calculus.specs.Limits.{is_large, terms_at};
-ghost use Rattle.calculus.specs.Matching.{matched};
-ghost use Rattle.calculus.specs.Runs as calculus;
-ghost use Rattle.calculus.specs.Runs.{received};
-ghost use Rattle.calculus.specs.Values.{values_of};
+ghost use Rattle.spec_calculus.specs.Limits.{is_large, terms_at};
+ghost use Rattle.spec_calculus.specs.Matching.{matched};
+ghost use Rattle.spec_calculus.specs.Runs as calculus;
+ghost use Rattle.spec_calculus.specs.Runs.{received};
+ghost use Rattle.spec_calculus.specs.Values.{values_of};
 ghost use Rattle.pi_tree.specs.Patterns.{pattern_of};
 ghost use Rattle.pi_tree.specs.Processes.{process_of};
 ghost use Rattle.pi_tree.specs.Values.{value_of};

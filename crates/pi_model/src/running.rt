@@ -1,7 +1,7 @@
 //! A run as far as it has come.
 
 ghost use Rattle.std.specs.Prelude.{◌^◌, ◌<◌, length};
-ghost use Rattle.calculus.specs.Points.{nodes};
+ghost use Rattle.spec_calculus.specs.Points.{nodes};
 ghost use Rattle.pi_tree.specs.Processes.{process_of};
 ghost use Rattle.pi_tree.specs.Protocols.{protocol_of};
 ghost use Rattle.pi_model.specs.Configurations.{IsConfigurationOf};

@@ -1,7 +1,7 @@
 //! Where a thread stands, and which points come after.
 
 ghost use Rattle.std.specs.Prelude.{◌≡◌, ◌^◌, ◌<◌, IfOk, IfErr};
-ghost use Rattle.calculus.specs.Points.{point_after};
+ghost use Rattle.spec_calculus.specs.Points.{point_after};
 ghost use Rattle.pi_tree.specs.Processes.{process_of};
 ghost use Rattle.pi_model.specs.Configurations.{configuration_of};
 ghost use Rattle.pi_model.specs.Plans.{StandsNowhere};

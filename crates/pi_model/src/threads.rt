@@ -1,7 +1,7 @@
 //! Threads of a configuration.
 
 ghost use Rattle.std.specs.Prelude.{◌≡◌, [], ◌∷◌, ◌++◌, option_map, OnOk, OnErr};
-ghost use Rattle.calculus.specs.Points.{numbered, replaced};
+ghost use Rattle.spec_calculus.specs.Points.{numbered, replaced};
 ghost use Rattle.pi_model.specs.Threads.{thread_of};
 ghost use Rattle.pi_model.specs.Moves.{moved, moved_to};
 
@@ -24,8 +24,8 @@ pub struct Threads {
 
 impl Model for Threads {
     ghost use Rattle.std.specs.Prelude.{List, map};
-    ghost use Rattle.calculus.specs.Runs as calculus;
-    ghost use Rattle.calculus.specs.Codes.{coded_threads};
+    ghost use Rattle.spec_calculus.specs.Runs as calculus;
+    ghost use Rattle.spec_calculus.specs.Codes.{coded_threads};
 
     ghost Value = { List calculus.Thread };
 

@@ -2,9 +2,9 @@
 
 ghost use Rattle.std.specs.Prelude.{◌≡◌, ◌<◌, ◌≤◌, [], Some, IsTrue, ◌↔◌, map, length};
 ghost use Rattle.std.specs.List.{list_any};
-ghost use Rattle.calculus.specs.Points.{numbered};
-ghost use Rattle.calculus.specs.Secrecy.{IsViolated};
-ghost use Rattle.calculus.specs.Syntax as calculus;
+ghost use Rattle.spec_calculus.specs.Points.{numbered};
+ghost use Rattle.spec_calculus.specs.Secrecy.{IsViolated};
+ghost use Rattle.spec_calculus.specs.Syntax as calculus;
 ghost use Rattle.pi_tree.specs.Events.{event_of};
 ghost use Rattle.pi_tree.specs.Queries.{query_of};
 ghost use Rattle.pi_tree.specs.Values.{value_of};

@@ -1,11 +1,11 @@
 -- Reading declarations, of which some are read already.
 use Rattle.std.proofs.Common.{◌≡◌, ℕ, ◌+◌, ◌-◌, ◌<◌, ◌≤◌, ◌⊎◌, true, false, cond, List, [], ◌∷◌, ◌++◌, map, length, refl, sym, ap, subst, inl, inr, ◌∙◌, arith, append_assoc, add-one, length-append}
 use Rattle.std.proofs.lemmas.List.{append-nil, map-append}
-use Rattle.protocol_grammar.specs.declared.class.Class.{Class}
-use Rattle.protocol_grammar.specs.declared.class.Class.TheVariants as w
-use Rattle.protocol_grammar.specs.Classes.{Source, words, same}
-use Rattle.protocol_grammar.specs.Sketch.{DeclarationSketch, FileSketch}
-use Rattle.protocol_grammar.specs.Reading.{Read, Found, Unexpected, TooDeep, Tired, Reader, step, built, both, either, declaration_at, main_at, Rest, declarations_from, declarations_at, file_from, file_at}
+use Rattle.spec_protocol_grammar.specs.declared.class.Class.{Class}
+use Rattle.spec_protocol_grammar.specs.declared.class.Class.TheVariants as w
+use Rattle.spec_protocol_grammar.specs.Classes.{Source, words, same}
+use Rattle.spec_protocol_grammar.specs.Sketch.{DeclarationSketch, FileSketch}
+use Rattle.spec_protocol_grammar.specs.Reading.{Read, Found, Unexpected, TooDeep, Tired, Reader, step, built, both, either, declaration_at, main_at, Rest, declarations_from, declarations_at, file_from, file_at}
 use Rattle.pi_parser.specs.Gives.{HasFault, most_of}
 use Rattle.pi_parser.specs.declared.error.Fault.{Fault}
 use Rattle.pi_parser.proofs.Lists.{step_fault}

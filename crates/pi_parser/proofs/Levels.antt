@@ -1,13 +1,13 @@
 -- Reading a level deeper, at the last level, and where nothing begins.
 use Rattle.std.proofs.Common.{◌≡◌, ◌≢◌, ℕ, zero, suc, ◌+◌, ◌-◌, ◌<◌, Bool, true, false, cond, refl, sym, ap, subst, ◌∙◌, arith}
-use Rattle.protocol_grammar.specs.declared.class.Class.{Class}
-use Rattle.protocol_grammar.specs.declared.class.Class.TheVariants as w
-use Rattle.protocol_grammar.specs.Classes.{Source, same}
+use Rattle.spec_protocol_grammar.specs.declared.class.Class.{Class}
+use Rattle.spec_protocol_grammar.specs.declared.class.Class.TheVariants as w
+use Rattle.spec_protocol_grammar.specs.Classes.{Source, same}
 use Rattle.pi_parser.specs.Gives.{HasFault}
 use Rattle.pi_parser.specs.declared.error.Fault.{Fault}
 use Rattle.pi_parser.specs.declared.error.Fault.TheVariants as fault
-use Rattle.protocol_grammar.specs.Sketch.{TermSketch, PatternSketch, UnitSketch, ProcessSketch}
-use Rattle.protocol_grammar.specs.Reading.{Read, Found, Unexpected, TooDeep, step, Reader, built, both, optional, with_place, arguments_at, begins_term, term_by, term_at, begins_pattern, pattern_by, pattern_at, begins_atom, atom_from, atom_at, begins_unit, beside_from, process_from, unit_by, unit_at, process_at, question_by, declaration_by}
+use Rattle.spec_protocol_grammar.specs.Sketch.{TermSketch, PatternSketch, UnitSketch, ProcessSketch}
+use Rattle.spec_protocol_grammar.specs.Reading.{Read, Found, Unexpected, TooDeep, step, Reader, built, both, optional, with_place, arguments_at, begins_term, term_by, term_at, begins_pattern, pattern_by, pattern_at, begins_atom, atom_from, atom_at, begins_unit, beside_from, process_from, unit_by, unit_at, process_at, question_by, declaration_by}
 
 pub term_other : (most : ℕ) (below : Reader TermSketch) (c : Class) (s : Source) (at : ℕ) → c ≢ w.Name → c ≢ w.Open → term_by most below c s at ≡ Unexpected at
 term_other most below w.Private s at n0 n1 = refl

@@ -1,11 +1,11 @@
 -- Reading lists, of which some parts are read already.
 use Rattle.std.proofs.Common.{◌≡◌, ℕ, ◌+◌, ◌-◌, ◌<◌, ◌≤◌, Bool, true, false, cond, List, [], ◌∷◌, ◌++◌, map, length, Some, None, refl, sym, ap, subst, ◌∙◌, arith, append_assoc, add-one, length-append}
 use Rattle.std.proofs.lemmas.List.{append-nil, map-append, map-id}
-use Rattle.protocol_grammar.specs.declared.class.Class.{Class}
-use Rattle.protocol_grammar.specs.declared.class.Class.TheVariants as w
-use Rattle.protocol_grammar.specs.Classes.{Source, words, same, fits}
-use Rattle.protocol_grammar.specs.Reading.{Read, Found, Unexpected, TooDeep, Tired, Reader, step, built, done, optional, both, then_marked, others_of, list_at, list_of, arguments_of, arguments_at, name_from, name_at, names_at}
-use Rattle.protocol_grammar.proofs.Choose.{step_twice}
+use Rattle.spec_protocol_grammar.specs.declared.class.Class.{Class}
+use Rattle.spec_protocol_grammar.specs.declared.class.Class.TheVariants as w
+use Rattle.spec_protocol_grammar.specs.Classes.{Source, words, same, fits}
+use Rattle.spec_protocol_grammar.specs.Reading.{Read, Found, Unexpected, TooDeep, Tired, Reader, step, built, done, optional, both, then_marked, others_of, list_at, list_of, arguments_of, arguments_at, name_from, name_at, names_at}
+use Rattle.spec_protocol_grammar.proofs.Choose.{step_twice}
 use Rattle.pi_parser.specs.Gives.{HasFault, most_of}
 use Rattle.pi_parser.specs.declared.error.Fault.{Fault}
 use Rattle.pi_parser.specs.declared.error.Fault.TheVariants as fault

@@ -1,17 +1,17 @@
 -- The tokens of some bytes stand within them, and what the parser answers of them.
 use Rattle.std.proofs.Common.{◌≡◌, ℕ, ◌≤◌, List, [], ◌∷◌, map, length, Option, None, Some, IfSome, Result, Ok, Err, refl, ap, subst, arith}
-use Rattle.protocol_tokens.specs.Token.{Token}
-use Rattle.protocol_tokens.specs.Lexed.{Lexed}
-use Rattle.protocol_tokens.specs.Laws.{Ascend}
-use Rattle.protocol_tokens.proofs.Answers.{Lexed-Ascend}
-use Rattle.protocol_grammar.specs.declared.class.Class.{Class}
-use Rattle.protocol_grammar.specs.Classes.{class_of, words, source}
-use Rattle.protocol_grammar.specs.Sketch.{FileSketch}
-use Rattle.protocol_grammar.specs.Spelling.{IsSketch}
-use Rattle.protocol_grammar.specs.Refusals.{IsUnexpected, IsTooDeep}
-use Rattle.protocol_grammar.specs.Reading.{Read, Found, Unexpected, TooDeep, file_at}
-use Rattle.protocol_grammar.proofs.Answers as laws
-use Rattle.protocol_grammar.proofs.Ended.{not_ended, ended}
+use Rattle.spec_protocol_tokens.specs.Token.{Token}
+use Rattle.spec_protocol_tokens.specs.Lexed.{Lexed}
+use Rattle.spec_protocol_tokens.specs.Laws.{Ascend}
+use Rattle.spec_protocol_tokens.proofs.Answers.{Lexed-Ascend}
+use Rattle.spec_protocol_grammar.specs.declared.class.Class.{Class}
+use Rattle.spec_protocol_grammar.specs.Classes.{class_of, words, source}
+use Rattle.spec_protocol_grammar.specs.Sketch.{FileSketch}
+use Rattle.spec_protocol_grammar.specs.Spelling.{IsSketch}
+use Rattle.spec_protocol_grammar.specs.Refusals.{IsUnexpected, IsTooDeep}
+use Rattle.spec_protocol_grammar.specs.Reading.{Read, Found, Unexpected, TooDeep, file_at}
+use Rattle.spec_protocol_grammar.proofs.Answers as laws
+use Rattle.spec_protocol_grammar.proofs.Ended.{not_ended, ended}
 use Rattle.pi_parser.specs.Tokens.{AreWithin}
 use Rattle.pi_parser.specs.declared.sketch.Sketch.{Sketch}
 use Rattle.pi_parser.specs.declared.error.Fault.{Fault}

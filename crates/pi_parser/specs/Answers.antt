@@ -1,10 +1,10 @@
 -- What the parser may answer.
 use Rattle.std.specs.Prelude.{◌≡◌, ℕ, List, length, Option, Some, None, IfSome, option_map, slice_get, Result, Ok, Err}
-use Rattle.protocol_tokens.specs.Token as token
-use Rattle.protocol_grammar.specs.Classes.{source}
-use Rattle.protocol_grammar.specs.Sketch as own
-use Rattle.protocol_grammar.specs.Spelling.{IsSketch}
-use Rattle.protocol_grammar.specs.Refusals.{IsUnexpected, IsTooDeep}
+use Rattle.spec_protocol_tokens.specs.Token as token
+use Rattle.spec_protocol_grammar.specs.Classes.{source}
+use Rattle.spec_protocol_grammar.specs.Sketch as own
+use Rattle.spec_protocol_grammar.specs.Spelling.{IsSketch}
+use Rattle.spec_protocol_grammar.specs.Refusals.{IsUnexpected, IsTooDeep}
 use Rattle.pi_parser.specs.declared.sketch.Sketch.{Sketch}
 use Rattle.pi_parser.specs.declared.error.Fault.{Fault}
 use Rattle.pi_parser.specs.declared.error.ParseError.{ParseError}

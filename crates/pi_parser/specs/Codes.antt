@@ -3,8 +3,8 @@ use Rattle.std.specs.Prelude.{◌≡◌, ℕ, ◌+◌, max, List, refl}
 use Rattle.std.proofs.Common.{ap}
 use Rattle.std.specs.Coded.{Coded, coded_list}
 use base.Stored.{Gv, gnil, gnum, gcons}
-use Rattle.trees.specs.Code.{head, tail}
-use Rattle.protocol_grammar.specs.Sketch.{TermSketch, Named, Grouped, TermsSketch, none, more, PatternSketch, NamedPattern, Equal, GroupedPattern, PatternsSketch, no_patterns, more_patterns}
+use Rattle.spec_trees.specs.Code.{head, tail}
+use Rattle.spec_protocol_grammar.specs.Sketch.{TermSketch, Named, Grouped, TermsSketch, none, more, PatternSketch, NamedPattern, Equal, GroupedPattern, PatternsSketch, no_patterns, more_patterns}
 
 abbrev number : Gv → ℕ
 number gnil = 0

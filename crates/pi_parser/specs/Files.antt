@@ -1,7 +1,7 @@
 -- What contracts see of a sketched file.
 use Rattle.std.specs.Prelude.{ℕ, List, map}
 use Rattle.std.specs.Global.{Vec}
-use Rattle.protocol_grammar.specs.Sketch as own
+use Rattle.spec_protocol_grammar.specs.Sketch as own
 use Rattle.pi_parser.specs.declared.sketch.ProcessSketch.{ProcessSketch}
 use Rattle.pi_parser.specs.declared.sketch.AlternativeSketch.{AlternativeSketch}
 use Rattle.pi_parser.specs.declared.sketch.QuerySketch.{QuerySketch}

@@ -1,8 +1,8 @@
 -- What the parts of the parser give: what reading finds, or its fault.
 use Rattle.std.specs.Prelude.{◌≡◌, ℕ, ◌+◌, ◌<◌, ◌≤◌, true, false, List, length, Result, Ok, Err}
-use Rattle.protocol_grammar.specs.declared.class.Class.{Class}
-use Rattle.protocol_grammar.specs.Classes.{words, fits}
-use Rattle.protocol_grammar.specs.Reading.{Read, Found, Unexpected, TooDeep}
+use Rattle.spec_protocol_grammar.specs.declared.class.Class.{Class}
+use Rattle.spec_protocol_grammar.specs.Classes.{words, fits}
+use Rattle.spec_protocol_grammar.specs.Reading.{Read, Found, Unexpected, TooDeep}
 use Rattle.pi_parser.specs.declared.error.Fault.{Fault}
 use Rattle.pi_parser.specs.declared.error.Fault.TheVariants as fault
 

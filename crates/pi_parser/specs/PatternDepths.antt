@@ -2,7 +2,7 @@
 use Rattle.std.specs.Prelude.{◌≤◌, max, List, [], ◌∷◌, map}
 use Rattle.std.proofs.Common.{arith}
 use denote.Param.Weighed.{most}
-use Rattle.protocol_grammar.specs.Sketch.{patterns_sketch}
+use Rattle.spec_protocol_grammar.specs.Sketch.{patterns_sketch}
 use Rattle.pi_parser.specs.Codes.{pattern_depth, patterns_depth}
 use Rattle.pi_parser.specs.declared.sketch.PatternSketch.{PatternSketch}
 use Rattle.pi_parser.specs.declared.sketch.PatternSketch.TheVariants.{Named, Equal, Grouped}

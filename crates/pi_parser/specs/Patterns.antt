@@ -1,6 +1,6 @@
 -- What contracts see of a sketched pattern.
 use Rattle.std.specs.Prelude.{List}
-use Rattle.protocol_grammar.specs.Sketch as own
+use Rattle.spec_protocol_grammar.specs.Sketch as own
 use Rattle.pi_parser.specs.declared.sketch.PatternSketch.{PatternSketch}
 use Rattle.pi_parser.specs.declared.sketch.PatternSketch.TheVariants.{Named, Equal, Grouped}
 use Rattle.pi_parser.specs.Terms.{term_of}

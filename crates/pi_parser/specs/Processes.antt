@@ -1,6 +1,6 @@
 -- What contracts see of a sketched process.
 use Rattle.std.specs.Global.{Box}
-use Rattle.protocol_grammar.specs.Sketch as own
+use Rattle.spec_protocol_grammar.specs.Sketch as own
 use Rattle.pi_parser.specs.declared.sketch.ProcessSketch.{ProcessSketch}
 use Rattle.pi_parser.specs.declared.sketch.ProcessSketch.TheVariants.{Alone', Beside'}
 use Rattle.pi_parser.specs.declared.sketch.UnitSketch.{UnitSketch}

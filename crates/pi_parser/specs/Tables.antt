@@ -1,7 +1,7 @@
 -- Tables of spellings, as contracts see them.
 use Rattle.std.specs.Prelude.{ℕ, List, map}
 use Rattle.std.specs.Borrow.{Bor}
-use Rattle.protocol_grammar.specs.declared.class.Class.{Class}
+use Rattle.spec_protocol_grammar.specs.declared.class.Class.{Class}
 
 -- a spelling and its class
 abbrev pub entry_of : Bor (List ℕ) × Class → List ℕ × Class

@@ -2,7 +2,7 @@
 use Rattle.std.specs.Prelude.{◌≤◌, max, List, [], ◌∷◌, map}
 use Rattle.std.proofs.Common.{arith}
 use denote.Param.Weighed.{most}
-use Rattle.protocol_grammar.specs.Sketch.{terms_sketch}
+use Rattle.spec_protocol_grammar.specs.Sketch.{terms_sketch}
 use Rattle.pi_parser.specs.Codes.{term_depth, terms_depth}
 use Rattle.pi_parser.specs.declared.sketch.TermSketch.{TermSketch}
 use Rattle.pi_parser.specs.declared.sketch.TermSketch.TheVariants.{Named, Grouped}

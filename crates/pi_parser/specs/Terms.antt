@@ -1,6 +1,6 @@
 -- What contracts see of a sketched term.
 use Rattle.std.specs.Prelude.{List}
-use Rattle.protocol_grammar.specs.Sketch as own
+use Rattle.spec_protocol_grammar.specs.Sketch as own
 use Rattle.pi_parser.specs.declared.sketch.TermSketch.{TermSketch}
 use Rattle.pi_parser.specs.declared.sketch.TermSketch.TheVariants.{Named, Grouped}
 use Rattle.pi_parser.specs.declared.sketch.AtomSketch.{AtomSketch}

@@ -1,6 +1,6 @@
 -- Tokens that stand within the bytes.
 use Rattle.std.specs.Prelude.{ℕ, ◌≤◌, List, [], ◌∷◌}
-use Rattle.protocol_tokens.specs.Token.{Token}
+use Rattle.spec_protocol_tokens.specs.Token.{Token}
 
 -- each ends where it begins or later, and within so many bytes
 abbrev pub AreWithin : ℕ → List Token → Type 0

@@ -1,8 +1,8 @@
 //! Declarations, and files.
 
 ghost use Rattle.std.specs.Prelude.{◌≡◌, ◌<◌, ◌≤◌, ℕ, length, IfOk};
-ghost use Rattle.protocol_grammar.specs.Classes.{words};
-ghost use Rattle.protocol_grammar.specs.Reading.{built, list_at, rule_at, sized_at, names_at, declaration_by, declaration_at, main_at, file_at};
+ghost use Rattle.spec_protocol_grammar.specs.Classes.{words};
+ghost use Rattle.spec_protocol_grammar.specs.Reading.{built, list_at, rule_at, sized_at, names_at, declaration_by, declaration_at, main_at, file_at};
 ghost use Rattle.pi_parser.specs.Gives.{Gives, IsBehind, most_of};
 ghost use Rattle.pi_parser.specs.Files.{names_of, sized_of, rule_of, rules_of, declaration_of, main_of, file_of};
 
@@ -13,7 +13,7 @@ use crate::queries::question;
 use crate::sketch::{DeclarationSketch, ProcessSketch, RuleSketch, Sketch};
 use crate::terms::{term, terms};
 use crate::words::{class_at, fits_at, is_at, mark};
-use protocol_grammar::Class;
+use spec_protocol_grammar::Class;
 use std::alloc::Global;
 
 /// `name, others.`
@@ -48,7 +48,7 @@ fn sized(classes: &[Class], at: usize) -> Result<((usize, usize), usize), Fault>
 }
 
 /// `name(arguments) -> result`.
-#[tactic(auto, unfolding(protocol_grammar::specs::Reading::rule_at))]
+#[tactic(auto, unfolding(spec_protocol_grammar::specs::Reading::rule_at))]
 fn rule(alloc: Global, classes: &[Class], at: usize) -> Result<(RuleSketch, usize), Fault>
     requires { at ≤ length classes.now }
     ensures read { Gives rule_of result (rule_at (most_of classes.now) (words classes.now) at) }
@@ -271,7 +271,7 @@ fn definition(
 }
 
 /// A declaration.
-#[tactic(auto, using(crate::proofs::Levels::declaration_other), unfolding(protocol_grammar::specs::Reading::declaration_at))]
+#[tactic(auto, using(crate::proofs::Levels::declaration_other), unfolding(spec_protocol_grammar::specs::Reading::declaration_at))]
 fn declaration(
     alloc: Global,
     classes: &[Class],
@@ -296,7 +296,7 @@ fn declaration(
 }
 
 /// `process` and the main process, up to the end of the file.
-#[tactic(auto, unfolding(protocol_grammar::specs::Reading::main_at))]
+#[tactic(auto, unfolding(spec_protocol_grammar::specs::Reading::main_at))]
 fn main_process(
     alloc: Global,
     classes: &[Class],

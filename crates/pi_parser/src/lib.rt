@@ -4,9 +4,9 @@
 #![tactic(auto)]
 
 ghost use Rattle.std.specs.Prelude.{◌≡◌, ◌≤◌, ℕ, List, length, map, IfOk, IfErr};
-ghost use Rattle.protocol_tokens.specs.Lexed.{Lexed};
-ghost use Rattle.protocol_grammar.specs.Classes.{class_of};
-ghost use Rattle.protocol_grammar.specs.Sketch.{FileSketch};
+ghost use Rattle.spec_protocol_tokens.specs.Lexed.{Lexed};
+ghost use Rattle.spec_protocol_grammar.specs.Classes.{class_of};
+ghost use Rattle.spec_protocol_grammar.specs.Sketch.{FileSketch};
 ghost use Rattle.pi_parser.specs.Files.{file_of};
 ghost use Rattle.pi_parser.specs.Tokens.{AreWithin};
 ghost use Rattle.pi_parser.specs.Errors.{Refusal, refusal_of, fault_of};
@@ -32,7 +32,7 @@ pub use crate::sketch::{
 };
 use crate::words::class_of;
 use pi_lexer::Tokens;
-use protocol_grammar::Class;
+use spec_protocol_grammar::Class;
 
 /// The most levels of the grammar that are open at a place of a file.
 const MOST_LEVELS: usize = 512;

@@ -1,8 +1,8 @@
 //! Patterns.
 
 ghost use Rattle.std.specs.Prelude.{◌≡◌, ◌<◌, ◌≤◌, ℕ, length, IfOk};
-ghost use Rattle.protocol_grammar.specs.Classes.{words};
-ghost use Rattle.protocol_grammar.specs.Reading.{built, list_of, list_at, arguments_at, begins_pattern, pattern_by, pattern_at};
+ghost use Rattle.spec_protocol_grammar.specs.Classes.{words};
+ghost use Rattle.spec_protocol_grammar.specs.Reading.{built, list_of, list_at, arguments_at, begins_pattern, pattern_by, pattern_at};
 ghost use Rattle.pi_parser.specs.Gives.{Gives, IsBehind, most_of};
 ghost use Rattle.pi_parser.specs.Patterns.{pattern_of, patterns_of};
 
@@ -10,7 +10,7 @@ use crate::error::{Fault, lowest};
 use crate::sketch::{PatternSketch, PatternsSketch};
 use crate::terms::term;
 use crate::words::{class_at, is_at, mark};
-use protocol_grammar::Class;
+use spec_protocol_grammar::Class;
 use std::alloc::Global;
 
 /// Patterns, a comma between two of them.

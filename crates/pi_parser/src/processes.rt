@@ -1,8 +1,8 @@
 //! Processes. Each alternative of a unit has a function of its own, so that a level of nesting takes little of the stack.
 
 ghost use Rattle.std.specs.Prelude.{◌≡◌, ◌<◌, ◌≤◌, ℕ, false, length, IfOk};
-ghost use Rattle.protocol_grammar.specs.Classes.{words, same};
-ghost use Rattle.protocol_grammar.specs.Reading.{both, next_at, begins_unit, unit_by, unit_at, process_at};
+ghost use Rattle.spec_protocol_grammar.specs.Classes.{words, same};
+ghost use Rattle.spec_protocol_grammar.specs.Reading.{both, next_at, begins_unit, unit_by, unit_at, process_at};
 ghost use Rattle.pi_parser.specs.Gives.{Gives, IsBehind, most_of};
 ghost use Rattle.pi_parser.specs.Processes.{unit_of, next_of, branches_of, process_of};
 
@@ -11,7 +11,7 @@ use crate::patterns::pattern;
 use crate::sketch::{NextSketch, ProcessSketch, UnitSketch};
 use crate::terms::{atom, term};
 use crate::words::{class_at, is_at, mark};
-use protocol_grammar::Class;
+use spec_protocol_grammar::Class;
 use std::alloc::Global;
 
 /// Nothing, or a unit behind a word of this class.

@@ -1,8 +1,8 @@
 //! Queries.
 
 ghost use Rattle.std.specs.Prelude.{◌≡◌, ◌<◌, ◌≤◌, ℕ, length, IfOk};
-ghost use Rattle.protocol_grammar.specs.Classes.{words};
-ghost use Rattle.protocol_grammar.specs.Reading.{built, list_of, list_at, happening_at, alternative_at, alternatives_at, question_by, question_at};
+ghost use Rattle.spec_protocol_grammar.specs.Classes.{words};
+ghost use Rattle.spec_protocol_grammar.specs.Reading.{built, list_of, list_at, happening_at, alternative_at, alternatives_at, question_by, question_at};
 ghost use Rattle.pi_parser.specs.Gives.{Gives, IsBehind, most_of};
 ghost use Rattle.pi_parser.specs.Terms.{atom_of};
 ghost use Rattle.pi_parser.specs.Files.{alternative_of, alternatives_of, question_of};
@@ -12,7 +12,7 @@ use crate::error::Fault;
 use crate::sketch::{AlternativeSketch, AtomSketch, QuerySketch};
 use crate::terms::{atom, term};
 use crate::words::{class_at, is_at, mark};
-use protocol_grammar::Class;
+use spec_protocol_grammar::Class;
 use std::alloc::Global;
 
 /// `event atom`.
@@ -27,7 +27,7 @@ fn happening(alloc: Global, classes: &[Class], at: usize) -> Result<(AtomSketch,
 }
 
 /// Events, `&&` between two of them.
-#[tactic(auto, using(crate::proofs::Lists::list_ends, crate::proofs::Lists::list_faults, crate::proofs::Lists::list_first_faults, crate::proofs::Lists::step_fault), unfolding(protocol_grammar::specs::Reading::alternative_at))]
+#[tactic(auto, using(crate::proofs::Lists::list_ends, crate::proofs::Lists::list_faults, crate::proofs::Lists::list_first_faults, crate::proofs::Lists::step_fault), unfolding(spec_protocol_grammar::specs::Reading::alternative_at))]
 fn alternative(
     alloc: Global,
     classes: &[Class],
@@ -73,7 +73,7 @@ fn listed(
 }
 
 /// `false`, or alternatives.
-#[tactic(auto, unfolding(protocol_grammar::specs::Reading::alternatives_at))]
+#[tactic(auto, unfolding(spec_protocol_grammar::specs::Reading::alternatives_at))]
 fn alternatives(
     alloc: Global,
     classes: &[Class],
@@ -132,7 +132,7 @@ fn correspondence(
 }
 
 /// What a query asks.
-#[tactic(auto, using(crate::proofs::Levels::question_other), unfolding(protocol_grammar::specs::Reading::question_at))]
+#[tactic(auto, using(crate::proofs::Levels::question_other), unfolding(spec_protocol_grammar::specs::Reading::question_at))]
 pub fn question(alloc: Global, classes: &[Class], at: usize) -> Result<(QuerySketch, usize), Fault>
     requires { at ≤ length classes.now }
     ensures read { Gives question_of result (question_at (most_of classes.now) (words classes.now)

@@ -34,7 +34,7 @@ pub struct TermsSketch {
 
 impl Model for TermsSketch {
     ghost use Rattle.std.specs.Prelude.{List, map};
-    ghost use Rattle.protocol_grammar.specs.Sketch as own;
+    ghost use Rattle.spec_protocol_grammar.specs.Sketch as own;
     ghost use Rattle.pi_parser.specs.Codes.{terms_depth, coded_term_sketches};
 
     ghost Value = { List own.TermSketch };
@@ -84,7 +84,7 @@ pub struct PatternsSketch {
 
 impl Model for PatternsSketch {
     ghost use Rattle.std.specs.Prelude.{List, map};
-    ghost use Rattle.protocol_grammar.specs.Sketch as own;
+    ghost use Rattle.spec_protocol_grammar.specs.Sketch as own;
     ghost use Rattle.pi_parser.specs.Codes.{patterns_depth, coded_pattern_sketches};
 
     ghost Value = { List own.PatternSketch };

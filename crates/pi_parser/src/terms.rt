@@ -1,15 +1,15 @@
 //! Terms and events.
 
 ghost use Rattle.std.specs.Prelude.{◌≡◌, ◌<◌, ◌≤◌, ℕ, length, IfOk};
-ghost use Rattle.protocol_grammar.specs.Classes.{words};
-ghost use Rattle.protocol_grammar.specs.Reading.{built, list_of, list_at, arguments_at, begins_term, term_by, term_at, atom_at};
+ghost use Rattle.spec_protocol_grammar.specs.Classes.{words};
+ghost use Rattle.spec_protocol_grammar.specs.Reading.{built, list_of, list_at, arguments_at, begins_term, term_by, term_at, atom_at};
 ghost use Rattle.pi_parser.specs.Gives.{Gives, IsBehind, most_of};
 ghost use Rattle.pi_parser.specs.Terms.{term_of, terms_of, atom_of};
 
 use crate::error::{Fault, lowest};
 use crate::sketch::{AtomSketch, TermSketch, TermsSketch};
 use crate::words::{class_at, is_at, mark};
-use protocol_grammar::Class;
+use spec_protocol_grammar::Class;
 use std::alloc::Global;
 
 /// Terms, a comma between two of them.

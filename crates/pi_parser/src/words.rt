@@ -2,15 +2,15 @@
 
 ghost use Rattle.std.specs.Prelude.{◌≡◌, ◌+◌, ◌<◌, ◌≤◌, List, map, length, slice_index_or, false, IsTrue, IfOk};
 ghost use Rattle.std.specs.Str.{bytes_eq};
-ghost use Rattle.protocol_tokens.specs.Token as own;
-ghost use Rattle.protocol_grammar.specs.Classes.{class_of, class_by, class_among, reserved_class, symbol_class, number_class, same, fits, words, code};
+ghost use Rattle.spec_protocol_tokens.specs.Token as own;
+ghost use Rattle.spec_protocol_grammar.specs.Classes.{class_of, class_by, class_among, reserved_class, symbol_class, number_class, same, fits, words, code};
 ghost use Rattle.pi_lexer.specs.Token.{token_of, kind_of};
 ghost use Rattle.pi_parser.specs.Gives.{Marks};
 ghost use Rattle.pi_parser.specs.Tables.{table_of};
 
 use crate::error::Fault;
 use pi_lexer::{Token, TokenKind, Tokens};
-use protocol_grammar::Class;
+use spec_protocol_grammar::Class;
 use std::alloc::{AllocError, Global};
 
 fn is(text: &[u8], spelling: &[u8]) -> bool
@@ -70,7 +70,7 @@ fn class_among(table: &[(&[u8], Class)], text: &[u8]) -> Class
 }
 
 /// The class of a reserved word.
-#[tactic(auto, unfolding(protocol_grammar::specs::Classes::reserved_class))]
+#[tactic(auto, unfolding(spec_protocol_grammar::specs::Classes::reserved_class))]
 fn reserved_class(word: &[u8]) -> Class
     ensures { result ≡ reserved_class word.now }
 {
@@ -78,7 +78,7 @@ fn reserved_class(word: &[u8]) -> Class
 }
 
 /// The class of a symbol.
-#[tactic(auto, unfolding(protocol_grammar::specs::Classes::symbol_class))]
+#[tactic(auto, unfolding(spec_protocol_grammar::specs::Classes::symbol_class))]
 fn symbol_class(symbol: &[u8]) -> Class
     ensures { result ≡ symbol_class symbol.now }
 {
@@ -86,7 +86,7 @@ fn symbol_class(symbol: &[u8]) -> Class
 }
 
 /// The class of a number.
-#[tactic(auto, unfolding(protocol_grammar::specs::Classes::number_class))]
+#[tactic(auto, unfolding(spec_protocol_grammar::specs::Classes::number_class))]
 fn number_class(number: &[u8]) -> Class
     ensures { result ≡ number_class number.now }
 {

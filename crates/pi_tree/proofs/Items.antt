@@ -2,7 +2,7 @@
 use Rattle.std.proofs.Common.{◌≡◌, ℕ, zero, suc, ◌-◌, ◌<◌, ◌≤◌, Some, List, length, map, get_or, slice_get, option_map, refl, ap, ◌∙◌, subst, arith}
 use Rattle.std.proofs.lemmas.List.{length-map}
 use Rattle.std.proofs.lemmas.Option.{slice_get-map, slice_get_read}
-use Rattle.calculus.specs.Points.{numbered}
+use Rattle.spec_calculus.specs.Points.{numbered}
 
 -- the item of a number is that at the index before
 pub numbered-index : {A B : Type 0} (f : A → B) (xs : List A) (number : ℕ) (x : A) → 0 < number → number ≤ length (map f xs) → x ≡ get_or xs (number - 1) x → numbered (map f xs) number ≡ Some (f x)

@@ -1,8 +1,8 @@
 -- Declared names by their number.
 use Rattle.std.proofs.Common.{◌≡◌, ℕ, ◌+◌, ◌<◌, List, Some, map, length, get_or, not, slice_get, option_map, refl, ap, ◌∙◌}
 use Rattle.std.proofs.lemmas.Option.{slice_get-map, slice_get_read}
-use Rattle.calculus.specs.Absence.{is_private}
-use Rattle.calculus.proofs.Points.{is_private-add-one}
+use Rattle.spec_calculus.specs.Absence.{is_private}
+use Rattle.spec_calculus.proofs.Points.{is_private-add-one}
 use Rattle.pi_tree.specs.declared.names.Declared.{Declared}
 use Rattle.pi_tree.specs.Names.{declared_of}
 

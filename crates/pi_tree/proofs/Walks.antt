@@ -1,7 +1,7 @@
 -- Walks over the nodes of a process.
 use Rattle.std.proofs.Common.{◌≡◌, ℕ, zero, suc, ◌+◌, ◌-◌, Some, List, [], ◌∷◌, ◌++◌, length, slice_get, refl, ap, ◌∙◌, subst, arith, length-append}
-use Rattle.calculus.specs.Syntax.{Pattern, Expression, Process, Nil, Output, Input, Parallel, Replication, New, Let, Event}
-use Rattle.calculus.specs.Points.{nodes, name_arguments}
+use Rattle.spec_calculus.specs.Syntax.{Pattern, Expression, Process, Nil, Output, Input, Parallel, Replication, New, Let, Event}
+use Rattle.spec_calculus.specs.Points.{nodes, name_arguments}
 use Rattle.pi_tree.specs.Processes.{process_of}
 use Rattle.pi_tree.specs.Walks.{Ends}
 use Rattle.pi_tree.specs.declared.points.Walk.{Walk}

@@ -1,8 +1,8 @@
 -- What the accessors of a protocol tell.
 use Rattle.std.specs.Prelude.{ℕ, ◌^◌, ◌-◌, ◌<◌, ◌≤◌, min, Bool, false, List, [], ◌∷◌, length, Option, None, Some, option_map, option_and_then, IsTrue}
 use Rattle.std.specs.Option.{option_map_or}
-use Rattle.calculus.specs.Syntax as calculus
-use Rattle.calculus.specs.Points.{numbered, nodes, is_restriction}
+use Rattle.spec_calculus.specs.Syntax as calculus
+use Rattle.spec_calculus.specs.Points.{numbered, nodes, is_restriction}
 use Rattle.pi_tree.specs.declared.accessors.Kind.{Kind}
 use Rattle.pi_tree.specs.declared.accessors.Kind.TheVariants.{Free, Ctor, Dtor, Event, Query, Point}
 

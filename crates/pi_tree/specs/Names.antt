@@ -1,5 +1,5 @@
 -- What contracts see of a declared name.
-use Rattle.calculus.specs.Syntax as calculus
+use Rattle.spec_calculus.specs.Syntax as calculus
 use Rattle.pi_tree.specs.declared.names.Declared.{Declared}
 
 abbrev pub declared_of : Declared → calculus.Declared

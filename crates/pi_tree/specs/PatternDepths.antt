@@ -2,7 +2,7 @@
 use Rattle.std.specs.Prelude.{◌≤◌, max, List, [], ◌∷◌, map}
 use Rattle.std.proofs.Common.{arith}
 use denote.Param.Weighed.{most}
-use Rattle.trees.specs.Tree.{depth, depths, trees}
+use Rattle.spec_trees.specs.Tree.{depth, depths, trees}
 use Rattle.pi_tree.specs.declared.syntax.Pat.{Pat}
 use Rattle.pi_tree.specs.declared.syntax.Pat.TheVariants.{Bind, Equal, App, Tuple}
 use Rattle.pi_tree.specs.declared.syntax.Pats.TheDeep.{deep-Pat}

@@ -1,6 +1,6 @@
 -- What contracts see of patterns and expressions.
-use Rattle.trees.specs.Tree.{Leaf, Node, trees}
-use Rattle.calculus.specs.Syntax as calculus
+use Rattle.spec_trees.specs.Tree.{Leaf, Node, trees}
+use Rattle.spec_calculus.specs.Syntax as calculus
 use Rattle.pi_tree.specs.declared.syntax.Pat.{Pat}
 use Rattle.pi_tree.specs.declared.syntax.Pat.TheVariants.{Bind, Equal, App, Tuple}
 use Rattle.pi_tree.specs.declared.syntax.Expr.{Expr}

@@ -1,5 +1,5 @@
 -- What contracts see of a process.
-use Rattle.calculus.specs.Syntax as calculus
+use Rattle.spec_calculus.specs.Syntax as calculus
 use Rattle.pi_tree.specs.declared.syntax.Process.{Process, Nil, Output', Input', Par', Copies', New', Let', Event'}
 use Rattle.pi_tree.specs.Terms.{term_of}
 use Rattle.pi_tree.specs.Patterns.{pattern_of, expression_of}

@@ -1,5 +1,5 @@
 -- What contracts see of a query.
-use Rattle.calculus.specs.Syntax as calculus
+use Rattle.spec_calculus.specs.Syntax as calculus
 use Rattle.pi_tree.specs.declared.protocols.Query.{Query}
 use Rattle.pi_tree.specs.declared.protocols.Query.TheVariants.{Secret, SecretNew, Corr}
 use Rattle.pi_tree.specs.Terms.{term_of}

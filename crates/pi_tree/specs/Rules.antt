@@ -1,5 +1,5 @@
 -- What contracts see of rules and destructors.
-use Rattle.calculus.specs.Syntax as calculus
+use Rattle.spec_calculus.specs.Syntax as calculus
 use Rattle.pi_tree.specs.declared.destructors.Rule.{Rule}
 use Rattle.pi_tree.specs.declared.destructors.Dtor.{Dtor}
 use Rattle.pi_tree.specs.Terms.{term_of}

@@ -1,6 +1,6 @@
 -- What contracts see of terms.
-use Rattle.trees.specs.Tree.{Leaf, Node, trees}
-use Rattle.calculus.specs.Syntax as calculus
+use Rattle.spec_trees.specs.Tree.{Leaf, Node, trees}
+use Rattle.spec_calculus.specs.Syntax as calculus
 use Rattle.pi_tree.specs.declared.syntax.Term.{Term}
 use Rattle.pi_tree.specs.declared.syntax.Term.TheVariants.{Var, Free, Made, App, Tuple}
 

@@ -1,8 +1,8 @@
 -- What contracts see of values.
-use Rattle.trees.specs.Tree.{Leaf, Node, trees}
-use Rattle.calculus.specs.Syntax.{Constructor}
-use Rattle.calculus.specs.Syntax as calculus
-use Rattle.calculus.specs.Values as values
+use Rattle.spec_trees.specs.Tree.{Leaf, Node, trees}
+use Rattle.spec_calculus.specs.Syntax.{Constructor}
+use Rattle.spec_calculus.specs.Syntax as calculus
+use Rattle.spec_calculus.specs.Values as values
 use Rattle.pi_tree.specs.declared.value_trees.Value.{Value}
 use Rattle.pi_tree.specs.declared.value_trees.Value.TheVariants.{Free, Made, Fresh, App, Tuple}
 

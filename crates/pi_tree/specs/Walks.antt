@@ -1,7 +1,7 @@
 -- Where a walk over the nodes of a process in pre-order ends.
 use Rattle.std.specs.Prelude.{◌≡◌, ℕ, ◌+◌, Some, length, slice_get}
-use Rattle.calculus.specs.Syntax as calculus
-use Rattle.calculus.specs.Points.{nodes, name_arguments}
+use Rattle.spec_calculus.specs.Syntax as calculus
+use Rattle.spec_calculus.specs.Points.{nodes, name_arguments}
 use Rattle.pi_tree.specs.Processes.{process_of}
 use Rattle.pi_tree.specs.declared.points.Walk.{Walk}
 use Rattle.pi_tree.specs.declared.points.Walk.TheVariants.{At, Past}

@@ -1,7 +1,7 @@
 //! What a protocol tells of its names, rules, queries and points by their number.
 
 ghost use Rattle.std.specs.Prelude.{◌≡◌, ◌<◌, ◌≤◌, length, map, Some, option_map};
-ghost use Rattle.calculus.specs.Points.{numbered, nodes, name_arguments};
+ghost use Rattle.spec_calculus.specs.Points.{numbered, nodes, name_arguments};
 ghost use Rattle.pi_tree.specs.Names.{declared_of};
 ghost use Rattle.pi_tree.specs.Rules.{rule_of, destructor_of};
 ghost use Rattle.pi_tree.specs.Queries.{query_of};

@@ -23,8 +23,8 @@ pub struct Rules {
 
 impl Model for Rules {
     ghost use Rattle.std.specs.Prelude.{List, map};
-    ghost use Rattle.calculus.specs.Syntax as calculus;
-    ghost use Rattle.calculus.specs.Codes.{coded_rules};
+    ghost use Rattle.spec_calculus.specs.Syntax as calculus;
+    ghost use Rattle.spec_calculus.specs.Codes.{coded_rules};
 
     ghost Value = { List calculus.Rule };
 
@@ -50,8 +50,8 @@ pub struct Dtors {
 
 impl Model for Dtors {
     ghost use Rattle.std.specs.Prelude.{List, map};
-    ghost use Rattle.calculus.specs.Syntax as calculus;
-    ghost use Rattle.calculus.specs.Codes.{coded_destructors};
+    ghost use Rattle.spec_calculus.specs.Syntax as calculus;
+    ghost use Rattle.spec_calculus.specs.Codes.{coded_destructors};
 
     ghost Value = { List calculus.Destructor };
 

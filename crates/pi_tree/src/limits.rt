@@ -2,7 +2,7 @@
 //! here are those numbers.
 
 ghost use Rattle.std.specs.Prelude.{◌≡◌};
-ghost use Rattle.calculus.specs.Bounds.{most_bytes, most_report_bytes, most_run_bytes, most_line_bytes, most_digits, most_levels, most_names, most_arguments, most_rules, most_alternatives, most_events, most_queries, most_written_symbols, most_points, most_points_above, most_symbols, most_visits, most_clauses};
+ghost use Rattle.spec_calculus.specs.Bounds.{most_bytes, most_report_bytes, most_run_bytes, most_line_bytes, most_digits, most_levels, most_names, most_arguments, most_rules, most_alternatives, most_events, most_queries, most_written_symbols, most_points, most_points_above, most_symbols, most_visits, most_clauses};
 
 /// The most bytes of a protocol's text.
 pub const MOST_BYTES: usize = 1_048_576;

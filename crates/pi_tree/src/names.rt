@@ -36,7 +36,7 @@ pub struct Declarations {
 
 impl Model for Declarations {
     ghost use Rattle.std.specs.Prelude.{List, map};
-    ghost use Rattle.calculus.specs.Syntax as calculus;
+    ghost use Rattle.spec_calculus.specs.Syntax as calculus;
 
     ghost Value = { List calculus.Declared };
 

@@ -1,7 +1,7 @@
 //! Points: the nodes of a process in pre-order.
 
 ghost use Rattle.std.specs.Prelude.{◌≡◌, ◌+◌, ◌^◌, ◌<◌, length};
-ghost use Rattle.calculus.specs.Points.{nodes};
+ghost use Rattle.spec_calculus.specs.Points.{nodes};
 ghost use Rattle.pi_tree.specs.Processes.{process_of};
 ghost use Rattle.pi_tree.specs.Accessors.{capped};
 ghost use Rattle.pi_tree.specs.Walks.{Ends};

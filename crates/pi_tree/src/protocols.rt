@@ -1,8 +1,8 @@
 //! Queries and protocols.
 
 ghost use Rattle.std.specs.Prelude.{◌≡◌, ◌↔◌, IsTrue, IfOk};
-ghost use Rattle.trees.specs.Tree.{some_leaf, some_leaves, trees};
-ghost use Rattle.calculus.specs.Absence.{is_private, is_absent_name, IsAbsent};
+ghost use Rattle.spec_trees.specs.Tree.{some_leaf, some_leaves, trees};
+ghost use Rattle.spec_calculus.specs.Absence.{is_private, is_absent_name, IsAbsent};
 ghost use Rattle.pi_tree.specs.Terms.{term_of};
 ghost use Rattle.pi_tree.specs.Queries.{query_of};
 ghost use Rattle.pi_tree.specs.Protocols.{protocol_of};
@@ -21,8 +21,8 @@ pub struct Alternatives {
 
 impl Model for Alternatives {
     ghost use Rattle.std.specs.Prelude.{List, map};
-    ghost use Rattle.calculus.specs.Syntax as calculus;
-    ghost use Rattle.calculus.specs.Codes.{coded_alternatives};
+    ghost use Rattle.spec_calculus.specs.Syntax as calculus;
+    ghost use Rattle.spec_calculus.specs.Codes.{coded_alternatives};
 
     ghost Value = { List (List calculus.EventTerm) };
 
@@ -54,8 +54,8 @@ pub struct Queries {
 
 impl Model for Queries {
     ghost use Rattle.std.specs.Prelude.{List, map};
-    ghost use Rattle.calculus.specs.Syntax as calculus;
-    ghost use Rattle.calculus.specs.Codes.{coded_queries};
+    ghost use Rattle.spec_calculus.specs.Syntax as calculus;
+    ghost use Rattle.spec_calculus.specs.Codes.{coded_queries};
 
     ghost Value = { List calculus.Query };
 

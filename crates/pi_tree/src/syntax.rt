@@ -1,9 +1,9 @@
 //! Terms, patterns, expressions, events and processes (Blanchet 2016, section 2.1, untyped).
 
 ghost use Rattle.std.specs.Prelude.{◌≡◌, IfOk};
-ghost use Rattle.trees.specs.Tree.{some_leaf, some_leaves, trees};
-ghost use Rattle.calculus.specs.Syntax as calculus;
-ghost use Rattle.calculus.specs.Absence.{term_holds, some_term, some_pattern, some_hole, some_expression, process_holds, is_free};
+ghost use Rattle.spec_trees.specs.Tree.{some_leaf, some_leaves, trees};
+ghost use Rattle.spec_calculus.specs.Syntax as calculus;
+ghost use Rattle.spec_calculus.specs.Absence.{term_holds, some_term, some_pattern, some_hole, some_expression, process_holds, is_free};
 ghost use Rattle.pi_tree.specs.Terms.{term_of};
 ghost use Rattle.pi_tree.specs.Patterns.{pattern_of, expression_of};
 ghost use Rattle.pi_tree.specs.Events.{event_of};
@@ -37,9 +37,9 @@ pub struct Terms {
 
 impl Model for Terms {
     ghost use Rattle.std.specs.Prelude.{List, map};
-    ghost use Rattle.trees.specs.Tree.{depths, trees};
-    ghost use Rattle.calculus.specs.Syntax as calculus;
-    ghost use Rattle.calculus.specs.Codes.{coded_terms};
+    ghost use Rattle.spec_trees.specs.Tree.{depths, trees};
+    ghost use Rattle.spec_calculus.specs.Syntax as calculus;
+    ghost use Rattle.spec_calculus.specs.Codes.{coded_terms};
 
     ghost Value = { List calculus.Term };
 
@@ -79,9 +79,9 @@ pub struct Pats {
 
 impl Model for Pats {
     ghost use Rattle.std.specs.Prelude.{List, map};
-    ghost use Rattle.trees.specs.Tree.{depths, trees};
-    ghost use Rattle.calculus.specs.Syntax as calculus;
-    ghost use Rattle.calculus.specs.Codes.{coded_patterns};
+    ghost use Rattle.spec_trees.specs.Tree.{depths, trees};
+    ghost use Rattle.spec_calculus.specs.Syntax as calculus;
+    ghost use Rattle.spec_calculus.specs.Codes.{coded_patterns};
 
     ghost Value = { List calculus.Pattern };
 
@@ -121,8 +121,8 @@ pub struct Atoms {
 
 impl Model for Atoms {
     ghost use Rattle.std.specs.Prelude.{List, map};
-    ghost use Rattle.calculus.specs.Syntax as calculus;
-    ghost use Rattle.calculus.specs.Codes.{coded_events};
+    ghost use Rattle.spec_calculus.specs.Syntax as calculus;
+    ghost use Rattle.spec_calculus.specs.Codes.{coded_events};
 
     ghost Value = { List calculus.EventTerm };
 

@@ -28,9 +28,9 @@ pub struct Values {
 
 impl Model for Values {
     ghost use Rattle.std.specs.Prelude.{List, map};
-    ghost use Rattle.trees.specs.Tree.{depths, trees};
-    ghost use Rattle.calculus.specs.Values as calculus;
-    ghost use Rattle.calculus.specs.Codes.{coded_values};
+    ghost use Rattle.spec_trees.specs.Tree.{depths, trees};
+    ghost use Rattle.spec_calculus.specs.Values as calculus;
+    ghost use Rattle.spec_calculus.specs.Codes.{coded_values};
 
     ghost Value = { List calculus.Value };
 

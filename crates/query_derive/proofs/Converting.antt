@@ -7,15 +7,15 @@ use Rattle.std.proofs.lemmas.Option.{slice_get_past, slice_get-map, slice_get_re
 use Rattle.std.proofs.lemmas.List.{take_all}
 use Rattle.std.proofs.lemmas.List.Elements.{filter_map-append}
 use Rattle.std.proofs.lemmas.Simd.{map-map}
-use Rattle.trees.specs.Tree.{Tree, Node, node, trees, size, sizes}
-use Rattle.calculus.specs.Syntax.{Symbol, Protocol}
-use Rattle.calculus.specs.Syntax as calculus
-use Rattle.calculus.specs.Points.{numbered}
-use Rattle.clauses.specs.Variables.{leaves, row_leaves}
-use Rattle.clauses.specs.Norm.{distinct}
-use Rattle.translation.specs.Conversion.{symbol_over, row_length}
-use Rattle.translation.specs.Goal.{query_leaf, query_term, variable_at}
-use Rattle.abstraction.proofs.Values.{row_length-trees, converted_row-trees}
+use Rattle.spec_trees.specs.Tree.{Tree, Node, node, trees, size, sizes}
+use Rattle.spec_calculus.specs.Syntax.{Symbol, Protocol}
+use Rattle.spec_calculus.specs.Syntax as calculus
+use Rattle.spec_calculus.specs.Points.{numbered}
+use Rattle.spec_clauses.specs.Variables.{leaves, row_leaves}
+use Rattle.spec_clauses.specs.Norm.{distinct}
+use Rattle.spec_translation.specs.Conversion.{symbol_over, row_length}
+use Rattle.spec_translation.specs.Goal.{query_leaf, query_term, variable_at}
+use Rattle.spec_abstraction.proofs.Values.{row_length-trees, converted_row-trees}
 use Rattle.pi_tree.specs.declared.syntax.Term as syntax
 use Rattle.pi_tree.specs.Terms.{term_of}
 use Rattle.clause_form.proofs.Comparing.{map_drop}

@@ -6,18 +6,18 @@ use Rattle.std.proofs.lemmas.Bool.{cases_order, cases_lt}
 use Rattle.std.proofs.lemmas.List.{length-map}
 use Rattle.std.proofs.lemmas.Option.{slice_get_past, slice_get-map}
 use Rattle.std.proofs.lemmas.Simd.{map-map}
-use Rattle.calculus.specs.Syntax.{EventTerm, Query, Secret, SecretNew, Correspondence, Protocol}
-use Rattle.calculus.specs.Points.{numbered}
-use Rattle.well_formed.specs.Limits.{IsSmallQuery, IsWithinLimits}
-use Rattle.terms.specs.Term.{Term, Subst}
-use Rattle.terms.proofs.Replace.{some_same}
-use Rattle.clauses.specs.Fact.{Fact, Att, Mess, Ev, Mev, Bad, Clause, total, fact_size, fact_under}
-use Rattle.clauses.specs.Limits.{IsWithinLimit}
-use Rattle.clauses.specs.Subsumption.{ComesBefore}
-use Rattle.translation.specs.Goal.{required}
-use Rattle.translation.specs.Satisfied.{IsSatisfied, GoalRowHolds}
-use Rattle.certificates.specs.Certificate.{GoalHolds}
-use Rattle.soundness.proofs.GoalRows.{rows_tell}
+use Rattle.spec_calculus.specs.Syntax.{EventTerm, Query, Secret, SecretNew, Correspondence, Protocol}
+use Rattle.spec_calculus.specs.Points.{numbered}
+use Rattle.spec_well_formed.specs.Limits.{IsSmallQuery, IsWithinLimits}
+use Rattle.spec_terms.specs.Term.{Term, Subst}
+use Rattle.spec_terms.proofs.Replace.{some_same}
+use Rattle.spec_clauses.specs.Fact.{Fact, Att, Mess, Ev, Mev, Bad, Clause, total, fact_size, fact_under}
+use Rattle.spec_clauses.specs.Limits.{IsWithinLimit}
+use Rattle.spec_clauses.specs.Subsumption.{ComesBefore}
+use Rattle.spec_translation.specs.Goal.{required}
+use Rattle.spec_translation.specs.Satisfied.{IsSatisfied, GoalRowHolds}
+use Rattle.spec_certificates.specs.Certificate.{GoalHolds}
+use Rattle.spec_soundness.proofs.GoalRows.{rows_tell}
 use Rattle.unify_match.specs.declared.bound.Bound.{Bound}
 use Rattle.query_derive.specs.Sought.{Sought, sought_for, all_sought, IsRowFor, IsFirstRowFor, HoldsAmong, IsFirstAmong}
 use Rattle.query_derive.specs.Narrowing.{Narrows, Excludes, ArePlaced, AreFirstPlaced}

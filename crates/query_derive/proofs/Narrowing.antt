@@ -4,15 +4,15 @@ use Rattle.std.specs.Prelude.{Result, Ok, Err, IfOk}
 use Rattle.std.proofs.lemmas.List.{length-map}
 use Rattle.std.proofs.lemmas.Simd.{map-map}
 use Rattle.std.proofs.lemmas.Option.{slice_get_past, slice_get-map, slice_get_read}
-use Rattle.trees.specs.Tree.{Leaf, node, bind, trees, size, sizes}
-use Rattle.trees.proofs.Rows.{bind-node, node-injective}
-use Rattle.terms.specs.Term.{Sym, Term, Subst}
-use Rattle.terms.specs.Unifier.{Matches, MatchesAll}
-use Rattle.terms.specs.Binding.{Agrees}
-use Rattle.terms.proofs.Replace.{some_same, some_none}
-use Rattle.terms.proofs.Matches.{Agrees-at}
-use Rattle.clauses.specs.Fact.{Fact, Mev, Bad, fact_under}
-use Rattle.clauses.specs.Subsumption.{hypothesis_at}
+use Rattle.spec_trees.specs.Tree.{Leaf, node, bind, trees, size, sizes}
+use Rattle.spec_trees.proofs.Rows.{bind-node, node-injective}
+use Rattle.spec_terms.specs.Term.{Sym, Term, Subst}
+use Rattle.spec_terms.specs.Unifier.{Matches, MatchesAll}
+use Rattle.spec_terms.specs.Binding.{Agrees}
+use Rattle.spec_terms.proofs.Replace.{some_same, some_none}
+use Rattle.spec_terms.proofs.Matches.{Agrees-at}
+use Rattle.spec_clauses.specs.Fact.{Fact, Mev, Bad, fact_under}
+use Rattle.spec_clauses.specs.Subsumption.{hypothesis_at}
 use Rattle.term_tree.specs.Bank.{tree_at}
 use Rattle.term_tree.specs.declared.bank.Id.{Id}
 use Rattle.unify_match.specs.declared.bound.Bound.{Bound}

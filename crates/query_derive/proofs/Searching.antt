@@ -3,11 +3,11 @@ use Rattle.std.proofs.Common.{◌≡◌, ◌↔◌, ◌⊎◌, inl, inr, ℕ, ze
 use Rattle.std.specs.Prelude.{Result, Ok, Err, IfOk, IfSome}
 use Rattle.std.proofs.lemmas.Bool.{cases_order, cases_lt}
 use Rattle.std.proofs.lemmas.List.{length-map, take_rest}
-use Rattle.terms.specs.Term.{Term, Subst}
-use Rattle.terms.specs.Binding.{replaced_once}
-use Rattle.terms.proofs.Matches.{replaced-agrees}
-use Rattle.clauses.specs.Fact.{Fact, fact_under}
-use Rattle.clauses.specs.Subsumption.{hypothesis_at, ComesBefore}
+use Rattle.spec_terms.specs.Term.{Term, Subst}
+use Rattle.spec_terms.specs.Binding.{replaced_once}
+use Rattle.spec_terms.proofs.Matches.{replaced-agrees}
+use Rattle.spec_clauses.specs.Fact.{Fact, fact_under}
+use Rattle.spec_clauses.specs.Subsumption.{hypothesis_at, ComesBefore}
 use Rattle.unify_match.specs.declared.bound.Bound.{Bound}
 use Rattle.unify_match.specs.Trail.{Extends}
 use Rattle.unify_match.specs.Seen.{seen, AreBindings}

@@ -1,11 +1,11 @@
 -- Goal rows of a clause: the first in dictionary order (Blanchet 2016, section 3.2: correspondences).
 use Rattle.std.specs.Prelude.{◌≡◌, ℕ, Some, List, ◌∷◌}
-use Rattle.calculus.specs.Syntax.{Query, Protocol}
-use Rattle.calculus.specs.Points.{numbered}
-use Rattle.terms.specs.Term.{Term}
-use Rattle.clauses.specs.Fact.{Clause}
-use Rattle.clauses.specs.Subsumption.{ComesBefore}
-use Rattle.certificates.specs.Certificate.{GoalHolds}
+use Rattle.spec_calculus.specs.Syntax.{Query, Protocol}
+use Rattle.spec_calculus.specs.Points.{numbered}
+use Rattle.spec_terms.specs.Term.{Term}
+use Rattle.spec_clauses.specs.Fact.{Clause}
+use Rattle.spec_clauses.specs.Subsumption.{ComesBefore}
+use Rattle.spec_certificates.specs.Certificate.{GoalHolds}
 use Rattle.query_derive.specs.declared.rows.QueryRow.{QueryRow}
 
 -- The row, the number of an alternative and then positions, holds, and none that holds comes before it.

@@ -1,9 +1,9 @@
 -- What matching does to bindings, and positions under bindings.
 use Rattle.std.specs.Prelude.{◌↔◌, ℕ, List}
-use Rattle.terms.specs.Term.{Term, Subst}
-use Rattle.terms.specs.Binding.{Agrees}
-use Rattle.clauses.specs.Fact.{Fact}
-use Rattle.clauses.specs.Subsumption.{ComesBefore}
+use Rattle.spec_terms.specs.Term.{Term, Subst}
+use Rattle.spec_terms.specs.Binding.{Agrees}
+use Rattle.spec_clauses.specs.Fact.{Fact}
+use Rattle.spec_clauses.specs.Subsumption.{ComesBefore}
 use Rattle.unify_match.specs.declared.bound.Bound.{Bound}
 use Rattle.unify_match.specs.Seen.{seen}
 use Rattle.query_derive.specs.Sought.{AreAt}

@@ -1,11 +1,11 @@
 -- A correspondence as facts: what a clause is to conclude, and for an alternative what is looked for among its hypotheses.
 use Rattle.std.specs.Prelude.{◌≡◌, ℕ, Some, List, [], ◌∷◌, map}
-use Rattle.calculus.specs.Syntax.{Variable, EventTerm, Query, Secret, SecretNew, Correspondence, Protocol}
-use Rattle.calculus.specs.Points.{numbered}
-use Rattle.terms.specs.Term.{Term, Subst}
-use Rattle.clauses.specs.Fact.{Fact, Bad, Clause, fact_under}
-use Rattle.clauses.specs.Subsumption.{hypothesis_at, ComesBefore}
-use Rattle.translation.specs.Goal.{query_leaf, event_variables, required}
+use Rattle.spec_calculus.specs.Syntax.{Variable, EventTerm, Query, Secret, SecretNew, Correspondence, Protocol}
+use Rattle.spec_calculus.specs.Points.{numbered}
+use Rattle.spec_terms.specs.Term.{Term, Subst}
+use Rattle.spec_clauses.specs.Fact.{Fact, Bad, Clause, fact_under}
+use Rattle.spec_clauses.specs.Subsumption.{hypothesis_at, ComesBefore}
+use Rattle.spec_translation.specs.Goal.{query_leaf, event_variables, required}
 
 pub record Sought : Type 0 where
   pub conclusion : Fact Term

@@ -1,7 +1,7 @@
 -- What contracts see of events as owned facts.
 use Rattle.std.specs.Prelude.{map}
-use Rattle.clauses.specs.Fact.{Fact, Mev, Bad}
-use Rattle.terms.specs.Term.{Term}
+use Rattle.spec_clauses.specs.Fact.{Fact, Mev, Bad}
+use Rattle.spec_terms.specs.Term.{Term}
 use Rattle.query_derive.specs.Sought as sought
 use Rattle.query_derive.specs.declared.wanted.Event.{Event}
 use Rattle.query_derive.specs.declared.wanted.Wanted.{Wanted}

@@ -2,14 +2,14 @@
 //! (Blanchet 2016, sections 3.2 and 4).
 
 ghost use Rattle.std.specs.Prelude.{◌≡◌, [], ◌∷◌, ◌<◌, ◌≤◌, length, map, IfOk, OnErr};
-ghost use Rattle.calculus.specs.Points.{numbered, nodes};
-ghost use Rattle.well_formed.specs.Limits.{IsSmallQuery, IsWithinLimits};
-ghost use Rattle.well_formed.specs.Queries.{HasQueryLeaves, HasProperQueries};
-ghost use Rattle.clauses.specs.Fact.{Bad};
-ghost use Rattle.clauses.specs.Norm.{norms};
-ghost use Rattle.translation.specs.Attacker.{variables_from};
-ghost use Rattle.translation.specs.Goal.{goal_raw};
-ghost use Rattle.translation.specs.Translation.{goal_clauses};
+ghost use Rattle.spec_calculus.specs.Points.{numbered, nodes};
+ghost use Rattle.spec_well_formed.specs.Limits.{IsSmallQuery, IsWithinLimits};
+ghost use Rattle.spec_well_formed.specs.Queries.{HasQueryLeaves, HasProperQueries};
+ghost use Rattle.spec_clauses.specs.Fact.{Bad};
+ghost use Rattle.spec_clauses.specs.Norm.{norms};
+ghost use Rattle.spec_translation.specs.Attacker.{variables_from};
+ghost use Rattle.spec_translation.specs.Goal.{goal_raw};
+ghost use Rattle.spec_translation.specs.Translation.{goal_clauses};
 ghost use Rattle.pi_tree.specs.Protocols.{protocol_of};
 ghost use Rattle.pi_tree.specs.Queries.{query_of};
 ghost use Rattle.pi_tree.specs.Accessors.{IsThere};

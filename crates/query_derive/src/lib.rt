@@ -3,11 +3,11 @@
 #![tactic(auto)]
 
 ghost use Rattle.std.specs.Prelude.{◌≡◌, ◌↔◌, ℕ, List};
-ghost use Rattle.calculus.specs.Syntax.{Query, Protocol};
-ghost use Rattle.terms.specs.Term.{Term};
-ghost use Rattle.clauses.specs.Fact.{Clause};
-ghost use Rattle.certificates.specs.Certificate.{GoalHolds};
-ghost use Rattle.translation.specs.Satisfied.{IsSatisfied};
+ghost use Rattle.spec_calculus.specs.Syntax.{Query, Protocol};
+ghost use Rattle.spec_terms.specs.Term.{Term};
+ghost use Rattle.spec_clauses.specs.Fact.{Clause};
+ghost use Rattle.spec_certificates.specs.Certificate.{GoalHolds};
+ghost use Rattle.spec_translation.specs.Satisfied.{IsSatisfied};
 ghost use Rattle.query_derive.specs.GoalRows.{IsFirstGoalRow};
 
 mod goal;

@@ -1,9 +1,9 @@
 //! Owned terms and facts made those of a bank: the bindings of a query's variables are extended.
 
 ghost use Rattle.std.specs.Prelude.{◌≡◌, ◌↔◌, ◌<◌, Some, IsTrue, true, false, length, map, IfOk};
-ghost use Rattle.terms.specs.Unifier.{Matches, MatchesAll};
-ghost use Rattle.clauses.specs.Fact.{Bad, fact_under};
-ghost use Rattle.clauses.specs.Subsumption.{hypothesis_at};
+ghost use Rattle.spec_terms.specs.Unifier.{Matches, MatchesAll};
+ghost use Rattle.spec_clauses.specs.Fact.{Bad, fact_under};
+ghost use Rattle.spec_clauses.specs.Subsumption.{hypothesis_at};
 ghost use Rattle.term_tree.specs.Bank.{tree_at, AreKnown};
 ghost use Rattle.unify_match.specs.Trail.{Extends};
 ghost use Rattle.unify_match.specs.Seen.{AreBindings};

@@ -1,7 +1,7 @@
 //! Positions of events among the hypotheses of a clause.
 
 ghost use Rattle.std.specs.Prelude.{◌≡◌, ◌^◌, ◌<◌, ℕ, List, true, false, None, length, map, IfOk, IfSome, IfNone};
-ghost use Rattle.clauses.specs.Subsumption.{hypothesis_at};
+ghost use Rattle.spec_clauses.specs.Subsumption.{hypothesis_at};
 ghost use Rattle.unify_match.specs.Seen.{AreBindings};
 ghost use Rattle.clause_form.specs.Facts.{fact_of};
 ghost use Rattle.clause_form.specs.Seen.{fact_at, AreFactsIn};

@@ -1,10 +1,10 @@
 //! Which clauses satisfy a correspondence, and by which goal row.
 
 ghost use Rattle.std.specs.Prelude.{◌≡◌, ◌^◌, ◌<◌, ◌↔◌, ℕ, List, IsTrue, None, length, map, IfOk, IfSome};
-ghost use Rattle.well_formed.specs.Limits.{IsWithinLimits};
-ghost use Rattle.clauses.specs.Limits.{IsWithinLimit};
-ghost use Rattle.translation.specs.Satisfied.{IsSatisfied};
-ghost use Rattle.certificates.specs.Certificate.{GoalHolds};
+ghost use Rattle.spec_well_formed.specs.Limits.{IsWithinLimits};
+ghost use Rattle.spec_clauses.specs.Limits.{IsWithinLimit};
+ghost use Rattle.spec_translation.specs.Satisfied.{IsSatisfied};
+ghost use Rattle.spec_certificates.specs.Certificate.{GoalHolds};
 ghost use Rattle.pi_tree.specs.Protocols.{protocol_of};
 ghost use Rattle.pi_tree.specs.Accessors.{IsThere};
 ghost use Rattle.pi_tree.specs.declared.accessors.Kind.TheVariants.{Query};

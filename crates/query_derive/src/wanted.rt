@@ -3,17 +3,17 @@
 
 ghost use Rattle.std.specs.Prelude.{◌≡◌, ℕ, ◌+◌, ◌-◌, ◌≤◌, [], ◌∷◌, ◌++◌, nat_eq, cond, length, map, filter_map, option_map, IfOk, OnOk};
 ghost use Rattle.std.specs.List.{list_any, AllByRecursion};
-ghost use Rattle.trees.specs.Tree.{Leaf, size, sizes, trees};
-ghost use Rattle.calculus.specs.Syntax.{Variable, Constructor};
-ghost use Rattle.calculus.specs.Points.{numbered};
-ghost use Rattle.calculus.specs.Runs.{is_data as is_data_symbol};
-ghost use Rattle.well_formed.specs.Limits.{IsSmallEvent, IsSmallQuery};
-ghost use Rattle.clauses.specs.Variables.{leaves, row_leaves};
-ghost use Rattle.clauses.specs.Norm.{distinct};
-ghost use Rattle.terms.specs.Term.{Tuple as parts_tuple};
+ghost use Rattle.spec_trees.specs.Tree.{Leaf, size, sizes, trees};
+ghost use Rattle.spec_calculus.specs.Syntax.{Variable, Constructor};
+ghost use Rattle.spec_calculus.specs.Points.{numbered};
+ghost use Rattle.spec_calculus.specs.Runs.{is_data as is_data_symbol};
+ghost use Rattle.spec_well_formed.specs.Limits.{IsSmallEvent, IsSmallQuery};
+ghost use Rattle.spec_clauses.specs.Variables.{leaves, row_leaves};
+ghost use Rattle.spec_clauses.specs.Norm.{distinct};
+ghost use Rattle.spec_terms.specs.Term.{Tuple as parts_tuple};
 ghost use Rattle.term_tree.specs.Bank.{symbol_of};
-ghost use Rattle.translation.specs.Conversion.{free_term, symbol_over};
-ghost use Rattle.translation.specs.Goal.{query_leaf, query_term, variable_at, event_variables, required};
+ghost use Rattle.spec_translation.specs.Conversion.{free_term, symbol_over};
+ghost use Rattle.spec_translation.specs.Goal.{query_leaf, query_term, variable_at, event_variables, required};
 ghost use Rattle.pi_tree.specs.Terms.{term_of};
 ghost use Rattle.pi_tree.specs.Events.{event_of};
 ghost use Rattle.pi_tree.specs.Queries.{query_of};

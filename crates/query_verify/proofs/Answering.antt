@@ -1,12 +1,12 @@
 -- What translation, log and certificate come to is the answer.
 use Rattle.std.proofs.Common.{◌≡◌, ◌∙◌, ℕ, Some, List, map, ap, sym, subst, refl, inl, inr}
-use Rattle.calculus.specs.Syntax.{Query, Protocol}
-use Rattle.calculus.specs.Points.{numbered}
-use Rattle.terms.specs.Term.{Term}
-use Rattle.clauses.specs.Fact.{Clause}
-use Rattle.translation.specs.Translation.{Clauses, LargeAt, IsTranslation}
-use Rattle.certificates.specs.Certificate.{Certificate}
-use Rattle.verdicts.specs.Verdict.{Proved, Budget, SizePair, SizePoint, Unmet}
+use Rattle.spec_calculus.specs.Syntax.{Query, Protocol}
+use Rattle.spec_calculus.specs.Points.{numbered}
+use Rattle.spec_terms.specs.Term.{Term}
+use Rattle.spec_clauses.specs.Fact.{Clause}
+use Rattle.spec_translation.specs.Translation.{Clauses, LargeAt, IsTranslation}
+use Rattle.spec_certificates.specs.Certificate.{Certificate}
+use Rattle.spec_verdicts.specs.Verdict.{Proved, Budget, SizePair, SizePoint, Unmet}
 use Rattle.term_tree.specs.declared.bank.Id.{Id}
 use Rattle.clause_form.specs.Seen.{clause_at}
 use Rattle.clause_saturate.specs.declared.log.Entry.{Entry}

@@ -1,7 +1,7 @@
 -- A log over ids, read out of its bank, tells what it did.
 use Rattle.std.proofs.Common.{◌≡◌, ◌∙◌, ℕ, suc, None, List, [], ◌∷◌, length, map, ap, sym, subst, refl}
-use Rattle.terms.specs.Term.{Term}
-use Rattle.saturation.specs.Key as offered
+use Rattle.spec_terms.specs.Term.{Term}
+use Rattle.spec_saturation.specs.Key as offered
 use Rattle.clause_saturate.specs.declared.log.Entry.{Entry}
 use Rattle.clause_saturate.specs.declared.log.PlainEntry.{PlainEntry}
 use Rattle.clause_saturate.specs.Logs.{IsOrigin, TellsEntry, TellEntries, TellLog}

@@ -1,9 +1,9 @@
 -- What is asked: a query of a protocol, with a budget; and when an answer is the right one.
 use Rattle.std.specs.Prelude.{◌≤◌, List}
-use Rattle.calculus.specs.Syntax.{Protocol}
-use Rattle.terms.specs.Term.{Term}
-use Rattle.clauses.specs.Fact.{Clause}
-use Rattle.well_formed.specs.Limits.{IsWithinLimits}
+use Rattle.spec_calculus.specs.Syntax.{Protocol}
+use Rattle.spec_terms.specs.Term.{Term}
+use Rattle.spec_clauses.specs.Fact.{Clause}
+use Rattle.spec_well_formed.specs.Limits.{IsWithinLimits}
 use Rattle.pi_tree.specs.Protocols.{protocol_of}
 use Rattle.pi_tree.specs.Accessors.{IsThere}
 use Rattle.pi_tree.specs.declared.accessors.Kind.TheVariants as kinds

@@ -1,6 +1,6 @@
 -- Logs over owned trees: what their entries tell of the log that a saturation gives.
 use Rattle.std.specs.Prelude.{◌≡◌, ℕ, suc, None, List, [], ◌∷◌}
-use Rattle.saturation.specs.Key as offered
+use Rattle.spec_saturation.specs.Key as offered
 use Rattle.clause_saturate.specs.declared.log.PlainEntry.{PlainEntry}
 use Rattle.clause_saturate.specs.Logs.{IsOrigin, IsFirstSubsumer}
 

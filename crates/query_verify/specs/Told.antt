@@ -1,7 +1,7 @@
 -- Verdicts that are told: of one query, and of all queries of a protocol.
 use Rattle.std.specs.Prelude.{◌≡◌, ℕ, List, [], ◌∷◌}
-use Rattle.calculus.specs.Syntax.{Query, Protocol}
-use Rattle.verdicts.specs.Verdict.{Verdict, Proved, Budget, SizePair, SizePoint, Unmet, IsVerdict}
+use Rattle.spec_calculus.specs.Syntax.{Query, Protocol}
+use Rattle.spec_verdicts.specs.Verdict.{Verdict, Proved, Budget, SizePair, SizePoint, Unmet, IsVerdict}
 use Rattle.query_verify.specs.declared.answers.Verdict as told
 use Rattle.query_verify.specs.declared.answers.Verdict.TheVariants as made
 use Rattle.query_verify.specs.Entries.{TellPlainLog, TellsDue}

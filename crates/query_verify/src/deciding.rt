@@ -1,10 +1,10 @@
 //! Queries decided: the translation, the log of its clauses, and what that comes to.
 
 ghost use Rattle.std.specs.Prelude.{◌≤◌, IfOk, map};
-ghost use Rattle.well_formed.specs.Limits.{IsWithinLimits};
-ghost use Rattle.well_formed.specs.Rules.{HasProperRules};
-ghost use Rattle.well_formed.specs.Queries.{HasProperQueries};
-ghost use Rattle.well_formed.specs.WellFormed.{IsWellScoped};
+ghost use Rattle.spec_well_formed.specs.Limits.{IsWithinLimits};
+ghost use Rattle.spec_well_formed.specs.Rules.{HasProperRules};
+ghost use Rattle.spec_well_formed.specs.Queries.{HasProperQueries};
+ghost use Rattle.spec_well_formed.specs.WellFormed.{IsWellScoped};
 ghost use Rattle.pi_tree.specs.Protocols.{protocol_of};
 ghost use Rattle.pi_tree.specs.Accessors.{IsThere};
 ghost use Rattle.pi_tree.specs.declared.accessors.Kind.TheVariants.{Query as OfQueries};
@@ -22,11 +22,11 @@ use clause_form::Clause;
 use clause_saturate::{Log, Saturated, entries_tell_logs, read_log, saturate};
 use clause_translate::{Translated, translate};
 use pi_tree::{Kind, Protocol};
-use std::alloc::{AllocError, Global};
-use term_tree::{Bank, TreeBank};
-use translation::{
+use spec_translation::{
     translations_are_normal, translations_are_within_the_limit, translations_have_one_goal,
 };
+use std::alloc::{AllocError, Global};
+use term_tree::{Bank, TreeBank};
 
 /// The verdict where the log is closed.
 fn closed<B: Bank>(

@@ -2,7 +2,7 @@
 use Rattle.std.proofs.Common.{◌≡◌, ℕ, ◌+◌, ◌-◌, ◌≤◌, List, [], ◌++◌, refl, ap, sym, ◌∙◌, arith, append_assoc}
 use Rattle.std.specs.Prelude.{zero, suc, codes}
 use Rattle.std.specs.Fmt.{decimal}
-use Rattle.ring_text.specs.Text.{key_line, key_lines, middle_lines, pass_line, pass_lines, first_lines, ring_text, successor}
+use Rattle.spec_ring_text.specs.Text.{key_line, key_lines, middle_lines, pass_line, pass_lines, first_lines, ring_text, successor}
 
 -- three texts were put
 pub three_put : (start one two three a b c : List ℕ) → one ≡ start ++ a → two ≡ one ++ b → three ≡ two ++ c → three ≡ start ++ (a ++ (b ++ c))

@@ -2,12 +2,12 @@
 #![tactic(auto)]
 
 ghost use Rattle.std.specs.Prelude.{◌≡◌, ◌≤◌, ◌++◌, [], IfOk, OnOk};
-ghost use Rattle.protocol_scope.specs.Spells.{Spells};
-ghost use Rattle.ring_text.specs.Meaning.{ring_protocol};
-ghost use Rattle.ring_text.specs.Text.{key, key_line, key_lines, middle_lines, pass_line, pass_lines, ring_text, successor};
+ghost use Rattle.spec_protocol_scope.specs.Spells.{Spells};
+ghost use Rattle.spec_ring_text.specs.Meaning.{ring_protocol};
+ghost use Rattle.spec_ring_text.specs.Text.{key, key_line, key_lines, middle_lines, pass_line, pass_lines, ring_text, successor};
 
 use hv_io::decimal;
-use ring_text::rings_are_protocols;
+use spec_ring_text::rings_are_protocols;
 use std::alloc::{AllocError, Global};
 
 /// Puts bytes at the end.

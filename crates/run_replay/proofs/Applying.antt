@@ -3,13 +3,13 @@ use Rattle.std.proofs.Common.{◌≡◌, ℕ, zero, suc, ◌+◌, ◌-◌, ◌<�
 use Rattle.std.proofs.lemmas.Bool.{cases_lt}
 use Rattle.std.proofs.lemmas.List.{take_all}
 use Rattle.std.proofs.lemmas.Option.{slice_get_within, slice_get-map, slice_get-get_or}
-use Rattle.calculus.proofs.Points.{numbered-there}
+use Rattle.spec_calculus.proofs.Points.{numbered-there}
 use Rattle.std.specs.Prelude.{option_and_then, option_map, slice_get}
-use Rattle.calculus.specs.Syntax.{Protocol}
-use Rattle.calculus.specs.Points.{numbered}
-use Rattle.calculus.specs.Runs.{Configuration, Step, start, after_step, after_steps, run}
-use Rattle.calculus.specs.Refusals.{Refusal}
-use Rattle.calculus.specs.Limits.{limited_refusal}
+use Rattle.spec_calculus.specs.Syntax.{Protocol}
+use Rattle.spec_calculus.specs.Points.{numbered}
+use Rattle.spec_calculus.specs.Runs.{Configuration, Step, start, after_step, after_steps, run}
+use Rattle.spec_calculus.specs.Refusals.{Refusal}
+use Rattle.spec_calculus.specs.Limits.{limited_refusal}
 use Rattle.run_replay.specs.Replay.{IsRefusedAt, IsFirstRefused, IsDone}
 
 -- two values of one option

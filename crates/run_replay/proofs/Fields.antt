@@ -2,8 +2,8 @@
 use Rattle.std.proofs.Common.{◌≡◌, ℕ, suc, ◌+◌, Bool, true, false, List, [], ◌∷◌, ◌++◌, length, take, refl, sym, ap, arith, append_assoc, Option, Some, None}
 use Rattle.std.specs.Prelude.{◌==◌, option_map}
 use Rattle.std.specs.List.{before_first, position_or_len}
-use Rattle.run_text.specs.Lines.{fields}
-use Rattle.run_text.specs.Reading.{numeral, numerals, line_numbers}
+use Rattle.spec_run_text.specs.Lines.{fields}
+use Rattle.spec_run_text.specs.Reading.{numeral, numerals, line_numbers}
 use Rattle.run_replay.specs.Cut.{behind_first, fields_of}
 
 -- how much of a line is left to read

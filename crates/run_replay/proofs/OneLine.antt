@@ -3,10 +3,10 @@ use Rattle.std.proofs.Common.{◌≡◌, ℕ, ◌≤◌, false, List, length, re
 use Rattle.std.specs.Prelude.{◌==◌, nat_lt, ok_or}
 use Rattle.std.specs.List.{before_first}
 use Rattle.std.proofs.lemmas.Bool.Decides.{nat_tests}
-use Rattle.calculus.specs.Bounds.{most_line_bytes}
-use Rattle.calculus.specs.Runs.{Step}
-use Rattle.run_text.specs.Faults.{Number, first_word}
-use Rattle.run_text.specs.Reading.{Action, action, step_with, numerals, line_numbers, line_with, read_line}
+use Rattle.spec_calculus.specs.Bounds.{most_line_bytes}
+use Rattle.spec_calculus.specs.Runs.{Step}
+use Rattle.spec_run_text.specs.Faults.{Number, first_word}
+use Rattle.spec_run_text.specs.Reading.{Action, action, step_with, numerals, line_numbers, line_with, read_line}
 use Rattle.run_replay.specs.Cut.{behind_first, fields_of}
 use Rattle.run_replay.proofs.Fields.{line_numbers-cut}
 

@@ -4,11 +4,11 @@ use Rattle.std.specs.Prelude.{◌==◌, unwrap_or, option_copied, IfSome}
 use Rattle.std.specs.List.{before_first, position_or_len}
 use Rattle.std.proofs.lemmas.Bool.{eqb-true}
 use Rattle.std.proofs.lemmas.Bool.Decides.{nat_tests}
-use Rattle.calculus.specs.Runs.{Step}
-use Rattle.run_text.specs.Lines.{lines}
-use Rattle.run_text.specs.Faults.{Fault}
-use Rattle.run_text.specs.Text.{IsRefused}
-use Rattle.run_text.specs.Reading.{read_line, preceded, read_lines, reading}
+use Rattle.spec_calculus.specs.Runs.{Step}
+use Rattle.spec_run_text.specs.Lines.{lines}
+use Rattle.spec_run_text.specs.Faults.{Fault}
+use Rattle.spec_run_text.specs.Text.{IsRefused}
+use Rattle.spec_run_text.specs.Reading.{read_line, preceded, read_lines, reading}
 use Rattle.run_replay.specs.Cut.{behind_first}
 use Rattle.run_replay.proofs.Fields.{take_more}
 

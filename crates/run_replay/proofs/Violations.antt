@@ -3,14 +3,14 @@ use Rattle.std.proofs.Common.{◌≡◌, ℕ, ◌+◌, ◌<◌, ◌≤◌, List,
 use Rattle.std.specs.Prelude.{option_and_then}
 use Rattle.std.proofs.lemmas.Bool.{cases_lt}
 use Rattle.std.proofs.lemmas.List.{take-append-drop, length-take-le}
-use Rattle.calculus.specs.Points.{numbered}
+use Rattle.spec_calculus.specs.Points.{numbered}
 use Rattle.run_replay.specs.Reached.{IsDoneSomewhere, TellsViolation, IsViolatedAtEnd, TellsFirst}
-use Rattle.calculus.specs.Syntax.{Protocol, Query}
-use Rattle.calculus.specs.Runs.{Configuration, Step, start, after_steps, run}
-use Rattle.calculus.specs.Secrecy.{IsViolated}
-use Rattle.calculus.specs.Refusals.{Refusal}
+use Rattle.spec_calculus.specs.Syntax.{Protocol, Query}
+use Rattle.spec_calculus.specs.Runs.{Configuration, Step, start, after_steps, run}
+use Rattle.spec_calculus.specs.Secrecy.{IsViolated}
+use Rattle.spec_calculus.specs.Refusals.{Refusal}
 use Rattle.run_replay.specs.Replay.{IsRefusedAt, IsFirstRefused, IsDone, IsViolatedAfter, IsFirstViolation, AreFirstViolations, Replay, Done, Stuck, IsReplayOf}
-use Rattle.calculus.proofs.Points.{numbered-add-one, there-numbered}
+use Rattle.spec_calculus.proofs.Points.{numbered-add-one, there-numbered}
 use Rattle.run_replay.proofs.Applying.{take_next, some_one, fronts_reach, after_steps-append, take_front, take_all_of, refused_in_front, refused_once}
 
 -- steps leave violated what is violated

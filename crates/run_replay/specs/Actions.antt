@@ -1,5 +1,5 @@
 -- Actions as contracts see them.
-use Rattle.run_text.specs.Reading as text
+use Rattle.spec_run_text.specs.Reading as text
 use Rattle.run_replay.specs.declared.words.Action.{Action}
 use Rattle.run_replay.specs.declared.words.Action.TheVariants.{Build, Reduce, Part, Fresh, Split, Copy, Make, Pass, Hear, Say, Take, Fail, Mark}
 

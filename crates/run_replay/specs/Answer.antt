@@ -1,11 +1,11 @@
 -- What reading may answer.
 use Rattle.std.specs.Prelude.{◌≡◌, ℕ, List, None, Result, Ok, Err, IfSome}
-use Rattle.calculus.specs.Runs as calculus
+use Rattle.spec_calculus.specs.Runs as calculus
 use Rattle.pi_model.specs.declared.steps.Step.{Step}
 use Rattle.pi_model.specs.Steps.{step_of}
-use Rattle.run_text.specs.Faults.{Fault}
-use Rattle.run_text.specs.Text.{IsRefused}
-use Rattle.run_text.specs.Reading.{read_line}
+use Rattle.spec_run_text.specs.Faults.{Fault}
+use Rattle.spec_run_text.specs.Text.{IsRefused}
+use Rattle.spec_run_text.specs.Reading.{read_line}
 use Rattle.run_replay.specs.declared.error.RunError.{RunError}
 use Rattle.run_replay.specs.Error.{fault_of}
 

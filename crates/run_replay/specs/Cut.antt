@@ -1,6 +1,6 @@
 -- Bytes cut at a separator.
 use Rattle.std.specs.Prelude.{ℕ, if◌then◌else◌, Bool, List, [], ◌∷◌, Option, Some, None}
-use Rattle.run_text.specs.Lines.{fields}
+use Rattle.spec_run_text.specs.Lines.{fields}
 
 -- what stands behind the first byte that passes the test, if one does
 abbrev pub behind_first : (ℕ → Bool) → List ℕ → Option (List ℕ)

@@ -1,6 +1,6 @@
 -- What contracts see of a refusal.
 use Rattle.std.specs.Prelude.{ℕ, Option, Some, None}
-use Rattle.run_text.specs.Faults as text
+use Rattle.spec_run_text.specs.Faults as text
 use Rattle.run_replay.specs.declared.error.RunError.{RunError}
 use Rattle.run_replay.specs.declared.error.RunError.TheVariants.{Word, Number, LongLine, Memory}
 

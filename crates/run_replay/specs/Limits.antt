@@ -1,7 +1,7 @@
 -- What a replay wants of a protocol.
 use Rattle.std.specs.Prelude.{◌<◌, ◌^◌, length}
-use Rattle.calculus.specs.Syntax.{Protocol}
-use Rattle.calculus.specs.Points.{nodes}
+use Rattle.spec_calculus.specs.Syntax.{Protocol}
+use Rattle.spec_calculus.specs.Points.{nodes}
 
 -- its free names, queries and points have numbers of 32 bits
 pub record IsLimited (P : Protocol) : Type 0 where

@@ -1,8 +1,8 @@
 -- What the parts of a replay answer.
 use Rattle.std.specs.Prelude.{◌≡◌, ◌↔◌, ℕ, Bool, IsTrue, List, length, Option, Some}
-use Rattle.calculus.specs.Syntax.{Protocol, Query}
-use Rattle.calculus.specs.Points.{numbered}
-use Rattle.calculus.specs.Runs.{Configuration, Step}
+use Rattle.spec_calculus.specs.Syntax.{Protocol, Query}
+use Rattle.spec_calculus.specs.Points.{numbered}
+use Rattle.spec_calculus.specs.Runs.{Configuration, Step}
 use Rattle.pi_model.specs.Errors.{refusal_of}
 use Rattle.pi_model.specs.Configurations.{configuration_of}
 use Rattle.run_replay.specs.Replay.{IsDone, IsFirstRefused, IsViolatedAfter, IsFirstViolation}

@@ -1,11 +1,11 @@
 -- Replaying a run: where it ends and since when each query is violated, or the first step that is refused.
 use Rattle.std.specs.Prelude.{◌≡◌, ℕ, ◌-◌, ◌<◌, List, [], ◌∷◌, take, Option, Some, None}
-use Rattle.calculus.specs.Syntax.{Protocol, Query}
-use Rattle.calculus.specs.Points.{numbered}
-use Rattle.calculus.specs.Runs.{Configuration, Step, run}
-use Rattle.calculus.specs.Secrecy.{IsViolated}
-use Rattle.calculus.specs.Refusals.{Refusal}
-use Rattle.calculus.specs.Limits.{limited_refusal}
+use Rattle.spec_calculus.specs.Syntax.{Protocol, Query}
+use Rattle.spec_calculus.specs.Points.{numbered}
+use Rattle.spec_calculus.specs.Runs.{Configuration, Step, run}
+use Rattle.spec_calculus.specs.Secrecy.{IsViolated}
+use Rattle.spec_calculus.specs.Refusals.{Refusal}
+use Rattle.spec_calculus.specs.Limits.{limited_refusal}
 
 -- the step of that number, from 1, is refused in the configuration that the steps before it reach
 pub record IsRefusedAt (P : Protocol) (steps : List Step) (number : ℕ) (refusal : Refusal) : Type 0 where

@@ -1,7 +1,7 @@
 -- What a replay may answer.
 use Rattle.std.specs.Prelude.{◌≡◌, List, length}
-use Rattle.calculus.specs.Syntax.{Protocol}
-use Rattle.calculus.specs.Runs.{Step}
+use Rattle.spec_calculus.specs.Syntax.{Protocol}
+use Rattle.spec_calculus.specs.Runs.{Step}
 use Rattle.pi_model.specs.Errors.{refusal_of}
 use Rattle.pi_model.specs.Configurations.{configuration_of}
 use Rattle.run_replay.specs.Replay as replay

@@ -5,11 +5,11 @@
 //! n log n steps, and not n looks at all that is known.
 
 ghost use Rattle.std.specs.Prelude.{◌≡◌, ◌<◌, ◌≤◌, ◌^◌, ◌↔◌, ℕ, length, map, Some, IfOk, IsTrue, take};
-ghost use Rattle.calculus.specs.Points.{numbered};
-ghost use Rattle.calculus.specs.Runs.{Configuration};
+ghost use Rattle.spec_calculus.specs.Points.{numbered};
+ghost use Rattle.spec_calculus.specs.Runs.{Configuration};
 ghost use Rattle.pi_tree.specs.Protocols.{protocol_of};
 ghost use Rattle.pi_model.specs.Steps.{step_of};
-ghost use Rattle.calculus.specs.Syntax as calculus;
+ghost use Rattle.spec_calculus.specs.Syntax as calculus;
 ghost use Rattle.run_replay.specs.Limits.{IsLimited};
 ghost use Rattle.run_replay.specs.Replay.{IsDone, IsViolatedAfter, IsFirstViolation};
 ghost use Rattle.run_replay.specs.Reached.{IsDoneSomewhere, TellsViolation, TellsFirst, IsViolatedAtEnd};

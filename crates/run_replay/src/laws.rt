@@ -1,8 +1,8 @@
 //! What holds of every replay. Each law is the contract of a function with an empty body.
 
 ghost use Rattle.std.specs.Prelude.{◌≡◌, List};
-ghost use Rattle.calculus.specs.Syntax.{Protocol};
-ghost use Rattle.calculus.specs.Runs.{Step};
+ghost use Rattle.spec_calculus.specs.Syntax.{Protocol};
+ghost use Rattle.spec_calculus.specs.Runs.{Step};
 ghost use Rattle.run_replay.specs.Replay.{Replay, IsReplayOf};
 
 /// Replaying steps shows one thing: either no step is refused, and the end and each query's first violation

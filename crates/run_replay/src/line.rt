@@ -2,7 +2,7 @@
 
 ghost use Rattle.std.specs.Prelude.{◌≡◌, option_map, IfOk};
 ghost use Rattle.pi_model.specs.Steps.{step_of};
-ghost use Rattle.run_text.specs.Reading.{step_with};
+ghost use Rattle.spec_run_text.specs.Reading.{step_with};
 ghost use Rattle.run_replay.specs.Actions.{action_of};
 ghost use Rattle.run_replay.specs.Answer.{ReadsLine};
 

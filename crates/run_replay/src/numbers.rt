@@ -1,7 +1,7 @@
 //! The numbers of a line.
 
 ghost use Rattle.std.specs.Prelude.{◌≡◌, option_map, option_copied, IfOk};
-ghost use Rattle.run_text.specs.Reading.{numerals};
+ghost use Rattle.spec_run_text.specs.Reading.{numerals};
 ghost use Rattle.run_replay.specs.Cut.{fields_of};
 
 use crate::cut::cut;

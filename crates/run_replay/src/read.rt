@@ -1,16 +1,16 @@
 //! The steps that a text spells.
 
 ghost use Rattle.std.specs.Prelude.{ℕ, List, IfOk, IfErr};
-ghost use Rattle.calculus.specs.Runs as calculus;
-ghost use Rattle.run_text.specs.Faults.{Fault};
-ghost use Rattle.run_text.specs.Text.{SpellsRun, IsRefused};
+ghost use Rattle.spec_calculus.specs.Runs as calculus;
+ghost use Rattle.spec_run_text.specs.Faults.{Fault};
+ghost use Rattle.spec_run_text.specs.Text.{SpellsRun, IsRefused};
 ghost use Rattle.run_replay.specs.Answer.{IsRefusalOf, GivesSteps, GivesRefusal};
 
 use crate::cut::cut;
 use crate::error::RunError;
 use crate::line::read_line;
 use crate::steps::Steps;
-use run_text::reading_is_exact;
+use spec_run_text::reading_is_exact;
 use std::alloc::Global;
 
 /// The steps that the bytes of a file spell, or the first line that spells none, and why.

@@ -11,7 +11,7 @@ pub struct Steps {
 
 impl Model for Steps {
     ghost use Rattle.std.specs.Prelude.{List, map};
-    ghost use Rattle.calculus.specs.Runs as calculus;
+    ghost use Rattle.spec_calculus.specs.Runs as calculus;
 
     ghost Value = { List calculus.Step };
 

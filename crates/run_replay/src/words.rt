@@ -2,7 +2,7 @@
 
 ghost use Rattle.std.specs.Prelude.{◌≡◌, option_map};
 ghost use Rattle.std.specs.Str.{bytes_eq};
-ghost use Rattle.run_text.specs.Reading.{action};
+ghost use Rattle.spec_run_text.specs.Reading.{action};
 ghost use Rattle.run_replay.specs.Actions.{action_of};
 
 /// What a word names.

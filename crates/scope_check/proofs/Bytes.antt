@@ -1,15 +1,15 @@
 -- What is answered of the tokens of some bytes, said of the bytes.
 use Rattle.std.proofs.Common.{◌≡◌, ◌≤◌, ℕ, List, length, Option, None, Some, IfSome, Result, Ok, Err, IfOk, IfErr, refl, sym, subst}
-use Rattle.calculus.specs.Bounds.{most_bytes}
-use Rattle.calculus.specs.Syntax as calculus
-use Rattle.protocol_tokens.specs.Token.{Token}
-use Rattle.protocol_tokens.specs.Lexed.{Lexed}
-use Rattle.protocol_grammar.specs.Classes.{source}
-use Rattle.protocol_grammar.specs.Sketch.{FileSketch}
-use Rattle.protocol_grammar.specs.Spelling.{IsSketch}
-use Rattle.protocol_scope.specs.Answers as own
-use Rattle.protocol_scope.specs.Scope.{scope}
-use Rattle.protocol_scope.specs.Spells.{texts, IsSketchOf, IsFaultAt, Spells, Refusal, Lexical, Unexpected, TooDeep, Scoped, LongFile, Refuses}
+use Rattle.spec_calculus.specs.Bounds.{most_bytes}
+use Rattle.spec_calculus.specs.Syntax as calculus
+use Rattle.spec_protocol_tokens.specs.Token.{Token}
+use Rattle.spec_protocol_tokens.specs.Lexed.{Lexed}
+use Rattle.spec_protocol_grammar.specs.Classes.{source}
+use Rattle.spec_protocol_grammar.specs.Sketch.{FileSketch}
+use Rattle.spec_protocol_grammar.specs.Spelling.{IsSketch}
+use Rattle.spec_protocol_scope.specs.Answers as own
+use Rattle.spec_protocol_scope.specs.Scope.{scope}
+use Rattle.spec_protocol_scope.specs.Spells.{texts, IsSketchOf, IsFaultAt, Spells, Refusal, Lexical, Unexpected, TooDeep, Scoped, LongFile, Refuses}
 use Rattle.pi_tree.specs.declared.protocols.Protocol.{Protocol}
 use Rattle.pi_tree.specs.Protocols.{protocol_of}
 use Rattle.scope_check.specs.declared.error.ScopeError.{ScopeError}

@@ -4,9 +4,9 @@ use Rattle.std.proofs.lemmas.List.{map-append}
 use Rattle.std.proofs.lemmas.Bool.{cases_lt, false≢true, eqb-true, eqb-false}
 use Rattle.std.proofs.Math.Bool.{or-true}
 use Rattle.std.specs.Cmp.Lexicographic.{bytes_decides}
-use Rattle.protocol_tokens.specs.Token.{Token}
-use Rattle.protocol_scope.specs.Names.{Texts, bound_as, variable_of, find_from, same_text}
-use Rattle.protocol_scope.specs.Spells.{texts}
+use Rattle.spec_protocol_tokens.specs.Token.{Token}
+use Rattle.spec_protocol_scope.specs.Names.{Texts, bound_as, variable_of, find_from, same_text}
+use Rattle.spec_protocol_scope.specs.Spells.{texts}
 use Rattle.scope_check.specs.declared.bound.Binding.{Binding}
 use Rattle.scope_check.specs.declared.bound.Bindings.{Bindings}
 use Rattle.scope_check.specs.declared.source.Text.{Text}

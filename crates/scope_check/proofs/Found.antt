@@ -1,6 +1,6 @@
 -- What is found in a list with one item more.
 use Rattle.std.proofs.Common.{◌≡◌, ℕ, ◌+◌, Bool, true, false, if◌then◌else◌, List, [], ◌∷◌, ◌++◌, length, Option, Some, None, option_map, bytes_eq, refl, ap, ◌∙◌, arith}
-use Rattle.protocol_scope.specs.Names.{find_from}
+use Rattle.spec_protocol_scope.specs.Names.{find_from}
 
 -- nothing where there is none
 pub none_some : {A : Type 0} {x : A} → Some x ≡ None → ⊥

@@ -1,8 +1,8 @@
 -- Look-ups in lists that are put together.
 use Rattle.std.proofs.Common.{◌≡◌, ℕ, List, [], ◌∷◌, ◌++◌, Bool, true, false, if◌then◌else◌, Option, Some, refl}
 use Rattle.std.specs.Option.{option_or}
-use Rattle.calculus.specs.Syntax.{Name}
-use Rattle.protocol_scope.specs.Names.{Texts, Bound, bound_as, same_text}
+use Rattle.spec_calculus.specs.Syntax.{Name}
+use Rattle.spec_protocol_scope.specs.Names.{Texts, Bound, bound_as, same_text}
 
 choose : (b : Bool) (name : Name) (inner outer both : Option Name) → both ≡ option_or inner outer
     → (if b then Some name else both) ≡ option_or (if b then Some name else inner) outer

@@ -1,9 +1,9 @@
 -- Macros, of which the latest with a name counts.
 use Rattle.std.proofs.Common.{◌≡◌, ℕ, zero, suc, ◌+◌, ◌<◌, ◌≤◌, List, [], ◌∷◌, Ok, map, take, length, get_or, refl, sym, ap, ◌∙◌, arith, add-one}
-use Rattle.protocol_grammar.specs.Sketch as own
-use Rattle.protocol_scope.specs.Answers.{Answer, ◌>>=◌, TooMany, fault}
-use Rattle.protocol_scope.specs.Names.{Scope}
-use Rattle.protocol_scope.specs.Processes as rules
+use Rattle.spec_protocol_grammar.specs.Sketch as own
+use Rattle.spec_protocol_scope.specs.Answers.{Answer, ◌>>=◌, TooMany, fault}
+use Rattle.spec_protocol_scope.specs.Names.{Scope}
+use Rattle.spec_protocol_scope.specs.Processes as rules
 use Rattle.scope_check.specs.declared.names.Macro.{Macro}
 use Rattle.scope_check.specs.Names.{macro_of}
 use Rattle.pi_parser.specs.Processes.{process_of}

@@ -6,11 +6,11 @@ use Rattle.std.specs.Cmp.Lexicographic.{bytes_decides}
 use Rattle.std.specs.HashMap.{get_by}
 use Rattle.scope_check.proofs.Texts.{updates_text}
 use Rattle.scope_check.proofs.Found.{none_some, missed, hit, unmapped}
-use Rattle.calculus.specs.Bounds.{most_names}
-use Rattle.calculus.specs.Syntax.{Declared, Destructor}
-use Rattle.protocol_scope.specs.Names as own
-use Rattle.protocol_scope.specs.Names.{Texts, find_from, find_declared, arity_of, declared_meaning}
-use Rattle.protocol_scope.specs.Declarations.{with_free, with_constructor, with_destructor, with_event, with_macro}
+use Rattle.spec_calculus.specs.Bounds.{most_names}
+use Rattle.spec_calculus.specs.Syntax.{Declared, Destructor}
+use Rattle.spec_protocol_scope.specs.Names as own
+use Rattle.spec_protocol_scope.specs.Names.{Texts, find_from, find_declared, arity_of, declared_meaning}
+use Rattle.spec_protocol_scope.specs.Declarations.{with_free, with_constructor, with_destructor, with_event, with_macro}
 use Rattle.scope_check.specs.declared.names.Meaning.{Meaning}
 use Rattle.scope_check.specs.declared.names.Names.{Names}
 use Rattle.scope_check.specs.Names.{names_of, meaning_of, IsKept}

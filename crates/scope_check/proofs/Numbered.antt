@@ -5,7 +5,7 @@ use Rattle.std.specs.HashMap.{HashMap, get_by, UpdatesBy}
 use Rattle.std.specs.declared.hash.BuildHasherDefault.{BuildHasherDefault}
 use Rattle.std.specs.declared.hash.FoldHasher.{FoldHasher}
 use Rattle.std.specs.Global.{Vec}
-use Rattle.protocol_scope.specs.Names.{Texts, find_from, variable_of}
+use Rattle.spec_protocol_scope.specs.Names.{Texts, find_from, variable_of}
 use Rattle.scope_check.proofs.Found.{missed, hit, unmapped}
 use Rattle.scope_check.proofs.Texts.{updates_text}
 

@@ -2,15 +2,15 @@
 use Rattle.std.proofs.Common.{◌≡◌, ℕ, suc, ◌+◌, Bool, true, false, if◌then◌else◌, List, [], ◌∷◌, ◌++◌, length, refl, sym, ap, ◌∙◌, arith, append_assoc, ◌⊎◌, inl, inr, Box, Ok}
 use Rattle.std.specs.Str.{bytes_eq}
 use Rattle.std.specs.declared.alloc.Global.{Global}
-use Rattle.calculus.specs.Syntax.{Process, Nil, Output, Input, Parallel, Replication, New, Event}
-use Rattle.calculus.specs.Syntax as calculus
-use Rattle.calculus.specs.Points.{nodes}
+use Rattle.spec_calculus.specs.Syntax.{Process, Nil, Output, Input, Parallel, Replication, New, Event}
+use Rattle.spec_calculus.specs.Syntax as calculus
+use Rattle.spec_calculus.specs.Points.{nodes}
 use Rattle.pi_tree.specs.declared.syntax.Process.{Process as Tree, Par, Let}
 use Rattle.pi_tree.specs.declared.syntax.Pat.{Pat}
 use Rattle.pi_tree.specs.declared.syntax.Expr.{Expr}
 use Rattle.pi_tree.specs.Processes.{process_of}
-use Rattle.protocol_scope.specs.Answers.{Answer, Unknown, AmbiguousNew, fault}
-use Rattle.protocol_scope.specs.Queries.{points_of, only_point}
+use Rattle.spec_protocol_scope.specs.Answers.{Answer, Unknown, AmbiguousNew, fault}
+use Rattle.spec_protocol_scope.specs.Queries.{points_of, only_point}
 use Rattle.scope_check.specs.declared.queries.Seen.{Seen}
 use Rattle.scope_check.specs.declared.queries.Seen.TheVariants.{Nowhere, Once, Often}
 use Rattle.scope_check.specs.Restrictions.{summary}

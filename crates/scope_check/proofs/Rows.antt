@@ -1,13 +1,13 @@
 -- Rows of terms and of patterns, of which the first are read already: one more is read.
 use Rattle.std.proofs.Common.{◌≡◌, ℕ, ◌+◌, ◌<◌, List, [], ◌∷◌, ◌++◌, length, map, drop, get_or, Ok, Err, refl, sym, ap, ◌∙◌, arith, append_assoc}
 use Rattle.std.proofs.lemmas.List.{map-append, drop_more}
-use Rattle.trees.specs.Tree.{size, sizes, trees}
-use Rattle.calculus.specs.Syntax as calculus
-use Rattle.protocol_grammar.specs.Sketch.{terms_sketch, patterns_sketch}
-use Rattle.protocol_scope.specs.Answers.{Answer, ◌>>=◌}
-use Rattle.protocol_scope.specs.Names.{Scope, Bound}
-use Rattle.protocol_scope.specs.Terms as terms
-use Rattle.protocol_scope.specs.Patterns as patterns
+use Rattle.spec_trees.specs.Tree.{size, sizes, trees}
+use Rattle.spec_calculus.specs.Syntax as calculus
+use Rattle.spec_protocol_grammar.specs.Sketch.{terms_sketch, patterns_sketch}
+use Rattle.spec_protocol_scope.specs.Answers.{Answer, ◌>>=◌}
+use Rattle.spec_protocol_scope.specs.Names.{Scope, Bound}
+use Rattle.spec_protocol_scope.specs.Terms as terms
+use Rattle.spec_protocol_scope.specs.Patterns as patterns
 use Rattle.pi_parser.specs.declared.sketch.TermSketch.{TermSketch}
 use Rattle.pi_parser.specs.declared.sketch.PatternSketch.{PatternSketch}
 use Rattle.pi_parser.specs.Terms.{term_of as term_sketch_of}

@@ -5,15 +5,15 @@ use Rattle.std.proofs.lemmas.List.{length-take}
 use Rattle.std.specs.Str.{bytes_eq}
 use Rattle.std.specs.List.{list_all}
 use Rattle.std.specs.Cmp.Lexicographic.{bytes_decides}
-use Rattle.protocol_tokens.specs.Token.{Token, TokenKind, Identifier, Reserved, Number, Symbol, text}
-use Rattle.protocol_tokens.specs.Lexed.{Lexed}
-use Rattle.protocol_tokens.specs.Laws.{Ascend}
-use Rattle.protocol_tokens.proofs.Answers.{Lexed-Ascend}
-use Rattle.protocol_grammar.specs.declared.class.Class.{Class}
-use Rattle.protocol_grammar.specs.declared.class.Class.TheVariants as w
-use Rattle.protocol_grammar.specs.Classes.{Source, source, same, class_among, class_by, class_of, reserved_table, symbol_table, reserved_class, symbol_class, number_class}
-use Rattle.protocol_grammar.specs.Sketch.{ProcessSketch, DeclarationSketch, FileSketch}
-use Rattle.protocol_grammar.specs.Spelling.{Item, one, no, nothing, Words, IsSketch, declaration, declarations, main}
+use Rattle.spec_protocol_tokens.specs.Token.{Token, TokenKind, Identifier, Reserved, Number, Symbol, text}
+use Rattle.spec_protocol_tokens.specs.Lexed.{Lexed}
+use Rattle.spec_protocol_tokens.specs.Laws.{Ascend}
+use Rattle.spec_protocol_tokens.proofs.Answers.{Lexed-Ascend}
+use Rattle.spec_protocol_grammar.specs.declared.class.Class.{Class}
+use Rattle.spec_protocol_grammar.specs.declared.class.Class.TheVariants as w
+use Rattle.spec_protocol_grammar.specs.Classes.{Source, source, same, class_among, class_by, class_of, reserved_table, symbol_table, reserved_class, symbol_class, number_class}
+use Rattle.spec_protocol_grammar.specs.Sketch.{ProcessSketch, DeclarationSketch, FileSketch}
+use Rattle.spec_protocol_grammar.specs.Spelling.{Item, one, no, nothing, Words, IsSketch, declaration, declarations, main}
 
 -- the tokens take a byte each
 ascend_count : (start : ℕ) (ts : List Token) (end : ℕ) → Ascend start ts end → start + length ts ≤ end

@@ -1,12 +1,12 @@
 -- The tokens of some bytes stand within them.
 use Rattle.std.proofs.Common.{◌≡◌, ℕ, zero, suc, ◌<◌, ◌≤◌, List, [], ◌∷◌, length, map, get_or, refl, sym, ap, subst, arith}
-use Rattle.protocol_tokens.specs.Token as own
-use Rattle.protocol_tokens.specs.Lexed.{Lexed}
-use Rattle.protocol_tokens.specs.Laws.{Ascend}
-use Rattle.protocol_tokens.proofs.Answers.{Lexed-Ascend}
+use Rattle.spec_protocol_tokens.specs.Token as own
+use Rattle.spec_protocol_tokens.specs.Lexed.{Lexed}
+use Rattle.spec_protocol_tokens.specs.Laws.{Ascend}
+use Rattle.spec_protocol_tokens.proofs.Answers.{Lexed-Ascend}
 use Rattle.pi_lexer.specs.declared.token.Token.{Token}
 use Rattle.pi_lexer.specs.Token.{token_of}
-use Rattle.protocol_scope.specs.Spells.{texts}
+use Rattle.spec_protocol_scope.specs.Spells.{texts}
 
 -- a token stands within the bytes
 pub record IsWithin (bytes : List ℕ) (t : Token) : Type 0 where

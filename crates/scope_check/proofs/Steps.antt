@@ -1,18 +1,18 @@
 -- What loops come to: lists of which the first items are found already, and counts.
 use Rattle.std.proofs.Common.{◌≡◌, ℕ, ◌+◌, ◌*◌, ◌-◌, ◌≤◌, List, [], ◌∷◌, ◌++◌, length, map, Ok, refl, arith}
 use Rattle.std.proofs.lemmas.List.Sums.{fold-append}
-use Rattle.trees.specs.Tree.{trees, size, sizes}
-use Rattle.protocol_grammar.specs.Sketch.{Grouped, terms_sketch, patterns_sketch}
+use Rattle.spec_trees.specs.Tree.{trees, size, sizes}
+use Rattle.spec_protocol_grammar.specs.Sketch.{Grouped, terms_sketch, patterns_sketch}
 use Rattle.pi_parser.specs.declared.sketch.TermSketch.{TermSketch as Sketched}
 use Rattle.pi_parser.specs.declared.sketch.PatternSketch.{PatternSketch as SketchedPattern}
 use Rattle.pi_parser.specs.Terms.{term_of as sketch_of}
 use Rattle.pi_parser.specs.Patterns.{pattern_of as pattern_sketch_of}
 use Rattle.pi_tree.specs.declared.syntax.Term.{Term}
 use Rattle.pi_tree.specs.Terms.{term_of}
-use Rattle.protocol_scope.specs.Answers.{Answer, ◌>>=◌}
-use Rattle.protocol_scope.specs.Names.{decimal}
-use Rattle.protocol_scope.specs.Terms as terms
-use Rattle.protocol_scope.specs.Patterns as patterns
+use Rattle.spec_protocol_scope.specs.Answers.{Answer, ◌>>=◌}
+use Rattle.spec_protocol_scope.specs.Names.{decimal}
+use Rattle.spec_protocol_scope.specs.Terms as terms
+use Rattle.spec_protocol_scope.specs.Patterns as patterns
 
 -- these items, and then those of the answer
 abbrev pub joined : {A : Type 0} → List A → Answer (List A) → Answer (List A)

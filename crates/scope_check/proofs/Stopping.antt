@@ -1,13 +1,13 @@
 -- A fault of one step is the fault of the whole.
 use Rattle.std.proofs.Common.{◌≡◌, ◌∙◌, List, Ok, Err, refl, ap}
-use Rattle.calculus.specs.Syntax.{Process, Query}
-use Rattle.protocol_grammar.specs.Sketch.{FileSketch}
-use Rattle.protocol_scope.specs.Answers.{Answer, ◌>>=◌}
-use Rattle.protocol_scope.specs.Names as own
-use Rattle.protocol_scope.specs.Declarations.{declare_all}
-use Rattle.protocol_scope.specs.Processes.{main_process}
-use Rattle.protocol_scope.specs.Queries.{queries}
-use Rattle.protocol_scope.specs.Scope.{protocol_of, protocol_with, scope}
+use Rattle.spec_calculus.specs.Syntax.{Process, Query}
+use Rattle.spec_protocol_grammar.specs.Sketch.{FileSketch}
+use Rattle.spec_protocol_scope.specs.Answers.{Answer, ◌>>=◌}
+use Rattle.spec_protocol_scope.specs.Names as own
+use Rattle.spec_protocol_scope.specs.Declarations.{declare_all}
+use Rattle.spec_protocol_scope.specs.Processes.{main_process}
+use Rattle.spec_protocol_scope.specs.Queries.{queries}
+use Rattle.spec_protocol_scope.specs.Scope.{protocol_of, protocol_with, scope}
 use Rattle.scope_check.specs.Answer.{Stops}
 use Rattle.scope_check.specs.Error.{main_then_queries}
 use Rattle.scope_check.specs.declared.stop.Stop.{Stop}

@@ -8,8 +8,8 @@ use Rattle.std.specs.declared.hash.BuildHasherDefault.{BuildHasherDefault}
 use Rattle.std.specs.declared.hash.FoldHasher.{FoldHasher}
 use Rattle.std.specs.Global.{Vec}
 use Rattle.scope_check.proofs.Texts.{updates_text}
-use Rattle.calculus.specs.Syntax.{Name}
-use Rattle.protocol_scope.specs.Names.{Texts, Bound, bound_as, same_text}
+use Rattle.spec_calculus.specs.Syntax.{Name}
+use Rattle.spec_protocol_scope.specs.Names.{Texts, Bound, bound_as, same_text}
 use Rattle.scope_check.specs.declared.bound.BoundName.{BoundName}
 use Rattle.scope_check.specs.declared.bound.Binding.{Binding}
 use Rattle.scope_check.specs.Bound.{name_of, binding_of}

@@ -1,6 +1,6 @@
 -- What the functions of the rules of scope answer.
 use Rattle.std.specs.Prelude.{◌≡◌, Result, Ok, Err}
-use Rattle.protocol_scope.specs.Answers as own
+use Rattle.spec_protocol_scope.specs.Answers as own
 use Rattle.scope_check.specs.declared.stop.Code.{Code}
 use Rattle.scope_check.specs.declared.stop.Code.TheVariants as c
 use Rattle.scope_check.specs.declared.stop.Stop.{Stop}

@@ -2,8 +2,8 @@
 use Rattle.std.specs.Prelude.{◌≡◌, ℕ, List, [], ◌∷◌, ◌++◌, map, option_map}
 use Rattle.std.specs.HashMap.{get_by}
 use Rattle.std.specs.Str.{bytes_eq}
-use Rattle.calculus.specs.Syntax as calculus
-use Rattle.protocol_scope.specs.Names as own
+use Rattle.spec_calculus.specs.Syntax as calculus
+use Rattle.spec_protocol_scope.specs.Names as own
 use Rattle.scope_check.specs.Text.{texts_of, AreFew}
 use Rattle.scope_check.specs.declared.source.Text.{Text}
 use Rattle.scope_check.specs.declared.bound.BoundName.{BoundName}

@@ -1,15 +1,15 @@
 -- What errors say, and what the rules of scope answer.
 use Rattle.std.specs.Prelude.{◌≡◌, ℕ, List, Option, Some, None, IfSome, option_map, Result, Ok, Err}
-use Rattle.calculus.specs.Syntax as calculus
-use Rattle.protocol_tokens.specs.Token.{Token}
-use Rattle.protocol_scope.specs.Answers as own
-use Rattle.protocol_scope.specs.Answers.{◌>>=◌}
-use Rattle.protocol_scope.specs.Names.{Texts, Names}
-use Rattle.protocol_scope.specs.Processes.{main_process}
-use Rattle.protocol_scope.specs.Queries.{queries}
-use Rattle.protocol_grammar.specs.Sketch.{FileSketch}
-use Rattle.protocol_scope.specs.Spells as spells
-use Rattle.protocol_scope.specs.Spells.{Scoped}
+use Rattle.spec_calculus.specs.Syntax as calculus
+use Rattle.spec_protocol_tokens.specs.Token.{Token}
+use Rattle.spec_protocol_scope.specs.Answers as own
+use Rattle.spec_protocol_scope.specs.Answers.{◌>>=◌}
+use Rattle.spec_protocol_scope.specs.Names.{Texts, Names}
+use Rattle.spec_protocol_scope.specs.Processes.{main_process}
+use Rattle.spec_protocol_scope.specs.Queries.{queries}
+use Rattle.spec_protocol_grammar.specs.Sketch.{FileSketch}
+use Rattle.spec_protocol_scope.specs.Spells as spells
+use Rattle.spec_protocol_scope.specs.Spells.{Scoped}
 use Rattle.pi_tree.specs.declared.protocols.Protocol.{Protocol}
 use Rattle.pi_tree.specs.Protocols.{protocol_of}
 use Rattle.scope_check.specs.declared.stop.Stop.{Stop}

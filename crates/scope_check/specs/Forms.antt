@@ -1,8 +1,8 @@
 -- Forms of processes, the macros that they see, and how much of them there is to be read.
 use Rattle.std.specs.Prelude.{ℕ, ◌+◌, Bool, true, false, List, [], ◌∷◌, map, take, Option}
-use Rattle.protocol_grammar.specs.Sketch.{ProcessSketch, Process, BesideSketch, alone, beside, UnitSketch, Zero, Macro, Inner, Replicated, New, Output, Input, Happens, Let, If, NextSketch, omitted, given}
-use Rattle.protocol_scope.specs.Names as names
-use Rattle.protocol_scope.specs.Processes as rules
+use Rattle.spec_protocol_grammar.specs.Sketch.{ProcessSketch, Process, BesideSketch, alone, beside, UnitSketch, Zero, Macro, Inner, Replicated, New, Output, Input, Happens, Let, If, NextSketch, omitted, given}
+use Rattle.spec_protocol_scope.specs.Names as names
+use Rattle.spec_protocol_scope.specs.Processes as rules
 use Rattle.pi_parser.specs.Processes.{process_of, unit_of}
 use Rattle.scope_check.specs.Names.{macro_of}
 use Rattle.scope_check.specs.Bound.{bound_of}

@@ -2,8 +2,8 @@
 use Rattle.std.specs.Prelude.{◌≡◌, ℕ, ◌+◌, ◌≤◌, List, map, None, option_map}
 use Rattle.std.specs.HashMap.{get_by}
 use Rattle.std.specs.Str.{bytes_eq}
-use Rattle.calculus.specs.Bounds.{most_names}
-use Rattle.protocol_scope.specs.Names as own
+use Rattle.spec_calculus.specs.Bounds.{most_names}
+use Rattle.spec_protocol_scope.specs.Names as own
 use Rattle.pi_parser.specs.Processes.{process_of}
 use Rattle.scope_check.specs.declared.names.Macro.{Macro}
 use Rattle.scope_check.specs.declared.names.Names.{Names}

@@ -1,8 +1,8 @@
 -- Numbers of points and variables, and where a process stands.
 use Rattle.std.specs.Prelude.{◌+◌, ◌*◌, ◌≤◌}
 use Rattle.std.specs.Global.{Box}
-use Rattle.calculus.specs.Syntax as calculus
-use Rattle.protocol_scope.specs.Processes as own
+use Rattle.spec_calculus.specs.Syntax as calculus
+use Rattle.spec_protocol_scope.specs.Processes as own
 use Rattle.pi_tree.specs.declared.syntax.Process.{Process}
 use Rattle.pi_tree.specs.Processes.{process_of}
 use Rattle.scope_check.specs.Within.{most_bound}

@@ -1,10 +1,10 @@
 -- What the types of this crate keep to has one proof at most.
 use Rattle.std.specs.Prelude.{ℕ, List, [], ◌∷◌}
 use Rattle.std.proofs.Props.{props}
-use Rattle.calculus.specs.Syntax.{Name}
-use Rattle.protocol_tokens.specs.Token.{Token}
-use Rattle.protocol_tokens.specs.Laws.{Ascend}
-use Rattle.protocol_scope.specs.Names.{Meaning}
+use Rattle.spec_calculus.specs.Syntax.{Name}
+use Rattle.spec_protocol_tokens.specs.Token.{Token}
+use Rattle.spec_protocol_tokens.specs.Laws.{Ascend}
+use Rattle.spec_protocol_scope.specs.Names.{Meaning}
 
 pub Ascend-prop : (start : ℕ) (ts : List Token) (end : ℕ) → IsProp (Ascend start ts end)
 Ascend-prop start [] end = Prim.hlevel props

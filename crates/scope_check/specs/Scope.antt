@@ -1,5 +1,5 @@
 -- What names are read by, as contracts see it.
-use Rattle.protocol_scope.specs.Names as own
+use Rattle.spec_protocol_scope.specs.Names as own
 use Rattle.scope_check.specs.Text.{texts_of}
 use Rattle.scope_check.specs.Names.{names_of}
 use Rattle.scope_check.specs.declared.scope.Scope.{Scope}

@@ -1,7 +1,7 @@
 -- What contracts of terms speak of.
 use Rattle.std.specs.Prelude.{ℕ, ◌+◌, min}
-use Rattle.calculus.specs.Bounds.{most_written_symbols}
-use Rattle.protocol_scope.specs.Terms as own
+use Rattle.spec_calculus.specs.Bounds.{most_written_symbols}
+use Rattle.spec_protocol_scope.specs.Terms as own
 use Rattle.scope_check.specs.declared.leaves.Setting.{Setting}
 use Rattle.scope_check.specs.declared.leaves.Setting.TheVariants.{Process, Left, Right, Event}
 use Rattle.scope_check.specs.declared.source.Text.{Text}

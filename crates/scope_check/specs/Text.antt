@@ -1,7 +1,7 @@
 -- The text of each token of a file, and how few there are.
 use Rattle.std.specs.Prelude.{ℕ, zero, suc, ◌+◌, ◌≤◌, Bool, false, ◌||◌, if◌then◌else◌, List, [], ◌∷◌, length}
-use Rattle.protocol_scope.specs.Names.{Texts, same_text}
-use Rattle.protocol_scope.specs.Spells.{texts}
+use Rattle.spec_protocol_scope.specs.Names.{Texts, same_text}
+use Rattle.spec_protocol_scope.specs.Spells.{texts}
 use Rattle.scope_check.specs.declared.source.Text.{Text}
 
 abbrev pub texts_of : Text → Texts

@@ -2,7 +2,7 @@
 use Rattle.std.specs.Prelude.{◌≡◌, ℕ}
 use Rattle.std.specs.HashMap.{get_by}
 use Rattle.std.specs.Str.{bytes_eq}
-use Rattle.protocol_scope.specs.Names as own
+use Rattle.spec_protocol_scope.specs.Names as own
 use Rattle.scope_check.specs.Text.{texts_of, AreFew}
 use Rattle.scope_check.specs.declared.source.Text.{Text}
 use Rattle.scope_check.specs.declared.variables.Variables.{Variables}

@@ -1,6 +1,6 @@
 -- How many points and variables there may be.
 use Rattle.std.specs.Prelude.{ℕ, ◌+◌, ◌-◌, ◌*◌, ◌^◌, ◌≤◌}
-use Rattle.calculus.specs.Bounds.{most_bytes, most_points}
+use Rattle.spec_calculus.specs.Bounds.{most_bytes, most_points}
 
 -- the most variables of a pattern, rule or query
 abbrev pub most_bound : ℕ

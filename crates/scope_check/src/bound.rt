@@ -1,7 +1,7 @@
 //! What is bound where a term or process stands.
 
 ghost use Rattle.std.specs.Prelude.{◌≡◌, ◌≤◌, ◌∷◌, [], ◌++◌, None, length, map, option_map, OnOk};
-ghost use Rattle.protocol_scope.specs.Names as rules;
+ghost use Rattle.spec_protocol_scope.specs.Names as rules;
 ghost use Rattle.scope_check.specs.Bound.{name_of, binding_of, bound_of, FindsBindings, FindsBound};
 ghost use Rattle.scope_check.specs.Within.{most_bound};
 ghost use Rattle.scope_check.specs.Text.{texts_of};

@@ -1,9 +1,9 @@
 //! Declarations other than queries, in order; of a macro only its name is looked at.
 
 ghost use Rattle.std.specs.Prelude.{◌≡◌, ◌+◌, map, min, IfOk, OnOk};
-ghost use Rattle.calculus.specs.Bounds.{most_arguments};
-ghost use Rattle.protocol_scope.specs.Names as naming;
-ghost use Rattle.protocol_scope.specs.Declarations as rules;
+ghost use Rattle.spec_calculus.specs.Bounds.{most_arguments};
+ghost use Rattle.spec_protocol_scope.specs.Names as naming;
+ghost use Rattle.spec_protocol_scope.specs.Declarations as rules;
 ghost use Rattle.pi_parser.specs.Files as sketched;
 ghost use Rattle.pi_parser.specs.Processes.{process_of};
 ghost use Rattle.pi_tree.specs.Names.{declared_of};

@@ -1,7 +1,7 @@
 //! Why a sketch stands for no protocol.
 
 ghost use Rattle.std.specs.Prelude.{◌≡◌, Some};
-ghost use Rattle.protocol_scope.specs.Spells.{Scoped};
+ghost use Rattle.spec_protocol_scope.specs.Spells.{Scoped};
 ghost use Rattle.scope_check.specs.Answer.{code_of};
 ghost use Rattle.scope_check.specs.Error.{refusal_of, fault_of, placed};
 

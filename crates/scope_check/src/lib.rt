@@ -4,13 +4,13 @@
 #![tactic(auto)]
 
 ghost use Rattle.std.specs.Prelude.{◌≡◌, ◌+◌, ◌≤◌, ℕ, length, IfOk, IfErr};
-ghost use Rattle.calculus.specs.Bounds.{most_bytes};
-ghost use Rattle.calculus.specs.Syntax as own;
-ghost use Rattle.protocol_tokens.specs.Lexed.{Lexed};
+ghost use Rattle.spec_calculus.specs.Bounds.{most_bytes};
+ghost use Rattle.spec_calculus.specs.Syntax as own;
+ghost use Rattle.spec_protocol_tokens.specs.Lexed.{Lexed};
 ghost use Rattle.pi_lexer.specs.Answer.{IsMemory};
-ghost use Rattle.protocol_scope.specs.Names as naming;
-ghost use Rattle.protocol_scope.specs.Scope.{scope};
-ghost use Rattle.protocol_scope.specs.Spells.{texts, IsSketchOf, Spells, Refusal, Refuses};
+ghost use Rattle.spec_protocol_scope.specs.Names as naming;
+ghost use Rattle.spec_protocol_scope.specs.Scope.{scope};
+ghost use Rattle.spec_protocol_scope.specs.Spells.{texts, IsSketchOf, Spells, Refusal, Refuses};
 ghost use Rattle.pi_parser.specs.Files.{file_of};
 ghost use Rattle.pi_tree.specs.Processes.{process_of};
 ghost use Rattle.pi_tree.specs.Protocols.{protocol_of};
@@ -22,7 +22,7 @@ ghost use Rattle.scope_check.specs.Text.{texts_of};
 use pi_lexer::{LexError, Tokens, lex};
 use pi_parser::Sketch;
 use pi_tree::{MOST_BYTES, Process, Protocol, Queries};
-use protocol_scope::{main_process_points, never_both, one_protocol, one_refusal};
+use spec_protocol_scope::{main_process_points, never_both, one_protocol, one_refusal};
 use std::alloc::{AllocError, Global};
 
 mod bound;

@@ -3,9 +3,9 @@
 ghost use Rattle.std.specs.Prelude.{◌≡◌, ◌+◌, ◌<◌, ◌≤◌, [], ◌∷◌, ◌++◌, length, option_map, OnOk};
 ghost use Rattle.std.specs.List.{list_all};
 ghost use Rattle.std.specs.Char.{is_ascii_digit};
-ghost use Rattle.calculus.specs.Bounds.{most_names};
-ghost use Rattle.protocol_scope.specs.Names as rules;
-ghost use Rattle.protocol_scope.specs.Declarations.{with_free, with_constructor, with_destructor, with_event};
+ghost use Rattle.spec_calculus.specs.Bounds.{most_names};
+ghost use Rattle.spec_protocol_scope.specs.Names as rules;
+ghost use Rattle.spec_protocol_scope.specs.Declarations.{with_free, with_constructor, with_destructor, with_event};
 ghost use Rattle.pi_tree.specs.Names.{declared_of};
 ghost use Rattle.pi_tree.specs.Rules.{destructor_of};
 ghost use Rattle.scope_check.specs.Names.{names_of, IsKept, StaysKept, meaning_of};

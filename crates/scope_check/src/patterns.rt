@@ -1,9 +1,9 @@
 //! Patterns, and what they bind.
 
 ghost use Rattle.std.specs.Prelude.{◌≡◌, ◌+◌, ◌≤◌, [], length, map, IfOk, OnOk};
-ghost use Rattle.protocol_grammar.specs.Sketch.{patterns_sketch};
-ghost use Rattle.protocol_scope.specs.Names as naming;
-ghost use Rattle.protocol_scope.specs.Patterns as rules;
+ghost use Rattle.spec_protocol_grammar.specs.Sketch.{patterns_sketch};
+ghost use Rattle.spec_protocol_scope.specs.Names as naming;
+ghost use Rattle.spec_protocol_scope.specs.Patterns as rules;
 ghost use Rattle.pi_parser.specs.Patterns as sketched;
 ghost use Rattle.pi_tree.specs.Patterns.{pattern_of};
 ghost use Rattle.scope_check.specs.Answer.{Gives, GivesWith};

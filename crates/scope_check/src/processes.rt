@@ -1,9 +1,9 @@
 //! Processes: macros are expanded where they are used, and points and variables are numbered in pre-order, from 1.
 
 ghost use Rattle.std.specs.Prelude.{◌≡◌, ◌≤◌, map, IsTrue};
-ghost use Rattle.calculus.specs.Bounds.{most_points_above};
-ghost use Rattle.protocol_scope.specs.Processes as rules;
-ghost use Rattle.protocol_grammar.specs.Sketch as own;
+ghost use Rattle.spec_calculus.specs.Bounds.{most_points_above};
+ghost use Rattle.spec_protocol_scope.specs.Processes as rules;
+ghost use Rattle.spec_protocol_grammar.specs.Sketch as own;
 ghost use Rattle.pi_parser.specs.Terms as terms_seen;
 ghost use Rattle.pi_parser.specs.Patterns as patterns_seen;
 ghost use Rattle.pi_parser.specs.Processes as sketched;

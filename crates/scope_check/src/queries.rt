@@ -1,9 +1,9 @@
 //! Queries, in order.
 
 ghost use Rattle.std.specs.Prelude.{◌≡◌, ℕ, ◌+◌, ◌≤◌, ◌++◌, [], ◌∷◌, List, length, map, OnOk};
-ghost use Rattle.calculus.specs.Bounds.{most_points};
-ghost use Rattle.calculus.specs.Points.{nodes};
-ghost use Rattle.protocol_scope.specs.Queries as rules;
+ghost use Rattle.spec_calculus.specs.Bounds.{most_points};
+ghost use Rattle.spec_calculus.specs.Points.{nodes};
+ghost use Rattle.spec_protocol_scope.specs.Queries as rules;
 ghost use Rattle.pi_parser.specs.Terms as sketched;
 ghost use Rattle.pi_parser.specs.Files as files;
 ghost use Rattle.pi_tree.specs.Events.{event_of};

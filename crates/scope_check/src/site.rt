@@ -1,10 +1,10 @@
 //! Where a process stands, the numbers that come next, and what macros stand for.
 
 ghost use Rattle.std.specs.Prelude.{◌≡◌, ℕ, ◌+◌, ◌<◌, ◌≤◌, List, length, map, take, get_or, IfOk, OnOk, IfErr, IsTrue, option_map};
-ghost use Rattle.calculus.specs.Bounds.{most_points, most_points_above};
-ghost use Rattle.protocol_scope.specs.Names as naming;
-ghost use Rattle.protocol_scope.specs.Processes as rules;
-ghost use Rattle.protocol_grammar.specs.Sketch as own;
+ghost use Rattle.spec_calculus.specs.Bounds.{most_points, most_points_above};
+ghost use Rattle.spec_protocol_scope.specs.Names as naming;
+ghost use Rattle.spec_protocol_scope.specs.Processes as rules;
+ghost use Rattle.spec_protocol_grammar.specs.Sketch as own;
 ghost use Rattle.pi_parser.specs.Processes.{process_of, unit_of};
 ghost use Rattle.scope_check.specs.Answer.{Gives, Stops, code_of};
 ghost use Rattle.scope_check.specs.Forms.{form_of, site_of, read_at, macros_of, weight_of, used_at, expansion_at, is_point};

@@ -1,8 +1,8 @@
 //! The bytes of a file and their tokens.
 
 ghost use Rattle.std.specs.Prelude.{◌+◌, ◌≤◌, length};
-ghost use Rattle.calculus.specs.Bounds.{most_bytes};
-ghost use Rattle.protocol_tokens.specs.Laws.{Ascend};
+ghost use Rattle.spec_calculus.specs.Bounds.{most_bytes};
+ghost use Rattle.spec_protocol_tokens.specs.Laws.{Ascend};
 ghost use Rattle.scope_check.specs.Props.{scope_props};
 
 use pi_lexer::Tokens;

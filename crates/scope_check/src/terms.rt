@@ -1,12 +1,12 @@
 //! Terms, expressions and events, within their limits.
 
 ghost use Rattle.std.specs.Prelude.{◌≡◌, ◌+◌, ◌≤◌, length, map, IfOk, OnOk};
-ghost use Rattle.calculus.specs.Bounds.{most_written_symbols};
-ghost use Rattle.trees.specs.Tree.{size, sizes, trees, node};
-ghost use Rattle.calculus.specs.Syntax as calculus;
-ghost use Rattle.protocol_grammar.specs.Sketch.{terms_sketch};
-ghost use Rattle.protocol_scope.specs.Names as naming;
-ghost use Rattle.protocol_scope.specs.Terms as rules;
+ghost use Rattle.spec_calculus.specs.Bounds.{most_written_symbols};
+ghost use Rattle.spec_trees.specs.Tree.{size, sizes, trees, node};
+ghost use Rattle.spec_calculus.specs.Syntax as calculus;
+ghost use Rattle.spec_protocol_grammar.specs.Sketch.{terms_sketch};
+ghost use Rattle.spec_protocol_scope.specs.Names as naming;
+ghost use Rattle.spec_protocol_scope.specs.Terms as rules;
 ghost use Rattle.pi_parser.specs.Terms as sketched;
 ghost use Rattle.pi_tree.specs.Terms.{term_of};
 ghost use Rattle.pi_tree.specs.Patterns.{expression_of};

@@ -1,9 +1,9 @@
 //! The texts of tokens, and where they stand.
 
 ghost use Rattle.std.specs.Prelude.{◌≡◌, ◌≤◌, length};
-ghost use Rattle.protocol_tokens.specs.Token as own;
-ghost use Rattle.protocol_scope.specs.Names as rules;
-ghost use Rattle.protocol_scope.specs.Spells.{texts, place_of};
+ghost use Rattle.spec_protocol_tokens.specs.Token as own;
+ghost use Rattle.spec_protocol_scope.specs.Names as rules;
+ghost use Rattle.spec_protocol_scope.specs.Spells.{texts, place_of};
 ghost use Rattle.pi_lexer.specs.Token.{token_of};
 ghost use Rattle.scope_check.specs.Text.{texts_of};
 

@@ -1,7 +1,7 @@
 //! The variables of a rule or query.
 
 ghost use Rattle.std.specs.Prelude.{◌≡◌, ◌+◌, ◌≤◌, ◌++◌, ◌∷◌, [], None, length, OnOk};
-ghost use Rattle.protocol_scope.specs.Names as rules;
+ghost use Rattle.spec_protocol_scope.specs.Names as rules;
 ghost use Rattle.scope_check.specs.Text.{texts_of};
 ghost use Rattle.scope_check.specs.Variables.{FindsVariables};
 ghost use Rattle.scope_check.specs.Within.{most_bound};

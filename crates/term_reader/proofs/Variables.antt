@@ -2,7 +2,7 @@
 use Rattle.std.proofs.Common.{◌≡◌, ℕ, ◌<◌, ◌≤◌, false, ◌==◌, ◌&&◌, List, [], ◌∷◌, length, drop, get_or, refl, arith}
 use Rattle.std.specs.Char.{is_ascii_digit}
 use Rattle.std.specs.List.{list_all}
-use Rattle.protocol_scope.specs.Names.{is_variable}
+use Rattle.spec_protocol_scope.specs.Names.{is_variable}
 
 pub empty_behind : (word : List ℕ) → length word ≡ 0 → word ≡ drop 1 word
 empty_behind [] e = refl

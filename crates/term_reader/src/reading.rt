@@ -2,7 +2,7 @@
 
 ghost use Rattle.std.specs.Prelude.{◌≡◌, ℕ, List, ◌≤◌, length, drop, IfOk};
 ghost use Rattle.pi_tree.specs.Protocols.{protocol_of};
-ghost use Rattle.certificate_reading.specs.Runs.{at_end, read_term};
+ghost use Rattle.spec_certificate_reading.specs.Runs.{at_end, read_term};
 ghost use Rattle.term_reader.specs.Few.{HasFewNames};
 ghost use Rattle.term_reader.specs.SeenSteps.{step_of, read_of, EndsWithin};
 

@@ -1,9 +1,9 @@
 -- Laws of banks as lists of trees: an id keeps its tree as the bank grows, and below a mark.
 use Rattle.std.proofs.Common.{◌≡◌, ℕ, zero, suc, ◌≤◌, ◌<◌, Some, List, [], ◌∷◌, ◌++◌, length, take, map, slice_get, unwrap_or, refl, sym, ap, ◌∙◌, subst, arith, append_assoc, append-nil, length-append}
 use Rattle.std.proofs.lemmas.List.{length-take}
-use Rattle.trees.specs.Tree.{Leaf}
-use Rattle.terms.specs.Term.{Term}
-use Rattle.terms.specs.Term as term
+use Rattle.spec_trees.specs.Tree.{Leaf}
+use Rattle.spec_terms.specs.Term.{Term}
+use Rattle.spec_terms.specs.Term as term
 use Rattle.term_tree.specs.Bank.{symbol_of, tree_at, AreKnown, Names, Grows}
 use Rattle.term_tree.specs.declared.bank.Id.{Id}
 use Rattle.term_tree.specs.declared.bank.Sym.{Sym}

@@ -1,8 +1,8 @@
 -- The plain bank's trees, entry by entry.
 use Rattle.std.proofs.Common.{◌≡◌, ℕ, zero, suc, ◌+◌, ◌≤◌, ◌<◌, Some, List, [], ◌∷◌, ◌++◌, length, take, slice_get, unwrap_or, refl, sym, ap, ◌∙◌, subst, arith, append_assoc, append-nil, length-append, get_or, zero-add, suc-add}
 use Rattle.std.proofs.lemmas.Option.{slice_get_read}
-use Rattle.trees.specs.Tree.{Leaf, node, size}
-use Rattle.terms.specs.Term.{Term}
+use Rattle.spec_trees.specs.Tree.{Leaf, node, size}
+use Rattle.spec_terms.specs.Term.{Term}
 use Rattle.term_tree.specs.Bank.{symbol_of, Grows, capped}
 use Rattle.term_tree.specs.TreeBank.{tree_of, built, HasArgs, IsWell}
 use Rattle.term_tree.specs.declared.tree_bank.Shape.{Shape}

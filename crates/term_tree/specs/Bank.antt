@@ -1,9 +1,9 @@
 -- Banks as lists of trees.
 use Rattle.std.specs.Prelude.{◌≡◌, ℕ, ◌^◌, ◌<◌, min, List, [], ◌∷◌, ◌++◌, length, map, slice_get}
 use Rattle.std.specs.Option.{unwrap_or}
-use Rattle.trees.specs.Tree.{Leaf, node}
-use Rattle.terms.specs.Term.{Term}
-use Rattle.terms.specs.Term as term
+use Rattle.spec_trees.specs.Tree.{Leaf, node}
+use Rattle.spec_terms.specs.Term.{Term}
+use Rattle.spec_terms.specs.Term as term
 use Rattle.term_tree.specs.declared.bank.Id.{Id}
 use Rattle.term_tree.specs.declared.bank.Sym.{Sym}
 use Rattle.term_tree.specs.declared.bank.Sym.TheVariants.{Ctor, Data, Tuple, Free, Point, Attacker}

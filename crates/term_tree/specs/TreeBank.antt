@@ -1,7 +1,7 @@
 -- The plain bank: each entry's tree stands over those of the entries before it.
 use Rattle.std.specs.Prelude.{◌≡◌, List, [], ◌∷◌, ◌++◌, map}
-use Rattle.trees.specs.Tree.{Leaf, node, size}
-use Rattle.terms.specs.Term.{Term}
+use Rattle.spec_trees.specs.Tree.{Leaf, node, size}
+use Rattle.spec_terms.specs.Term.{Term}
 use Rattle.term_tree.specs.Bank.{symbol_of, tree_at, AreKnown, capped}
 use Rattle.term_tree.specs.declared.tree_bank.Shape.{Shape}
 use Rattle.term_tree.specs.declared.tree_bank.Shape.TheVariants.{Var, App}

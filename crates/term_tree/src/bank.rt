@@ -46,8 +46,8 @@ pub const SIZE_LIMIT: u64 = 0x8000_0000_0000_0000;
 /// A bank of terms. Its trees stand in a list that grows at the end; an id keeps its tree until `back`
 /// goes below it.
 pub trait Bank {
-    ghost use Rattle.trees.specs.Tree.{Leaf, node, size};
-    ghost use Rattle.terms.specs.Term.{Term};
+    ghost use Rattle.spec_trees.specs.Tree.{Leaf, node, size};
+    ghost use Rattle.spec_terms.specs.Term.{Term};
     ghost use Rattle.term_tree.specs.Bank.{symbol_of, tree_at, AreKnown, Names, Grows, IsNodeOf, capped};
 
     /// The trees of the bank.

@@ -2,7 +2,7 @@
 #![tactic(auto)]
 
 ghost use Rattle.std.specs.Prelude.{◌≡◌, ℕ, ◌≤◌, ◌<◌, List, length, take, map};
-ghost use Rattle.terms.specs.Term.{Term};
+ghost use Rattle.spec_terms.specs.Term.{Term};
 ghost use Rattle.term_tree.specs.Bank.{symbol_of, tree_at, AreKnown, Names, Grows};
 ghost use Rattle.term_tree.specs.declared.bank.Id.{Id};
 ghost use Rattle.term_tree.specs.declared.bank.Sym.{Sym};

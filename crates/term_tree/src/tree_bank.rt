@@ -29,7 +29,7 @@ pub struct TreeBank {
 
 impl Model for TreeBank {
     ghost use Rattle.std.specs.Prelude.{List, []};
-    ghost use Rattle.terms.specs.Term.{Term, coded_terms};
+    ghost use Rattle.spec_terms.specs.Term.{Term, coded_terms};
 
     ghost Value = { List Term };
 
@@ -44,7 +44,7 @@ impl Model for TreeBank {
 
 impl TreeBank {
     ghost use Rattle.std.specs.Prelude.{◌≡◌, ◌+◌, [], ◌∷◌, ◌++◌, length, map, IfOk, OnErr};
-    ghost use Rattle.trees.specs.Tree.{size as size_of, trees, sizes};
+    ghost use Rattle.spec_trees.specs.Tree.{size as size_of, trees, sizes};
     ghost use Rattle.term_tree.specs.Bank.{tree_at, AreKnown, capped};
     ghost use Rattle.term_tree.specs.TreeBank.{tree_of, HasArgs};
 
@@ -88,8 +88,8 @@ impl TreeBank {
 
 impl Bank for TreeBank {
     ghost use Rattle.std.specs.Prelude.{List};
-    ghost use Rattle.terms.specs.Term.{Term};
-    ghost use Rattle.trees.specs.Tree.{Leaf, node, size};
+    ghost use Rattle.spec_terms.specs.Term.{Term};
+    ghost use Rattle.spec_trees.specs.Tree.{Leaf, node, size};
     ghost use Rattle.term_tree.specs.Bank.{symbol_of, tree_at, AreKnown, Names, Grows, IsNodeOf, capped};
 
     ghost trees = { λ b. b };

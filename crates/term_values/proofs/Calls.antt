@@ -1,10 +1,10 @@
 -- The values of a destructor's call.
 use Rattle.std.proofs.Common.{◌≡◌, ℕ, List, ap, ◌∙◌}
-use Rattle.calculus.specs.Syntax as calculus
-use Rattle.calculus.specs.Syntax.{Call, Protocol}
-use Rattle.calculus.specs.Values as values
-use Rattle.calculus.specs.Values.{Environment, values_of}
-use Rattle.calculus.specs.Matching.{rules_of, value_at, values_at}
+use Rattle.spec_calculus.specs.Syntax as calculus
+use Rattle.spec_calculus.specs.Syntax.{Call, Protocol}
+use Rattle.spec_calculus.specs.Values as values
+use Rattle.spec_calculus.specs.Values.{Environment, values_of}
+use Rattle.spec_calculus.specs.Matching.{rules_of, value_at, values_at}
 use Rattle.term_values.specs.ByRules.{by_rule, by_rules}
 
 pub call-value : (P : Protocol) (s : Environment) (d label : ℕ) (terms : List calculus.Term) (rules : List calculus.Rule) (vs : List values.Value) → rules ≡ rules_of P d → vs ≡ values_of s terms → by_rule rules vs label ≡ value_at P s (Call d terms) label

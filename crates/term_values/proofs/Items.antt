@@ -2,8 +2,8 @@
 use Rattle.std.proofs.Common.{◌≡◌, ℕ, zero, suc, ◌-◌, ◌≤◌, ◌<◌, List, [], length, get_or, map, None, Some, option_map, slice_get, refl, sym, ap, ◌∙◌, arith}
 use Rattle.std.specs.Option.{option_map_or}
 use Rattle.std.proofs.lemmas.Option.{slice_get-map, slice_get_read, slice_get_past}
-use Rattle.calculus.specs.Syntax as calculus
-use Rattle.calculus.specs.Points.{numbered}
+use Rattle.spec_calculus.specs.Syntax as calculus
+use Rattle.spec_calculus.specs.Points.{numbered}
 use Rattle.pi_tree.specs.declared.destructors.Dtor.{Dtor}
 use Rattle.pi_tree.specs.Rules.{destructor_of}
 

@@ -1,9 +1,9 @@
 -- What stands at places, first in one part and then in another.
 use Rattle.std.proofs.Common.{◌≡◌, ℕ, zero, suc, ◌+◌, ◌<◌, ◌≤◌, Bool, true, false, cond, List, [], ◌∷◌, ◌++◌, length, map, drop, get_or, drop-cons, Option, None, Some, refl, sym, ap, ◌∙◌, arith}
-use Rattle.trees.specs.Tree.{Trees, none, more, trees}
-use Rattle.calculus.specs.Syntax.{Name, Symbol}
-use Rattle.calculus.specs.Values.{Environment, Value, same_name, bound_to}
-use Rattle.calculus.specs.Matching.{places, places_row}
+use Rattle.spec_trees.specs.Tree.{Trees, none, more, trees}
+use Rattle.spec_calculus.specs.Syntax.{Name, Symbol}
+use Rattle.spec_calculus.specs.Values.{Environment, Value, same_name, bound_to}
+use Rattle.spec_calculus.specs.Matching.{places, places_row}
 use Rattle.pi_tree.specs.declared.syntax.Term as source_term
 use Rattle.pi_tree.specs.declared.value_trees.Value as source
 use Rattle.pi_tree.specs.Terms.{term_of}

@@ -2,11 +2,11 @@
 use Rattle.std.proofs.Common.{◌≡◌, ℕ, ◌+◌, ◌-◌, ◌≤◌, ◌<◌, Bool, true, false, not, ◌||◌, nat_le, cond, List, [], ◌∷◌, ◌++◌, map, Option, None, Some, is_none, refl, sym, ap, ◌∙◌, arith}
 use Rattle.std.proofs.lemmas.Bool.Decides.{nat_tests}
 use Rattle.std.specs.List.{list_any}
-use Rattle.trees.specs.Tree.{size}
-use Rattle.calculus.specs.Syntax.{Term}
-use Rattle.calculus.specs.Values.{Value, Environment, value_of, values_of}
-use Rattle.calculus.specs.Bounds.{most_symbols}
-use Rattle.calculus.specs.Limits.{is_large}
+use Rattle.spec_trees.specs.Tree.{size}
+use Rattle.spec_calculus.specs.Syntax.{Term}
+use Rattle.spec_calculus.specs.Values.{Value, Environment, value_of, values_of}
+use Rattle.spec_calculus.specs.Bounds.{most_symbols}
+use Rattle.spec_calculus.specs.Limits.{is_large}
 use Rattle.term_values.specs.Room.{room_after}
 
 -- beside a first and the others

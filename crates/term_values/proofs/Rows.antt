@@ -1,13 +1,13 @@
 -- Terms, patterns and values beside one another.
 use Rattle.std.proofs.Common.{◌≡◌, ◌≢◌, suc, Bool, true, false, ◌&&◌, List, [], ◌∷◌, ◌++◌, length, map, Option, None, Some, option_map, option_and_then, refl, sym, ap, ◌∙◌, append_assoc}
-use Rattle.trees.specs.Tree.{Trees, more, trees, binds}
-use Rattle.trees.specs.Same.{same_trees}
-use Rattle.trees.proofs.Rows.{binds-trees}
-use Rattle.calculus.specs.Syntax as calculus
-use Rattle.calculus.specs.Syntax.{Hole, Symbol}
-use Rattle.calculus.specs.Values as values
-use Rattle.calculus.specs.Values.{Atom, Environment, same_atom, same_symbol, same_value, same_values, value_of_name, values_of}
-use Rattle.calculus.specs.Matching.{matched, matched_row}
+use Rattle.spec_trees.specs.Tree.{Trees, more, trees, binds}
+use Rattle.spec_trees.specs.Same.{same_trees}
+use Rattle.spec_trees.proofs.Rows.{binds-trees}
+use Rattle.spec_calculus.specs.Syntax as calculus
+use Rattle.spec_calculus.specs.Syntax.{Hole, Symbol}
+use Rattle.spec_calculus.specs.Values as values
+use Rattle.spec_calculus.specs.Values.{Atom, Environment, same_atom, same_symbol, same_value, same_values, value_of_name, values_of}
+use Rattle.spec_calculus.specs.Matching.{matched, matched_row}
 use Rattle.pi_tree.specs.declared.syntax.Term as source
 use Rattle.pi_tree.specs.declared.syntax.Pat.{Pat}
 use Rattle.pi_tree.specs.declared.value_trees.Value.{Value}

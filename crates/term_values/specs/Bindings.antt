@@ -1,5 +1,5 @@
 -- What contracts see of a binding.
-use Rattle.calculus.specs.Values as calculus
+use Rattle.spec_calculus.specs.Values as calculus
 use Rattle.pi_tree.specs.declared.value_trees.Value.{Value}
 use Rattle.pi_tree.specs.Values.{value_of}
 use Rattle.term_values.specs.declared.environments.Slot.{Slot}

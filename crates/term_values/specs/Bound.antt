@@ -1,9 +1,9 @@
 -- What contracts see of what is bound.
 use Rattle.std.specs.Prelude.{[], ◌++◌, map}
-use Rattle.trees.specs.Tree.{Trees, Leaf, Node, trees}
-use Rattle.calculus.specs.Syntax.{Name, Symbol}
-use Rattle.calculus.specs.Values.{Value, Environment}
-use Rattle.calculus.specs.Matching.{places_row}
+use Rattle.spec_trees.specs.Tree.{Trees, Leaf, Node, trees}
+use Rattle.spec_calculus.specs.Syntax.{Name, Symbol}
+use Rattle.spec_calculus.specs.Values.{Value, Environment}
+use Rattle.spec_calculus.specs.Matching.{places_row}
 use Rattle.pi_tree.specs.Values.{value_of}
 use Rattle.term_values.specs.declared.bindings.Bound.{Bound, Nothing, All, Beside'}
 

@@ -1,9 +1,9 @@
 -- Values by rules, as names that proofs do not look into.
 use Rattle.std.specs.Prelude.{ℕ, List, Option, option_and_then, filter_map}
-use Rattle.calculus.specs.Syntax.{Rule}
-use Rattle.calculus.specs.Points.{numbered}
-use Rattle.calculus.specs.Values.{Value}
-use Rattle.calculus.specs.Matching.{rule_value}
+use Rattle.spec_calculus.specs.Syntax.{Rule}
+use Rattle.spec_calculus.specs.Points.{numbered}
+use Rattle.spec_calculus.specs.Values.{Value}
+use Rattle.spec_calculus.specs.Matching.{rule_value}
 
 -- the value that the rule of that number gives of the values
 unfoldable pub by_rule : List Rule → List Value → ℕ → Option Value

@@ -1,5 +1,5 @@
 -- What contracts see of a slot.
-use Rattle.calculus.specs.Syntax as calculus
+use Rattle.spec_calculus.specs.Syntax as calculus
 use Rattle.term_values.specs.declared.environments.Slot.{Slot}
 use Rattle.term_values.specs.declared.environments.Slot.TheVariants.{Var, Made}
 

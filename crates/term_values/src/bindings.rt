@@ -1,9 +1,9 @@
 //! What is bound where values of terms are compared, without a copy of it.
 
 ghost use Rattle.std.specs.Prelude.{◌≡◌, map, option_map};
-ghost use Rattle.trees.specs.Tree.{trees};
-ghost use Rattle.calculus.specs.Values.{bound_to};
-ghost use Rattle.calculus.specs.Matching.{places, places_row};
+ghost use Rattle.spec_trees.specs.Tree.{trees};
+ghost use Rattle.spec_calculus.specs.Values.{bound_to};
+ghost use Rattle.spec_calculus.specs.Matching.{places, places_row};
 ghost use Rattle.pi_tree.specs.Terms.{term_of};
 ghost use Rattle.pi_tree.specs.Values.{value_of};
 ghost use Rattle.term_values.specs.Slots.{name_of};

@@ -1,7 +1,7 @@
 //! What a thread has bound: its variables, and the names that its restrictions made.
 
 ghost use Rattle.std.specs.Prelude.{◌≡◌, [], ◌∷◌, ◌++◌, option_map, IfOk, OnOk};
-ghost use Rattle.calculus.specs.Values.{same_name, bound_to};
+ghost use Rattle.spec_calculus.specs.Values.{same_name, bound_to};
 ghost use Rattle.pi_tree.specs.Values.{value_of};
 ghost use Rattle.term_values.specs.Slots.{name_of};
 
@@ -43,8 +43,8 @@ pub struct Environment {
 
 impl Model for Environment {
     ghost use Rattle.std.specs.Prelude.{map};
-    ghost use Rattle.calculus.specs.Values as calculus;
-    ghost use Rattle.calculus.specs.Codes.{coded_environment};
+    ghost use Rattle.spec_calculus.specs.Values as calculus;
+    ghost use Rattle.spec_calculus.specs.Codes.{coded_environment};
 
     ghost Value = { calculus.Environment };
 

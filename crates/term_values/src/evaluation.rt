@@ -1,8 +1,8 @@
 //! Values of terms in an environment (Blanchet 2016, section 2.2).
 
 ghost use Rattle.std.specs.Prelude.{◌≡◌, map, IfOk};
-ghost use Rattle.calculus.specs.Values as calculus;
-ghost use Rattle.calculus.specs.Values.{same_value, same_values};
+ghost use Rattle.spec_calculus.specs.Values as calculus;
+ghost use Rattle.spec_calculus.specs.Values.{same_value, same_values};
 ghost use Rattle.pi_tree.specs.Terms.{term_of};
 ghost use Rattle.pi_tree.specs.Values.{value_of};
 ghost use Rattle.term_values.specs.Bound.{bound_of};

@@ -1,10 +1,10 @@
 //! The values of what a `let` evaluates (Blanchet 2016, section 2.2).
 
 ghost use Rattle.std.specs.Prelude.{◌≡◌, map, option_map, IfOk};
-ghost use Rattle.calculus.specs.Matching as calculus;
-ghost use Rattle.calculus.specs.Matching.{rules_of};
-ghost use Rattle.calculus.specs.Points.{numbered};
-ghost use Rattle.calculus.specs.Syntax.{Call};
+ghost use Rattle.spec_calculus.specs.Matching as calculus;
+ghost use Rattle.spec_calculus.specs.Matching.{rules_of};
+ghost use Rattle.spec_calculus.specs.Points.{numbered};
+ghost use Rattle.spec_calculus.specs.Syntax.{Call};
 ghost use Rattle.pi_tree.specs.Patterns.{expression_of};
 ghost use Rattle.pi_tree.specs.Protocols.{protocol_of};
 ghost use Rattle.pi_tree.specs.Rules.{rule_of};

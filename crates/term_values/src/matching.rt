@@ -1,8 +1,8 @@
 //! Matching a value against a pattern (Blanchet 2016, section 2.1).
 
 ghost use Rattle.std.specs.Prelude.{◌≡◌, ◌++◌, map, cond, Some, None, option_map, IfOk};
-ghost use Rattle.trees.specs.Tree.{trees};
-ghost use Rattle.calculus.specs.Matching.{matched, matched_row};
+ghost use Rattle.spec_trees.specs.Tree.{trees};
+ghost use Rattle.spec_calculus.specs.Matching.{matched, matched_row};
 ghost use Rattle.pi_tree.specs.Patterns.{pattern_of};
 ghost use Rattle.pi_tree.specs.Values.{value_of};
 

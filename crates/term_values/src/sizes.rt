@@ -2,10 +2,10 @@
 
 ghost use Rattle.std.specs.Prelude.{◌≡◌, ◌+◌, ◌||◌, map};
 ghost use Rattle.std.specs.List.{list_any};
-ghost use Rattle.trees.specs.Tree.{size, sizes, trees, binds};
-ghost use Rattle.calculus.specs.Values as calculus;
-ghost use Rattle.calculus.specs.Values.{bound_to};
-ghost use Rattle.calculus.specs.Limits.{is_large, compared, compared_row, terms_in, terms_at};
+ghost use Rattle.spec_trees.specs.Tree.{size, sizes, trees, binds};
+ghost use Rattle.spec_calculus.specs.Values as calculus;
+ghost use Rattle.spec_calculus.specs.Values.{bound_to};
+ghost use Rattle.spec_calculus.specs.Limits.{is_large, compared, compared_row, terms_in, terms_at};
 ghost use Rattle.pi_tree.specs.Terms.{term_of};
 ghost use Rattle.pi_tree.specs.Patterns.{pattern_of, expression_of};
 ghost use Rattle.pi_tree.specs.Processes.{process_of};

@@ -1,12 +1,12 @@
 -- Counting the symbols of what a term stands for.
 use Rattle.std.proofs.Common.{◌≡◌, ℕ, ◌+◌, ◌≤◌, ◌<◌, List, [], ◌∷◌, ◌++◌, length, map, drop, get_or, append_assoc, append-nil, refl, sym, ap, ◌∙◌, arith}
-use Rattle.trees.specs.Tree.{Leaf, node, trees, bind, size, sizes}
-use Rattle.terms.specs.Term.{Sym, Term, Subst}
-use Rattle.terms.specs.Binding.{resolved}
-use Rattle.terms.specs.Rank.{height, ranks}
+use Rattle.spec_trees.specs.Tree.{Leaf, node, trees, bind, size, sizes}
+use Rattle.spec_terms.specs.Term.{Sym, Term, Subst}
+use Rattle.spec_terms.specs.Binding.{resolved}
+use Rattle.spec_terms.specs.Rank.{height, ranks}
 use Rattle.term_tree.specs.Bank.{tree_at, AreKnown, Grows, Names}
 use Rattle.term_tree.specs.declared.bank.Id.{Id}
-use Rattle.trees.proofs.Measures.{size-positive}
+use Rattle.spec_trees.proofs.Measures.{size-positive}
 use Rattle.unify_match.proofs.SeenLemmas.{seen-grows}
 use Rattle.term_tree.proofs.BankLaws.{Grows_refl, Grows-length, Grows_trans, tree_at-grows, AreKnown-append, AreKnown-grows, trees_at-grow}
 use Rattle.unify_match.specs.declared.bound.Bound.{Bound}

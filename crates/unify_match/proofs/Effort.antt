@@ -1,11 +1,11 @@
 -- Why unification ends: each binding leaves a variable less to bind, and between bindings the height falls.
 use Rattle.std.proofs.Common.{◌≡◌, ℕ, zero, suc, ◌+◌, ◌*◌, ◌≤◌, ◌<◌, Bool, true, false, cond, nat_eq, is_some, Some, None, List, [], ◌∷◌, ◌++◌, length, slice_get, unwrap_or, refl, sym, ap, ◌∙◌, subst, arith, length-append, zero-add, suc-add, ◌-◌, mul-le-mul_right}
 use Rattle.std.proofs.Math.Nat.{mul-le-mul_left}
-use Rattle.trees.specs.Tree.{Trees, Leaf, Node, none, more, depth, depths}
-use Rattle.terms.specs.Term.{Sym, Term}
-use Rattle.terms.specs.Rank.{height, heights, ranks}
-use Rattle.terms.proofs.Ranks.{ranks-at_most}
-use Rattle.terms.proofs.Replace.{eqb_self}
+use Rattle.spec_trees.specs.Tree.{Trees, Leaf, Node, none, more, depth, depths}
+use Rattle.spec_terms.specs.Term.{Sym, Term}
+use Rattle.spec_terms.specs.Rank.{height, heights, ranks}
+use Rattle.spec_terms.proofs.Ranks.{ranks-at_most}
+use Rattle.spec_terms.proofs.Replace.{eqb_self}
 use Rattle.term_tree.specs.Bank.{tree_at}
 use Rattle.term_tree.specs.declared.bank.Id.{Id}
 use Rattle.unify_match.specs.declared.bound.Bound.{Bound}

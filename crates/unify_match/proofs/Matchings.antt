@@ -1,11 +1,11 @@
 -- The steps of matching, and of comparing two terms.
 use Rattle.std.proofs.Common.{◌≡◌, ℕ, ◌+◌, ◌≤◌, ◌<◌, Bool, true, false, ◌||◌, cond, nat_eq, is_some, Some, None, List, [], ◌∷◌, length, map, drop, get_or, refl, sym, ap, ◌∙◌, arith, eqb-true}
 use Rattle.std.specs.List.{list_any}
-use Rattle.trees.specs.Tree.{Leaf, node}
-use Rattle.terms.specs.Term.{Sym, Term, Subst, has_var}
-use Rattle.terms.specs.Binding.{Agrees, replaced_once}
-use Rattle.terms.specs.Rank.{height}
-use Rattle.terms.proofs.Matches.{Agrees-at, replaced-agrees}
+use Rattle.spec_trees.specs.Tree.{Leaf, node}
+use Rattle.spec_terms.specs.Term.{Sym, Term, Subst, has_var}
+use Rattle.spec_terms.specs.Binding.{Agrees, replaced_once}
+use Rattle.spec_terms.specs.Rank.{height}
+use Rattle.spec_terms.proofs.Matches.{Agrees-at, replaced-agrees}
 use Rattle.term_tree.specs.Bank.{tree_at, AreKnown}
 use Rattle.term_tree.specs.declared.bank.Id.{Id}
 use Rattle.unify_match.specs.declared.bound.Bound.{Bound}

@@ -1,6 +1,6 @@
 -- Pairs that are remembered.
 use Rattle.std.proofs.Common.{◌≡◌, ℕ, ◌⊎◌, inl, inr, Bool, true, false, cond, nat_eq, refl, sym, ap, ◌∙◌, eqb-true}
-use Rattle.trees.proofs.Equality.{and_true}
+use Rattle.spec_trees.proofs.Equality.{and_true}
 use Rattle.unify_match.specs.declared.memo.Memo.{Memo}
 use Rattle.unify_match.specs.Memo.{same_pair, is_remembered}
 

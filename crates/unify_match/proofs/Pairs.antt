@@ -1,7 +1,7 @@
 -- Two lists of arguments that become one, item by item: F and G tell what becomes of an id on either side.
 use Rattle.std.proofs.Common.{◌≡◌, ◌↔◌, ℕ, suc, ◌+◌, ◌≤◌, ◌<◌, List, [], ◌∷◌, length, map, drop, get_or, refl, sym, ap, ◌∙◌, subst}
-use Rattle.trees.specs.Tree.{Node, more, trees, node, bind, binds}
-use Rattle.terms.specs.Term.{Sym, Term, Subst}
+use Rattle.spec_trees.specs.Tree.{Node, more, trees, node, bind, binds}
+use Rattle.spec_terms.specs.Term.{Sym, Term, Subst}
 use Rattle.term_tree.specs.Bank.{tree_at}
 use Rattle.term_tree.specs.declared.bank.Id.{Id}
 use Rattle.unify_match.proofs.Walking.{ids_at, ids_past}

@@ -1,11 +1,11 @@
 -- Bindings over the trees of a bank: how they are read, and that they stay as the bank grows.
 use Rattle.std.proofs.Common.{◌≡◌, ℕ, ◌<◌, Bool, true, false, cond, nat_eq, Some, None, List, [], ◌∷◌, length, refl, sym, ap, ◌∙◌, subst, arith, reverse, drop, zero, suc}
-use Rattle.trees.specs.Tree.{bind}
-use Rattle.terms.specs.Term.{Term, has_var}
-use Rattle.terms.specs.Binding.{Binding, bound_to, AreDistinct, NeverLeadsBack, Leads, directly, by_way_of, Solves, resolved}
-use Rattle.terms.proofs.Replace.{some_none, some_same}
-use Rattle.terms.proofs.Resolve.{IsSound, resolved-solves}
-use Rattle.terms.proofs.Loops.{NeverLeadsBack-sound, IsSound-never}
+use Rattle.spec_trees.specs.Tree.{bind}
+use Rattle.spec_terms.specs.Term.{Term, has_var}
+use Rattle.spec_terms.specs.Binding.{Binding, bound_to, AreDistinct, NeverLeadsBack, Leads, directly, by_way_of, Solves, resolved}
+use Rattle.spec_terms.proofs.Replace.{some_none, some_same}
+use Rattle.spec_terms.proofs.Resolve.{IsSound, resolved-solves}
+use Rattle.spec_terms.proofs.Loops.{NeverLeadsBack-sound, IsSound-never}
 use Rattle.term_tree.specs.Bank.{tree_at, Grows}
 use Rattle.term_tree.specs.declared.bank.Id.{Id}
 use Rattle.term_tree.proofs.BankLaws.{tree_at-grows, Grows-length}

@@ -3,13 +3,13 @@ use Rattle.std.proofs.Common.{◌≡◌, ◌↔◌, ℕ, zero, suc, ◌+◌, ◌
 use Rattle.std.proofs.lemmas.List.{map-append, get_or-map, length-map}
 use Rattle.std.proofs.Math.Seq.{take-suc, take-length, drop-append_seam}
 use Rattle.std.proofs.lemmas.Bool.{false≢true, or_left, or_right}
-use Rattle.trees.specs.Tree.{Trees, Leaf, Node, none, more, node, trees, bind, binds, some_leaves}
-use Rattle.trees.proofs.Rows.{items_of-trees, trees-items_of, bind-node, node-injective}
-use Rattle.terms.specs.Term.{Sym, Term, Subst, has_var}
-use Rattle.terms.specs.Binding.{resolved}
-use Rattle.terms.specs.Rank.{height, heights, ranks}
-use Rattle.terms.proofs.Replace.{eqb_self}
-use Rattle.terms.proofs.Resolve.{resolved-unbound, resolved-free}
+use Rattle.spec_trees.specs.Tree.{Trees, Leaf, Node, none, more, node, trees, bind, binds, some_leaves}
+use Rattle.spec_trees.proofs.Rows.{items_of-trees, trees-items_of, bind-node, node-injective}
+use Rattle.spec_terms.specs.Term.{Sym, Term, Subst, has_var}
+use Rattle.spec_terms.specs.Binding.{resolved}
+use Rattle.spec_terms.specs.Rank.{height, heights, ranks}
+use Rattle.spec_terms.proofs.Replace.{eqb_self}
+use Rattle.spec_terms.proofs.Resolve.{resolved-unbound, resolved-free}
 use Rattle.term_tree.specs.Bank.{tree_at, AreKnown, Grows, Names}
 use Rattle.term_tree.specs.declared.bank.Id.{Id}
 use Rattle.term_tree.proofs.BankLaws.{Grows_refl, Grows_trans, Grows-length, tree_at-grows, AreKnown-append, AreKnown-grows, trees_at-grow}

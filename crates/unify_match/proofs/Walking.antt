@@ -1,12 +1,12 @@
 -- Following the bindings of variables.
 use Rattle.std.proofs.Common.{◌≡◌, ℕ, ◌+◌, ◌≤◌, ◌<◌, max, Bool, true, false, ◌||◌, ◌⊎◌, inl, inr, Some, None, List, [], ◌∷◌, map, drop, length, get_or, nat_eq, cond, eqb-true, drop-cons, drop_of_length-le, add-one, subst, refl, sym, ap, ◌∙◌, arith}
-use Rattle.trees.specs.Tree.{Leaf, node, bind}
-use Rattle.terms.specs.Term.{Sym, Term, Subst, has_var}
-use Rattle.terms.specs.Binding.{Solves, resolved}
-use Rattle.terms.specs.Rank.{height, ranks}
-use Rattle.terms.proofs.Resolve.{Solves-at, resolved-unbound}
-use Rattle.terms.proofs.Ranks.{ranks-fall}
-use Rattle.terms.proofs.Replace.{some_none}
+use Rattle.spec_trees.specs.Tree.{Leaf, node, bind}
+use Rattle.spec_terms.specs.Term.{Sym, Term, Subst, has_var}
+use Rattle.spec_terms.specs.Binding.{Solves, resolved}
+use Rattle.spec_terms.specs.Rank.{height, ranks}
+use Rattle.spec_terms.proofs.Resolve.{Solves-at, resolved-unbound}
+use Rattle.spec_terms.proofs.Ranks.{ranks-fall}
+use Rattle.spec_terms.proofs.Replace.{some_none}
 use Rattle.term_tree.specs.Bank.{tree_at, AreKnown}
 use Rattle.term_tree.specs.declared.bank.Id.{Id}
 use Rattle.unify_match.specs.declared.bound.Bound.{Bound}

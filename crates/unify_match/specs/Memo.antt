@@ -1,9 +1,9 @@
 -- What is remembered: the ids in which a variable was not found, and the pairs of ids that were made one.
 use Rattle.std.specs.Prelude.{◌≡◌, ℕ, ◌&&◌, Bool, true, false, nat_eq, List}
 use Rattle.std.specs.HashSet.{contains}
-use Rattle.trees.specs.Tree.{bind}
-use Rattle.terms.specs.Term.{Term, Subst, has_var}
-use Rattle.terms.specs.Binding.{Solves, resolved}
+use Rattle.spec_trees.specs.Tree.{bind}
+use Rattle.spec_terms.specs.Term.{Term, Subst, has_var}
+use Rattle.spec_terms.specs.Binding.{Solves, resolved}
 use Rattle.term_tree.specs.Bank.{tree_at}
 use Rattle.unify_match.specs.declared.bound.Bound.{Bound}
 use Rattle.unify_match.specs.declared.memo.Memo.{Memo}

@@ -1,9 +1,9 @@
 -- What unification and matching answer.
 use Rattle.std.specs.Prelude.{◌≡◌, ◌↔◌, ℕ, ◌||◌, is_some, List}
 use Rattle.std.specs.List.{list_any}
-use Rattle.terms.specs.Term.{Term, Subst, has_var}
-use Rattle.terms.specs.Unifier.{Unifies, UnifiesAll, IsMostGeneral, Matches, MatchesAll}
-use Rattle.terms.specs.Binding.{Solves, Agrees, resolved, replaced_once, IsMguUnder}
+use Rattle.spec_terms.specs.Term.{Term, Subst, has_var}
+use Rattle.spec_terms.specs.Unifier.{Unifies, UnifiesAll, IsMostGeneral, Matches, MatchesAll}
+use Rattle.spec_terms.specs.Binding.{Solves, Agrees, resolved, replaced_once, IsMguUnder}
 use Rattle.unify_match.specs.declared.bound.Bound.{Bound}
 use Rattle.unify_match.specs.Trail.{Extends, id_of}
 use Rattle.unify_match.specs.Seen.{seen}

@@ -1,11 +1,11 @@
 -- How far a unification has come, and why it ends.
 use Rattle.std.specs.Prelude.{◌≡◌, ◌↔◌, ℕ, ◌+◌, ◌*◌, ◌≤◌, max, zero, suc, ◌||◌, cond, is_some, None, List, [], ◌∷◌, length}
 use Rattle.std.specs.List.{list_any}
-use Rattle.trees.specs.Tree.{Trees, Leaf, Node, none, more, depth}
-use Rattle.terms.specs.Term.{Sym, Term, Subst, has_var}
-use Rattle.terms.specs.Unifier.{Unifies, UnifiesAll, Matches, MatchesAll}
-use Rattle.terms.specs.Binding.{Solves, Agrees}
-use Rattle.terms.specs.Rank.{height, ranks}
+use Rattle.spec_trees.specs.Tree.{Trees, Leaf, Node, none, more, depth}
+use Rattle.spec_terms.specs.Term.{Sym, Term, Subst, has_var}
+use Rattle.spec_terms.specs.Unifier.{Unifies, UnifiesAll, Matches, MatchesAll}
+use Rattle.spec_terms.specs.Binding.{Solves, Agrees}
+use Rattle.spec_terms.specs.Rank.{height, ranks}
 use Rattle.term_tree.specs.Bank.{tree_at}
 use Rattle.term_tree.specs.declared.bank.Id.{Id}
 use Rattle.unify_match.specs.declared.bound.Bound.{Bound}

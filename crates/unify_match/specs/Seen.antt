@@ -1,9 +1,9 @@
 -- Bindings over the trees of a bank.
 use Rattle.std.specs.Prelude.{◌≡◌, ℕ, ◌<◌, ◌≤◌, None, List, [], ◌∷◌, length}
-use Rattle.trees.specs.Tree.{Leaf, bind}
-use Rattle.terms.specs.Term.{Term, Subst}
-use Rattle.terms.specs.Binding.{Binding, AreDistinct, NeverLeadsBack, Solves}
-use Rattle.terms.specs.Rank.{height, ranks}
+use Rattle.spec_trees.specs.Tree.{Leaf, bind}
+use Rattle.spec_terms.specs.Term.{Term, Subst}
+use Rattle.spec_terms.specs.Binding.{Binding, AreDistinct, NeverLeadsBack, Solves}
+use Rattle.spec_terms.specs.Rank.{height, ranks}
 use Rattle.term_tree.specs.Bank.{tree_at}
 use Rattle.term_tree.specs.declared.bank.Id.{Id}
 use Rattle.unify_match.specs.declared.bound.Bound.{Bound}

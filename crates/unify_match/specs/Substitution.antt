@@ -1,10 +1,10 @@
 -- Substitutions as they are applied to terms of a bank: what bindings stand for, and renamings.
 use Rattle.std.specs.Prelude.{◌≡◌, ℕ, ◌+◌, ◌<◌, ◌≤◌, IsTrue, None, List, [], length}
-use Rattle.trees.specs.Tree.{Leaf, Node, items_of, bind}
-use Rattle.terms.specs.Term.{Term, Subst, has_var}
-use Rattle.terms.specs.Unifier.{moved, renumbered}
-use Rattle.terms.specs.Binding.{resolved}
-use Rattle.terms.specs.Rank.{height, ranks}
+use Rattle.spec_trees.specs.Tree.{Leaf, Node, items_of, bind}
+use Rattle.spec_terms.specs.Term.{Term, Subst, has_var}
+use Rattle.spec_terms.specs.Unifier.{moved, renumbered}
+use Rattle.spec_terms.specs.Binding.{resolved}
+use Rattle.spec_terms.specs.Rank.{height, ranks}
 use Rattle.term_tree.specs.Bank.{tree_at}
 use Rattle.term_tree.specs.declared.bank.Id.{Id}
 use Rattle.unify_match.specs.declared.substitute.Substitution.{Substitution}

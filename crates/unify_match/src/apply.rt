@@ -1,9 +1,9 @@
 //! Applying bindings to a term: the symbols are counted before anything is built.
 
 ghost use Rattle.std.specs.Prelude.{◌≡◌, ℕ, ◌+◌, ◌<◌, ◌≤◌, IsTrue, None, length, IfOk, IfSome, OnErr, MatchOption};
-ghost use Rattle.trees.specs.Tree.{bind, size};
-ghost use Rattle.terms.specs.Term.{has_var};
-ghost use Rattle.terms.specs.Binding.{resolved};
+ghost use Rattle.spec_trees.specs.Tree.{bind, size};
+ghost use Rattle.spec_terms.specs.Term.{has_var};
+ghost use Rattle.spec_terms.specs.Binding.{resolved};
 ghost use Rattle.term_tree.specs.Bank.{tree_at, Grows, Names};
 ghost use Rattle.unify_match.specs.Trail.{id_of};
 ghost use Rattle.unify_match.specs.Seen.{seen, IsReady};

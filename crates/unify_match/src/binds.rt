@@ -1,9 +1,9 @@
 //! Bindings as a finite map with a trail, which can be taken back to an earlier level.
 
 ghost use Rattle.std.specs.Prelude.{◌≡◌, ◌+◌, ◌-◌, ◌<◌, ◌≤◌, List, [], ◌∷◌, None, IsFalse, length, drop, OnOk, IfOk};
-ghost use Rattle.trees.specs.Tree.{bind};
-ghost use Rattle.terms.specs.Term.{Term, has_var};
-ghost use Rattle.terms.specs.Binding.{resolved};
+ghost use Rattle.spec_trees.specs.Tree.{bind};
+ghost use Rattle.spec_terms.specs.Term.{Term, has_var};
+ghost use Rattle.spec_terms.specs.Binding.{resolved};
 ghost use Rattle.term_tree.specs.Bank.{tree_at};
 ghost use Rattle.unify_match.specs.Trail.{id_of, BindsOnce};
 ghost use Rattle.unify_match.specs.Seen.{seen, IsReady, AreBindings};

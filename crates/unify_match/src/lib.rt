@@ -2,10 +2,10 @@
 #![tactic(auto)]
 
 ghost use Rattle.std.specs.Prelude.{◌≡◌, ℕ, ◌-◌, ◌<◌, Option, Some, None, List, ◌∷◌, IsFalse, length, map, drop};
-ghost use Rattle.trees.specs.Tree.{bind};
-ghost use Rattle.terms.specs.Term.{Term, Subst, has_var};
-ghost use Rattle.terms.specs.Unifier.{IsMostGeneral};
-ghost use Rattle.terms.specs.Binding.{AreDistinct, bound_to, Solves, resolved};
+ghost use Rattle.spec_trees.specs.Tree.{bind};
+ghost use Rattle.spec_terms.specs.Term.{Term, Subst, has_var};
+ghost use Rattle.spec_terms.specs.Unifier.{IsMostGeneral};
+ghost use Rattle.spec_terms.specs.Binding.{AreDistinct, bound_to, Solves, resolved};
 ghost use Rattle.term_tree.specs.Bank.{tree_at, Grows};
 ghost use Rattle.term_tree.specs.declared.bank.Id.{Id};
 ghost use Rattle.unify_match.specs.declared.bound.Bound.{Bound};

@@ -1,9 +1,9 @@
 //! Renaming the variables of terms.
 
 ghost use Rattle.std.specs.Prelude.{◌≡◌, ℕ, ◌+◌, ◌<◌, IsTrue, length, IfOk, OnErr};
-ghost use Rattle.trees.specs.Tree.{bind};
-ghost use Rattle.terms.specs.Term.{has_var};
-ghost use Rattle.terms.specs.Unifier.{moved, renumbered as renumbered_by};
+ghost use Rattle.spec_trees.specs.Tree.{bind};
+ghost use Rattle.spec_terms.specs.Term.{has_var};
+ghost use Rattle.spec_terms.specs.Unifier.{moved, renumbered as renumbered_by};
 ghost use Rattle.term_tree.specs.Bank.{tree_at, Grows, Names};
 
 use crate::substitute::{Substitution, substituted};

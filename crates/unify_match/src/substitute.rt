@@ -1,9 +1,9 @@
 //! Applying a substitution to a term of a bank. What does not change is not built again.
 
 ghost use Rattle.std.specs.Prelude.{◌≡◌, ℕ, ◌↔◌, ◌<◌, true, IsTrue, List, [], length, slice_index_or, IfOk, OnOk, OnErr};
-ghost use Rattle.trees.specs.Tree.{Leaf, node, bind};
-ghost use Rattle.terms.specs.Term.{Term};
-ghost use Rattle.terms.specs.Unifier.{number_in};
+ghost use Rattle.spec_trees.specs.Tree.{Leaf, node, bind};
+ghost use Rattle.spec_terms.specs.Term.{Term};
+ghost use Rattle.spec_terms.specs.Unifier.{number_in};
 ghost use Rattle.term_tree.specs.Bank.{symbol_of, tree_at, Grows, Names};
 ghost use Rattle.unify_match.specs.Substitution.{subst_of, CanChange, Fits, IsFinal, IsLed, arguments};
 

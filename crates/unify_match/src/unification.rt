@@ -3,9 +3,9 @@
 //! time is polynomial in the number of terms that can be reached.
 
 ghost use Rattle.std.specs.Prelude.{◌≡◌, ◌<◌, false, None, length, map, IfOk, OnErr, MatchBool};
-ghost use Rattle.trees.specs.Tree.{Leaf, bind};
-ghost use Rattle.terms.specs.Term.{has_var};
-ghost use Rattle.terms.specs.Binding.{resolved};
+ghost use Rattle.spec_trees.specs.Tree.{Leaf, bind};
+ghost use Rattle.spec_terms.specs.Term.{has_var};
+ghost use Rattle.spec_terms.specs.Binding.{resolved};
 ghost use Rattle.term_tree.specs.Bank.{tree_at, AreKnown};
 ghost use Rattle.unify_match.specs.Trail.{id_of};
 ghost use Rattle.unify_match.specs.Seen.{seen, IsReady};

@@ -1,9 +1,9 @@
 //! Following bindings: from a term to where its variable leads, and looking for a variable.
 
 ghost use Rattle.std.specs.Prelude.{◌≡◌, ◌<◌, ◌↔◌, IsTrue, IfOk, OnOk, None, length};
-ghost use Rattle.trees.specs.Tree.{bind};
-ghost use Rattle.terms.specs.Term.{has_var};
-ghost use Rattle.terms.specs.Binding.{resolved};
+ghost use Rattle.spec_trees.specs.Tree.{bind};
+ghost use Rattle.spec_terms.specs.Term.{has_var};
+ghost use Rattle.spec_terms.specs.Binding.{resolved};
 ghost use Rattle.term_tree.specs.Bank.{tree_at};
 ghost use Rattle.unify_match.specs.Trail.{id_of};
 ghost use Rattle.unify_match.specs.Seen.{seen, IsReady, IsWalked};

@@ -2,23 +2,23 @@
 use Rattle.std.proofs.Common.{◌≡◌, ◌≢◌, false, ℕ, zero, suc, ◌+◌, ◌==◌, ◌≤◌, min, List, [], ◌∷◌, length, Option, Some, IfSome, slice_get, inl, inr, refl, sym, ap, subst, ◌∙◌, arith}
 use Rattle.std.specs.Prelude.{Contains, count_by}
 use Rattle.std.proofs.lemmas.List.{take_min}
-use Rattle.calculus.specs.Bounds.{most_report_bytes}
-use Rattle.calculus.specs.Syntax as syntax
-use Rattle.calculus.specs.Secrecy.{Holds}
+use Rattle.spec_calculus.specs.Bounds.{most_report_bytes}
+use Rattle.spec_calculus.specs.Syntax as syntax
+use Rattle.spec_calculus.specs.Secrecy.{Holds}
 use Rattle.hv_io.specs.Place.{line_at}
-use Rattle.certificates.specs.Shown.{IsProper}
-use Rattle.certificates.specs.Certificate.{Certificate}
-use Rattle.certificates.specs.Ruling as certificates
-use Rattle.certificates.specs.Ruling.{IsRuled}
-use Rattle.certificate_reading.specs.Terms.{Code}
-use Rattle.certificate_reading.specs.Outcomes as reading
-use Rattle.certificate_reading.specs.Outcomes.{Faulty}
-use Rattle.certificate_reading.specs.Reports.{Claim, Proved, Bare, Unknown, read_report}
-use Rattle.report_text.specs.Text.{SpellsReport}
+use Rattle.spec_certificates.specs.Shown.{IsProper}
+use Rattle.spec_certificates.specs.Certificate.{Certificate}
+use Rattle.spec_certificates.specs.Ruling as certificates
+use Rattle.spec_certificates.specs.Ruling.{IsRuled}
+use Rattle.spec_certificate_reading.specs.Terms.{Code}
+use Rattle.spec_certificate_reading.specs.Outcomes as reading
+use Rattle.spec_certificate_reading.specs.Outcomes.{Faulty}
+use Rattle.spec_certificate_reading.specs.Reports.{Claim, Proved, Bare, Unknown, read_report}
+use Rattle.spec_report_text.specs.Text.{SpellsReport}
 use Rattle.fact_reader.specs.Gives.{HasFault}
 use Rattle.fact_reader.specs.declared.error.CertError.{CertError}
 use Rattle.fact_reader.specs.declared.error.CertError.TheVariants as error
-use Rattle.protocol_scope.specs.Spells.{Spells}
+use Rattle.spec_protocol_scope.specs.Spells.{Spells}
 use Rattle.cert_checker.specs.declared.ruling.Ruling.TheVariants.{Accepted}
 use Rattle.verifier_cli.specs.declared.outcome.Finding.{Finding}
 use Rattle.verifier_cli.specs.declared.outcome.Finding.TheVariants.{Ruled}

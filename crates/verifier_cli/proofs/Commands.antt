@@ -1,7 +1,7 @@
 -- Words of a command.
 use Rattle.std.proofs.Common.{◌≡◌, ◌≢◌, ℕ, List, Option, Some, None, refl, sym, subst, ◌∙◌}
 use Rattle.command_words.specs.Request.{Request, request_of}
-use Rattle.calculus.specs.Syntax.{Protocol}
+use Rattle.spec_calculus.specs.Syntax.{Protocol}
 use Rattle.verifier_cli.specs.Complete.{IsComeTo}
 use Rattle.verifier_cli.specs.Listing.{IsSpelledAt, IsSource, IsTextOf, source_of}
 use Rattle.verifier_cli.specs.Outcome.{Outcome, ReadFault}

@@ -1,9 +1,9 @@
 -- From what a request comes to: the headline, and that accepted files come to an outcome of the command's own.
 use Rattle.std.proofs.Common.{◌≡◌, ◌≢◌, ℕ, List, Option, Some, Bool, true, false, if◌then◌else◌, inl, inr, refl, sym, subst}
 use Rattle.std.specs.List.{list_all}
-use Rattle.calculus.specs.Syntax.{Protocol}
-use Rattle.certificate_reading.specs.Reports.{Claim}
-use Rattle.calculus.specs.Runs.{Step}
+use Rattle.spec_calculus.specs.Syntax.{Protocol}
+use Rattle.spec_certificate_reading.specs.Reports.{Claim}
+use Rattle.spec_calculus.specs.Runs.{Step}
 use Rattle.command_words.specs.Request.{Request, Verify, Check, ListOf, Replay, RingOf, request_of}
 use Rattle.verifier_cli.specs.Outcome.{Outcome, Usage, Verified, Checked, Listed, ListLarge, NoQuery, Replayed, Ring, Refused, ReadFault, Memory}
 use Rattle.verifier_cli.specs.Command.{OfFile, IsDecidedBy, IsUnreadable, NoneViolated, Verifies}
@@ -14,7 +14,7 @@ use Rattle.verifier_cli.specs.Replaying.{IsOutcomeOfReplay, IsReplayOutcome, Rep
 use Rattle.verifier_cli.specs.Ringing.{IsRingOutcome}
 use Rattle.verifier_cli.specs.Text.{is_proved, is_accepted, is_without_violation, status_of}
 use Rattle.verifier_cli.proofs.Held.{of_file, of_held}
-use Rattle.ring_text.specs.Text.{ring_text}
+use Rattle.spec_ring_text.specs.Text.{ring_text}
 
 -- a list or a replay shows no query
 listed_violates_none : (bytes : List ℕ) (outcome : Outcome) → IsListOutcome bytes outcome → NoneViolated bytes outcome

@@ -1,14 +1,14 @@
 -- What stands behind the text of a certificate may be written behind it afterwards.
 use Rattle.std.proofs.Common.{◌≡◌, ℕ, List, [], ◌∷◌, ◌++◌, ap, ◌∙◌, refl, append_assoc, codes}
 use Rattle.std.specs.Fmt.{decimal}
-use Rattle.trees.specs.Tree.{Leaf, Node, none, more}
-use Rattle.calculus.specs.Syntax.{Protocol}
-use Rattle.terms.specs.Term.{Term}
-use Rattle.clauses.specs.Fact.{Fact, Clause}
-use Rattle.certificates.specs.Certificate.{Certificate}
-use Rattle.certificate_text.specs.Loose.{Head, Applied, Tupled, Made, Attackers, Loose, LooseRow, opening, closing, onto, row, behind}
-use Rattle.certificate_text.specs.Written.{written_fact}
-use Rattle.certificate_text.specs.Text.{fact_text, later_hypotheses, hypotheses_text, clause_text, clause_lines, numbers_text, row_lines, certificate_text}
+use Rattle.spec_trees.specs.Tree.{Leaf, Node, none, more}
+use Rattle.spec_calculus.specs.Syntax.{Protocol}
+use Rattle.spec_terms.specs.Term.{Term}
+use Rattle.spec_clauses.specs.Fact.{Fact, Clause}
+use Rattle.spec_certificates.specs.Certificate.{Certificate}
+use Rattle.spec_certificate_text.specs.Loose.{Head, Applied, Tupled, Made, Attackers, Loose, LooseRow, opening, closing, onto, row, behind}
+use Rattle.spec_certificate_text.specs.Written.{written_fact}
+use Rattle.spec_certificate_text.specs.Text.{fact_text, later_hypotheses, hypotheses_text, clause_text, clause_lines, numbers_text, row_lines, certificate_text}
 
 opening_followed : (head : Head) (k rest : List ℕ) → opening head k ++ rest ≡ opening head (k ++ rest)
 opening_followed (Applied word) k rest = append_assoc word (40 ∷ k) rest

@@ -1,8 +1,8 @@
 -- What is found of claims, one more at a time.
 use Rattle.std.proofs.Common.{◌≡◌, ℕ, zero, suc, ◌+◌, ◌<◌, ◌≤◌, Some, List, [], ◌∷◌, ◌++◌, length, map, take, get_or, refl, sym, subst, arith}
 use Rattle.std.proofs.lemmas.List.{take_all}
-use Rattle.calculus.specs.Syntax.{Query, Protocol}
-use Rattle.calculus.specs.Points.{numbered}
+use Rattle.spec_calculus.specs.Syntax.{Query, Protocol}
+use Rattle.spec_calculus.specs.Points.{numbered}
 use Rattle.cert_reader.specs.Seen.{claim_of}
 use Rattle.cert_reader.specs.declared.claims.Claim.{Claim}
 use Rattle.verifier_cli.specs.declared.outcome.Finding.{Finding}

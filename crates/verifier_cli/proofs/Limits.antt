@@ -1,10 +1,10 @@
 -- A protocol within the limits of reading is within those of a replay and of the reading of reports.
 use Rattle.std.proofs.Common.{length, arith}
-use Rattle.calculus.specs.Syntax.{Protocol}
-use Rattle.well_formed.specs.Limits.{IsWithinLimits}
+use Rattle.spec_calculus.specs.Syntax.{Protocol}
+use Rattle.spec_well_formed.specs.Limits.{IsWithinLimits}
 use Rattle.run_replay.specs.Limits.{IsLimited}
 use Rattle.term_reader.specs.Few.{HasFewNames}
-use Rattle.certificate_text.specs.OfProtocol.{IsShort}
+use Rattle.spec_certificate_text.specs.OfProtocol.{IsShort}
 
 pub limited : (P : Protocol) → IsWithinLimits P → IsLimited P
 limited P h =

@@ -1,7 +1,7 @@
 -- From a translation to what is said of the command `list`.
 use Rattle.std.proofs.Common.{◌≡◌, ◌≢◌, ◌∙◌, ℕ, List, Option, None, Some, inl, inr, refl, ap, subst}
-use Rattle.calculus.specs.Syntax as syntax
-use Rattle.protocol_scope.specs.Spells.{Spells}
+use Rattle.spec_calculus.specs.Syntax as syntax
+use Rattle.spec_protocol_scope.specs.Spells.{Spells}
 use Rattle.verifier_cli.specs.Outcome.{Refusal, Outcome, Usage, Verified, Checked, Listed, ListLarge, NoQuery, Replayed, Ring, Refused, ReadFault, Memory}
 use Rattle.verifier_cli.specs.Command.{OfFile, IsRefusalOf}
 use Rattle.verifier_cli.specs.Reading.{IsUnread}

@@ -4,22 +4,22 @@ use Rattle.std.proofs.lemmas.Bool.Decides.{nat_tests}
 use Rattle.std.proofs.lemmas.List.Folds.{list_all-append}
 use Rattle.std.specs.Fmt.{decimal, digits, digits_onto, digit_glyph}
 use Rattle.std.specs.List.{list_all, AllByRecursion}
-use Rattle.trees.specs.Tree.{Trees, Leaf, Node, none, more, trees}
-use Rattle.calculus.specs.Syntax.{Declared, Process, Nil, Output, Input, Parallel, Replication, New, Let, Event, Protocol}
-use Rattle.calculus.specs.Points.{numbered, nodes}
-use Rattle.calculus.proofs.Items.{each-append, each-numbered, if_some-is, if_some-map, if_some-unwrap}
-use Rattle.well_formed.specs.Processes.{EachWord}
-use Rattle.protocol_tokens.specs.Bytes.{is_in_word}
-use Rattle.protocol_scope.specs.Words.{IsIdentifier, IsSymbolWord, HasWords}
-use Rattle.terms.specs.Term.{Sym, Ctor, Data, Tuple, Free, Point, Attacker, Term}
-use Rattle.clauses.specs.Fact.{Fact, Att, Mess, Ev, Mev, Bad, Clause}
-use Rattle.certificate_text.specs.Loose.{Head, Applied, Tupled, Made, Attackers, Loose, LooseRow, opening, closing, onto, row, behind}
-use Rattle.certificate_text.specs.Words.{declared_word, word_of_process, symbol_word, event_word}
-use Rattle.certificate_text.specs.Written.{applied, headed, written, written_row, written_event, written_fact}
-use Rattle.certificate_text.specs.Text.{fact_text, later_hypotheses, hypotheses_text, clause_text}
-use Rattle.certificate_text.proofs.Runs.{both_left, both_right}
-use Rattle.certificate_reading.proofs.Parts.{equal_byte}
-use Rattle.report_text.specs.Text.{in_line}
+use Rattle.spec_trees.specs.Tree.{Trees, Leaf, Node, none, more, trees}
+use Rattle.spec_calculus.specs.Syntax.{Declared, Process, Nil, Output, Input, Parallel, Replication, New, Let, Event, Protocol}
+use Rattle.spec_calculus.specs.Points.{numbered, nodes}
+use Rattle.spec_calculus.proofs.Items.{each-append, each-numbered, if_some-is, if_some-map, if_some-unwrap}
+use Rattle.spec_well_formed.specs.Processes.{EachWord}
+use Rattle.spec_protocol_tokens.specs.Bytes.{is_in_word}
+use Rattle.spec_protocol_scope.specs.Words.{IsIdentifier, IsSymbolWord, HasWords}
+use Rattle.spec_terms.specs.Term.{Sym, Ctor, Data, Tuple, Free, Point, Attacker, Term}
+use Rattle.spec_clauses.specs.Fact.{Fact, Att, Mess, Ev, Mev, Bad, Clause}
+use Rattle.spec_certificate_text.specs.Loose.{Head, Applied, Tupled, Made, Attackers, Loose, LooseRow, opening, closing, onto, row, behind}
+use Rattle.spec_certificate_text.specs.Words.{declared_word, word_of_process, symbol_word, event_word}
+use Rattle.spec_certificate_text.specs.Written.{applied, headed, written, written_row, written_event, written_fact}
+use Rattle.spec_certificate_text.specs.Text.{fact_text, later_hypotheses, hypotheses_text, clause_text}
+use Rattle.spec_certificate_text.proofs.Runs.{both_left, both_right}
+use Rattle.spec_certificate_reading.proofs.Parts.{equal_byte}
+use Rattle.spec_report_text.specs.Text.{in_line}
 
 -- no byte of it ends a line
 abbrev pub IsOneLine : List ℕ → Type 0

@@ -5,24 +5,24 @@ use Rattle.std.specs.Fmt.{decimal}
 use Rattle.std.specs.List.{AllByRecursion}
 use Rattle.std.proofs.lemmas.Bool.Decides.{nat_tests}
 use Rattle.std.proofs.lemmas.List.{length-map}
-use Rattle.calculus.specs.Bounds.{most_report_bytes}
-use Rattle.calculus.specs.Syntax.{Query, Protocol}
-use Rattle.calculus.specs.Points.{numbered}
-use Rattle.calculus.proofs.Items.{each-contains}
-use Rattle.well_formed.specs.Limits.{IsSmallQuery, IsWithinLimits}
+use Rattle.spec_calculus.specs.Bounds.{most_report_bytes}
+use Rattle.spec_calculus.specs.Syntax.{Query, Protocol}
+use Rattle.spec_calculus.specs.Points.{numbered}
+use Rattle.spec_calculus.proofs.Items.{each-contains}
+use Rattle.spec_well_formed.specs.Limits.{IsSmallQuery, IsWithinLimits}
 use Rattle.command_words.specs.Request.{Verify}
-use Rattle.protocol_scope.specs.Spells.{Spells}
-use Rattle.protocol_scope.specs.Words.{HasWords}
-use Rattle.certificates.specs.Certificate.{Certificate}
-use Rattle.certificates.specs.Ruling as certificates
-use Rattle.certificates.specs.Ruling.{IsRuled}
-use Rattle.verdicts.specs.Verdict as defined
-use Rattle.verdicts.specs.Verdict.{IsVerdict}
-use Rattle.certificate_text.specs.OfProtocol.{HasNames}
-use Rattle.certificate_reading.specs.Readable.{IsReadableCertificate}
-use Rattle.certificate_reading.specs.Reports as reports
-use Rattle.certificate_reading.specs.Reports.{Claim, Unknown}
-use Rattle.report_text.specs.Text.{query_text, IsReason, SpellsClaim, SpellsClaims, SpellsReport}
+use Rattle.spec_protocol_scope.specs.Spells.{Spells}
+use Rattle.spec_protocol_scope.specs.Words.{HasWords}
+use Rattle.spec_certificates.specs.Certificate.{Certificate}
+use Rattle.spec_certificates.specs.Ruling as certificates
+use Rattle.spec_certificates.specs.Ruling.{IsRuled}
+use Rattle.spec_verdicts.specs.Verdict as defined
+use Rattle.spec_verdicts.specs.Verdict.{IsVerdict}
+use Rattle.spec_certificate_text.specs.OfProtocol.{HasNames}
+use Rattle.spec_certificate_reading.specs.Readable.{IsReadableCertificate}
+use Rattle.spec_certificate_reading.specs.Reports as reports
+use Rattle.spec_certificate_reading.specs.Reports.{Claim, Unknown}
+use Rattle.spec_report_text.specs.Text.{query_text, IsReason, SpellsClaim, SpellsClaims, SpellsReport}
 use Rattle.clause_saturate.specs.declared.log.PlainEntry.{PlainEntry}
 use Rattle.cert_checker.specs.declared.ruling.Ruling.{Ruling}
 use Rattle.cert_checker.specs.declared.ruling.Ruling.TheVariants.{Accepted, Shape, Translation, Cover, Closure, Goal, Extra}

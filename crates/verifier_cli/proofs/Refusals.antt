@@ -1,13 +1,13 @@
 -- What the steps of the reading come to.
 use Rattle.std.proofs.Common.{◌≡◌, ℕ, zero, suc, ◌≤◌, List, [], ◌∷◌, length, drop, Option, None, Some, refl, sym, subst, ◌∙◌, arith, slice_get}
 use Rattle.std.specs.Option.{option_map_or}
-use Rattle.protocol_tokens.specs.Token as token
-use Rattle.protocol_tokens.specs.Piece.{Refusal, Refused, Nothing, piece}
-use Rattle.protocol_tokens.specs.Piece as piece
-use Rattle.protocol_tokens.specs.Lexed.{Lexed, Stops}
-use Rattle.protocol_tokens.specs.Laws.{Ascend}
-use Rattle.protocol_scope.specs.Answers as own
-use Rattle.protocol_scope.specs.Spells.{Refuses, Lexical, Scoped, place_of}
+use Rattle.spec_protocol_tokens.specs.Token as token
+use Rattle.spec_protocol_tokens.specs.Piece.{Refusal, Refused, Nothing, piece}
+use Rattle.spec_protocol_tokens.specs.Piece as piece
+use Rattle.spec_protocol_tokens.specs.Lexed.{Lexed, Stops}
+use Rattle.spec_protocol_tokens.specs.Laws.{Ascend}
+use Rattle.spec_protocol_scope.specs.Answers as own
+use Rattle.spec_protocol_scope.specs.Spells.{Refuses, Lexical, Scoped, place_of}
 use Rattle.pi_lexer.specs.declared.error.LexError.{LexError}
 use Rattle.pi_lexer.specs.declared.error.LexError.TheVariants as lex
 use Rattle.pi_lexer.specs.Answer as lexing

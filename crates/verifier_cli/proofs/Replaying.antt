@@ -1,11 +1,11 @@
 -- From the text of a run to what is said of its replay.
 use Rattle.std.proofs.Common.{◌≡◌, ◌≢◌, false, ℕ, ◌≤◌, List, Option, inl, inr, refl, sym, ap, subst, ◌∙◌, arith}
-use Rattle.calculus.specs.Syntax as syntax
-use Rattle.calculus.specs.Runs.{Step}
+use Rattle.spec_calculus.specs.Syntax as syntax
+use Rattle.spec_calculus.specs.Runs.{Step}
 use Rattle.hv_io.specs.Faults.{IsFaultCounted}
-use Rattle.protocol_scope.specs.Spells.{Spells}
-use Rattle.run_text.specs.Faults.{Fault}
-use Rattle.run_text.specs.Text.{SpellsRun, IsRefused}
+use Rattle.spec_protocol_scope.specs.Spells.{Spells}
+use Rattle.spec_run_text.specs.Faults.{Fault}
+use Rattle.spec_run_text.specs.Text.{SpellsRun, IsRefused}
 use Rattle.verifier_cli.specs.Outcome.{RunRefusal, Faulty, LongRun, Refusal, Protocol, Report, Run, Outcome, Usage, Verified, Checked, Listed, ListLarge, NoQuery, Replayed, Ring, Refused, ReadFault, Memory}
 use Rattle.verifier_cli.specs.Command.{OfFile, IsRefusalOf}
 use Rattle.verifier_cli.specs.Reading.{IsUnread}

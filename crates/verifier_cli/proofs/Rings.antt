@@ -1,22 +1,22 @@
 -- From the summary of a ring to what is said of the command `ring`.
 use Rattle.std.proofs.Common.{◌≡◌, ◌≢◌, ◌∙◌, ℕ, ◌<◌, ◌≤◌, List, [], ◌∷◌, length, Option, Some, IfSome, slice_get, refl, sym, ap, subst, arith}
 use Rattle.std.proofs.lemmas.List.{length-map}
-use Rattle.calculus.specs.Syntax as syntax
-use Rattle.calculus.specs.Syntax.{Query}
-use Rattle.calculus.specs.Points.{numbered}
-use Rattle.calculus.specs.Secrecy.{Holds}
-use Rattle.terms.specs.Term.{Term}
-use Rattle.translation.specs.Translation.{Clauses, LargeAt}
+use Rattle.spec_calculus.specs.Syntax as syntax
+use Rattle.spec_calculus.specs.Syntax.{Query}
+use Rattle.spec_calculus.specs.Points.{numbered}
+use Rattle.spec_calculus.specs.Secrecy.{Holds}
+use Rattle.spec_terms.specs.Term.{Term}
+use Rattle.spec_translation.specs.Translation.{Clauses, LargeAt}
 use Rattle.term_tree.specs.declared.bank.Id.{Id}
-use Rattle.clauses.specs.Fact.{Clause}
+use Rattle.spec_clauses.specs.Fact.{Clause}
 use Rattle.clause_form.specs.Seen.{clause_at}
 use Rattle.clause_translate.specs.Whole.{Translates, TranslatesTo, EndsAt}
 use Rattle.clause_translate.specs.declared.whole.Translated.{Translated}
 use Rattle.clause_translate.specs.declared.whole.Translated.TheVariants as made
 use Rattle.query_verify.specs.declared.answers.Verdict.{Verdict}
 use Rattle.query_verify.specs.Told.{AnswerQueries}
-use Rattle.protocol_scope.specs.Spells.{Spells, Refusal, Refuses}
-use Rattle.ring_text.specs.Text.{ring_text}
+use Rattle.spec_protocol_scope.specs.Spells.{Spells, Refusal, Refuses}
+use Rattle.spec_ring_text.specs.Text.{ring_text}
 use Rattle.verifier_cli.specs.declared.outcome.Ring.{Ring as Summary}
 use Rattle.verifier_cli.specs.Outcome.{Outcome, Usage, Verified, Checked, Listed, ListLarge, NoQuery, Replayed, Ring, Refused, ReadFault, Memory}
 use Rattle.verifier_cli.specs.Command.{NoneViolated}

@@ -1,17 +1,17 @@
 -- From what was read to what is said of the outcome, and the headline.
 use Rattle.std.proofs.Common.{◌≡◌, ◌≢◌, arith, ℕ, zero, suc, List, [], ◌∷◌, false, Option, Some, IfSome, slice_get, inl, inr, refl, sym, ap, subst, ◌∙◌}
 use Rattle.std.specs.Prelude.{Contains}
-use Rattle.calculus.specs.Syntax as syntax
-use Rattle.calculus.specs.Secrecy.{Holds}
-use Rattle.certificates.specs.Shown.{IsProper}
-use Rattle.certificates.specs.Certificate.{Certificate}
-use Rattle.verdicts.specs.Verdict as defined
-use Rattle.verdicts.specs.Verdict.{IsVerdict}
+use Rattle.spec_calculus.specs.Syntax as syntax
+use Rattle.spec_calculus.specs.Secrecy.{Holds}
+use Rattle.spec_certificates.specs.Shown.{IsProper}
+use Rattle.spec_certificates.specs.Certificate.{Certificate}
+use Rattle.spec_verdicts.specs.Verdict as defined
+use Rattle.spec_verdicts.specs.Verdict.{IsVerdict}
 use Rattle.query_verify.specs.declared.answers.Verdict.{Verdict}
 use Rattle.query_verify.specs.declared.answers.Verdict.TheVariants.{Proved}
 use Rattle.query_verify.specs.Told.{Tells, IsAnswer, AnswerQueries}
-use Rattle.protocol_scope.specs.Spells as spells
-use Rattle.protocol_scope.specs.Spells.{Spells, Refuses}
+use Rattle.spec_protocol_scope.specs.Spells as spells
+use Rattle.spec_protocol_scope.specs.Spells.{Spells, Refuses}
 use Rattle.verifier_cli.specs.Outcome.{Refusal, Outcome, Usage, Verified, Checked, Listed, ListLarge, NoQuery, Replayed, Ring, Refused, ReadFault, Memory}
 use Rattle.verifier_cli.specs.Command.{OfFile, IsRefusalOf, Verifies, NoneViolated, IsDecidedBy, IsOutcomeOf, refusal_at}
 use Rattle.verifier_cli.specs.Reading.{IsUnread}

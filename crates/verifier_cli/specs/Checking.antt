@@ -1,14 +1,14 @@
 -- What a report and the check of its certificates have to do with the outcome.
 use Rattle.std.specs.Prelude.{◌≡◌, ℕ, ◌<◌, ◌≤◌, List, [], ◌∷◌, length, Option}
-use Rattle.calculus.specs.Bounds.{most_report_bytes}
-use Rattle.calculus.specs.Syntax.{Query, Protocol}
+use Rattle.spec_calculus.specs.Bounds.{most_report_bytes}
+use Rattle.spec_calculus.specs.Syntax.{Query, Protocol}
 use Rattle.hv_io.specs.Place.{line_at}
-use Rattle.protocol_scope.specs.Spells as spells
-use Rattle.protocol_scope.specs.Spells.{Spells, Refuses}
-use Rattle.certificates.specs.Ruling.{IsRuled}
-use Rattle.certificate_reading.specs.Outcomes.{Faulty}
-use Rattle.certificate_reading.specs.Reports.{Claim, Proved, Bare, Unknown, read_report}
-use Rattle.report_text.specs.Text.{SpellsReport}
+use Rattle.spec_protocol_scope.specs.Spells as spells
+use Rattle.spec_protocol_scope.specs.Spells.{Spells, Refuses}
+use Rattle.spec_certificates.specs.Ruling.{IsRuled}
+use Rattle.spec_certificate_reading.specs.Outcomes.{Faulty}
+use Rattle.spec_certificate_reading.specs.Reports.{Claim, Proved, Bare, Unknown, read_report}
+use Rattle.spec_report_text.specs.Text.{SpellsReport}
 use Rattle.cert_checker.specs.Rulings.{ruling_of}
 use Rattle.verifier_cli.specs.declared.outcome.Finding.{Finding}
 use Rattle.verifier_cli.specs.declared.outcome.Finding.TheVariants.{Ruled, Missing, NotClaimed}

@@ -1,12 +1,12 @@
 -- What the words, the file and the protocol that it spells have to do with the outcome.
 use Rattle.std.specs.Prelude.{◌≡◌, ℕ, ◌⊎◌, List, Option, Some, None, IfSome, slice_get}
-use Rattle.calculus.specs.Syntax as syntax
-use Rattle.calculus.specs.Secrecy.{Holds}
+use Rattle.spec_calculus.specs.Syntax as syntax
+use Rattle.spec_calculus.specs.Secrecy.{Holds}
 use Rattle.command_words.specs.Request.{Request, Verify, Check, ListOf, Replay, RingOf, request_of}
 use Rattle.hv_io.specs.Place.{line_at, column_at}
-use Rattle.protocol_scope.specs.Spells as spells
-use Rattle.protocol_scope.specs.Spells.{Spells, Refuses}
-use Rattle.certificates.specs.Certificate.{Certificate}
+use Rattle.spec_protocol_scope.specs.Spells as spells
+use Rattle.spec_protocol_scope.specs.Spells.{Spells, Refuses}
+use Rattle.spec_certificates.specs.Certificate.{Certificate}
 use Rattle.query_verify.specs.declared.answers.Verdict.TheVariants.{Proved}
 use Rattle.query_verify.specs.Told.{AnswerQueries}
 use Rattle.cert_checker.specs.declared.ruling.Ruling.TheVariants.{Accepted}

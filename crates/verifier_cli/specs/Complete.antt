@@ -1,9 +1,9 @@
 -- What a request comes to, and that where its files are accepted it comes to an outcome of its own command.
 use Rattle.std.specs.Prelude.{◌≡◌, ◌⊎◌, ℕ, List, Option, Some}
-use Rattle.calculus.specs.Syntax.{Protocol}
-use Rattle.calculus.specs.Runs.{Step}
-use Rattle.protocol_scope.specs.Spells.{Spells}
-use Rattle.certificate_reading.specs.Reports.{Claim}
+use Rattle.spec_calculus.specs.Syntax.{Protocol}
+use Rattle.spec_calculus.specs.Runs.{Step}
+use Rattle.spec_protocol_scope.specs.Spells.{Spells}
+use Rattle.spec_certificate_reading.specs.Reports.{Claim}
 use Rattle.command_words.specs.Request.{Request, Verify, Check, ListOf, Replay, RingOf}
 use Rattle.verifier_cli.specs.Outcome.{Outcome, Verified, Checked, Listed, ListLarge, NoQuery, Replayed, Ring, Memory}
 use Rattle.verifier_cli.specs.Command.{OfFile, Verifies}

@@ -3,13 +3,13 @@ use Rattle.std.specs.Prelude.{◌≡◌, ℕ, List, Option, Some, None, option_m
 use Rattle.std.specs.Borrow.{Bor}
 use Rattle.pi_tree.specs.declared.protocols.Protocol.{Protocol as Protocol'}
 use Rattle.pi_tree.specs.Protocols.{protocol_of}
-use Rattle.calculus.specs.Syntax as syntax
-use Rattle.calculus.specs.Points.{numbered}
+use Rattle.spec_calculus.specs.Syntax as syntax
+use Rattle.spec_calculus.specs.Points.{numbered}
 use Rattle.command_words.specs.Request.{Request, Verify, Check, ListOf, Replay, RingOf}
-use Rattle.protocol_scope.specs.Spells as spells
-use Rattle.protocol_scope.specs.Spells.{Spells, Refuses}
-use Rattle.translation.specs.Translation.{Translated, Clauses, LargeAt, IsTranslation}
-use Rattle.ring_text.specs.Text.{ring_text}
+use Rattle.spec_protocol_scope.specs.Spells as spells
+use Rattle.spec_protocol_scope.specs.Spells.{Spells, Refuses}
+use Rattle.spec_translation.specs.Translation.{Translated, Clauses, LargeAt, IsTranslation}
+use Rattle.spec_ring_text.specs.Text.{ring_text}
 use Rattle.verifier_cli.specs.Outcome.{Outcome, Listed, ListLarge, NoQuery, Refused, Memory}
 use Rattle.verifier_cli.specs.Command.{OfFile, Becomes, IsRefusalOf, refusal_at}
 use Rattle.verifier_cli.specs.Text.{HasItsProtocol, outcome_bytes}

@@ -1,12 +1,12 @@
 -- What a call of the program comes to, as plain data.
 use Rattle.std.specs.Prelude.{ℕ, List, Option}
-use Rattle.calculus.specs.Runs.{Configuration}
-use Rattle.calculus.specs.Refusals as steps
-use Rattle.protocol_scope.specs.Spells as spells
-use Rattle.run_text.specs.Faults.{Fault}
-use Rattle.terms.specs.Term.{Term}
-use Rattle.clauses.specs.Fact.{Clause}
-use Rattle.certificate_reading.specs.Terms.{Code}
+use Rattle.spec_calculus.specs.Runs.{Configuration}
+use Rattle.spec_calculus.specs.Refusals as steps
+use Rattle.spec_protocol_scope.specs.Spells as spells
+use Rattle.spec_run_text.specs.Faults.{Fault}
+use Rattle.spec_terms.specs.Term.{Term}
+use Rattle.spec_clauses.specs.Fact.{Clause}
+use Rattle.spec_certificate_reading.specs.Terms.{Code}
 use Rattle.query_verify.specs.declared.answers.Verdict.{Verdict}
 use Rattle.verifier_cli.specs.declared.outcome.Finding.{Finding}
 use Rattle.verifier_cli.specs.declared.outcome.Ring.{Ring as Summary}

@@ -1,8 +1,8 @@
 -- What `check` comes to on a report that `verify` wrote.
 use Rattle.std.specs.Prelude.{◌≡◌, ◌≤◌, ℕ, List, length, map, Some}
-use Rattle.calculus.specs.Bounds.{most_report_bytes}
-use Rattle.calculus.specs.Syntax.{Protocol}
-use Rattle.protocol_scope.specs.Spells.{Spells}
+use Rattle.spec_calculus.specs.Bounds.{most_report_bytes}
+use Rattle.spec_calculus.specs.Syntax.{Protocol}
+use Rattle.spec_protocol_scope.specs.Spells.{Spells}
 use Rattle.cert_checker.specs.declared.ruling.Ruling.TheVariants.{Accepted}
 use Rattle.query_verify.specs.declared.answers.Verdict.{Verdict}
 use Rattle.query_verify.specs.declared.answers.Verdict.TheVariants.{Proved}

@@ -6,8 +6,8 @@ use Rattle.pi_parser.specs.declared.error.ParseError.{ParseError}
 use Rattle.pi_parser.specs.declared.error.ParseError.TheVariants as parse
 use Rattle.scope_check.specs.declared.error.ScopeError.{ScopeError}
 use Rattle.scope_check.specs.declared.error.ScopeError.TheVariants as scope
-use Rattle.protocol_scope.specs.Spells as spells
-use Rattle.protocol_scope.specs.Spells.{Refuses}
+use Rattle.spec_protocol_scope.specs.Spells as spells
+use Rattle.spec_protocol_scope.specs.Spells.{Refuses}
 use Rattle.verifier_cli.specs.declared.outcome.ProtocolCode.TheVariants as code
 use Rattle.verifier_cli.specs.declared.reading.Stop.{Stop}
 use Rattle.verifier_cli.specs.declared.reading.Stop.TheVariants as stop

@@ -1,11 +1,11 @@
 -- What the text of a run and its replay have to do with the outcome.
 use Rattle.std.specs.Prelude.{◌≡◌, ℕ, ◌<◌, ◌≤◌, List, length, Option}
-use Rattle.calculus.specs.Bounds.{most_run_bytes}
-use Rattle.calculus.specs.Syntax.{Protocol}
-use Rattle.calculus.specs.Runs.{Step}
-use Rattle.protocol_scope.specs.Spells as spells
-use Rattle.protocol_scope.specs.Spells.{Spells, Refuses}
-use Rattle.run_text.specs.Text.{SpellsRun, IsRefused}
+use Rattle.spec_calculus.specs.Bounds.{most_run_bytes}
+use Rattle.spec_calculus.specs.Syntax.{Protocol}
+use Rattle.spec_calculus.specs.Runs.{Step}
+use Rattle.spec_protocol_scope.specs.Spells as spells
+use Rattle.spec_protocol_scope.specs.Spells.{Spells, Refuses}
+use Rattle.spec_run_text.specs.Text.{SpellsRun, IsRefused}
 use Rattle.run_replay.specs.Replay.{IsDone, IsFirstRefused, AreFirstViolations}
 use Rattle.verifier_cli.specs.Outcome as own
 use Rattle.verifier_cli.specs.Outcome.{RunRefusal, Faulty, LongRun, Replay, Done, Stuck, Outcome, Replayed, Refused, Run, Memory}

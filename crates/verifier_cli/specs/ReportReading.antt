@@ -1,8 +1,8 @@
 -- What the reading of a report answers.
 use Rattle.std.specs.Prelude.{ℕ, List, Option}
-use Rattle.calculus.specs.Syntax as syntax
+use Rattle.spec_calculus.specs.Syntax as syntax
 use Rattle.hv_io.specs.Place.{line_at}
-use Rattle.certificate_reading.specs.Terms as report
+use Rattle.spec_certificate_reading.specs.Terms as report
 use Rattle.fact_reader.specs.declared.error.CertError.{CertError}
 use Rattle.fact_reader.specs.declared.error.CertError.TheVariants as error
 use Rattle.verifier_cli.specs.declared.loading.Unloaded.{Unloaded}

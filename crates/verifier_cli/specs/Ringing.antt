@@ -1,10 +1,10 @@
 -- What the command `ring` comes to: the summary of a ring.
 use Rattle.std.specs.Prelude.{◌≡◌, ℕ, [], ◌∷◌, length}
-use Rattle.calculus.specs.Syntax as syntax
-use Rattle.protocol_scope.specs.Spells.{Spells}
-use Rattle.translation.specs.Translation.{Translated, Clauses, LargeAt, IsTranslation}
+use Rattle.spec_calculus.specs.Syntax as syntax
+use Rattle.spec_protocol_scope.specs.Spells.{Spells}
+use Rattle.spec_translation.specs.Translation.{Translated, Clauses, LargeAt, IsTranslation}
 use Rattle.query_verify.specs.Told.{IsAnswer}
-use Rattle.ring_text.specs.Text.{ring_text}
+use Rattle.spec_ring_text.specs.Text.{ring_text}
 use Rattle.verifier_cli.specs.declared.outcome.Ring.{Ring as Summary}
 use Rattle.verifier_cli.specs.Outcome.{Outcome, Ring, Memory}
 use Rattle.verifier_cli.specs.Command.{NoneViolated}

@@ -1,6 +1,6 @@
 -- What the reading of a run answers.
 use Rattle.std.specs.Prelude.{ℕ, List, Option}
-use Rattle.run_text.specs.Faults as run
+use Rattle.spec_run_text.specs.Faults as run
 use Rattle.run_replay.specs.declared.error.RunError.{RunError}
 use Rattle.run_replay.specs.declared.error.RunError.TheVariants as error
 use Rattle.verifier_cli.specs.declared.loading.Unloaded.{Unloaded}

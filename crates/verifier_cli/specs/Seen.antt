@@ -1,14 +1,14 @@
 -- What contracts see of the codes of refused texts, and of replays.
-use Rattle.protocol_tokens.specs.Piece as lexical
-use Rattle.protocol_scope.specs.Answers as scope
-use Rattle.protocol_scope.specs.Spells.{Refusal, Lexical, Scoped}
-use Rattle.protocol_scope.specs.Spells as spells
+use Rattle.spec_protocol_tokens.specs.Piece as lexical
+use Rattle.spec_protocol_scope.specs.Answers as scope
+use Rattle.spec_protocol_scope.specs.Spells.{Refusal, Lexical, Scoped}
+use Rattle.spec_protocol_scope.specs.Spells as spells
 use Rattle.pi_model.specs.Configurations.{configuration_of}
 use Rattle.pi_model.specs.Errors.{refusal_of}
 use Rattle.run_replay.specs.declared.replaying.Replayed.{Replayed}
 use Rattle.run_replay.specs.declared.replaying.Replayed.TheVariants.{Done, Stuck}
-use Rattle.run_text.specs.Faults as run
-use Rattle.certificate_reading.specs.Terms as report
+use Rattle.spec_run_text.specs.Faults as run
+use Rattle.spec_certificate_reading.specs.Terms as report
 use Rattle.verifier_cli.specs.declared.outcome.ReportCode.{ReportCode}
 use Rattle.verifier_cli.specs.declared.outcome.ReportCode.TheVariants as text
 use Rattle.verifier_cli.specs.declared.outcome.RunCode.{RunCode}

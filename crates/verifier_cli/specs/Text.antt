@@ -2,19 +2,19 @@
 use Rattle.std.specs.Prelude.{◌≡◌, ℕ, ◌+◌, List, [], ◌∷◌, ◌++◌, length, codes, Bool, true, false, if◌then◌else◌, Option, Some, None, is_none}
 use Rattle.std.specs.Fmt.{decimal}
 use Rattle.std.specs.List.{list_all}
-use Rattle.calculus.specs.Syntax as syntax
-use Rattle.calculus.specs.Points.{numbered}
-use Rattle.calculus.specs.Refusals as step
-use Rattle.run_text.specs.Faults as run
-use Rattle.protocol_tokens.specs.Piece as lexical
-use Rattle.protocol_scope.specs.Answers as scope
-use Rattle.protocol_scope.specs.Spells as spells
-use Rattle.protocol_scope.specs.Spells.{Lexical, Scoped}
-use Rattle.terms.specs.Term.{Term}
-use Rattle.clauses.specs.Fact.{Clause}
-use Rattle.certificate_text.specs.Text.{clause_text, certificate_text}
+use Rattle.spec_calculus.specs.Syntax as syntax
+use Rattle.spec_calculus.specs.Points.{numbered}
+use Rattle.spec_calculus.specs.Refusals as step
+use Rattle.spec_run_text.specs.Faults as run
+use Rattle.spec_protocol_tokens.specs.Piece as lexical
+use Rattle.spec_protocol_scope.specs.Answers as scope
+use Rattle.spec_protocol_scope.specs.Spells as spells
+use Rattle.spec_protocol_scope.specs.Spells.{Lexical, Scoped}
+use Rattle.spec_terms.specs.Term.{Term}
+use Rattle.spec_clauses.specs.Fact.{Clause}
+use Rattle.spec_certificate_text.specs.Text.{clause_text, certificate_text}
 use Rattle.clause_saturate.specs.declared.log.PlainEntry.{PlainEntry}
-use Rattle.certificate_reading.specs.Terms as report
+use Rattle.spec_certificate_reading.specs.Terms as report
 use Rattle.cert_checker.specs.declared.ruling.Ruling.{Ruling}
 use Rattle.cert_checker.specs.declared.ruling.Ruling.TheVariants.{Accepted, Shape, Translation, Cover, Closure, Goal, Extra}
 use Rattle.query_verify.specs.declared.answers.Verdict.{Verdict}

@@ -22,12 +22,12 @@ use crate::loading::{Unloaded, load_protocol, load_text};
 use crate::outcome::{Finding, Findings, Outcome, Refusal, ReportCode};
 use cert_checker::check_cert;
 use cert_reader::{CertError, Claim, Claims, read_report};
-use soundness::accepted_queries_hold;
 use hv_io::{Files, place};
 use pi_tree::{MOST_REPORT_BYTES, Protocol};
-use protocol_scope::{never_both, one_protocol, one_refusal};
-use read_protocols::queries_of_read_protocols;
-use report_text::reports_are_read;
+use spec_protocol_scope::{never_both, one_protocol, one_refusal};
+use spec_read_protocols::queries_of_read_protocols;
+use spec_report_text::reports_are_read;
+use spec_soundness::accepted_queries_hold;
 use std::alloc::{AllocError, Global};
 
 /// The line of a byte, and of the end of the bytes where it is none of them.

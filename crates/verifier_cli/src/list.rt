@@ -19,7 +19,7 @@ use clause_form::{Clauses, read_out};
 use clause_translate::{Translated, translate};
 use hv_io::Files;
 use pi_tree::{Kind, Protocol};
-use protocol_scope::{never_both, one_protocol, one_refusal};
+use spec_protocol_scope::{never_both, one_protocol, one_refusal};
 use std::alloc::{AllocError, Global};
 use term_tree::{Bank, TreeBank};
 

@@ -1,10 +1,10 @@
 //! Loading the whole text of a file, and the protocol that it spells.
 
 ghost use Rattle.std.specs.Prelude.{◌≡◌, ◌-◌, ◌^◌, ◌<◌, ◌≤◌, ℕ, List, length, vec_len, IfOk, IfErr, IfSome, Err};
-ghost use Rattle.calculus.specs.Bounds.{most_bytes};
+ghost use Rattle.spec_calculus.specs.Bounds.{most_bytes};
 ghost use Rattle.hv_io.specs.Faults.{IsFaultCounted};
 ghost use Rattle.pi_tree.specs.Protocols.{protocol_of};
-ghost use Rattle.protocol_scope.specs.Spells.{Spells};
+ghost use Rattle.spec_protocol_scope.specs.Spells.{Spells};
 ghost use Rattle.run_replay.specs.Limits.{IsLimited};
 ghost use Rattle.verifier_cli.specs.declared.loading.Unloaded.TheVariants as unloaded;
 ghost use Rattle.verifier_cli.specs.Command.{OfFile};
@@ -14,10 +14,10 @@ ghost use Rattle.verifier_cli.specs.SeenOutcome.{outcome_of};
 
 use crate::outcome::{Outcome, ProtocolCode, Refusal};
 use crate::reading::{Stop, read_protocol};
-use certificate_text::spelled_protocols_have_names;
 use hv_io::{Files, LoadError, place};
 use pi_tree::{MOST_BYTES, Protocol};
-use protocol_scope::{proper_rules, query_leaves, well_scoped, within_limits};
+use spec_certificate_text::spelled_protocols_have_names;
+use spec_protocol_scope::{proper_rules, query_leaves, well_scoped, within_limits};
 use std::alloc::Global;
 
 /// Why a text was not loaded.

@@ -1,7 +1,7 @@
 //! What `check` comes to on a report that `verify` wrote: a law of what the two calls are said to come to.
 
 ghost use Rattle.std.specs.Prelude.{◌≡◌, ◌≤◌, ℕ, List, Option, Some, length};
-ghost use Rattle.calculus.specs.Bounds.{most_report_bytes};
+ghost use Rattle.spec_calculus.specs.Bounds.{most_report_bytes};
 ghost use Rattle.command_words.specs.Request as request;
 ghost use Rattle.query_verify.specs.declared.answers.Verdict as told;
 ghost use Rattle.verifier_cli.specs.Command.{Verifies};
@@ -9,11 +9,11 @@ ghost use Rattle.verifier_cli.specs.Listing.{IsTextOf};
 ghost use Rattle.verifier_cli.specs.Outcome as own;
 ghost use Rattle.verifier_cli.specs.ReadBack.{IsReadBack, IsReportOf};
 
-use certificate_text::spelled_protocols_have_names;
-use certificates::one_ruling;
-use protocol_scope::within_limits;
-use readable_verdicts::proved_certificates_may_stand;
-use verdicts::first_certificates_are_accepted;
+use spec_certificate_text::spelled_protocols_have_names;
+use spec_certificates::one_ruling;
+use spec_protocol_scope::within_limits;
+use spec_readable_verdicts::proved_certificates_may_stand;
+use spec_verdicts::first_certificates_are_accepted;
 
 /// The text of verdicts is a report, and its certificates are accepted: of each query that is proved one, and of each other
 /// nothing is claimed.

@@ -1,18 +1,18 @@
 //! Reading a protocol: from the bytes of its file to the protocol that they spell.
 
 ghost use Rattle.std.specs.Prelude.{◌≡◌, ◌≤◌, length, IfOk, IfErr};
-ghost use Rattle.calculus.specs.Bounds.{most_bytes};
+ghost use Rattle.spec_calculus.specs.Bounds.{most_bytes};
 ghost use Rattle.pi_tree.specs.Protocols.{protocol_of};
 ghost use Rattle.pi_parser.specs.Files.{file_of};
-ghost use Rattle.protocol_scope.specs.Spells.{IsSketchOf, Spells};
+ghost use Rattle.spec_protocol_scope.specs.Spells.{IsSketchOf, Spells};
 ghost use Rattle.verifier_cli.specs.Reading.{IsStopOf};
 
 use crate::outcome::ProtocolCode;
 use pi_lexer::{LexError, lex};
 use pi_parser::{ParseError, Sketch, parse};
 use pi_tree::Protocol;
-use protocol_tokens::spans_ascend;
 use scope_check::{ScopeError, check_scope};
+use spec_protocol_tokens::spans_ascend;
 use std::alloc::Global;
 
 /// Why no protocol was read.

@@ -1,10 +1,10 @@
 //! The command `replay`: what the steps of a run show.
 
 ghost use Rattle.std.specs.Prelude.{◌≡◌, ◌≢◌, ◌<◌, ◌≤◌, ◌^◌, ◌⊎◌, ℕ, List, None, length, IfOk, IfErr};
-ghost use Rattle.calculus.specs.Syntax as syntax;
+ghost use Rattle.spec_calculus.specs.Syntax as syntax;
 ghost use Rattle.hv_io.specs.Faults.{IsFaultCounted};
 ghost use Rattle.pi_tree.specs.Protocols.{protocol_of};
-ghost use Rattle.protocol_scope.specs.Spells.{Spells};
+ghost use Rattle.spec_protocol_scope.specs.Spells.{Spells};
 ghost use Rattle.run_replay.specs.Limits.{IsLimited};
 ghost use Rattle.verifier_cli.specs.Command.{OfFile};
 ghost use Rattle.verifier_cli.specs.Outcome as own;
@@ -17,8 +17,8 @@ use crate::loading::{Unloaded, load_protocol, load_text};
 use crate::outcome::{Outcome, Refusal, RunCode};
 use hv_io::Files;
 use pi_tree::{MOST_RUN_BYTES, Protocol};
-use protocol_scope::{never_both, one_protocol, one_refusal};
 use run_replay::{RunError, Steps, read_run, replay};
+use spec_protocol_scope::{never_both, one_protocol, one_refusal};
 use std::alloc::Global;
 
 /// What a call comes to whose run could not be loaded.
@@ -59,7 +59,7 @@ fn load_run<F: Files>(alloc: Global, run: &str, files: &mut F) -> Result<Steps, 
         IsUnreadRun (IsFaultCounted (F.faults files.old run.now) (F.faults files.new run.now))
         (F.held files.old run.now) (outcome_of outcome)) }
 {
-    run_text::few_steps();
+    spec_run_text::few_steps();
     match load_text(run, MOST_RUN_BYTES, files) {
         Err(why) => Err(run_not_loaded(why)),
         Ok(bytes) => match read_run(alloc, &bytes) {
@@ -94,9 +94,9 @@ fn replay_run<F: Files>(alloc: Global, protocol: &Protocol, run: &str, files: &m
         OfFile (F.held files.old run.now) (λ text.
         RunsOn (protocol_of protocol.now) text (outcome_of result)) }
 {
-    run_text::one_run();
-    run_text::one_refusal();
-    run_text::never_both();
+    spec_run_text::one_run();
+    spec_run_text::one_refusal();
+    spec_run_text::never_both();
     match load_run(alloc, run, files) {
         Err(outcome) => outcome,
         Ok(steps) => replayed(alloc, protocol, &steps),

@@ -1,12 +1,12 @@
 //! The command `ring`: the summary of a ring, which is made, read and verified like the text of a file.
 
 ghost use Rattle.std.specs.Prelude.{◌≡◌, ◌≢◌, ◌≤◌, [], ◌∷◌, Some, length, option_map, IfOk};
-ghost use Rattle.calculus.specs.Syntax.{Query};
+ghost use Rattle.spec_calculus.specs.Syntax.{Query};
 ghost use Rattle.pi_tree.specs.Protocols.{protocol_of};
-ghost use Rattle.protocol_scope.specs.Spells.{Spells};
+ghost use Rattle.spec_protocol_scope.specs.Spells.{Spells};
 ghost use Rattle.query_derive.specs.GoalRows.{OfQuery};
-ghost use Rattle.ring_text.specs.Meaning.{ring_protocol};
-ghost use Rattle.ring_text.specs.Text.{ring_text};
+ghost use Rattle.spec_ring_text.specs.Meaning.{ring_protocol};
+ghost use Rattle.spec_ring_text.specs.Text.{ring_text};
 ghost use Rattle.verifier_cli.specs.Listing.{IsSpelledAt};
 ghost use Rattle.verifier_cli.specs.Loaded.{IsLoaded};
 ghost use Rattle.verifier_cli.specs.Outcome as own;
@@ -19,14 +19,14 @@ use crate::outcome::{Decision, Outcome, Ring};
 use clause_form::Clauses;
 use clause_translate::{Translated, translate};
 use pi_tree::Protocol;
-use protocol_scope::{never_both, one_protocol, one_refusal};
 use query_verify::verdict;
-use read_protocols::queries_of_read_protocols;
-use ring_text::ring_shapes;
 use ring_writer::make_ring;
+use spec_protocol_scope::{never_both, one_protocol, one_refusal};
+use spec_read_protocols::queries_of_read_protocols;
+use spec_ring_text::ring_shapes;
+use spec_verdicts::proved_queries_hold;
 use std::alloc::{AllocError, Global};
 use term_tree::{Bank, TreeBank};
-use verdicts::proved_queries_hold;
 
 /// How many entries the log of a ring's query may have.
 const BUDGET: u64 = 10_000;

@@ -3,8 +3,8 @@
 ghost use Rattle.std.specs.Prelude.{◌≡◌, ◌++◌, codes, decimal, is_none, option_copied, IfOk, []};
 ghost use Rattle.std.specs.List.{list_all};
 ghost use Rattle.std.specs.String.{string_bytes};
-ghost use Rattle.calculus.specs.Points.{numbered};
-ghost use Rattle.certificate_text.specs.Text.{certificate_text};
+ghost use Rattle.spec_calculus.specs.Points.{numbered};
+ghost use Rattle.spec_certificate_text.specs.Text.{certificate_text};
 ghost use Rattle.verifier_cli.specs.SeenOutcome.{outcome_of, refusal_of};
 ghost use Rattle.pi_model.specs.Errors as errors;
 ghost use Rattle.cert_checker.specs.declared.ruling.Ruling.TheVariants as ruling;

@@ -14,11 +14,11 @@ use crate::loading::load_protocol;
 use crate::outcome::{Decision, Outcome};
 use hv_io::Files;
 use pi_tree::Protocol;
-use protocol_scope::{never_both, one_protocol, one_refusal};
 use query_verify::{MOST_BUDGET, verdicts};
-use read_protocols::queries_of_read_protocols;
+use spec_protocol_scope::{never_both, one_protocol, one_refusal};
+use spec_read_protocols::queries_of_read_protocols;
+use spec_verdicts::proved_queries_hold;
 use std::alloc::Global;
-use verdicts::proved_queries_hold;
 
 /// What the queries of the protocol come to with the budget.
 fn decided(alloc: Global, protocol: &Protocol, budget: u64) -> Outcome

@@ -1,6 +1,6 @@
 use Rattle.std.proofs.Common.{[], ◌∷◌, ◌++◌, map, flat_map, filter_map}
 use Rattle.std.specs.List.{enumerate_from}
-use Rattle.translation.specs.Attacker.{name_known, fresh_known, constructor_applied, rule_applied, message_heard, message_sent, attacker_raw}
+use Rattle.spec_translation.specs.Attacker.{name_known, fresh_known, constructor_applied, rule_applied, message_heard, message_sent, attacker_raw}
 use Rattle.pi_tree.specs.Protocols.{protocol_of}
 use Rattle.attacker_clauses.proofs.Adding.{both_added, all_listed}
 use Rattle.term_tree.proofs.BankLaws.{Grows_trans}

@@ -1,8 +1,8 @@
 use Rattle.std.proofs.Common.{List, subst}
-use Rattle.terms.specs.Term.{Term}
-use Rattle.clauses.specs.Fact.{Clause}
-use Rattle.derivations.specs.Derivation.{Derive}
-use Rattle.translation.specs.Translation.{Clauses}
+use Rattle.spec_terms.specs.Term.{Term}
+use Rattle.spec_clauses.specs.Fact.{Clause}
+use Rattle.spec_derivations.specs.Derivation.{Derive}
+use Rattle.spec_translation.specs.Translation.{Clauses}
 use Rattle.cert_checker.proofs.Sufficing.{one_list}
 use Rattle.cert_checker.proofs.accepted_certificates_suffice.Goals as goal
 

@@ -1,5 +1,5 @@
-use Rattle.well_formed.specs.Queries.{IsDeclaredFree, IsFreeOrVariable}
-use Rattle.well_formed.specs.Terms.{IsKnown}
+use Rattle.spec_well_formed.specs.Queries.{IsDeclaredFree, IsFreeOrVariable}
+use Rattle.spec_well_formed.specs.Terms.{IsKnown}
 use Rattle.clause_terms.proofs.Laws.{short_term, short_terms, short_pattern, short_rule}
 use Rattle.clause_terms.proofs.what_is_read_is_short.Goals as goal
 

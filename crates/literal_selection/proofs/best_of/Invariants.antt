@@ -1,5 +1,5 @@
 use Rattle.std.proofs.Common.{◌≡◌, ◌≤◌, length, map, drop}
-use Rattle.clauses.specs.Selection.{select}
+use Rattle.spec_clauses.specs.Selection.{select}
 use Rattle.clause_form.proofs.Norming.{seen_at}
 use Rattle.literal_selection.specs.Best.{remembered}
 use Rattle.literal_selection.proofs.best_of.Given as goal

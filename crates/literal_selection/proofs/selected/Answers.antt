@@ -1,5 +1,5 @@
 use Rattle.std.proofs.Common.{◌≡◌, ◌∙◌, Some, None, map, ap, sym, rules}
-use Rattle.clauses.specs.Selection.{select}
+use Rattle.spec_clauses.specs.Selection.{select}
 use Rattle.clause_form.specs.Facts.{fact_of}
 use Rattle.clause_form.specs.Seen.{fact_at}
 use Rattle.literal_selection.specs.Best.{remembered}

@@ -1,10 +1,10 @@
 use Rattle.std.proofs.Common.{◌+◌, map, ap, sym, ◌∙◌, subst, arith, append-nil}
 use Rattle.std.proofs.lemmas.Grind.{common_steps}
 use Rattle.std.proofs.lemmas.List.{map-append}
-use Rattle.protocol_tokens.specs.Piece.{Blank, Comment, Lexeme, BadByte, OpenComment, LongNumber}
+use Rattle.spec_protocol_tokens.specs.Piece.{Blank, Comment, Lexeme, BadByte, OpenComment, LongNumber}
 use Rattle.pi_lexer.specs.Token.{token_of, kind_of}
 use Rattle.pi_lexer.proofs.Lexing.{IsSoFar, IsSoFar-push, Lexed-from, none_lexed, once_refused}
-use Rattle.protocol_tokens.proofs.Answers.{Lexed-one, Lexed-not_Stops}
+use Rattle.spec_protocol_tokens.proofs.Answers.{Lexed-one, Lexed-not_Stops}
 use Rattle.pi_lexer.proofs.lex.Goals as goal
 
 -- white space is no token

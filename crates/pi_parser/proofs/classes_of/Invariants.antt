@@ -1,5 +1,5 @@
 use Rattle.std.proofs.Common.{◌≡◌, map, length, take, drop}
-use Rattle.protocol_grammar.specs.Classes.{class_of}
+use Rattle.spec_protocol_grammar.specs.Classes.{class_of}
 use Rattle.pi_lexer.specs.Token.{token_of}
 use Rattle.pi_parser.specs.Tokens.{AreWithin}
 use Rattle.pi_parser.proofs.classes_of.Given as goal

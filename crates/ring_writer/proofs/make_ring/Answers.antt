@@ -1,7 +1,7 @@
 use Rattle.std.proofs.Common.{◌≡◌, List, ℕ, subst, sym}
-use Rattle.protocol_scope.specs.Spells.{Spells}
-use Rattle.ring_text.specs.Text.{ring_text}
-use Rattle.ring_text.specs.Meaning.{ring_protocol}
+use Rattle.spec_protocol_scope.specs.Spells.{Spells}
+use Rattle.spec_ring_text.specs.Text.{ring_text}
+use Rattle.spec_ring_text.specs.Meaning.{ring_protocol}
 use Rattle.ring_writer.proofs.Lines.{ring_put}
 use Rattle.ring_writer.proofs.make_ring.Goals as goal
 

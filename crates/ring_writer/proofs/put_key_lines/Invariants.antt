@@ -1,5 +1,5 @@
 use Rattle.std.proofs.Common.{◌≡◌, ◌++◌, ◌-◌, []}
-use Rattle.ring_text.specs.Text.{key_lines}
+use Rattle.spec_ring_text.specs.Text.{key_lines}
 use Rattle.ring_writer.proofs.put_key_lines.Given as goal
 
 abbrev pub invariant-each : goal.invariant-each

@@ -1,6 +1,6 @@
 use Rattle.std.proofs.Common.{codes}
 use Rattle.std.proofs.lemmas.Result.{on_ok_weaker}
-use Rattle.ring_text.specs.Text.{key}
+use Rattle.spec_ring_text.specs.Text.{key}
 use Rattle.ring_writer.proofs.Lines.{three_put}
 use Rattle.ring_writer.proofs.put_middle_lines.Goals as goal
 

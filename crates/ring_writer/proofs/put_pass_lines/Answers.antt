@@ -1,5 +1,5 @@
 use Rattle.std.proofs.Common.{ap, ◌∙◌, ◌++◌, []}
-use Rattle.ring_text.specs.Text.{pass_line}
+use Rattle.spec_ring_text.specs.Text.{pass_line}
 use Rattle.ring_writer.proofs.Lines.{pass_put}
 use Rattle.ring_writer.proofs.put_pass_lines.Goals as goal
 

@@ -1,5 +1,5 @@
 use Rattle.std.proofs.Common.{◌≡◌, ◌++◌, ◌-◌, []}
-use Rattle.ring_text.specs.Text.{pass_lines}
+use Rattle.spec_ring_text.specs.Text.{pass_lines}
 use Rattle.ring_writer.proofs.put_pass_lines.Given as goal
 
 abbrev pub invariant-each : goal.invariant-each

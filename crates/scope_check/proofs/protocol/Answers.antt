@@ -1,8 +1,8 @@
 -- Where the main process and the queries are read, so is the file, and where one has a fault.
 use Rattle.std.proofs.Common.{rules, ◌≡◌, ◌∙◌, map, ap}
 use Rattle.std.proofs.lemmas.Result.{err_from_is_err_and}
-use Rattle.protocol_scope.specs.Names.{no_names}
-use Rattle.protocol_scope.specs.Declarations.{declare_all}
+use Rattle.spec_protocol_scope.specs.Names.{no_names}
+use Rattle.spec_protocol_scope.specs.Declarations.{declare_all}
 use Rattle.scope_check.specs.Text.{texts_of}
 use Rattle.pi_parser.specs.Files.{declaration_of, file_of}
 use Rattle.pi_tree.specs.Processes.{process_of}

@@ -1,5 +1,5 @@
-use Rattle.terms.specs.Binding.{Solves}
-use Rattle.terms.proofs.Resolve.{resolved-most_general}
+use Rattle.spec_terms.specs.Binding.{Solves}
+use Rattle.spec_terms.proofs.Resolve.{resolved-most_general}
 use Rattle.unify_match.specs.Seen.{seen}
 use Rattle.unify_match.proofs.SeenLemmas.{IsReady-sound}
 use Rattle.unify_match.proofs.ready_bindings_are_most_general.Goals as goal

@@ -1,5 +1,5 @@
 use Rattle.std.proofs.Common.{[], ◌∷◌}
-use Rattle.translation.specs.Attacker.{message_heard, message_sent}
+use Rattle.spec_translation.specs.Attacker.{message_heard, message_sent}
 use Rattle.term_tree.proofs.BankLaws.{Grows_trans}
 use Rattle.attacker_clauses.proofs.Adding.{added_later, added_after}
 use Rattle.attacker_clauses.proofs.channels.add_channels.Goals as goal

@@ -1,8 +1,8 @@
 use Rattle.std.proofs.Common.{◌∙◌, [], ◌∷◌, map, ap, sym}
 use Rattle.std.specs.List.{cons_option}
-use Rattle.trees.specs.Tree.{node}
-use Rattle.terms.specs.Term.{Ctor}
-use Rattle.translation.specs.Attacker.{variables_from, constructor_applied}
+use Rattle.spec_trees.specs.Tree.{node}
+use Rattle.spec_terms.specs.Term.{Ctor}
+use Rattle.spec_translation.specs.Attacker.{variables_from, constructor_applied}
 use Rattle.term_tree.specs.Bank.{tree_at}
 use Rattle.term_tree.proofs.BankLaws.{Grows_refl, Grows_trans}
 use Rattle.pi_tree.specs.Names.{declared_of}

@@ -1,4 +1,4 @@
-use Rattle.translation.specs.Attacker.{variables_from}
+use Rattle.spec_translation.specs.Attacker.{variables_from}
 use Rattle.term_tree.specs.Bank.{Grows}
 use Rattle.clause_form.specs.Seen.{NameTerms}
 use Rattle.attacker_clauses.proofs.constructors.variables.Given as goal

@@ -1,5 +1,5 @@
 use Rattle.std.proofs.Common.{flat_map, map, take}
-use Rattle.translation.specs.Attacker.{rule_applied}
+use Rattle.spec_translation.specs.Attacker.{rule_applied}
 use Rattle.pi_tree.specs.Rules.{destructor_of}
 use Rattle.pi_tree.specs.Protocols.{protocol_of}
 use Rattle.attacker_clauses.proofs.Adding.{AreAdded}

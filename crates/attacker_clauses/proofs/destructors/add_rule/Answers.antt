@@ -1,6 +1,6 @@
 use Rattle.std.proofs.Common.{[], ◌∷◌, map}
-use Rattle.translation.specs.Conversion.{rule_term}
-use Rattle.translation.specs.Attacker.{rule_applied}
+use Rattle.spec_translation.specs.Conversion.{rule_term}
+use Rattle.spec_translation.specs.Attacker.{rule_applied}
 use Rattle.term_tree.specs.Bank.{tree_at}
 use Rattle.term_tree.proofs.BankLaws.{Grows_refl, Grows_trans}
 use Rattle.pi_tree.specs.Rules.{rule_of}

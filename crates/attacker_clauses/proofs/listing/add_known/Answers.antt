@@ -1,5 +1,5 @@
 use Rattle.std.proofs.Common.{List, map, ap, sym, subst}
-use Rattle.clauses.specs.Fact.{Fact, Att}
+use Rattle.spec_clauses.specs.Fact.{Fact, Att}
 use Rattle.term_tree.specs.Bank.{tree_at}
 use Rattle.term_tree.specs.declared.bank.Id.{Id}
 use Rattle.term_tree.proofs.BankLaws.{Grows_refl}

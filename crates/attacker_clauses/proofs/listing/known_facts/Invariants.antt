@@ -1,5 +1,5 @@
 use Rattle.std.proofs.Common.{◌≡◌, map, take}
-use Rattle.clauses.specs.Fact.{Att}
+use Rattle.spec_clauses.specs.Fact.{Att}
 use Rattle.attacker_clauses.proofs.listing.known_facts.Given as goal
 
 abbrev pub invariant-loop-term : goal.invariant-loop-term

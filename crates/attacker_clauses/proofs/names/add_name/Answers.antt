@@ -1,6 +1,6 @@
 use Rattle.std.proofs.Common.{◌≡◌, true, [], ◌∷◌, rules}
 use Rattle.std.specs.List.{cons_option}
-use Rattle.translation.specs.Attacker.{name_known}
+use Rattle.spec_translation.specs.Attacker.{name_known}
 use Rattle.term_tree.specs.Bank.{tree_at}
 use Rattle.pi_tree.specs.Names.{declared_of}
 use Rattle.attacker_clauses.proofs.Raws.{known_clause, name_listed}

@@ -1,6 +1,6 @@
 use Rattle.std.proofs.Common.{[], ◌∷◌, ◌+◌, filter_map, map, take}
 use Rattle.std.specs.List.{enumerate_from}
-use Rattle.translation.specs.Attacker.{name_known}
+use Rattle.spec_translation.specs.Attacker.{name_known}
 use Rattle.pi_tree.specs.Names.{declared_of}
 use Rattle.attacker_clauses.proofs.Numbering.{numbered_more}
 use Rattle.attacker_clauses.proofs.Adding.{added_on}

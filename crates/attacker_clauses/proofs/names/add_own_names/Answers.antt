@@ -1,7 +1,7 @@
 use Rattle.std.proofs.Common.{◌∙◌, [], ◌∷◌, ap}
-use Rattle.trees.specs.Tree.{node}
-use Rattle.terms.specs.Term.{Attacker}
-use Rattle.translation.specs.Attacker.{fresh_known}
+use Rattle.spec_trees.specs.Tree.{node}
+use Rattle.spec_terms.specs.Term.{Attacker}
+use Rattle.spec_translation.specs.Attacker.{fresh_known}
 use Rattle.term_tree.specs.Bank.{tree_at}
 use Rattle.term_tree.proofs.BankLaws.{Grows_trans}
 use Rattle.attacker_clauses.proofs.Raws.{known_clause}

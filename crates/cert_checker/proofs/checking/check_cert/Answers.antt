@@ -1,7 +1,7 @@
 use Rattle.std.proofs.Common.{◌≡◌, ap, subst}
-use Rattle.calculus.specs.Secrecy.{Holds}
-use Rattle.certificates.specs.Ruling.{IsRuled}
-use Rattle.certificates.specs.Ruling as certificates
+use Rattle.spec_calculus.specs.Secrecy.{Holds}
+use Rattle.spec_certificates.specs.Ruling.{IsRuled}
+use Rattle.spec_certificates.specs.Ruling as certificates
 use Rattle.pi_tree.specs.Protocols.{protocol_of}
 use Rattle.query_derive.specs.GoalRows.{OfQuery}
 use Rattle.query_derive.proofs.Searching.{if_ok_map}

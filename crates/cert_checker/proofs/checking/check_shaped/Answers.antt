@@ -1,7 +1,7 @@
 use Rattle.std.proofs.Common.{◌≡◌, ◌∙◌, List, sym, subst, rules}
 use Rattle.term_tree.specs.declared.bank.Id.{Id}
-use Rattle.clauses.specs.Fact.{Clause}
-use Rattle.certificates.specs.Ruling.{IsRuled}
+use Rattle.spec_clauses.specs.Fact.{Clause}
+use Rattle.spec_certificates.specs.Ruling.{IsRuled}
 use Rattle.pi_tree.specs.Protocols.{protocol_of}
 use Rattle.query_derive.specs.GoalRows.{OfQuery}
 use Rattle.query_derive.proofs.Searching.{if_ok_map}

@@ -1,6 +1,6 @@
 use Rattle.std.proofs.Common.{◌≡◌, List, get_or, sym, subst, rules, arith}
-use Rattle.clauses.specs.Fact.{Clause}
-use Rattle.certificates.specs.Certificate.{CoverRowHolds, numbered_from}
+use Rattle.spec_clauses.specs.Fact.{Clause}
+use Rattle.spec_certificates.specs.Certificate.{CoverRowHolds, numbered_from}
 use Rattle.term_tree.specs.declared.bank.Id.{Id}
 use Rattle.clause_form.specs.Seen.{clause_at}
 use Rattle.clause_resolve.specs.Answers.{IsAnswerOf, LeavesBank}

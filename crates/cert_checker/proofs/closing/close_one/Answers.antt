@@ -1,6 +1,6 @@
 use Rattle.std.proofs.Common.{◌∙◌, List, sym, subst}
 use Rattle.std.specs.Prelude.{IfOk}
-use Rattle.certificates.specs.Certificate.{Pair}
+use Rattle.spec_certificates.specs.Certificate.{Pair}
 use Rattle.clause_form.specs.Fit.{clauses_at}
 use Rattle.cert_checker.specs.Answers.{IsClosedSo}
 use Rattle.clause_form.proofs.Fit.{fit_in}

@@ -1,7 +1,7 @@
 use Rattle.std.proofs.Common.{◌≡◌, ◌∙◌, ◌+◌, ◌≤◌, true, false, length, drop, sym, rules, arith}
 use Rattle.std.proofs.lemmas.Bool.{false≢true}
 use Rattle.std.proofs.lemmas.List.{length-map}
-use Rattle.certificates.specs.Certificate.{CoverRowHolds, numbered_from}
+use Rattle.spec_certificates.specs.Certificate.{CoverRowHolds, numbered_from}
 use Rattle.clause_form.specs.Seen.{clause_at}
 use Rattle.clause_form.specs.Fit.{clauses_at}
 use Rattle.cert_checker.proofs.Walking.{with_number, clause_next, none_ahead, walk_begins, walk_goes_on, walk_fails, walk_ends}

@@ -1,5 +1,5 @@
 use Rattle.std.proofs.Common.{drop}
-use Rattle.certificates.specs.Certificate.{CoverRowHolds, numbered_from}
+use Rattle.spec_certificates.specs.Certificate.{CoverRowHolds, numbered_from}
 use Rattle.clause_form.specs.Fit.{clauses_at}
 use Rattle.cert_checker.proofs.Walking.{IsWalked}
 use Rattle.cert_checker.proofs.covering.are_covered.Given as goal

@@ -1,6 +1,6 @@
 use Rattle.std.proofs.Common.{◌↔◌, List, ℕ, sym, subst}
 use Rattle.std.specs.Prelude.{IsTrue, IfOk}
-use Rattle.certificates.specs.Certificate.{CoverRowHolds}
+use Rattle.spec_certificates.specs.Certificate.{CoverRowHolds}
 use Rattle.clause_form.specs.Seen.{clause_at}
 use Rattle.clause_form.specs.Fit.{clauses_at}
 use Rattle.cert_checker.proofs.covering.covers.Goals as goal

@@ -1,7 +1,7 @@
 use Rattle.std.proofs.Common.{◌≡◌, ◌↔◌, ◌+◌, ◌<◌, ◌≤◌, ◌∷◌, List, ℕ, length, get_or, sym, subst, rules, arith}
 use Rattle.std.specs.Prelude.{IsTrue}
-use Rattle.clauses.specs.Subsumption.{RowHolds}
-use Rattle.certificates.specs.Certificate.{CoverRowHolds}
+use Rattle.spec_clauses.specs.Subsumption.{RowHolds}
+use Rattle.spec_certificates.specs.Certificate.{CoverRowHolds}
 use Rattle.clause_form.specs.Seen.{clause_at}
 use Rattle.query_derive.proofs.Searching.{if_ok_map}
 use Rattle.clause_form.specs.Fit.{clauses_at}

@@ -1,7 +1,7 @@
 use Rattle.std.proofs.Common.{◌≡◌, ◌∙◌, ◌↔◌, ◌<◌, Some, length, get_or, map, drop, refl, ap, rules}
 use Rattle.std.specs.Prelude.{IsTrue, slice_get, option_map}
 use Rattle.std.proofs.lemmas.Option.{slice_get-map, slice_get_read}
-use Rattle.certificates.specs.Certificate.{CoverRowHolds}
+use Rattle.spec_certificates.specs.Certificate.{CoverRowHolds}
 use Rattle.clause_form.specs.Seen.{clause_at}
 use Rattle.query_derive.proofs.Searching.{if_ok_map}
 use Rattle.clause_form.specs.Fit.{clauses_at}

@@ -2,7 +2,7 @@ use Rattle.std.proofs.Common.{drop}
 use Rattle.pi_tree.specs.Protocols.{protocol_of}
 use Rattle.query_derive.specs.GoalRows.{OfQuery}
 use Rattle.query_derive.proofs.Searching.{if_ok_map}
-use Rattle.certificates.specs.Ruling.{IsRuled}
+use Rattle.spec_certificates.specs.Ruling.{IsRuled}
 use Rattle.clause_form.specs.Fit.{clauses_at}
 use Rattle.cert_checker.specs.Reached.{IsTranslatedTo, HasCovered}
 use Rattle.cert_checker.specs.Rulings.{ruling_of}

@@ -1,6 +1,6 @@
 use Rattle.std.proofs.Common.{◌≡◌, List, drop, ap, subst}
-use Rattle.certificates.specs.Certificate.{Numbered, GoalHolds, numbered_from}
-use Rattle.certificates.specs.Ruling.{bad_ones}
+use Rattle.spec_certificates.specs.Certificate.{Numbered, GoalHolds, numbered_from}
+use Rattle.spec_certificates.specs.Ruling.{bad_ones}
 use Rattle.pi_tree.specs.Protocols.{protocol_of}
 use Rattle.cert_checker.specs.Rulings.{ruling_of}
 use Rattle.cert_checker.specs.Reached.{clauses_of}

@@ -1,9 +1,9 @@
 use Rattle.std.proofs.Common.{◌∙◌, List, drop, ap, sym, subst}
-use Rattle.terms.specs.Term.{Term}
+use Rattle.spec_terms.specs.Term.{Term}
 use Rattle.pi_tree.specs.Protocols.{protocol_of}
 use Rattle.query_derive.specs.GoalRows.{OfQuery}
 use Rattle.query_derive.proofs.Searching.{if_ok_map}
-use Rattle.certificates.specs.Ruling.{IsRuled}
+use Rattle.spec_certificates.specs.Ruling.{IsRuled}
 use Rattle.clause_form.specs.Fit.{AreFit, clauses_at}
 use Rattle.cert_checker.specs.Reached.{HasCovered, HasClosed}
 use Rattle.cert_checker.specs.Rulings.{ruling_of}

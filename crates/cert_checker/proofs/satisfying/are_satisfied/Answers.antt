@@ -2,10 +2,10 @@ use Rattle.std.proofs.Common.{◌≡◌, ◌∙◌, ◌+◌, ◌≤◌, Bool, tr
 use Rattle.std.specs.Prelude.{◌&&◌, filter}
 use Rattle.std.proofs.lemmas.List.{length-map}
 use Rattle.std.proofs.lemmas.Bool.{false≢true}
-use Rattle.clauses.specs.Selection.{is_solved}
-use Rattle.translation.specs.Satisfied.{is_bad}
-use Rattle.certificates.specs.Certificate.{Numbered, GoalHolds}
-use Rattle.certificates.specs.Ruling.{bad_ones}
+use Rattle.spec_clauses.specs.Selection.{is_solved}
+use Rattle.spec_translation.specs.Satisfied.{is_bad}
+use Rattle.spec_certificates.specs.Certificate.{Numbered, GoalHolds}
+use Rattle.spec_certificates.specs.Ruling.{bad_ones}
 use Rattle.pi_tree.specs.Protocols.{protocol_of}
 use Rattle.clause_form.specs.Seen.{clause_at}
 use Rattle.clause_form.specs.Fit.{clauses_at}

@@ -1,8 +1,8 @@
 use Rattle.std.proofs.Common.{◌≡◌, Some, drop}
-use Rattle.calculus.specs.Syntax.{Query}
-use Rattle.calculus.specs.Points.{numbered}
-use Rattle.certificates.specs.Certificate.{GoalHolds}
-use Rattle.certificates.specs.Ruling.{bad_ones}
+use Rattle.spec_calculus.specs.Syntax.{Query}
+use Rattle.spec_calculus.specs.Points.{numbered}
+use Rattle.spec_certificates.specs.Certificate.{GoalHolds}
+use Rattle.spec_certificates.specs.Ruling.{bad_ones}
 use Rattle.pi_tree.specs.Protocols.{protocol_of}
 use Rattle.cert_checker.specs.Answers.{numbered_at}
 use Rattle.cert_checker.proofs.Walking.{IsWalked}

@@ -1,7 +1,7 @@
 use Rattle.std.proofs.Common.{◌≡◌, ◌∙◌, ◌↔◌, ◌<◌, Some, length, get_or, map, drop, refl, ap, rules}
 use Rattle.std.specs.Prelude.{IsTrue, slice_get, option_map}
 use Rattle.std.proofs.lemmas.Option.{slice_get-map, slice_get_read}
-use Rattle.certificates.specs.Certificate.{GoalHolds}
+use Rattle.spec_certificates.specs.Certificate.{GoalHolds}
 use Rattle.pi_tree.specs.Protocols.{protocol_of}
 use Rattle.clause_form.specs.Seen.{clause_at}
 use Rattle.query_derive.specs.GoalRows.{OfQuery}

@@ -1,8 +1,8 @@
 -- the lines so far are read, and reading goes on
 use Rattle.std.proofs.Common.{[], drop}
 use Rattle.pi_tree.specs.Protocols.{protocol_of}
-use Rattle.certificate_reading.specs.Outcomes.{lines_from}
-use Rattle.certificate_reading.specs.Certificates.{clause_line}
+use Rattle.spec_certificate_reading.specs.Outcomes.{lines_from}
+use Rattle.spec_certificate_reading.specs.Certificates.{clause_line}
 use Rattle.cert_reader.proofs.Lines.{AreRead}
 use Rattle.cert_reader.proofs.certs.clauses.Given as goal
 

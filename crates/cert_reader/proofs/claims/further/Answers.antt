@@ -1,6 +1,6 @@
 use Rattle.std.proofs.Common.{subst, sym, ap, ◌∙◌, rules}
-use Rattle.certificate_reading.specs.Terms as terms
-use Rattle.certificate_reading.specs.Outcomes.{Faulty, next, read_number}
+use Rattle.spec_certificate_reading.specs.Terms as terms
+use Rattle.spec_certificate_reading.specs.Outcomes.{Faulty, next, read_number}
 use Rattle.cert_reader.specs.Seen.{GivesClaims}
 use Rattle.cert_reader.proofs.Claimed.{more_claims}
 use Rattle.cert_reader.proofs.claims.further.Goals as goal

@@ -1,6 +1,6 @@
 use Rattle.std.proofs.Common.{drop, ap, ◌∙◌}
-use Rattle.certificate_reading.specs.Outcomes.{Found}
-use Rattle.certificate_reading.specs.Certificates.{one_number}
+use Rattle.spec_certificate_reading.specs.Outcomes.{Found}
+use Rattle.spec_certificate_reading.specs.Certificates.{one_number}
 use Rattle.fact_reader.proofs.Things.{things_on, things_end}
 use Rattle.cert_reader.proofs.rows.row_numbers.Goals as goal
 

@@ -1,5 +1,5 @@
 -- the numbers so far are read, and reading goes on
-use Rattle.certificate_reading.specs.Certificates.{one_number}
+use Rattle.spec_certificate_reading.specs.Certificates.{one_number}
 use Rattle.fact_reader.proofs.Things.{IsGoing}
 use Rattle.cert_reader.proofs.rows.row_numbers.Given as goal
 

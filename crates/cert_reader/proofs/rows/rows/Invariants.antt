@@ -1,6 +1,6 @@
 -- the rows so far are read, and reading goes on
 use Rattle.std.proofs.Common.{drop, length, map}
-use Rattle.certificate_reading.specs.Certificates.{row_line, read_rows}
+use Rattle.spec_certificate_reading.specs.Certificates.{row_line, read_rows}
 use Rattle.cert_reader.proofs.Lines.{AreRead}
 use Rattle.cert_reader.proofs.rows.rows.Given as goal
 

@@ -1,5 +1,5 @@
 use Rattle.std.proofs.Common.{map}
-use Rattle.trees.specs.Tree.{depth}
+use Rattle.spec_trees.specs.Tree.{depth}
 use Rattle.clause_form.specs.Plain.{term_of}
 use Rattle.pi_tree.specs.Protocols.{protocol_of}
 use Rattle.cert_text.specs.Remaining.{HasPut, arguments_from}

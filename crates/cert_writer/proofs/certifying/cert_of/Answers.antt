@@ -1,5 +1,5 @@
 use Rattle.std.proofs.Common.{List, sym, subst, ◌∙◌, ap, refl}
-use Rattle.terms.specs.Term.{Term}
+use Rattle.spec_terms.specs.Term.{Term}
 use Rattle.clause_form.specs.Seen.{AreClausesIn}
 use Rattle.cert_writer.proofs.Telling.{fit_known}
 use Rattle.clause_form.specs.Fit.{clauses_at}

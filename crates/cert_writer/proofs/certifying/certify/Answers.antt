@@ -1,7 +1,7 @@
 use Rattle.std.proofs.Common.{◌≡◌, ◌∙◌, ◌<◌, ◌^◌, List, length, sym, subst}
-use Rattle.clauses.specs.Fact.{Clause}
-use Rattle.saturation.specs.Live.{MustBeCovered}
-use Rattle.verdicts.proofs.Accepting.{proved_accepted}
+use Rattle.spec_clauses.specs.Fact.{Clause}
+use Rattle.spec_saturation.specs.Live.{MustBeCovered}
+use Rattle.spec_verdicts.proofs.Accepting.{proved_accepted}
 use Rattle.pi_tree.specs.Protocols.{protocol_of}
 use Rattle.term_tree.specs.declared.bank.Id.{Id}
 use Rattle.clause_form.specs.Fit.{AreFit, clauses_at}

@@ -1,8 +1,8 @@
 use Rattle.std.proofs.Common.{List, take, sym, subst}
 use Rattle.std.specs.Prelude.{OnOk}
-use Rattle.terms.specs.Term.{Term}
-use Rattle.clauses.specs.Fact.{Clause}
-use Rattle.saturation.specs.Live.{MustBeCovered}
+use Rattle.spec_terms.specs.Term.{Term}
+use Rattle.spec_clauses.specs.Fact.{Clause}
+use Rattle.spec_saturation.specs.Live.{MustBeCovered}
 use Rattle.clause_saturate.proofs.Found.{front_grows}
 use Rattle.clause_form.proofs.Fit.{AreFit-grow, clauses_grow}
 use Rattle.clause_form.specs.Fit.{clauses_at}

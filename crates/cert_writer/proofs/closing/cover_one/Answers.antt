@@ -1,8 +1,8 @@
 use Rattle.std.proofs.Common.{◌≡◌, ◌∙◌, ℕ, true, false, sym}
 use Rattle.std.proofs.lemmas.Result.{IfOk-weaker}
-use Rattle.clauses.specs.Selection.{is_solved}
-use Rattle.clauses.proofs.Selection.{select-none}
-use Rattle.certificates.specs.Certificate.{numbered_from}
+use Rattle.spec_clauses.specs.Selection.{is_solved}
+use Rattle.spec_clauses.proofs.Selection.{select-none}
+use Rattle.spec_certificates.specs.Certificate.{numbered_from}
 use Rattle.clause_form.specs.Seen.{clause_at}
 use Rattle.clause_form.specs.Fit.{clauses_at}
 use Rattle.cert_writer.specs.Adding.{AddsPairs, pairs_of_one, pairs_if_solved}

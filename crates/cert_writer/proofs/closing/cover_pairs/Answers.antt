@@ -1,8 +1,8 @@
 use Rattle.std.proofs.Common.{◌∙◌, ℕ, List, sym, subst}
-use Rattle.terms.specs.Term.{Term}
-use Rattle.clauses.specs.Inclusion.{Has}
-use Rattle.certificates.specs.Certificate.{Numbered, numbered_from, pairs_of}
-use Rattle.verdicts.proofs.Building.{take_past}
+use Rattle.spec_terms.specs.Term.{Term}
+use Rattle.spec_clauses.specs.Inclusion.{Has}
+use Rattle.spec_certificates.specs.Certificate.{Numbered, numbered_from, pairs_of}
+use Rattle.spec_verdicts.proofs.Building.{take_past}
 use Rattle.clause_form.specs.Seen.{clause_at}
 use Rattle.clause_form.specs.Fit.{IsFit, AreFit, clauses_at}
 use Rattle.clause_form.proofs.Fit.{clause_fit_at}

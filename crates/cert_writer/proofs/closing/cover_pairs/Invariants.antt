@@ -1,5 +1,5 @@
 use Rattle.std.proofs.Common.{◌≡◌, take}
-use Rattle.certificates.specs.Certificate.{numbered_from, pairs_of}
+use Rattle.spec_certificates.specs.Certificate.{numbered_from, pairs_of}
 use Rattle.clause_form.specs.Fit.{clauses_at}
 use Rattle.cert_writer.specs.Adding.{AddsPairs}
 use Rattle.cert_writer.proofs.closing.cover_pairs.Given as goal

@@ -1,15 +1,15 @@
 use Rattle.std.proofs.Common.{◌≡◌, ◌∙◌, ℕ, List, sym, subst, true}
-use Rattle.terms.specs.Term.{Term}
-use Rattle.clauses.specs.Inclusion.{Has}
-use Rattle.certificates.specs.Certificate.{Numbered, numbered_from}
-use Rattle.verdicts.proofs.Building.{take_past}
+use Rattle.spec_terms.specs.Term.{Term}
+use Rattle.spec_clauses.specs.Inclusion.{Has}
+use Rattle.spec_certificates.specs.Certificate.{Numbered, numbered_from}
+use Rattle.spec_verdicts.proofs.Building.{take_past}
 use Rattle.clause_form.specs.Seen.{clause_at}
 use Rattle.clause_form.specs.Fit.{IsFit, AreFit, clauses_at}
 use Rattle.clause_form.proofs.Fit.{clause_fit_at}
 use Rattle.cert_writer.specs.Adding.{AddsPairs, pairs_of_two, pairs_of_one, MustClose}
 use Rattle.cert_writer.proofs.Items.{item_at, item_has, numbers_past}
 use Rattle.cert_writer.proofs.Adding.{one_next}
-use Rattle.clauses.specs.Selection.{is_solved}
+use Rattle.spec_clauses.specs.Selection.{is_solved}
 use Rattle.cert_writer.proofs.closing.cover_solved.Goals as goal
 
 pub cover_pair-requires-clause-solved_fit : goal.cover_pair-requires-clause-solved_fit

@@ -1,5 +1,5 @@
 use Rattle.std.proofs.Common.{◌≡◌, ℕ, take}
-use Rattle.certificates.specs.Certificate.{numbered_from}
+use Rattle.spec_certificates.specs.Certificate.{numbered_from}
 use Rattle.clause_form.specs.Seen.{clause_at}
 use Rattle.clause_form.specs.Fit.{clauses_at}
 use Rattle.cert_writer.specs.Adding.{AddsPairs, pairs_of_one}

@@ -1,10 +1,10 @@
 use Rattle.std.proofs.Common.{◌≡◌, ◌+◌, ℕ, List, ◌∷◌, Vec, Global, refl, sym, subst}
 use Rattle.std.proofs.lemmas.Result.{IfOk-weaker}
-use Rattle.clauses.specs.Subsumption.{RowHolds, IsFirstRow}
+use Rattle.spec_clauses.specs.Subsumption.{RowHolds, IsFirstRow}
 use Rattle.clause_form.specs.Seen.{clause_at}
 use Rattle.clause_form.proofs.Fit.{clause_fit_at}
-use Rattle.verdicts.specs.FirstRows.{IsFirstCover}
-use Rattle.verdicts.proofs.Finding.{none_next, first_found, none_covers}
+use Rattle.spec_verdicts.specs.FirstRows.{IsFirstCover}
+use Rattle.spec_verdicts.proofs.Finding.{none_next, first_found, none_covers}
 use Rattle.clause_form.specs.Fit.{clauses_at}
 use Rattle.cert_writer.proofs.Items.{item_at, items_past, fit_normal, when_some, when_none}
 use Rattle.cert_writer.proofs.covering.first_cover.Goals as goal

@@ -1,5 +1,5 @@
 use Rattle.clause_form.specs.Seen.{clause_at}
-use Rattle.verdicts.proofs.Finding.{NoneBefore}
+use Rattle.spec_verdicts.proofs.Finding.{NoneBefore}
 use Rattle.clause_form.specs.Fit.{clauses_at}
 use Rattle.cert_writer.proofs.covering.first_cover.Given as goal
 

@@ -1,6 +1,6 @@
 use Rattle.std.proofs.Common.{◌≡◌, Some}
-use Rattle.calculus.specs.Syntax.{Query}
-use Rattle.calculus.specs.Points.{numbered}
+use Rattle.spec_calculus.specs.Syntax.{Query}
+use Rattle.spec_calculus.specs.Points.{numbered}
 use Rattle.pi_tree.specs.Protocols.{protocol_of}
 use Rattle.cert_writer.proofs.Meeting.{HaveGoals}
 use Rattle.cert_writer.proofs.satisfying.goal_rows.Given as goal

@@ -1,5 +1,5 @@
 use Rattle.std.proofs.Common.{◌≡◌, max, take, flat_map}
-use Rattle.clauses.specs.Variables.{fact_variables}
+use Rattle.spec_clauses.specs.Variables.{fact_variables}
 use Rattle.clause_form.specs.Facts.{fact_of}
 use Rattle.clause_form.specs.Bounds.{above}
 use Rattle.clause_form.specs.Seen.{fact_at}

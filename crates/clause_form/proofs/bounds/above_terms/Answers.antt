@@ -1,6 +1,6 @@
 use Rattle.std.proofs.Common.{◌∙◌, max, ap, sym}
 use Rattle.std.proofs.lemmas.List.Folds.{flat_map-map}
-use Rattle.clauses.specs.Variables.{leaves}
+use Rattle.spec_clauses.specs.Variables.{leaves}
 use Rattle.term_tree.specs.Bank.{tree_at}
 use Rattle.clause_form.specs.Bounds.{above}
 use Rattle.clause_form.proofs.Walks.{known_at}

@@ -1,5 +1,5 @@
 use Rattle.std.proofs.Common.{◌≡◌, max, flat_map, rules, arith}
-use Rattle.clauses.specs.Variables.{fact_variables}
+use Rattle.spec_clauses.specs.Variables.{fact_variables}
 use Rattle.clause_form.specs.Bounds.{above}
 use Rattle.clause_form.specs.Seen.{clause_at}
 use Rattle.clause_form.proofs.Bounding.{above_clause, clause_below, clause_least}

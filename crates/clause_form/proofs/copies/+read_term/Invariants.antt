@@ -1,5 +1,5 @@
 use Rattle.std.proofs.Common.{◌≡◌, map, take}
-use Rattle.trees.specs.Tree.{depth}
+use Rattle.spec_trees.specs.Tree.{depth}
 use Rattle.term_tree.specs.Bank.{tree_at}
 use Rattle.clause_form.specs.Plain.{term_of}
 use Rattle.clause_form.proofs.copies.+read_term.Given as goal

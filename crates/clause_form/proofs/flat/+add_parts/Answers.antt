@@ -1,7 +1,7 @@
 use Rattle.std.proofs.Common.{◌∙◌, ◌++◌, ap, sym, map, arith, rules}
 use Rattle.std.proofs.lemmas.Grind.{common_steps}
 use Rattle.term_tree.specs.Bank.{symbol_of}
-use Rattle.clauses.specs.Fact.{Att}
+use Rattle.spec_clauses.specs.Fact.{Att}
 use Rattle.clause_form.specs.Seen.{fact_at}
 use Rattle.clause_form.proofs.Walks.{argument_at}
 use Rattle.clause_form.proofs.Lists.{flat_map_all}

@@ -1,5 +1,5 @@
 use Rattle.std.proofs.Common.{◌≡◌, map, flat_map, take}
-use Rattle.clauses.specs.Flat.{flat}
+use Rattle.spec_clauses.specs.Flat.{flat}
 use Rattle.clause_form.specs.Facts.{fact_of}
 use Rattle.clause_form.specs.Seen.{fact_at, AreFactsIn}
 use Rattle.clause_form.proofs.flat.flat_of_all.Given as goal

@@ -1,4 +1,4 @@
-use Rattle.clauses.specs.Norm.{is_lonely}
+use Rattle.spec_clauses.specs.Norm.{is_lonely}
 use Rattle.clause_form.specs.Facts.{fact_of}
 use Rattle.clause_form.specs.Seen.{fact_at}
 use Rattle.clause_form.proofs.Walks.{fact_known_at}

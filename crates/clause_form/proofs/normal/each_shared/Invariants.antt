@@ -1,5 +1,5 @@
 use Rattle.std.proofs.Common.{◌≡◌, not, filter, map, take}
-use Rattle.clauses.specs.Norm.{is_lonely}
+use Rattle.spec_clauses.specs.Norm.{is_lonely}
 use Rattle.clause_form.specs.Facts.{fact_of}
 use Rattle.clause_form.specs.Seen.{fact_at, AreFactsIn}
 use Rattle.clause_form.proofs.normal.each_shared.Given as goal

@@ -1,6 +1,6 @@
 use Rattle.std.proofs.Common.{◌≡◌, not, map, drop}
 use Rattle.std.specs.List.{list_all}
-use Rattle.clauses.specs.Norm.{is_lonely}
+use Rattle.spec_clauses.specs.Norm.{is_lonely}
 use Rattle.clause_form.specs.Facts.{fact_of}
 use Rattle.clause_form.specs.Seen.{fact_at}
 use Rattle.clause_form.proofs.normal.none_lonely.Given as goal

@@ -1,6 +1,6 @@
 use Rattle.std.proofs.Common.{◌∙◌, ◌∷◌, map, flat_map, ap, refl, arith}
 use Rattle.std.proofs.lemmas.Grind.{common_steps}
-use Rattle.clauses.specs.Variables.{fact_variables}
+use Rattle.spec_clauses.specs.Variables.{fact_variables}
 use Rattle.clause_form.specs.Facts.{fact_of}
 use Rattle.clause_form.specs.Seen.{fact_at}
 use Rattle.clause_form.proofs.Norming.{norm_named}

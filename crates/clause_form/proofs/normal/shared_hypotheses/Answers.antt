@@ -1,6 +1,6 @@
 use Rattle.std.proofs.Common.{◌∙◌, ◌∷◌, ℕ, List, IfOk, not, filter, map, flat_map, ap, subst}
-use Rattle.clauses.specs.Norm.{is_lonely}
-use Rattle.clauses.specs.Variables.{fact_variables}
+use Rattle.spec_clauses.specs.Norm.{is_lonely}
+use Rattle.spec_clauses.specs.Variables.{fact_variables}
 use Rattle.clause_form.specs.Facts.{fact_of}
 use Rattle.clause_form.specs.Seen.{fact_at, NameFacts}
 use Rattle.clause_form.proofs.normal.shared_hypotheses.Goals as goal

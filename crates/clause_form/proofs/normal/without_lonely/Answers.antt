@@ -1,5 +1,5 @@
 use Rattle.std.proofs.Common.{◌∙◌, not, filter, map, ap}
-use Rattle.clauses.specs.Norm.{is_lonely}
+use Rattle.spec_clauses.specs.Norm.{is_lonely}
 use Rattle.clause_form.specs.Facts.{fact_of}
 use Rattle.clause_form.proofs.Keeping.{none_dropped, named_of}
 use Rattle.clause_form.proofs.normal.without_lonely.Goals as goal

@@ -1,6 +1,6 @@
 use Rattle.std.proofs.Common.{◌∙◌, map, ap, sym}
 use Rattle.std.proofs.lemmas.List.Folds.{flat_map-map}
-use Rattle.clauses.specs.Variables.{fact_variables}
+use Rattle.spec_clauses.specs.Variables.{fact_variables}
 use Rattle.clause_form.specs.Facts.{fact_of}
 use Rattle.clause_form.specs.Seen.{fact_at}
 use Rattle.clause_form.specs.Normality.{numbers_after}

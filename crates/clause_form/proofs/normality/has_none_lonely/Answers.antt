@@ -1,5 +1,5 @@
 use Rattle.std.proofs.Common.{rules}
-use Rattle.clauses.specs.Variables.{clause_variables}
+use Rattle.spec_clauses.specs.Variables.{clause_variables}
 use Rattle.clause_form.specs.Seen.{clause_at}
 use Rattle.clause_form.proofs.Occurring.{nothing_told}
 use Rattle.clause_form.proofs.Told.{lonely_are}

@@ -2,8 +2,8 @@ use Rattle.std.proofs.Common.{not, ap, arith}
 use Rattle.std.specs.List.{list_all}
 use Rattle.std.proofs.lemmas.Simd.{map-map}
 use Rattle.std.proofs.lemmas.Grind.{common_steps}
-use Rattle.clauses.specs.Variables.{clause_variables}
-use Rattle.clauses.specs.Norm.{is_lonely}
+use Rattle.spec_clauses.specs.Variables.{clause_variables}
+use Rattle.spec_clauses.specs.Norm.{is_lonely}
 use Rattle.clause_form.specs.Facts.{fact_of}
 use Rattle.clause_form.specs.Seen.{fact_at, clause_at}
 use Rattle.clause_form.proofs.Walks.{fact_known_at}

@@ -2,7 +2,7 @@ use Rattle.std.proofs.Common.{ap, arith}
 use Rattle.std.specs.List.{count_by}
 use Rattle.std.proofs.lemmas.Simd.{map-map}
 use Rattle.std.proofs.lemmas.Grind.{common_steps}
-use Rattle.clauses.specs.Fact.{is_variable_known}
+use Rattle.spec_clauses.specs.Fact.{is_variable_known}
 use Rattle.clause_form.specs.Facts.{fact_of}
 use Rattle.clause_form.specs.Seen.{fact_at}
 use Rattle.clause_form.proofs.Walks.{fact_known_at}

@@ -1,6 +1,6 @@
 use Rattle.std.proofs.Common.{◌≡◌, ◌+◌, map, drop}
 use Rattle.std.specs.List.{count_by}
-use Rattle.clauses.specs.Fact.{is_variable_known}
+use Rattle.spec_clauses.specs.Fact.{is_variable_known}
 use Rattle.clause_form.specs.Facts.{fact_of}
 use Rattle.clause_form.specs.Seen.{fact_at}
 use Rattle.clause_form.proofs.normality.variables_known.Given as goal

@@ -1,5 +1,5 @@
 use Rattle.std.proofs.Common.{◌≡◌, ◌+◌, drop}
-use Rattle.clauses.specs.Norm.{place_of}
+use Rattle.spec_clauses.specs.Norm.{place_of}
 use Rattle.clause_form.proofs.numbers.place_among.Given as goal
 
 abbrev pub invariant-each : goal.invariant-each

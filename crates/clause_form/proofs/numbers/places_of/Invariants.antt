@@ -1,6 +1,6 @@
 use Rattle.std.proofs.Common.{◌≡◌, ℕ, ◌+◌, ◌≤◌, nat_eq, Some, length, drop}
 use Rattle.std.specs.HashMap.{get}
-use Rattle.clauses.specs.Norm.{place_of}
+use Rattle.spec_clauses.specs.Norm.{place_of}
 use Rattle.clause_form.proofs.numbers.places_of.Given as goal
 
 abbrev pub invariant-each : goal.invariant-each

@@ -1,7 +1,7 @@
 use Rattle.std.proofs.Common.{◌≡◌, ◌∙◌, ◌<◌, ◌-◌, ◌++◌, ◌∷◌, List, [], length, take, drop, map, ap, sym, subst, arith}
 use Rattle.std.proofs.lemmas.List.{take_rest}
 use Rattle.std.proofs.lemmas.Grind.{common_steps}
-use Rattle.trees.specs.Tree.{depth, node, bind}
+use Rattle.spec_trees.specs.Tree.{depth, node, bind}
 use Rattle.term_tree.specs.Bank.{symbol_of, tree_at, AreKnown}
 use Rattle.term_tree.specs.declared.bank.Id.{Id}
 use Rattle.unify_match.proofs.Substituting.{Names-same}

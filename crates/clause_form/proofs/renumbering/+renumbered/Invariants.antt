@@ -1,4 +1,4 @@
-use Rattle.trees.specs.Tree.{depth}
+use Rattle.spec_trees.specs.Tree.{depth}
 use Rattle.term_tree.specs.Bank.{tree_at, symbol_of}
 use Rattle.clause_form.specs.Numbers.{placed}
 use Rattle.clause_form.proofs.Renumber.{IsStacked}

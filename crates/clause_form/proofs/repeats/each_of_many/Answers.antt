@@ -1,5 +1,5 @@
 use Rattle.std.proofs.Common.{List, map, ap, sym, subst}
-use Rattle.clauses.specs.Fact.{Fact, is_among}
+use Rattle.spec_clauses.specs.Fact.{Fact, is_among}
 use Rattle.term_tree.specs.declared.bank.Id.{Id}
 use Rattle.clause_form.specs.Facts.{fact_of}
 use Rattle.clause_form.specs.Seen.{fact_at, AreFactsIn}

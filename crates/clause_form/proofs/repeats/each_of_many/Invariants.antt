@@ -1,6 +1,6 @@
 use Rattle.std.proofs.Common.{◌≡◌, map, take}
-use Rattle.clauses.specs.Fact.{same_fact}
-use Rattle.clauses.specs.Norm.{distinct}
+use Rattle.spec_clauses.specs.Fact.{same_fact}
+use Rattle.spec_clauses.specs.Norm.{distinct}
 use Rattle.clause_form.specs.Facts.{fact_of}
 use Rattle.clause_form.specs.Seen.{fact_at, AreFactsIn}
 use Rattle.clause_form.specs.Tables.{HaveKeys}

@@ -1,5 +1,5 @@
 use Rattle.std.proofs.Common.{map}
-use Rattle.clauses.specs.Fact.{is_among}
+use Rattle.spec_clauses.specs.Fact.{is_among}
 use Rattle.clause_form.specs.Facts.{fact_of}
 use Rattle.clause_form.specs.Seen.{fact_at}
 use Rattle.clause_form.proofs.Walks.{fact_known_at}

@@ -1,5 +1,5 @@
 use Rattle.std.proofs.Common.{◌≡◌, map, drop}
-use Rattle.clauses.specs.Fact.{same_terms}
+use Rattle.spec_clauses.specs.Fact.{same_terms}
 use Rattle.term_tree.specs.Bank.{tree_at}
 use Rattle.clause_form.proofs.same.are_same_terms.Given as goal
 

@@ -2,7 +2,7 @@ use Rattle.std.proofs.Common.{ap, arith}
 use Rattle.std.specs.List.{list_any}
 use Rattle.std.proofs.lemmas.Simd.{map-map}
 use Rattle.std.proofs.lemmas.Grind.{common_steps}
-use Rattle.clauses.specs.Fact.{same_fact}
+use Rattle.spec_clauses.specs.Fact.{same_fact}
 use Rattle.clause_form.specs.Facts.{fact_of}
 use Rattle.clause_form.specs.Seen.{fact_at}
 use Rattle.clause_form.proofs.Walks.{fact_known_at}

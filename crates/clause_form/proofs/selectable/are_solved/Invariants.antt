@@ -1,5 +1,5 @@
 use Rattle.std.proofs.Common.{◌≡◌, map, drop}
-use Rattle.clauses.specs.Selection.{is_solved}
+use Rattle.spec_clauses.specs.Selection.{is_solved}
 use Rattle.clause_form.specs.Facts.{fact_of}
 use Rattle.clause_form.specs.Seen.{fact_at}
 use Rattle.clause_form.proofs.selectable.are_solved.Given as goal

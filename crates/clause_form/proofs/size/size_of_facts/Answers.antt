@@ -1,5 +1,5 @@
 use Rattle.std.proofs.Common.{◌+◌, ◌∙◌, ap, sym, map, take}
-use Rattle.clauses.specs.Fact.{total, fact_size}
+use Rattle.spec_clauses.specs.Fact.{total, fact_size}
 use Rattle.term_tree.specs.Bank.{capped}
 use Rattle.clause_form.specs.Seen.{fact_at}
 use Rattle.clause_form.specs.Facts.{fact_of}

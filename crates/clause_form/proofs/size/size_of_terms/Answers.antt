@@ -1,5 +1,5 @@
 use Rattle.std.proofs.Common.{◌∙◌, ap, sym}
-use Rattle.trees.specs.Tree.{size}
+use Rattle.spec_trees.specs.Tree.{size}
 use Rattle.term_tree.specs.Bank.{tree_at, capped}
 use Rattle.clause_form.proofs.Lists.{total_more, total_all, total-map}
 use Rattle.clause_form.proofs.Walks.{known_at}

@@ -1,6 +1,6 @@
 use Rattle.std.proofs.Common.{◌≡◌, take}
-use Rattle.trees.specs.Tree.{size}
-use Rattle.clauses.specs.Fact.{total}
+use Rattle.spec_trees.specs.Tree.{size}
+use Rattle.spec_clauses.specs.Fact.{total}
 use Rattle.term_tree.specs.Bank.{tree_at, capped}
 use Rattle.clause_form.proofs.size.size_of_terms.Given as goal
 

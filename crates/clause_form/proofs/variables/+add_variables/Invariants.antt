@@ -1,5 +1,5 @@
 use Rattle.std.proofs.Common.{◌≡◌, ◌++◌, take, flat_map}
-use Rattle.trees.specs.Tree.{depth}
+use Rattle.spec_trees.specs.Tree.{depth}
 use Rattle.term_tree.specs.Bank.{tree_at}
 use Rattle.clause_form.proofs.Counting.{leaves_at}
 use Rattle.clause_form.proofs.variables.+add_variables.Given as goal

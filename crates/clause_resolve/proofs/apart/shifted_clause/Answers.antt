@@ -1,5 +1,5 @@
 use Rattle.std.proofs.Common.{◌≡◌, sym, subst, List, map, arith, rules}
-use Rattle.clauses.specs.Fact.{Fact}
+use Rattle.spec_clauses.specs.Fact.{Fact}
 use Rattle.term_tree.specs.declared.bank.Id.{Id}
 use Rattle.term_tree.proofs.BankLaws.{Grows_trans}
 use Rattle.clause_form.specs.Facts.{fact_of}

@@ -1,5 +1,5 @@
-use Rattle.terms.specs.Unifier.{moved}
-use Rattle.calculus.specs.Bounds.{most_symbols}
+use Rattle.spec_terms.specs.Unifier.{moved}
+use Rattle.spec_calculus.specs.Bounds.{most_symbols}
 use Rattle.clause_form.specs.Facts.{fact_of}
 use Rattle.clause_form.proofs.Renumber.{facts_renumbered_on, facts_renumbered}
 use Rattle.clause_resolve.proofs.Shifting.{fact_low_at, fact_known_low, IsLowFact-grows}

@@ -1,6 +1,6 @@
 use Rattle.std.proofs.Common.{get_or}
-use Rattle.terms.specs.Unifier.{moved}
-use Rattle.calculus.specs.Bounds.{most_symbols}
+use Rattle.spec_terms.specs.Unifier.{moved}
+use Rattle.spec_calculus.specs.Bounds.{most_symbols}
 use Rattle.term_tree.proofs.BankLaws.{tree_at-grows, Grows_trans}
 use Rattle.clause_form.proofs.Renumber.{renumbered_on, renumbered_all}
 use Rattle.clause_resolve.proofs.Shifting.{low_at, low_fits, IsLow-grows}

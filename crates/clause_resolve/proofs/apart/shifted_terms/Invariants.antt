@@ -1,5 +1,5 @@
-use Rattle.terms.specs.Unifier.{moved}
-use Rattle.calculus.specs.Bounds.{most_symbols}
+use Rattle.spec_terms.specs.Unifier.{moved}
+use Rattle.spec_calculus.specs.Bounds.{most_symbols}
 use Rattle.clause_form.proofs.Renumber.{IsRenumbered}
 use Rattle.clause_resolve.proofs.apart.shifted_terms.Given as goal
 

@@ -1,6 +1,6 @@
 use Rattle.std.proofs.Common.{◌≡◌, List, map, sym, subst, rules}
 use Rattle.std.proofs.lemmas.Result.{err_from_is_err_and}
-use Rattle.clauses.specs.Fact.{Fact}
+use Rattle.spec_clauses.specs.Fact.{Fact}
 use Rattle.term_tree.specs.declared.bank.Id.{Id}
 use Rattle.unify_match.proofs.SeenLemmas.{IsReady-grows}
 use Rattle.clause_form.specs.Facts.{fact_of}

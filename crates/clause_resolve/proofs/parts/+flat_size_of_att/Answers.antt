@@ -1,5 +1,5 @@
 use Rattle.std.proofs.Common.{◌∙◌, ap, sym, arith, rules}
-use Rattle.clauses.specs.Fact.{total, fact_size}
+use Rattle.spec_clauses.specs.Fact.{total, fact_size}
 use Rattle.term_tree.specs.Bank.{symbol_of, capped}
 use Rattle.clause_form.proofs.Walks.{argument_at}
 use Rattle.clause_form.proofs.Flattening.{parts_at, data_flat}

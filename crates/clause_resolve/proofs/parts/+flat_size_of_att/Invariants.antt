@@ -1,6 +1,6 @@
 use Rattle.std.proofs.Common.{◌≡◌, take, flat_map}
-use Rattle.trees.specs.Tree.{depth}
-use Rattle.clauses.specs.Fact.{total, fact_size}
+use Rattle.spec_trees.specs.Tree.{depth}
+use Rattle.spec_clauses.specs.Fact.{total, fact_size}
 use Rattle.term_tree.specs.Bank.{tree_at, capped}
 use Rattle.clause_form.proofs.Flattening.{parts_at}
 use Rattle.clause_resolve.proofs.parts.+flat_size_of_att.Given as goal

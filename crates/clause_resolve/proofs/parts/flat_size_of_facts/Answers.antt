@@ -1,6 +1,6 @@
 use Rattle.std.proofs.Common.{◌∙◌, ap}
-use Rattle.clauses.specs.Fact.{total, fact_size}
-use Rattle.clauses.specs.Flat.{flat}
+use Rattle.spec_clauses.specs.Fact.{total, fact_size}
+use Rattle.spec_clauses.specs.Flat.{flat}
 use Rattle.term_tree.specs.Bank.{capped}
 use Rattle.clause_form.specs.Facts.{fact_of}
 use Rattle.clause_form.specs.Seen.{fact_at}

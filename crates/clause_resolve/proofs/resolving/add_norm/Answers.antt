@@ -1,6 +1,6 @@
 use Rattle.std.proofs.Common.{subst, rules}
-use Rattle.clauses.specs.Norm.{norm}
-use Rattle.clauses.specs.Fact.{Clause}
+use Rattle.spec_clauses.specs.Norm.{norm}
+use Rattle.spec_clauses.specs.Fact.{Clause}
 use Rattle.term_tree.specs.declared.bank.Id.{Id}
 use Rattle.clause_form.specs.declared.normal.Normal.{Normal}
 use Rattle.clause_form.specs.declared.normal.Normal.TheVariants as normal

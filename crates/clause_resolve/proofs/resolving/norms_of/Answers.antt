@@ -1,6 +1,6 @@
 use Rattle.std.proofs.Common.{map, take}
 use Rattle.std.specs.Prelude.{filter_map}
-use Rattle.clauses.specs.Norm.{norm}
+use Rattle.spec_clauses.specs.Norm.{norm}
 use Rattle.clause_form.specs.Seen.{clause_at}
 use Rattle.clause_form.proofs.Walks.{clause_known_at}
 use Rattle.clause_resolve.proofs.Answering.{IsClauseIn-later, clause_at-later, norms_on, norms_all}

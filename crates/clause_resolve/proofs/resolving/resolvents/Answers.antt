@@ -1,5 +1,5 @@
 use Rattle.std.proofs.Common.{◌≡◌, ap, sym, subst, List, map, arith, rules}
-use Rattle.clauses.specs.Fact.{Fact, Clause}
+use Rattle.spec_clauses.specs.Fact.{Fact, Clause}
 use Rattle.term_tree.specs.declared.bank.Id.{Id}
 use Rattle.clause_form.specs.Facts.{fact_of}
 use Rattle.clause_form.specs.Seen.{fact_at, clause_at, AreFactsIn}

@@ -1,6 +1,6 @@
 use Rattle.std.proofs.Common.{◌≡◌, ◌+◌, None, List, [], ◌∷◌, ◌++◌, ap, length, filter, refl, subst, ◌∙◌}
-use Rattle.clauses.specs.Fact.{Clause}
-use Rattle.clauses.specs.Selection.{is_solved}
+use Rattle.spec_clauses.specs.Fact.{Clause}
+use Rattle.spec_clauses.specs.Selection.{is_solved}
 use Rattle.term_tree.specs.declared.bank.Id.{Id}
 use Rattle.clause_form.specs.Seen.{clause_at}
 use Rattle.clause_saturate.specs.declared.log.Entry.{Entry}

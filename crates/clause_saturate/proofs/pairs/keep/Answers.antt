@@ -1,5 +1,5 @@
 use Rattle.std.proofs.Common.{◌+◌, ◌≤◌, length, take, sym, subst, arith, Option}
-use Rattle.saturation.specs.Key.{key}
+use Rattle.spec_saturation.specs.Key.{key}
 use Rattle.clause_saturate.specs.Pairs.{major, minor}
 use Rattle.clause_saturate.specs.Walked.{IsWalked, HasOffered}
 use Rattle.clause_saturate.proofs.Found.{front_grows}

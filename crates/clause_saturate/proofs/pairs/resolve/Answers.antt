@@ -1,13 +1,13 @@
 use Rattle.std.proofs.Common.{List, ◌≡◌, subst, sym, rules, ◌∙◌, take, refl, arith}
-use Rattle.saturation.specs.Key.{key}
+use Rattle.spec_saturation.specs.Key.{key}
 use Rattle.clause_saturate.specs.declared.log.Entry.{Entry}
 use Rattle.clause_form.specs.Fit.{AreFit}
 use Rattle.clause_saturate.specs.Beating.{clauses_of}
 use Rattle.clause_saturate.specs.Pairs.{major, minor, IsMadeBy, IsTidy, IsDuePair}
 use Rattle.clause_saturate.proofs.Fitting.{walked_fit}
 use Rattle.clause_saturate.proofs.Pairing.{no_unifier_step, too_large_step, made_step}
-use Rattle.terms.specs.Term.{Term}
-use Rattle.clauses.specs.Fact.{Clause}
+use Rattle.spec_terms.specs.Term.{Term}
+use Rattle.spec_clauses.specs.Fact.{Clause}
 use Rattle.term_tree.specs.declared.bank.Id.{Id}
 use Rattle.term_tree.specs.Bank.{Grows}
 use Rattle.term_tree.proofs.BankLaws.{Grows-length}

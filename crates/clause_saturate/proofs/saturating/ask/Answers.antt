@@ -1,5 +1,5 @@
 use Rattle.std.proofs.Common.{◌≡◌, ◌-◌, false, Some, None, length, sym, inl, inr, arith}
-use Rattle.saturation.specs.Log.{goal_key}
+use Rattle.spec_saturation.specs.Log.{goal_key}
 use Rattle.clause_form.specs.Seen.{clause_at}
 use Rattle.clause_form.proofs.Fit.{clause_fit_at}
 use Rattle.clause_saturate.proofs.Fitting.{last_given, given_length, given_some, walked_fit, walked_listed}

@@ -1,5 +1,5 @@
 use Rattle.std.proofs.Common.{◌-◌, Some, None, arith}
-use Rattle.saturation.specs.Key.{key}
+use Rattle.spec_saturation.specs.Key.{key}
 use Rattle.clause_form.specs.Seen.{clause_at}
 use Rattle.clause_form.proofs.Fit.{clause_fit_at}
 use Rattle.clause_saturate.proofs.Fitting.{number_given, given_length, walked_fit, walked_listed, walked_within}

@@ -1,5 +1,5 @@
 use Rattle.std.proofs.Common.{◌-◌, ◌<◌, ◌≤◌, length}
-use Rattle.saturation.specs.Key.{key}
+use Rattle.spec_saturation.specs.Key.{key}
 use Rattle.clause_saturate.specs.Walked.{IsWalked}
 use Rattle.clause_saturate.proofs.saturating.offer_given.Given as goal
 

@@ -1,5 +1,5 @@
 use Rattle.std.proofs.Common.{◌≡◌, ◌+◌, refl, rules, arith}
-use Rattle.saturation.specs.Key.{key}
+use Rattle.spec_saturation.specs.Key.{key}
 use Rattle.term_tree.proofs.BankLaws.{Grows_trans}
 use Rattle.clause_saturate.specs.Pairs.{major, minor}
 use Rattle.clause_saturate.proofs.Fitting.{walked_fit, walked_listed, walked_reached}

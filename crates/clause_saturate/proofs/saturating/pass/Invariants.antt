@@ -1,5 +1,5 @@
 use Rattle.std.proofs.Common.{◌-◌, ◌≤◌}
-use Rattle.saturation.specs.Key.{key}
+use Rattle.spec_saturation.specs.Key.{key}
 use Rattle.term_tree.specs.Bank.{Grows}
 use Rattle.clause_saturate.specs.Walked.{IsWalked}
 use Rattle.clause_saturate.proofs.saturating.pass.Given as goal

@@ -1,6 +1,6 @@
 use Rattle.std.proofs.Common.{Option, subst}
 use Rattle.clause_saturate.specs.declared.log.Entry.{Entry}
-use Rattle.saturation.specs.Log.{goal_key}
+use Rattle.spec_saturation.specs.Log.{goal_key}
 use Rattle.clause_saturate.specs.Walked.{HasOffered}
 use Rattle.term_tree.proofs.BankLaws.{Grows_refl}
 use Rattle.clause_saturate.proofs.Stepping.{gone_on}

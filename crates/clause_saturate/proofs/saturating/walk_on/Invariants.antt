@@ -1,5 +1,5 @@
 use Rattle.std.proofs.Common.{◌≡◌, ◌-◌, ◌≤◌, map}
-use Rattle.saturation.specs.Log.{goal_key}
+use Rattle.spec_saturation.specs.Log.{goal_key}
 use Rattle.term_tree.specs.Bank.{Grows}
 use Rattle.clause_form.specs.Seen.{clause_at}
 use Rattle.clause_form.specs.Fit.{AreFit}

@@ -1,7 +1,7 @@
 use Rattle.std.proofs.Common.{◌≡◌, ◌∙◌, ap, map, refl, arith}
-use Rattle.trees.specs.Tree.{depth}
-use Rattle.calculus.specs.Syntax.{Constructor, Variable}
-use Rattle.calculus.specs.Syntax as calculus
+use Rattle.spec_trees.specs.Tree.{depth}
+use Rattle.spec_calculus.specs.Syntax.{Constructor, Variable}
+use Rattle.spec_calculus.specs.Syntax as calculus
 use Rattle.pi_tree.specs.Patterns.{pattern_of}
 use Rattle.clause_terms.specs.Conditions.{HasRoomAt}
 use Rattle.clause_terms.specs.Fresh.{fresh_of}

@@ -1,5 +1,5 @@
 use Rattle.std.proofs.Common.{◌+◌, ◌*◌}
-use Rattle.trees.specs.Tree.{depth, depths, trees}
+use Rattle.spec_trees.specs.Tree.{depth, depths, trees}
 use Rattle.pi_tree.specs.Patterns.{pattern_of}
 use Rattle.clause_terms.specs.Fresh.{fresh_of}
 use Rattle.clause_terms.proofs.Binding.{AreBound}

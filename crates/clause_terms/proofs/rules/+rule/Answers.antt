@@ -1,10 +1,10 @@
 use Rattle.std.proofs.Common.{◌≡◌, ◌∙◌, ap, map, length, arith}
-use Rattle.trees.specs.Tree.{depth}
-use Rattle.calculus.specs.Syntax.{Constructor}
-use Rattle.calculus.specs.Syntax as calculus
-use Rattle.terms.specs.Term.{Tuple}
+use Rattle.spec_trees.specs.Tree.{depth}
+use Rattle.spec_calculus.specs.Syntax.{Constructor}
+use Rattle.spec_calculus.specs.Syntax as calculus
+use Rattle.spec_terms.specs.Term.{Tuple}
 use Rattle.term_tree.specs.Bank.{symbol_of}
-use Rattle.translation.specs.Conversion.{rule_term, rule_leaf}
+use Rattle.spec_translation.specs.Conversion.{rule_term, rule_leaf}
 use Rattle.pi_tree.specs.Terms.{term_of}
 use Rattle.pi_tree.specs.Protocols.{protocol_of}
 use Rattle.clause_terms.specs.Conditions.{HasShortTuples, HasRoomFrom}

@@ -1,6 +1,6 @@
 use Rattle.std.proofs.Common.{◌+◌, ◌*◌}
-use Rattle.trees.specs.Tree.{depth, depths, trees}
-use Rattle.translation.specs.Conversion.{rule_term}
+use Rattle.spec_trees.specs.Tree.{depth, depths, trees}
+use Rattle.spec_translation.specs.Conversion.{rule_term}
 use Rattle.pi_tree.specs.Terms.{term_of}
 use Rattle.pi_tree.specs.Protocols.{protocol_of}
 use Rattle.clause_terms.proofs.Making.{AreMade}

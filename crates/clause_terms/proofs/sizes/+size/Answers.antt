@@ -1,9 +1,9 @@
 use Rattle.std.proofs.Common.{◌≡◌, ◌+◌, ◌∙◌, ap, map, take, sym, refl}
-use Rattle.trees.specs.Tree.{size}
-use Rattle.calculus.specs.Syntax.{Constructor}
-use Rattle.calculus.specs.Syntax as calculus
-use Rattle.clauses.specs.Fact.{total}
-use Rattle.translation.specs.Conversion.{term_in, leaf_term}
+use Rattle.spec_trees.specs.Tree.{size}
+use Rattle.spec_calculus.specs.Syntax.{Constructor}
+use Rattle.spec_calculus.specs.Syntax as calculus
+use Rattle.spec_clauses.specs.Fact.{total}
+use Rattle.spec_translation.specs.Conversion.{term_in, leaf_term}
 use Rattle.term_tree.specs.Bank.{capped}
 use Rattle.clause_form.proofs.Lists.{total_more, total_all, total-map}
 use Rattle.pi_tree.specs.declared.syntax.Term as declared

@@ -1,8 +1,8 @@
 use Rattle.std.proofs.Common.{◌≡◌, take}
-use Rattle.trees.specs.Tree.{size}
-use Rattle.calculus.specs.Syntax.{Protocol}
-use Rattle.clauses.specs.Fact.{total}
-use Rattle.translation.specs.Conversion.{term_in}
+use Rattle.spec_trees.specs.Tree.{size}
+use Rattle.spec_calculus.specs.Syntax.{Protocol}
+use Rattle.spec_clauses.specs.Fact.{total}
+use Rattle.spec_translation.specs.Conversion.{term_in}
 use Rattle.term_tree.specs.Bank.{capped}
 use Rattle.pi_tree.specs.Terms.{term_of}
 use Rattle.clause_terms.specs.Scopes.{scope_at}

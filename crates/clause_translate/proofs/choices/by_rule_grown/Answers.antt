@@ -1,13 +1,13 @@
 use Rattle.std.proofs.Common.{◌∷◌, Option, List, map, ap, sym, subst, ◌∙◌}
 use Rattle.pi_tree.specs.Rules.{rule_of}
 use Rattle.pi_tree.specs.Patterns.{pattern_of}
-use Rattle.clauses.specs.Variables.{IsBelow, AreBelow}
+use Rattle.spec_clauses.specs.Variables.{IsBelow, AreBelow}
 use Rattle.term_tree.specs.Bank.{tree_at, AreKnown}
 use Rattle.term_tree.specs.declared.bank.Id.{Id}
 use Rattle.term_tree.proofs.BankLaws.{Grows_trans, Names-grows, AreKnown-grows, trees_at-grow, Grows_refl}
-use Rattle.translation.specs.Conversion.{rule_term}
-use Rattle.translation.specs.Visit.{Visit}
-use Rattle.translation.specs.Choice.{GoesOn}
+use Rattle.spec_translation.specs.Conversion.{rule_term}
+use Rattle.spec_translation.specs.Visit.{Visit}
+use Rattle.spec_translation.specs.Choice.{GoesOn}
 use Rattle.clause_form.proofs.Copying.{NameTerms-grows}
 use Rattle.clause_translate.specs.declared.choices.Way.{Way}
 use Rattle.clause_translate.specs.Places.{protocol_at}

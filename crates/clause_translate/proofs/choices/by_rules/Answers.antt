@@ -1,7 +1,7 @@
 use Rattle.std.proofs.Common.{◌+◌, map, sym, subst, arith}
 use Rattle.pi_tree.specs.Rules.{rule_of}
 use Rattle.pi_tree.specs.Patterns.{pattern_of}
-use Rattle.clauses.specs.Variables.{AreBelow}
+use Rattle.spec_clauses.specs.Variables.{AreBelow}
 use Rattle.term_tree.specs.Bank.{tree_at}
 use Rattle.term_tree.proofs.BankLaws.{AreKnown-grows, trees_at-grow, Grows_trans}
 use Rattle.clause_translate.specs.Places.{protocol_at}

@@ -1,12 +1,12 @@
 use Rattle.std.proofs.Common.{Option, [], sym, subst}
 use Rattle.pi_tree.specs.Terms.{term_of}
 use Rattle.pi_tree.specs.Patterns.{pattern_of}
-use Rattle.clauses.specs.Variables.{IsBelow}
+use Rattle.spec_clauses.specs.Variables.{IsBelow}
 use Rattle.term_tree.specs.Bank.{tree_at}
 use Rattle.term_tree.proofs.BankLaws.{Names-grows, Grows_trans}
-use Rattle.translation.specs.Conversion.{term_in}
-use Rattle.translation.specs.Visit.{Visit}
-use Rattle.translation.specs.Choice.{GoesOn, TermGoesOn}
+use Rattle.spec_translation.specs.Conversion.{term_in}
+use Rattle.spec_translation.specs.Visit.{Visit}
+use Rattle.spec_translation.specs.Choice.{GoesOn, TermGoesOn}
 use Rattle.clause_terms.specs.Scopes.{scope_at}
 use Rattle.clause_translate.specs.declared.choices.Way.{Way}
 use Rattle.clause_translate.specs.Places.{protocol_at}

@@ -1,8 +1,8 @@
 use Rattle.std.proofs.Common.{◌≡◌, true, Some, None, map, refl}
-use Rattle.terms.specs.Binding.{resolved}
+use Rattle.spec_terms.specs.Binding.{resolved}
 use Rattle.term_tree.specs.Bank.{tree_at}
 use Rattle.unify_match.specs.Seen.{seen}
-use Rattle.translation.specs.Visit.{is_large_visit, visit_under}
+use Rattle.spec_translation.specs.Visit.{is_large_visit, visit_under}
 use Rattle.clause_translate.specs.Visits.{visit_at}
 use Rattle.clause_translate.specs.Ways.{choice_at}
 use Rattle.clause_translate.proofs.Solving.{solutions_below}

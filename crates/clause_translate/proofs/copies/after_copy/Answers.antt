@@ -1,5 +1,5 @@
 use Rattle.std.proofs.Common.{◌≡◌, ◌++◌, ◌∷◌, [], sym, subst, arith}
-use Rattle.translation.specs.Visit.{after_copy}
+use Rattle.spec_translation.specs.Visit.{after_copy}
 use Rattle.clause_translate.specs.declared.visit.Visit.{Visit}
 use Rattle.clause_translate.specs.Visits.{visit_at, NamesVisit}
 use Rattle.clause_translate.proofs.Named.{if_ok, copied}

@@ -1,11 +1,11 @@
 use Rattle.std.proofs.Common.{◌≡◌, true, false, Option, map, ap, sym, subst, ◌∙◌}
 use Rattle.term_tree.specs.Bank.{tree_at}
 use Rattle.term_tree.proofs.BankLaws.{Grows_trans, Grows_refl}
-use Rattle.clauses.specs.Variables.{AreBelow}
-use Rattle.clauses.specs.Limits.{is_large_raw}
-use Rattle.clauses.specs.Norm.{norms}
+use Rattle.spec_clauses.specs.Variables.{AreBelow}
+use Rattle.spec_clauses.specs.Limits.{is_large_raw}
+use Rattle.spec_clauses.specs.Norm.{norms}
 use Rattle.pi_tree.specs.Events.{event_of}
-use Rattle.translation.specs.Visit.{event_terms, after_event}
+use Rattle.spec_translation.specs.Visit.{event_terms, after_event}
 use Rattle.clause_form.specs.Seen.{clause_at}
 use Rattle.clause_form.proofs.Copying.{NameTerms-grows}
 use Rattle.clause_translate.specs.declared.visit.Visit.{Visit}

@@ -1,5 +1,5 @@
 use Rattle.std.proofs.Common.{ap, sym, ◌∙◌}
-use Rattle.translation.specs.Visit.{is_large_visit}
+use Rattle.spec_translation.specs.Visit.{is_large_visit}
 use Rattle.clause_translate.proofs.Happening.{evented}
 use Rattle.clause_translate.proofs.events.event_below.Goals as goal
 

@@ -1,8 +1,8 @@
 use Rattle.std.proofs.Common.{◌≡◌, ◌++◌, ◌∷◌, [], arith}
 use Rattle.pi_tree.specs.Terms.{term_of}
 use Rattle.pi_tree.specs.Patterns.{pattern_of}
-use Rattle.translation.specs.Conversion.{Fresh}
-use Rattle.translation.specs.Visit.{IsFresh, after_input}
+use Rattle.spec_translation.specs.Conversion.{Fresh}
+use Rattle.spec_translation.specs.Visit.{IsFresh, after_input}
 use Rattle.clause_form.specs.Facts.{fact_of}
 use Rattle.clause_translate.specs.declared.visit.Visit.{Visit}
 use Rattle.clause_translate.specs.Places.{protocol_at}

@@ -1,5 +1,5 @@
 use Rattle.pi_tree.specs.Patterns.{pattern_of}
-use Rattle.translation.specs.Choice.{with_pattern}
+use Rattle.spec_translation.specs.Choice.{with_pattern}
 use Rattle.std.proofs.Common.{◌≡◌, ◌++◌, ap}
 use Rattle.clause_terms.specs.Fresh.{fresh_of}
 use Rattle.clause_translate.specs.declared.visit.Visit.{Visit}

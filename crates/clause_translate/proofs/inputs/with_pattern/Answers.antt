@@ -4,7 +4,7 @@ use Rattle.clause_translate.proofs.Named.{visit_later}
 use Rattle.clause_translate.proofs.Receiving.{pattern_named}
 use Rattle.term_tree.proofs.BankLaws.{Grows_trans, Grows_refl}
 use Rattle.std.proofs.Common.{sym, subst, arith}
-use Rattle.translation.specs.Conversion.{bound_numbers}
+use Rattle.spec_translation.specs.Conversion.{bound_numbers}
 use Rattle.clause_translate.specs.Spans.{IsSpan}
 use Rattle.clause_translate.proofs.inputs.with_pattern.Goals as goal
 

@@ -1,6 +1,6 @@
 use Rattle.std.proofs.Common.{◌≡◌, map, drop}
-use Rattle.trees.specs.Tree.{trees}
-use Rattle.calculus.specs.Limits.{compared_row}
+use Rattle.spec_trees.specs.Tree.{trees}
+use Rattle.spec_calculus.specs.Limits.{compared_row}
 use Rattle.pi_tree.specs.Patterns.{pattern_of}
 use Rattle.clause_terms.specs.Scopes.{scope_at}
 use Rattle.clause_translate.specs.Places.{protocol_at}

@@ -1,6 +1,6 @@
 use Rattle.std.proofs.Common.{◌≡◌, map, drop}
 use Rattle.std.specs.List.{list_any}
-use Rattle.translation.specs.Visit.{is_large_term}
+use Rattle.spec_translation.specs.Visit.{is_large_term}
 use Rattle.clause_terms.specs.Scopes.{scope_at}
 use Rattle.clause_terms.specs.Slots.{held_of}
 use Rattle.clause_translate.proofs.large.is_large_scope.Given as goal

@@ -1,7 +1,7 @@
 use Rattle.std.proofs.Common.{◌≡◌, not, nat_le, map, drop}
 use Rattle.std.specs.List.{list_any}
-use Rattle.calculus.specs.Bounds.{most_symbols}
-use Rattle.clauses.specs.Fact.{fact_size}
+use Rattle.spec_calculus.specs.Bounds.{most_symbols}
+use Rattle.spec_clauses.specs.Fact.{fact_size}
 use Rattle.clause_form.specs.Facts.{fact_of}
 use Rattle.clause_form.specs.Seen.{fact_at}
 use Rattle.clause_translate.proofs.large.some_large_fact.Given as goal

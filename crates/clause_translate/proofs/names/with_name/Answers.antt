@@ -1,8 +1,8 @@
 use Rattle.std.proofs.Common.{◌≡◌, ◌++◌, ◌∷◌, [], map, ap, sym, subst, ◌∙◌}
-use Rattle.calculus.specs.Syntax.{Made}
+use Rattle.spec_calculus.specs.Syntax.{Made}
 use Rattle.term_tree.specs.Bank.{tree_at, Names}
-use Rattle.translation.specs.Conversion.{name_term}
-use Rattle.translation.specs.Visit.{after_new}
+use Rattle.spec_translation.specs.Conversion.{name_term}
+use Rattle.spec_translation.specs.Visit.{after_new}
 use Rattle.clause_translate.specs.declared.visit.Visit.{Visit}
 use Rattle.clause_translate.specs.Visits.{visit_at, NamesVisit}
 use Rattle.clause_translate.proofs.Named.{if_ok, restricted}

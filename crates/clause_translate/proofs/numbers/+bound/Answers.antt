@@ -1,5 +1,5 @@
 use Rattle.std.proofs.Common.{◌++◌, map, arith}
-use Rattle.trees.specs.Tree.{trees}
+use Rattle.spec_trees.specs.Tree.{trees}
 use Rattle.pi_tree.specs.Patterns.{pattern_of}
 use Rattle.clause_translate.specs.Numbers.{row_numbers}
 use Rattle.clause_translate.proofs.Rows.{numbers_more}

@@ -1,7 +1,7 @@
 use Rattle.std.proofs.Common.{[], ◌∷◌, sym, ◌∙◌}
 use Rattle.pi_tree.specs.Terms.{term_of}
-use Rattle.translation.specs.Conversion.{term_in}
-use Rattle.translation.specs.Visit.{is_large_term}
+use Rattle.spec_translation.specs.Conversion.{term_in}
+use Rattle.spec_translation.specs.Visit.{is_large_term}
 use Rattle.clause_translate.specs.Places.{protocol_at}
 use Rattle.clause_translate.specs.Forms.{output_raw, are_large_in}
 use Rattle.clause_translate.specs.Visits.{visit_at}

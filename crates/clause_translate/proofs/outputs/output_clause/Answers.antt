@@ -1,7 +1,7 @@
 use Rattle.std.proofs.Common.{sym, subst}
 use Rattle.pi_tree.specs.Terms.{term_of}
-use Rattle.translation.specs.Conversion.{term_in}
-use Rattle.translation.specs.Visit.{sent}
+use Rattle.spec_translation.specs.Conversion.{term_in}
+use Rattle.spec_translation.specs.Visit.{sent}
 use Rattle.clause_form.specs.Facts.{fact_of}
 use Rattle.clause_form.specs.Seen.{NameFacts}
 use Rattle.clause_translate.specs.Places.{protocol_at}

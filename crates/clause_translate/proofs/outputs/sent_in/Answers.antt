@@ -1,8 +1,8 @@
 use Rattle.std.proofs.Common.{◌∙◌, ap, subst, arith}
 use Rattle.pi_tree.specs.Terms.{term_of}
 use Rattle.term_tree.proofs.BankLaws.{Names-grows, Grows_trans}
-use Rattle.translation.specs.Conversion.{term_in}
-use Rattle.translation.specs.Visit.{sent}
+use Rattle.spec_translation.specs.Conversion.{term_in}
+use Rattle.spec_translation.specs.Visit.{sent}
 use Rattle.clause_form.specs.Facts.{fact_of}
 use Rattle.clause_form.specs.Seen.{NamesFact}
 use Rattle.clause_terms.specs.Scopes.{scope_at}

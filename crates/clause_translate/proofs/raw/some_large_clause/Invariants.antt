@@ -1,6 +1,6 @@
 use Rattle.std.proofs.Common.{◌≡◌, map, drop}
 use Rattle.std.specs.List.{list_any}
-use Rattle.clauses.specs.Limits.{is_large_clause}
+use Rattle.spec_clauses.specs.Limits.{is_large_clause}
 use Rattle.clause_form.specs.Seen.{clause_at}
 use Rattle.clause_translate.proofs.raw.some_large_clause.Given as goal
 

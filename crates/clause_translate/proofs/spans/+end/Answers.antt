@@ -1,6 +1,6 @@
 use Rattle.std.proofs.Common.{ap, arith}
 use Rattle.pi_tree.specs.Terms.{term_of}
-use Rattle.calculus.specs.Syntax as calculus
+use Rattle.spec_calculus.specs.Syntax as calculus
 use Rattle.clause_translate.specs.Spans.{HasEnd}
 use Rattle.clause_translate.proofs.Lists.{all_map_on}
 use Rattle.clause_translate.proofs.Rows.{node_end, end_lower}

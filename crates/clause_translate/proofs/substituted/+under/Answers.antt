@@ -1,8 +1,8 @@
 use Rattle.std.proofs.Common.{◌≡◌, List, map, ap, sym, subst, ◌∙◌, arith}
-use Rattle.trees.specs.Tree.{node}
-use Rattle.calculus.specs.Bounds.{most_symbols}
-use Rattle.terms.specs.Binding.{resolved}
-use Rattle.terms.specs.Term.{Term}
+use Rattle.spec_trees.specs.Tree.{node}
+use Rattle.spec_calculus.specs.Bounds.{most_symbols}
+use Rattle.spec_terms.specs.Binding.{resolved}
+use Rattle.spec_terms.specs.Term.{Term}
 use Rattle.term_tree.specs.Bank.{symbol_of, tree_at, AreKnown, Names}
 use Rattle.term_tree.specs.declared.bank.Id.{Id}
 use Rattle.term_tree.proofs.BankLaws.{Grows_trans, Grows_refl}

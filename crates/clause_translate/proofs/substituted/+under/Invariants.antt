@@ -1,6 +1,6 @@
 -- the trees get less deep
 use Rattle.std.proofs.Common.{◌+◌, ◌*◌, map}
-use Rattle.trees.specs.Tree.{trees, depth, depths}
+use Rattle.spec_trees.specs.Tree.{trees, depth, depths}
 use Rattle.term_tree.specs.Bank.{tree_at}
 use Rattle.clause_translate.proofs.Building.{AreTermsBuilt}
 use Rattle.clause_translate.proofs.substituted.+under.Given as goal

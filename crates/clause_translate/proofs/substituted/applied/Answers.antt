@@ -1,6 +1,6 @@
 use Rattle.std.proofs.Common.{◌≡◌, List, map, ap, sym, subst, eq-eqb}
 use Rattle.std.proofs.lemmas.Slice.Eq.{slice_eq-Decides}
-use Rattle.trees.specs.Tree.{node}
+use Rattle.spec_trees.specs.Tree.{node}
 use Rattle.term_tree.specs.Bank.{symbol_of, tree_at, Names}
 use Rattle.term_tree.specs.declared.bank.Id.{Id}
 use Rattle.clause_translate.proofs.Building.{same_id}

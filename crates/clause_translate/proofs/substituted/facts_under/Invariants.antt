@@ -1,4 +1,4 @@
-use Rattle.terms.specs.Binding.{resolved}
+use Rattle.spec_terms.specs.Binding.{resolved}
 use Rattle.unify_match.specs.Seen.{seen}
 use Rattle.clause_form.proofs.Renumber.{AreRenumbered}
 use Rattle.clause_translate.specs.Built.{AreBuilt}

@@ -1,6 +1,6 @@
-use Rattle.trees.specs.Tree.{bind}
-use Rattle.calculus.specs.Bounds.{most_symbols}
-use Rattle.terms.specs.Binding.{resolved}
+use Rattle.spec_trees.specs.Tree.{bind}
+use Rattle.spec_calculus.specs.Bounds.{most_symbols}
+use Rattle.spec_terms.specs.Binding.{resolved}
 use Rattle.term_tree.specs.Bank.{tree_at}
 use Rattle.term_tree.proofs.BankLaws.{Grows_refl, Grows_trans}
 use Rattle.unify_match.specs.Seen.{seen}

@@ -1,7 +1,7 @@
 use Rattle.std.proofs.Common.{List, map, ap, sym, subst, ◌∙◌}
-use Rattle.terms.specs.Binding.{resolved}
-use Rattle.clauses.specs.Fact.{Fact, fact_under}
-use Rattle.translation.specs.Visit.{standing_under}
+use Rattle.spec_terms.specs.Binding.{resolved}
+use Rattle.spec_clauses.specs.Fact.{Fact, fact_under}
+use Rattle.spec_translation.specs.Visit.{standing_under}
 use Rattle.term_tree.specs.declared.bank.Id.{Id}
 use Rattle.unify_match.specs.Seen.{seen}
 use Rattle.unify_match.proofs.SeenLemmas.{IsReady-grows}

@@ -1,6 +1,6 @@
 use Rattle.std.proofs.Common.{List, map, ap, sym, subst, ◌∙◌}
-use Rattle.trees.specs.Tree.{bind}
-use Rattle.terms.specs.Binding.{resolved}
+use Rattle.spec_trees.specs.Tree.{bind}
+use Rattle.spec_terms.specs.Binding.{resolved}
 use Rattle.term_tree.specs.Bank.{tree_at, AreKnown}
 use Rattle.term_tree.specs.declared.bank.Id.{Id}
 use Rattle.term_tree.proofs.BankLaws.{AreKnown-grows, Grows_trans}

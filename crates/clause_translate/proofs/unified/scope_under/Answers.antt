@@ -1,5 +1,5 @@
-use Rattle.calculus.specs.Bounds.{most_symbols}
-use Rattle.terms.specs.Binding.{resolved}
+use Rattle.spec_calculus.specs.Bounds.{most_symbols}
+use Rattle.spec_terms.specs.Binding.{resolved}
 use Rattle.unify_match.specs.Seen.{seen}
 use Rattle.unify_match.proofs.SeenLemmas.{IsReady-grows}
 use Rattle.clause_translate.proofs.Scopes.{scope_known_at, scope_known_later}

@@ -1,4 +1,4 @@
-use Rattle.terms.specs.Binding.{resolved}
+use Rattle.spec_terms.specs.Binding.{resolved}
 use Rattle.unify_match.specs.Seen.{seen}
 use Rattle.clause_translate.specs.Built.{AreBuilt}
 use Rattle.clause_translate.proofs.Standing.{IsStanding}

@@ -1,6 +1,6 @@
 use Rattle.std.proofs.Common.{map, refl, subst}
-use Rattle.terms.specs.Binding.{resolved}
-use Rattle.clauses.specs.Fact.{fact_under}
+use Rattle.spec_terms.specs.Binding.{resolved}
+use Rattle.spec_clauses.specs.Fact.{fact_under}
 use Rattle.unify_match.specs.Seen.{seen}
 use Rattle.unify_match.proofs.SeenLemmas.{IsReady-grows}
 use Rattle.clause_form.specs.Seen.{fact_at, NameTerms}

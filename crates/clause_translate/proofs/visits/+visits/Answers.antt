@@ -1,17 +1,17 @@
 use Rattle.std.proofs.Common.{◌≡◌, ℕ, suc, ◌+◌, ◌-◌, ◌≤◌, true, false, Option, Some, None, List, length, take, refl, ap, sym, subst, ◌∙◌, arith}
 use Rattle.std.specs.Prelude.{IfOk, IfSome, MatchOption, MatchBool}
-use Rattle.calculus.specs.Syntax as calculus
+use Rattle.spec_calculus.specs.Syntax as calculus
 use Rattle.pi_tree.specs.declared.syntax.Process.{Process}
 use Rattle.pi_tree.specs.Terms.{term_of}
 use Rattle.pi_tree.specs.Patterns.{pattern_of, expression_of}
 use Rattle.pi_tree.specs.Events.{event_of}
 use Rattle.pi_tree.specs.Processes.{process_of}
-use Rattle.terms.specs.Term.{Term}
-use Rattle.clauses.specs.Fact.{Clause}
+use Rattle.spec_terms.specs.Term.{Term}
+use Rattle.spec_clauses.specs.Fact.{Clause}
 use Rattle.term_tree.specs.Bank.{Grows}
 use Rattle.term_tree.specs.declared.bank.Id.{Id}
 use Rattle.term_tree.proofs.BankLaws.{Grows_refl, Grows_trans, take-grows, Grows-length}
-use Rattle.translation.specs.Visit.{is_large_visit, after_new}
+use Rattle.spec_translation.specs.Visit.{is_large_visit, after_new}
 use Rattle.clause_translate.specs.declared.listing.Listing.{Listing}
 use Rattle.clause_translate.specs.declared.visit.Visit as source
 use Rattle.clause_translate.specs.declared.visit.Visits.{Visits}

@@ -1,8 +1,8 @@
 use Rattle.std.proofs.Common.{ℕ, Option, true, refl, subst}
-use Rattle.calculus.specs.Bounds.{most_visits}
+use Rattle.spec_calculus.specs.Bounds.{most_visits}
 use Rattle.pi_tree.specs.Protocols.{protocol_of}
 use Rattle.term_tree.proofs.BankLaws.{Grows_trans}
-use Rattle.translation.specs.Visit.{first_visit}
+use Rattle.spec_translation.specs.Visit.{first_visit}
 use Rattle.clause_translate.specs.declared.listing.Listing.{Listing}
 use Rattle.clause_translate.specs.Jobs.{Once, Ends}
 use Rattle.clause_translate.proofs.Translating.{visits_added}

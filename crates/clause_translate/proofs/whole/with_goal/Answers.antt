@@ -1,8 +1,8 @@
 use Rattle.std.proofs.Common.{List, ◌++◌, map, sym, subst, ◌∙◌}
-use Rattle.clauses.specs.Fact.{Clause}
+use Rattle.spec_clauses.specs.Fact.{Clause}
 use Rattle.term_tree.specs.declared.bank.Id.{Id}
 use Rattle.pi_tree.specs.Protocols.{protocol_of}
-use Rattle.translation.specs.Translation.{goal_clauses}
+use Rattle.spec_translation.specs.Translation.{goal_clauses}
 use Rattle.clause_form.specs.Seen.{clause_at, NameClauses}
 use Rattle.clause_translate.proofs.Adding.{clauses_later}
 use Rattle.clause_translate.proofs.Listings.{NameClauses-append}

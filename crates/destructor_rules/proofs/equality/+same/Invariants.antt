@@ -1,5 +1,5 @@
 use Rattle.std.proofs.Common.{◌≡◌, length, map, drop}
-use Rattle.calculus.specs.Values.{same_values}
+use Rattle.spec_calculus.specs.Values.{same_values}
 use Rattle.pi_tree.specs.Values.{value_of}
 use Rattle.destructor_rules.proofs.equality.+same.Given as goal
 

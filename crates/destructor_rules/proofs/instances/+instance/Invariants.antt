@@ -1,5 +1,5 @@
 use Rattle.std.proofs.Common.{◌≡◌, ◌++◌, map, drop}
-use Rattle.calculus.specs.Matching.{instance_of}
+use Rattle.spec_calculus.specs.Matching.{instance_of}
 use Rattle.pi_tree.specs.Terms.{term_of}
 use Rattle.pi_tree.specs.Values.{value_of}
 use Rattle.destructor_rules.proofs.instances.+instance.Given as goal

@@ -1,6 +1,6 @@
 use Rattle.std.proofs.Common.{◌≡◌, length, map, drop}
-use Rattle.calculus.specs.Values.{same_values}
-use Rattle.calculus.specs.Matching.{instance_of}
+use Rattle.spec_calculus.specs.Values.{same_values}
+use Rattle.spec_calculus.specs.Matching.{instance_of}
 use Rattle.pi_tree.specs.Terms.{term_of}
 use Rattle.pi_tree.specs.Values.{value_of}
 use Rattle.destructor_rules.proofs.instances.+is_instance.Given as goal

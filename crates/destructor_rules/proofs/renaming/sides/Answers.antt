@@ -1,5 +1,5 @@
 use Rattle.std.proofs.Common.{map}
-use Rattle.translation.specs.Conversion.{rule_term}
+use Rattle.spec_translation.specs.Conversion.{rule_term}
 use Rattle.clause_form.proofs.Copying.{NameTerms-grows}
 use Rattle.pi_tree.specs.Rules.{rule_of}
 use Rattle.pi_tree.specs.Protocols.{protocol_of}

@@ -1,6 +1,6 @@
 use Rattle.clause_form.specs.Plain.{term_of}
 use Rattle.pi_tree.specs.Protocols.{protocol_of}
-use Rattle.certificate_reading.specs.Facts.{argument}
+use Rattle.spec_certificate_reading.specs.Facts.{argument}
 use Rattle.fact_reader.proofs.Things.{viewed_on, viewed_end}
 use Rattle.fact_reader.proofs.arguments.terms.Goals as goal
 

@@ -2,7 +2,7 @@
 use Rattle.std.proofs.Common.{map}
 use Rattle.clause_form.specs.Plain.{term_of}
 use Rattle.pi_tree.specs.Protocols.{protocol_of}
-use Rattle.certificate_reading.specs.Facts.{argument}
+use Rattle.spec_certificate_reading.specs.Facts.{argument}
 use Rattle.fact_reader.proofs.Things.{IsGoing}
 use Rattle.fact_reader.proofs.arguments.terms.Given as goal
 

@@ -1,6 +1,6 @@
 use Rattle.clause_form.specs.PlainFacts.{plain_fact_of}
 use Rattle.pi_tree.specs.Protocols.{protocol_of}
-use Rattle.certificate_reading.specs.Clauses.{one_hypothesis}
+use Rattle.spec_certificate_reading.specs.Clauses.{one_hypothesis}
 use Rattle.fact_reader.proofs.Things.{viewed_on, viewed_end}
 use Rattle.fact_reader.proofs.clause.some_hypotheses.Goals as goal
 

@@ -1,7 +1,7 @@
 use Rattle.std.proofs.Common.{◌++◌, ◌∙◌, List, ap, map, sym, ℕ, arith}
 use Rattle.std.proofs.lemmas.Simd.{map-map}
 use Rattle.std.proofs.lemmas.Grind.{common_steps}
-use Rattle.placements.specs.Placing.{loose_variables}
+use Rattle.spec_placements.specs.Placing.{loose_variables}
 use Rattle.clause_form.specs.Facts.{fact_of}
 use Rattle.clause_form.specs.Seen.{fact_at}
 use Rattle.clause_form.proofs.Walks.{fact_known_at}

@@ -1,5 +1,5 @@
 use Rattle.std.proofs.Common.{◌≡◌, ◌++◌, map, drop}
-use Rattle.placements.specs.Placing.{loose_variables}
+use Rattle.spec_placements.specs.Placing.{loose_variables}
 use Rattle.clause_form.specs.Facts.{fact_of}
 use Rattle.clause_form.specs.Seen.{fact_at}
 use Rattle.multiset_subsume.specs.Boards.{facts_at}

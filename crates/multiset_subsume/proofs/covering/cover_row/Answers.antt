@@ -1,6 +1,6 @@
 use Rattle.std.proofs.Common.{◌≡◌, ◌∙◌, ap, List, sym, subst, map, refl, Ok, None, Bor}
-use Rattle.clauses.specs.Fact as horn
-use Rattle.clauses.specs.Fact.{Clause}
+use Rattle.spec_clauses.specs.Fact as horn
+use Rattle.spec_clauses.specs.Fact.{Clause}
 use Rattle.term_tree.specs.declared.bank.Id.{Id}
 use Rattle.clause_form.specs.Facts.{fact_of}
 use Rattle.clause_form.specs.Seen.{clause_at, IsFactIn, AreFactsIn}

@@ -3,7 +3,7 @@ use Rattle.std.proofs.lemmas.Grind.{common_steps}
 use Rattle.clause_form.specs.Facts.{fact_of}
 use Rattle.unify_match.specs.Seen.{seen}
 use Rattle.clause_form.specs.Seen.{fact_at}
-use Rattle.placements.specs.Crowds.{IsConfined}
+use Rattle.spec_placements.specs.Crowds.{IsConfined}
 use Rattle.multiset_subsume.specs.Boards.{facts_at}
 use Rattle.multiset_subsume.proofs.Putting.{known_ref}
 use Rattle.multiset_subsume.proofs.Keeping.{as_before-trans, as_back, placing_as}

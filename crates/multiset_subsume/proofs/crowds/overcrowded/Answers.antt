@@ -1,8 +1,8 @@
 use Rattle.std.proofs.Common.{◌≡◌, ◌∙◌, ap, sym, ◌<◌, map, arith, ltb-true}
 use Rattle.clause_form.specs.Facts.{fact_of}
 use Rattle.unify_match.specs.Seen.{seen}
-use Rattle.placements.specs.Crowds.{room, AreConfined}
-use Rattle.placements.proofs.Crowding.{crowded}
+use Rattle.spec_placements.specs.Crowds.{room, AreConfined}
+use Rattle.spec_placements.proofs.Crowding.{crowded}
 use Rattle.multiset_subsume.specs.Boards.{facts_at}
 use Rattle.multiset_subsume.proofs.Putting.{known_ref}
 use Rattle.multiset_subsume.proofs.Keeping.{as_back, placing_as, as_before-trans}

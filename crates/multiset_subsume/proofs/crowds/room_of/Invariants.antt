@@ -1,5 +1,5 @@
 use Rattle.std.proofs.Common.{◌≡◌, ◌+◌, ◌≤◌, drop}
-use Rattle.placements.specs.Crowds.{room}
+use Rattle.spec_placements.specs.Crowds.{room}
 use Rattle.multiset_subsume.proofs.crowds.room_of.Given as goal
 
 abbrev pub invariant-each : goal.invariant-each

@@ -1,4 +1,4 @@
-use Rattle.trees.specs.Tree.{depth}
+use Rattle.spec_trees.specs.Tree.{depth}
 use Rattle.term_tree.specs.Bank.{tree_at}
 use Rattle.multiset_subsume.proofs.linking.+meet_variables.Given as goal
 

@@ -1,12 +1,12 @@
 use Rattle.std.proofs.Common.{List, sym, subst, map, arith, rules}
 use Rattle.std.proofs.lemmas.Grind.{common_steps}
-use Rattle.clauses.specs.Fact.{Fact}
-use Rattle.terms.specs.Term.{Term}
+use Rattle.spec_clauses.specs.Fact.{Fact}
+use Rattle.spec_terms.specs.Term.{Term}
 use Rattle.term_tree.specs.Bank.{symbol_of}
 use Rattle.clause_form.specs.Facts.{fact_of}
 use Rattle.clause_form.proofs.Walks.{argument_at}
 use Rattle.clause_form.proofs.Flattening.{parts_at, data_flat}
-use Rattle.placements.specs.LooseParts.{Removes, HasNoRoom}
+use Rattle.spec_placements.specs.LooseParts.{Removes, HasNoRoom}
 use Rattle.multiset_subsume.specs.Boards.{facts_at}
 use Rattle.multiset_subsume.proofs.Removal.{removes_all, no_room_at}
 use Rattle.multiset_subsume.proofs.loose.+take_parts.Goals as goal

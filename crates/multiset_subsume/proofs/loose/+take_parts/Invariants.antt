@@ -1,9 +1,9 @@
 use Rattle.std.proofs.Common.{◌≡◌, map, take, flat_map, length}
-use Rattle.trees.specs.Tree.{depth}
+use Rattle.spec_trees.specs.Tree.{depth}
 use Rattle.term_tree.specs.Bank.{tree_at}
 use Rattle.clause_form.specs.Facts.{fact_of}
 use Rattle.clause_form.proofs.Flattening.{parts_at}
-use Rattle.placements.specs.LooseParts.{Removes}
+use Rattle.spec_placements.specs.LooseParts.{Removes}
 use Rattle.multiset_subsume.specs.Boards.{facts_at}
 use Rattle.multiset_subsume.proofs.loose.+take_parts.Given as goal
 

@@ -1,10 +1,10 @@
 use Rattle.std.proofs.Common.{List, sym, subst, map, MatchBool}
-use Rattle.clauses.specs.Fact.{Fact}
-use Rattle.terms.specs.Term.{Term}
+use Rattle.spec_clauses.specs.Fact.{Fact}
+use Rattle.spec_terms.specs.Term.{Term}
 use Rattle.clause_form.specs.Facts.{fact_of}
 use Rattle.unify_match.proofs.SeenLemmas.{AreInBank-at}
-use Rattle.placements.specs.LooseParts.{Removes, HasNoRoom}
-use Rattle.placements.proofs.Removing.{removes_nothing}
+use Rattle.spec_placements.specs.LooseParts.{Removes, HasNoRoom}
+use Rattle.spec_placements.proofs.Removing.{removes_nothing}
 use Rattle.multiset_subsume.specs.Boards.{facts_at}
 use Rattle.multiset_subsume.proofs.Removal.{bound_part, unbound_part}
 use Rattle.multiset_subsume.proofs.loose.take_bound.Goals as goal

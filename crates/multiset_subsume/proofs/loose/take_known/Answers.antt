@@ -3,13 +3,13 @@ use Rattle.std.specs.Prelude.{slice_get}
 use Rattle.std.proofs.lemmas.Bool.{false≢true}
 use Rattle.std.proofs.lemmas.Grind.{common_steps}
 use borrow.Author.Count.{below_more}
-use Rattle.clauses.specs.Fact.{Att}
+use Rattle.spec_clauses.specs.Fact.{Att}
 use Rattle.term_tree.specs.Bank.{tree_at}
 use Rattle.clause_form.specs.Facts.{fact_of}
 use Rattle.clause_form.specs.Seen.{fact_at}
 use Rattle.clause_form.proofs.Walks.{fact_known_at}
-use Rattle.placements.specs.LooseParts.{Removes}
-use Rattle.placements.proofs.Removing.{removes_one, lacking}
+use Rattle.spec_placements.specs.LooseParts.{Removes}
+use Rattle.spec_placements.proofs.Removing.{removes_one, lacking}
 use Rattle.multiset_subsume.specs.Boards.{facts_at}
 use Rattle.multiset_subsume.proofs.Putting.{there_at, length_at, same_there}
 use Rattle.multiset_subsume.proofs.Removal.{lacks}

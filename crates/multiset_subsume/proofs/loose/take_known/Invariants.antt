@@ -1,5 +1,5 @@
 use Rattle.std.proofs.Common.{◌≡◌, ℕ, ◌<◌, false, Some, map, get_or, slice_get}
-use Rattle.clauses.specs.Fact.{Att}
+use Rattle.spec_clauses.specs.Fact.{Att}
 use Rattle.term_tree.specs.Bank.{tree_at}
 use Rattle.clause_form.specs.Facts.{fact_of}
 use Rattle.multiset_subsume.specs.Boards.{facts_at}

@@ -1,6 +1,6 @@
 use Rattle.std.proofs.Common.{◌≡◌, ◌∙◌, sym, ap, rules}
-use Rattle.clauses.specs.Fact.{terms_of}
-use Rattle.clauses.specs.Head.{head_of}
+use Rattle.spec_clauses.specs.Fact.{terms_of}
+use Rattle.spec_clauses.specs.Head.{head_of}
 use Rattle.clause_form.specs.Facts.{fact_of}
 use Rattle.clause_form.specs.Heads.{head_seen}
 use Rattle.multiset_subsume.proofs.FactTerms.{terms_told}

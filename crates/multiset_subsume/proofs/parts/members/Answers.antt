@@ -1,6 +1,6 @@
 use Rattle.std.proofs.Common.{List, ap, map, subst, sym, take}
-use Rattle.clauses.specs.Fact as horn
-use Rattle.clauses.specs.Inclusion.{IsWithin}
+use Rattle.spec_clauses.specs.Fact as horn
+use Rattle.spec_clauses.specs.Inclusion.{IsWithin}
 use Rattle.term_tree.specs.declared.bank.Id.{Id}
 use Rattle.multiset_subsume.proofs.Listing.{unref}
 use Rattle.multiset_subsume.proofs.Parting.{member_more, member_all}

@@ -1,5 +1,5 @@
 use Rattle.std.proofs.Common.{map, take}
-use Rattle.clauses.specs.Inclusion.{IsWithin}
+use Rattle.spec_clauses.specs.Inclusion.{IsWithin}
 use Rattle.clause_form.specs.Facts.{fact_of}
 use Rattle.multiset_subsume.proofs.parts.members.Given as goal
 

@@ -1,5 +1,5 @@
 use Rattle.std.proofs.Common.{◌≡◌, List, [], map, refl, subst, sym, Bor}
-use Rattle.clauses.specs.Inclusion.{IsWithin}
+use Rattle.spec_clauses.specs.Inclusion.{IsWithin}
 use Rattle.clause_form.specs.declared.facts.Fact.{Fact}
 use Rattle.clause_form.specs.Facts.{fact_of}
 use Rattle.clause_form.specs.Seen.{AreFactsIn}

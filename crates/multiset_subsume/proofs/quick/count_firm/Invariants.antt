@@ -1,5 +1,5 @@
 use Rattle.std.proofs.Common.{◌≡◌, ◌+◌, ◌≤◌, map, drop, length}
-use Rattle.clauses.specs.Subsumption.{firm}
+use Rattle.spec_clauses.specs.Subsumption.{firm}
 use Rattle.clause_form.specs.Facts.{fact_of}
 use Rattle.clause_form.specs.Seen.{fact_at}
 use Rattle.multiset_subsume.specs.Boards.{facts_at}

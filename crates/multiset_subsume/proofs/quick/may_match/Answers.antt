@@ -1,6 +1,6 @@
 use Rattle.std.proofs.Common.{◌≡◌, map, ap, sym, ◌∙◌}
-use Rattle.trees.specs.Tree.{bind}
-use Rattle.clauses.specs.Fact.{terms_of}
+use Rattle.spec_trees.specs.Tree.{bind}
+use Rattle.spec_clauses.specs.Fact.{terms_of}
 use Rattle.clause_form.specs.Facts.{fact_of}
 use Rattle.term_tree.specs.Bank.{tree_at}
 use Rattle.multiset_subsume.proofs.Refuting.{terms_apart}

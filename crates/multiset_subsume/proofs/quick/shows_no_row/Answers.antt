@@ -1,10 +1,10 @@
 use Rattle.std.proofs.Common.{◌≡◌, ◌∙◌, ap, map, List, sym, subst}
-use Rattle.clauses.specs.Fact.{Clause}
+use Rattle.spec_clauses.specs.Fact.{Clause}
 use Rattle.term_tree.specs.declared.bank.Id.{Id}
 use Rattle.clause_form.specs.Facts.{fact_of}
 use Rattle.clause_form.proofs.Flattening.{with_hypotheses}
 use Rattle.multiset_subsume.proofs.Refuting.{no_row_crowded}
-use Rattle.clauses.specs.Fact as horn
+use Rattle.spec_clauses.specs.Fact as horn
 use Rattle.clause_form.specs.Seen.{AreFactsIn}
 use Rattle.multiset_subsume.proofs.quick.shows_no_row.Goals as goal
 

@@ -1,8 +1,8 @@
 use Rattle.std.proofs.Common.{◌≡◌, ◌≤◌, Some, map, length, arith, refl}
 use Rattle.std.specs.Prelude.{slice_get}
 use borrow.Author.Count.{below_more}
-use Rattle.terms.specs.Term.{Subst}
-use Rattle.clauses.specs.Fact.{fact_under}
+use Rattle.spec_terms.specs.Term.{Subst}
+use Rattle.spec_clauses.specs.Fact.{fact_under}
 use Rattle.clause_form.specs.Facts.{fact_of}
 use Rattle.clause_form.specs.Seen.{fact_at}
 use Rattle.clause_form.proofs.Walks.{fact_known_at}

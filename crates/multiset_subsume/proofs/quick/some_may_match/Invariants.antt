@@ -1,7 +1,7 @@
 use Rattle.std.proofs.Common.{◌≡◌, ◌<◌, ℕ, Some, map}
 use Rattle.std.specs.Prelude.{slice_get}
-use Rattle.terms.specs.Term.{Subst}
-use Rattle.clauses.specs.Fact.{fact_under}
+use Rattle.spec_terms.specs.Term.{Subst}
+use Rattle.spec_clauses.specs.Fact.{fact_under}
 use Rattle.clause_form.specs.Facts.{fact_of}
 use Rattle.clause_form.specs.Seen.{fact_at}
 use Rattle.multiset_subsume.specs.Boards.{facts_at}

@@ -7,7 +7,7 @@ use Rattle.std.proofs.lemmas.Bool.{MatchBool-at_true, MatchBool-at_false}
 use Rattle.clause_form.specs.Facts.{fact_of}
 use Rattle.clause_form.specs.Seen.{AreFactsIn}
 use Rattle.unify_match.specs.Seen.{seen}
-use Rattle.placements.proofs.Removing.{loose_unplaced}
+use Rattle.spec_placements.proofs.Removing.{loose_unplaced}
 use Rattle.multiset_subsume.specs.Boards.{facts_at, HoldsOn, CanPlaceOn}
 use Rattle.multiset_subsume.proofs.Listing.{unref}
 use Rattle.multiset_subsume.proofs.Putting.{linked_on, known_ref}

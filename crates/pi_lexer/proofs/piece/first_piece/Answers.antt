@@ -1,7 +1,7 @@
 -- What stands there goes by the first byte, and fits in.
 use Rattle.std.proofs.Common.{length, sym, ◌∙◌, subst}
-use Rattle.protocol_tokens.specs.Laws.{FitsIn}
-use Rattle.protocol_tokens.proofs.Sizes.{piece_first, piece_fits_in}
+use Rattle.spec_protocol_tokens.specs.Laws.{FitsIn}
+use Rattle.spec_protocol_tokens.proofs.Sizes.{piece_first, piece_fits_in}
 use Rattle.pi_lexer.proofs.piece.first_piece.Goals as goal
 
 pub returns-clause-found : goal.returns-clause-found

@@ -1,7 +1,7 @@
 use Rattle.std.proofs.Common.{◌∙◌, ap, sym}
 use Rattle.std.specs.Prelude.{codes}
-use Rattle.protocol_tokens.specs.Piece.{begins}
-use Rattle.protocol_tokens.proofs.Closing.{closed_after_more}
+use Rattle.spec_protocol_tokens.specs.Piece.{begins}
+use Rattle.spec_protocol_tokens.proofs.Closing.{closed_after_more}
 use Rattle.pi_lexer.proofs.Lexing.{rest_of-drop}
 use Rattle.pi_lexer.proofs.scan.closed_after.Goals as goal
 

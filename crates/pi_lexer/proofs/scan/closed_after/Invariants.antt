@@ -1,6 +1,6 @@
 use Rattle.std.proofs.Common.{◌≡◌, ◌+◌, drop}
 use Rattle.std.specs.Prelude.{option_map}
-use Rattle.protocol_tokens.specs.Piece.{closed_after}
+use Rattle.spec_protocol_tokens.specs.Piece.{closed_after}
 use Rattle.pi_lexer.proofs.scan.closed_after.Given as goal
 
 -- the end is i bytes further from the start than from here

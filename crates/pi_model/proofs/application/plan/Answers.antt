@@ -1,6 +1,6 @@
 use Rattle.std.proofs.Common.{◌≡◌, Result, IfOk, IfErr, sym, subst}
-use Rattle.calculus.specs.Syntax.{Protocol}
-use Rattle.calculus.specs.Runs.{Configuration}
+use Rattle.spec_calculus.specs.Syntax.{Protocol}
+use Rattle.spec_calculus.specs.Runs.{Configuration}
 use Rattle.pi_tree.specs.Protocols.{protocol_of}
 use Rattle.pi_model.specs.declared.changes.Change.{Change}
 use Rattle.pi_model.specs.declared.errors.ApplyError.{ApplyError}

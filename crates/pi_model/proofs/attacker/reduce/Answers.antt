@@ -1,5 +1,5 @@
 use Rattle.std.proofs.Common.{◌≡◌, Some, map, length, option_map, sym, ap, ◌∙◌, arith}
-use Rattle.calculus.specs.Refusals.{first_arity}
+use Rattle.spec_calculus.specs.Refusals.{first_arity}
 use Rattle.pi_tree.specs.Protocols.{protocol_of}
 use Rattle.pi_tree.specs.Rules.{rule_of}
 use Rattle.pi_tree.specs.Values.{value_of}

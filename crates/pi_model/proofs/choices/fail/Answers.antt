@@ -1,8 +1,8 @@
 use Rattle.std.proofs.Common.{◌+◌, ◌||◌, map, sym, ap, subst, ◌∙◌, arith}
 use Rattle.std.specs.List.{list_any}
-use Rattle.calculus.specs.Values.{values_of}
-use Rattle.calculus.specs.Limits.{is_large, terms_at}
-use Rattle.calculus.specs.Points.{point_after}
+use Rattle.spec_calculus.specs.Values.{values_of}
+use Rattle.spec_calculus.specs.Limits.{is_large, terms_at}
+use Rattle.spec_calculus.specs.Points.{point_after}
 use Rattle.pi_tree.specs.Patterns.{pattern_of, expression_of}
 use Rattle.pi_tree.specs.Processes.{process_of}
 use Rattle.pi_tree.specs.Protocols.{protocol_of}
@@ -10,7 +10,7 @@ use Rattle.pi_tree.specs.Values.{value_of}
 use Rattle.pi_model.specs.Configurations.{configuration_of}
 use Rattle.pi_model.specs.Plans.{Stands, IsPossible}
 use Rattle.pi_model.specs.Moves.{advanced}
-use Rattle.calculus.specs.Runs as calculus
+use Rattle.spec_calculus.specs.Runs as calculus
 use Rattle.pi_model.proofs.ThreadSteps.{fail-matches, fail-large, fail-possible, of_fail}
 use Rattle.std.proofs.lemmas.Grind.{common_steps}
 use Rattle.pi_model.proofs.Points.{of_points}

@@ -1,6 +1,6 @@
 use Rattle.std.proofs.Common.{◌≡◌, map, drop, is_some}
 use Rattle.std.specs.List.{list_any}
-use Rattle.calculus.specs.Matching.{matched}
+use Rattle.spec_calculus.specs.Matching.{matched}
 use Rattle.pi_tree.specs.Patterns.{pattern_of}
 use Rattle.pi_tree.specs.Values.{value_of}
 use Rattle.pi_model.proofs.choices.some_match.Given as goal

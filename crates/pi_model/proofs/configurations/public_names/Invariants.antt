@@ -1,6 +1,6 @@
 use Rattle.std.proofs.Common.{◌≡◌, ◌+◌, ◌++◌, map, drop, filter_map}
 use Rattle.std.specs.List.{enumerate_from}
-use Rattle.calculus.specs.Runs.{public_name}
+use Rattle.spec_calculus.specs.Runs.{public_name}
 use Rattle.pi_tree.specs.Names.{declared_of}
 use Rattle.pi_model.proofs.configurations.public_names.Given as goal
 

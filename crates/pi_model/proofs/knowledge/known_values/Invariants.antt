@@ -1,5 +1,5 @@
 use Rattle.std.proofs.Common.{◌≡◌, ◌++◌, map, drop, option_map}
-use Rattle.calculus.specs.Runs.{known_values}
+use Rattle.spec_calculus.specs.Runs.{known_values}
 use Rattle.pi_tree.specs.Values.{value_of}
 use Rattle.pi_model.specs.Configurations.{configuration_of}
 use Rattle.pi_model.proofs.knowledge.known_values.Given as goal

@@ -1,6 +1,6 @@
 use Rattle.std.proofs.Common.{◌≡◌, map, drop}
 use Rattle.std.specs.List.{list_any}
-use Rattle.calculus.specs.Values.{same_value, value_of}
+use Rattle.spec_calculus.specs.Values.{same_value, value_of}
 use Rattle.pi_tree.specs.Terms.{term_of}
 use Rattle.pi_tree.specs.Values as seen
 use Rattle.term_values.specs.Bound.{bound_of}

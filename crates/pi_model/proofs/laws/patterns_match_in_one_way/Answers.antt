@@ -1,4 +1,4 @@
-use Rattle.calculus.proofs.Patterns.{matched-filled, filled-unique}
+use Rattle.spec_calculus.proofs.Patterns.{matched-filled, filled-unique}
 use Rattle.pi_model.proofs.laws.patterns_match_in_one_way.Goals as goal
 
 pub returns-clause-matched : goal.returns-clause-matched

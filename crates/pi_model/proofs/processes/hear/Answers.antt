@@ -3,9 +3,9 @@ use Rattle.std.proofs.lemmas.Grind.{common_steps}
 use Rattle.pi_model.proofs.ThreadSteps.{of_hear, hear-possible}
 use Rattle.pi_model.proofs.Points.{of_points}
 use Rattle.std.specs.List.{list_any}
-use Rattle.calculus.specs.Limits.{is_large, terms_at}
-use Rattle.calculus.specs.Values.{values_of}
-use Rattle.calculus.specs.Runs as calculus
+use Rattle.spec_calculus.specs.Limits.{is_large, terms_at}
+use Rattle.spec_calculus.specs.Values.{values_of}
+use Rattle.spec_calculus.specs.Runs as calculus
 use Rattle.pi_tree.specs.Processes.{process_of}
 use Rattle.pi_tree.specs.Protocols.{protocol_of}
 use Rattle.pi_tree.specs.Terms.{term_of}

@@ -1,5 +1,5 @@
 use Rattle.std.proofs.Common.{◌+◌, ap, subst, ◌∙◌, arith}
-use Rattle.calculus.specs.Points.{point_after}
+use Rattle.spec_calculus.specs.Points.{point_after}
 use Rattle.pi_tree.specs.Processes.{process_of}
 use Rattle.pi_tree.specs.Protocols.{protocol_of}
 use Rattle.pi_model.specs.Configurations.{configuration_of}

@@ -1,11 +1,11 @@
 use Rattle.std.proofs.Common.{◌+◌, ◌||◌, sym, ap, subst, ◌∙◌, arith}
 use Rattle.std.specs.List.{list_any}
-use Rattle.calculus.specs.Limits.{is_large, terms_at}
-use Rattle.calculus.specs.Matching.{matched}
-use Rattle.calculus.specs.Runs as calculus
-use Rattle.calculus.specs.Runs.{received}
-use Rattle.calculus.specs.Values as values
-use Rattle.calculus.specs.Values.{values_of, same_value}
+use Rattle.spec_calculus.specs.Limits.{is_large, terms_at}
+use Rattle.spec_calculus.specs.Matching.{matched}
+use Rattle.spec_calculus.specs.Runs as calculus
+use Rattle.spec_calculus.specs.Runs.{received}
+use Rattle.spec_calculus.specs.Values as values
+use Rattle.spec_calculus.specs.Values.{values_of, same_value}
 use Rattle.pi_tree.specs.declared.syntax.Process.TheVariants.{Input}
 use Rattle.pi_tree.specs.Patterns.{pattern_of}
 use Rattle.pi_tree.specs.Processes.{process_of}

@@ -1,7 +1,7 @@
 -- One more declaration.
 use Rattle.std.proofs.Common.{rules, ◌≡◌, false, [], ◌∷◌, ◌++◌}
-use Rattle.protocol_grammar.specs.declared.class.Class.TheVariants as w
-use Rattle.protocol_grammar.specs.Classes.{words, same}
+use Rattle.spec_protocol_grammar.specs.declared.class.Class.TheVariants as w
+use Rattle.spec_protocol_grammar.specs.Classes.{words, same}
 use Rattle.pi_parser.specs.Files.{declaration_of}
 use Rattle.pi_parser.proofs.Files.{declared_continues}
 use Rattle.pi_parser.proofs.declarations.file.Goals as goal

@@ -1,9 +1,9 @@
 -- One more name.
 use Rattle.std.proofs.Common.{arith, rules, ◌≡◌, ◌<◌, ◌+◌, true, [], ◌∷◌, ◌++◌, length}
 use Rattle.std.proofs.lemmas.Grind.{common_steps}
-use Rattle.protocol_grammar.specs.declared.class.Class.TheVariants as w
-use Rattle.protocol_grammar.specs.Classes.{words, same}
-use Rattle.protocol_grammar.specs.Reading.{Found, name_at}
+use Rattle.spec_protocol_grammar.specs.declared.class.Class.TheVariants as w
+use Rattle.spec_protocol_grammar.specs.Classes.{words, same}
+use Rattle.spec_protocol_grammar.specs.Reading.{Found, name_at}
 use Rattle.pi_parser.proofs.Lists.{going_starts, going_on}
 use Rattle.pi_parser.proofs.declarations.names.Goals as goal
 

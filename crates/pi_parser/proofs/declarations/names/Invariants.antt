@@ -1,6 +1,6 @@
 use Rattle.std.proofs.Common.{◌-◌, ◌∷◌, length}
-use Rattle.protocol_grammar.specs.declared.class.Class.TheVariants as w
-use Rattle.protocol_grammar.specs.Reading.{name_at}
+use Rattle.spec_protocol_grammar.specs.declared.class.Class.TheVariants as w
+use Rattle.spec_protocol_grammar.specs.Reading.{name_at}
 use Rattle.pi_parser.proofs.Lists.{IsGoing}
 use Rattle.pi_parser.proofs.declarations.names.Given as goal
 

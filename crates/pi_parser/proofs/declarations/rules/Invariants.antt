@@ -1,6 +1,6 @@
 use Rattle.std.proofs.Common.{◌-◌, ◌∷◌, map, length}
-use Rattle.protocol_grammar.specs.declared.class.Class.TheVariants as w
-use Rattle.protocol_grammar.specs.Reading.{rule_at}
+use Rattle.spec_protocol_grammar.specs.declared.class.Class.TheVariants as w
+use Rattle.spec_protocol_grammar.specs.Reading.{rule_at}
 use Rattle.pi_parser.specs.Gives.{most_of}
 use Rattle.pi_parser.specs.Files.{rule_of}
 use Rattle.pi_parser.proofs.Lists.{IsGoing}

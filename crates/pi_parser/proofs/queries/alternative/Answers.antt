@@ -1,9 +1,9 @@
 -- One more part of a list.
 use Rattle.std.proofs.Common.{rules, ◌≡◌, ◌<◌, true, map, [], ◌∷◌, ◌++◌, length, arith}
 use Rattle.std.proofs.lemmas.Grind.{common_steps}
-use Rattle.protocol_grammar.specs.declared.class.Class.TheVariants as w
-use Rattle.protocol_grammar.specs.Classes.{words, same}
-use Rattle.protocol_grammar.specs.Reading.{happening_at, list_at, alternative_at}
+use Rattle.spec_protocol_grammar.specs.declared.class.Class.TheVariants as w
+use Rattle.spec_protocol_grammar.specs.Classes.{words, same}
+use Rattle.spec_protocol_grammar.specs.Reading.{happening_at, list_at, alternative_at}
 use Rattle.pi_parser.specs.Gives.{most_of, HasFault}
 use Rattle.pi_parser.specs.Terms.{atom_of}
 use Rattle.pi_parser.proofs.Lists.{going_begins, going_continues, list_faults, step_fault}

@@ -1,9 +1,9 @@
 -- One more part of a list.
 use Rattle.std.proofs.Common.{arith, rules, ◌≡◌, ◌<◌, true, [], ◌∷◌, ◌++◌, length}
 use Rattle.std.proofs.lemmas.Grind.{common_steps}
-use Rattle.protocol_grammar.specs.declared.class.Class.TheVariants as w
-use Rattle.protocol_grammar.specs.Classes.{words, same}
-use Rattle.protocol_grammar.specs.Reading.{alternative_at}
+use Rattle.spec_protocol_grammar.specs.declared.class.Class.TheVariants as w
+use Rattle.spec_protocol_grammar.specs.Classes.{words, same}
+use Rattle.spec_protocol_grammar.specs.Reading.{alternative_at}
 use Rattle.pi_parser.specs.Gives.{most_of}
 use Rattle.pi_parser.specs.Files.{alternative_of}
 use Rattle.pi_parser.proofs.Lists.{going_begins, going_continues}

@@ -1,9 +1,9 @@
 -- One more part of a list, and a list in parentheses.
 use Rattle.std.proofs.Common.{arith, rules, ◌≡◌, ◌<◌, true, [], ◌∷◌, ◌++◌, length}
 use Rattle.std.proofs.lemmas.Grind.{common_steps}
-use Rattle.protocol_grammar.specs.declared.class.Class.TheVariants as w
-use Rattle.protocol_grammar.specs.Classes.{words, same}
-use Rattle.protocol_grammar.specs.Reading.{term_at}
+use Rattle.spec_protocol_grammar.specs.declared.class.Class.TheVariants as w
+use Rattle.spec_protocol_grammar.specs.Classes.{words, same}
+use Rattle.spec_protocol_grammar.specs.Reading.{term_at}
 use Rattle.pi_parser.specs.Gives.{most_of}
 use Rattle.pi_parser.specs.Terms.{term_of}
 use Rattle.pi_parser.proofs.Levels.{term_deeper, term_other}

@@ -1,5 +1,5 @@
 use Rattle.std.proofs.Common.{◌≡◌, drop}
-use Rattle.protocol_grammar.specs.Classes.{class_among}
+use Rattle.spec_protocol_grammar.specs.Classes.{class_among}
 use Rattle.pi_parser.specs.Tables.{table_of}
 use Rattle.pi_parser.proofs.words.class_among.Given as goal
 

@@ -1,6 +1,6 @@
 use Rattle.std.proofs.Common.{◌≡◌, map, drop}
-use Rattle.trees.specs.Tree.{some_leaves, trees}
-use Rattle.calculus.specs.Absence.{is_absent_name}
+use Rattle.spec_trees.specs.Tree.{some_leaves, trees}
+use Rattle.spec_calculus.specs.Absence.{is_absent_name}
 use Rattle.pi_tree.specs.Terms.{term_of}
 use Rattle.pi_tree.specs.Protocols.{protocol_of}
 use Rattle.pi_tree.proofs.protocols.+absent.Given as goal

@@ -1,6 +1,6 @@
 use Rattle.std.proofs.Common.{◌≡◌, map, drop}
-use Rattle.trees.specs.Tree.{some_leaves, trees}
-use Rattle.calculus.specs.Absence.{is_free}
+use Rattle.spec_trees.specs.Tree.{some_leaves, trees}
+use Rattle.spec_calculus.specs.Absence.{is_free}
 use Rattle.pi_tree.specs.Terms.{term_of}
 use Rattle.pi_tree.proofs.syntax.+term_holds.Given as goal
 

@@ -1,10 +1,10 @@
 use Rattle.std.proofs.Common.{◌≡◌, ◌∙◌, length, ap, subst, List}
-use Rattle.terms.specs.Term.{Term}
-use Rattle.clauses.specs.Fact.{Clause}
-use Rattle.clauses.specs.Norm.{norms}
-use Rattle.well_formed.specs.Queries.{HasQueryLeaves}
-use Rattle.translation.specs.Translation.{goal_clauses}
-use Rattle.translation.proofs.Goal.{one_goal}
+use Rattle.spec_terms.specs.Term.{Term}
+use Rattle.spec_clauses.specs.Fact.{Clause}
+use Rattle.spec_clauses.specs.Norm.{norms}
+use Rattle.spec_well_formed.specs.Queries.{HasQueryLeaves}
+use Rattle.spec_translation.specs.Translation.{goal_clauses}
+use Rattle.spec_translation.proofs.Goal.{one_goal}
 use Rattle.pi_tree.specs.Protocols.{protocol_of}
 use Rattle.pi_tree.specs.Queries.{query_of}
 use Rattle.clause_form.specs.Seen.{NameClauses}

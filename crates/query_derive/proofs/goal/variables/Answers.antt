@@ -1,6 +1,6 @@
 use Rattle.std.proofs.Common.{◌∙◌, [], ◌∷◌, ◌++◌, map, ap, sym}
 use Rattle.std.proofs.lemmas.List.{map-append}
-use Rattle.trees.specs.Tree.{Leaf}
+use Rattle.spec_trees.specs.Tree.{Leaf}
 use Rattle.clause_form.specs.declared.plain.Tree.TheVariants.{Var}
 use Rattle.clause_form.specs.Plain.{term_of}
 use Rattle.query_derive.proofs.Asking.{variables_more}

@@ -1,5 +1,5 @@
 use Rattle.std.proofs.Common.{◌≡◌, map}
-use Rattle.translation.specs.Attacker.{variables_from}
+use Rattle.spec_translation.specs.Attacker.{variables_from}
 use Rattle.clause_form.specs.Plain.{term_of}
 use Rattle.query_derive.proofs.goal.variables.Given as goal
 

@@ -2,9 +2,9 @@ use Rattle.std.proofs.Common.{◌≡◌, ◌+◌, true, false, List, get_or, len
 use Rattle.std.specs.Prelude.{IfOk}
 use Rattle.std.proofs.lemmas.Bool.{false≢true}
 use Rattle.std.proofs.lemmas.List.{length-map}
-use Rattle.trees.specs.Tree.{sizes, trees, node}
-use Rattle.terms.specs.Term.{Term}
-use Rattle.terms.specs.Unifier.{Matches, MatchesAll}
+use Rattle.spec_trees.specs.Tree.{sizes, trees, node}
+use Rattle.spec_terms.specs.Term.{Term}
+use Rattle.spec_terms.specs.Unifier.{Matches, MatchesAll}
 use Rattle.term_tree.specs.Bank.{tree_at, symbol_of}
 use Rattle.term_tree.proofs.BankLaws.{symbol_of-injective}
 use Rattle.unify_match.proofs.Trails.{Extends-trans}

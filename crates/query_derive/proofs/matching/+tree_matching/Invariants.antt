@@ -1,6 +1,6 @@
 use Rattle.std.proofs.Common.{◌+◌, ◌*◌, map, drop}
-use Rattle.trees.specs.Tree.{size, sizes, trees}
-use Rattle.terms.specs.Unifier.{MatchesAll}
+use Rattle.spec_trees.specs.Tree.{size, sizes, trees}
+use Rattle.spec_terms.specs.Unifier.{MatchesAll}
 use Rattle.term_tree.specs.Bank.{tree_at}
 use Rattle.clause_form.specs.Plain.{term_of}
 use Rattle.query_derive.proofs.Narrowing.{Remains}

@@ -2,8 +2,8 @@ use Rattle.std.proofs.Common.{◌≡◌, ◌∙◌, Some, None, length, map, sym
 use Rattle.std.proofs.lemmas.List.{length-map}
 use Rattle.std.proofs.lemmas.Simd.{map-map}
 use borrow.Author.Tests.{ltb-true, ltb-false}
-use Rattle.clauses.specs.Fact.{fact_under}
-use Rattle.clauses.specs.Subsumption.{hypothesis_at}
+use Rattle.spec_clauses.specs.Fact.{fact_under}
+use Rattle.spec_clauses.specs.Subsumption.{hypothesis_at}
 use Rattle.clause_form.specs.Facts.{fact_of}
 use Rattle.clause_form.specs.Seen.{fact_at}
 use Rattle.clause_form.proofs.Walks.{fact_known_at}

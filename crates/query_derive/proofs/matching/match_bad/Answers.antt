@@ -1,6 +1,6 @@
 use Rattle.std.proofs.Common.{◌≡◌, ◌∙◌, map, ap, rules}
-use Rattle.terms.specs.Unifier.{MatchesAll}
-use Rattle.clauses.specs.Fact.{Bad, fact_under}
+use Rattle.spec_terms.specs.Unifier.{MatchesAll}
+use Rattle.spec_clauses.specs.Fact.{Bad, fact_under}
 use Rattle.term_tree.specs.Bank.{tree_at}
 use Rattle.clause_form.specs.Facts.{fact_of}
 use Rattle.clause_form.specs.Seen.{fact_at}

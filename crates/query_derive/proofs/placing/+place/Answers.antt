@@ -1,8 +1,8 @@
 use Rattle.std.proofs.Common.{◌≡◌, ◌∙◌, ℕ, ◌+◌, ◌-◌, Some, List, [], ◌∷◌, length, map, drop, ap, sym, subst, arith}
 use Rattle.std.proofs.lemmas.List.{length-map}
-use Rattle.terms.specs.Term.{Term}
-use Rattle.clauses.specs.Fact.{Fact, fact_under}
-use Rattle.clauses.specs.Subsumption.{hypothesis_at}
+use Rattle.spec_terms.specs.Term.{Term}
+use Rattle.spec_clauses.specs.Fact.{Fact, fact_under}
+use Rattle.spec_clauses.specs.Subsumption.{hypothesis_at}
 use Rattle.unify_match.specs.declared.bound.Bound.{Bound}
 use Rattle.clause_form.specs.Facts.{fact_of}
 use Rattle.clause_form.specs.Seen.{fact_at}
@@ -13,7 +13,7 @@ use Rattle.query_derive.proofs.Narrowing.{fact_there}
 use Rattle.query_derive.proofs.Searching.{NoneTo, none_placed, none_to_next, none_here, none_after, none_at_all, first_placed, others_of, first_rest, none_below, taken_back, if_some_at}
 use Rattle.query_derive.proofs.placing.+place.Goals.{then-branch+in_ok-row+in-None, else-branch}
 use Rattle.std.proofs.lemmas.Grind.{common_steps}
-use Rattle.terms.proofs.Replace.{some_none}
+use Rattle.spec_terms.proofs.Replace.{some_none}
 use Rattle.query_derive.proofs.placing.+place.Goals as goal
 
 pub returns-in_default-clause-some : goal.returns-in_default-clause-some

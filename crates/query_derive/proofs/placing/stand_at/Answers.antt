@@ -1,6 +1,6 @@
 use Rattle.std.proofs.Common.{◌≡◌, ◌+◌, Some, length, map, drop, get_or, arith}
-use Rattle.clauses.specs.Fact.{fact_under}
-use Rattle.clauses.specs.Subsumption.{hypothesis_at}
+use Rattle.spec_clauses.specs.Fact.{fact_under}
+use Rattle.spec_clauses.specs.Subsumption.{hypothesis_at}
 use Rattle.clause_form.specs.Facts.{fact_of}
 use Rattle.clause_form.specs.Seen.{fact_at}
 use Rattle.query_derive.specs.Wanted.{event_fact}

@@ -1,7 +1,7 @@
 use Rattle.std.proofs.Common.{◌≡◌, ◌+◌, Some, length, map, refl, arith}
 use Rattle.std.proofs.lemmas.List.{length-map}
 use Rattle.std.proofs.lemmas.Option.{slice_get_read}
-use Rattle.calculus.specs.Points.{numbered}
+use Rattle.spec_calculus.specs.Points.{numbered}
 use Rattle.clause_form.specs.Seen.{clause_at}
 use Rattle.query_derive.specs.Sought.{IsFirstRowFor}
 use Rattle.query_derive.specs.Wanted.{sought_of}

@@ -1,8 +1,8 @@
 use Rattle.std.proofs.Common.{◌≡◌, ◌∙◌, ◌↔◌, false, Some, None, ap, sym}
 use Rattle.std.specs.Prelude.{IsTrue, option_map}
 use Rattle.std.proofs.lemmas.Bool.{false≢true}
-use Rattle.calculus.specs.Points.{numbered}
-use Rattle.certificates.specs.Certificate.{GoalHolds}
+use Rattle.spec_calculus.specs.Points.{numbered}
+use Rattle.spec_certificates.specs.Certificate.{GoalHolds}
 use Rattle.pi_tree.specs.Protocols.{protocol_of}
 use Rattle.pi_tree.specs.Queries.{query_of}
 use Rattle.clause_form.specs.Seen.{clause_at}

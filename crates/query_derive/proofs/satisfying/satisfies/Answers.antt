@@ -1,7 +1,7 @@
 use Rattle.std.proofs.Common.{◌≡◌, ◌∙◌, ℕ, None, List, length, map, ap, sym, subst, arith}
 use Rattle.std.specs.Prelude.{IfSome}
 use Rattle.std.proofs.lemmas.List.{length-map}
-use Rattle.translation.specs.Satisfied.{IsSatisfied}
+use Rattle.spec_translation.specs.Satisfied.{IsSatisfied}
 use Rattle.pi_tree.specs.Protocols.{protocol_of}
 use Rattle.pi_tree.specs.Queries.{query_of}
 use Rattle.clause_form.specs.Seen.{clause_at, fact_at}

@@ -1,10 +1,10 @@
 use Rattle.std.proofs.Common.{◌≡◌, ◌∙◌, ap, sym, length, map, arith}
-use Rattle.trees.specs.Tree.{node, trees, sizes}
-use Rattle.calculus.specs.Syntax.{Constructor}
-use Rattle.calculus.specs.Syntax as calculus
-use Rattle.terms.specs.Term.{Tuple}
-use Rattle.translation.specs.Goal.{query_term}
-use Rattle.translation.specs.Conversion.{symbol_over}
+use Rattle.spec_trees.specs.Tree.{node, trees, sizes}
+use Rattle.spec_calculus.specs.Syntax.{Constructor}
+use Rattle.spec_calculus.specs.Syntax as calculus
+use Rattle.spec_terms.specs.Term.{Tuple}
+use Rattle.spec_translation.specs.Goal.{query_term}
+use Rattle.spec_translation.specs.Conversion.{symbol_over}
 use Rattle.pi_tree.specs.Terms.{term_of}
 use Rattle.pi_tree.specs.Protocols.{protocol_of}
 use Rattle.clause_form.specs.Plain.{term_of as tree_term}

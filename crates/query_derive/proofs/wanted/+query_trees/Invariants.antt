@@ -1,6 +1,6 @@
 use Rattle.std.proofs.Common.{◌≡◌, ◌+◌, ◌*◌, map, take}
-use Rattle.trees.specs.Tree.{size, sizes, trees}
-use Rattle.translation.specs.Goal.{query_term}
+use Rattle.spec_trees.specs.Tree.{size, sizes, trees}
+use Rattle.spec_translation.specs.Goal.{query_term}
 use Rattle.pi_tree.specs.Terms.{term_of}
 use Rattle.pi_tree.specs.Protocols.{protocol_of}
 use Rattle.clause_form.specs.Plain.{term_of as tree_term}

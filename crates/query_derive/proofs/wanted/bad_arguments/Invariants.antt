@@ -1,6 +1,6 @@
 use Rattle.std.proofs.Common.{◌≡◌, map, take}
-use Rattle.calculus.specs.Syntax.{Variable}
-use Rattle.translation.specs.Goal.{query_leaf}
+use Rattle.spec_calculus.specs.Syntax.{Variable}
+use Rattle.spec_translation.specs.Goal.{query_leaf}
 use Rattle.clause_form.specs.Plain.{term_of as tree_term}
 use Rattle.query_derive.proofs.wanted.bad_arguments.Given as goal
 

@@ -1,5 +1,5 @@
 use Rattle.std.proofs.Common.{nat_eq, eqb-true, get_or, arith}
-use Rattle.terms.proofs.Replace.{eqb_self}
+use Rattle.spec_terms.proofs.Replace.{eqb_self}
 use Rattle.clause_form.proofs.Walks.{got}
 use Rattle.clause_form.proofs.Counting.{distinct_on}
 use Rattle.std.proofs.lemmas.Grind.{common_steps}

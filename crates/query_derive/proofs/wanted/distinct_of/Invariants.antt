@@ -1,5 +1,5 @@
 use Rattle.std.proofs.Common.{◌≡◌, nat_eq, take}
-use Rattle.clauses.specs.Norm.{distinct}
+use Rattle.spec_clauses.specs.Norm.{distinct}
 use Rattle.query_derive.proofs.wanted.distinct_of.Given as goal
 
 abbrev pub invariant-loop-number : goal.invariant-loop-number

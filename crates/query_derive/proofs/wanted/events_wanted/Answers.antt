@@ -1,10 +1,10 @@
 use Rattle.std.proofs.Common.{◌≡◌, ◌∙◌, List, map, ap, sym, subst, arith}
 use Rattle.std.specs.List.{AllByRecursion}
-use Rattle.calculus.specs.Syntax.{EventTerm}
+use Rattle.spec_calculus.specs.Syntax.{EventTerm}
 use Rattle.pi_tree.specs.Events.{event_of}
 use Rattle.pi_tree.specs.Protocols.{protocol_of}
-use Rattle.translation.specs.Goal.{required}
-use Rattle.well_formed.specs.Limits.{IsSmallEvent}
+use Rattle.spec_translation.specs.Goal.{required}
+use Rattle.spec_well_formed.specs.Limits.{IsSmallEvent}
 use Rattle.query_derive.proofs.Converting.{all_at, made_all}
 use Rattle.std.proofs.lemmas.Grind.{common_steps}
 use Rattle.query_derive.specs.Wanted.{event_fact}

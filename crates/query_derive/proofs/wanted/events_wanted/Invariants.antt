@@ -1,5 +1,5 @@
 use Rattle.std.proofs.Common.{◌≡◌, map, take}
-use Rattle.translation.specs.Goal.{required}
+use Rattle.spec_translation.specs.Goal.{required}
 use Rattle.pi_tree.specs.Events.{event_of}
 use Rattle.pi_tree.specs.Protocols.{protocol_of}
 use Rattle.query_derive.specs.Wanted.{event_fact}

@@ -1,8 +1,8 @@
 use Rattle.std.proofs.Common.{◌≡◌, length, ap, map, arith}
 use Rattle.std.proofs.lemmas.List.{length-map}
-use Rattle.terms.specs.Term.{Tuple}
+use Rattle.spec_terms.specs.Term.{Tuple}
 use Rattle.pi_tree.specs.Terms.{term_of}
-use Rattle.trees.proofs.Rows.{length-le-sizes}
+use Rattle.spec_trees.proofs.Rows.{length-le-sizes}
 use Rattle.query_derive.proofs.wanted.tuple_symbol.Goals as goal
 
 pub overflow_cast-result : goal.overflow_cast-result

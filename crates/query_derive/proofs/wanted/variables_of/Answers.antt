@@ -1,10 +1,10 @@
 use Rattle.std.proofs.Common.{◌≡◌, ◌∙◌, ◌++◌, ℕ, List, [], ap, nat_eq, subst}
 use Rattle.std.specs.Prelude.{IfOk, filter_map}
-use Rattle.trees.specs.Tree.{trees}
-use Rattle.clauses.specs.Norm.{distinct}
-use Rattle.clauses.specs.Variables.{row_leaves}
+use Rattle.spec_trees.specs.Tree.{trees}
+use Rattle.spec_clauses.specs.Norm.{distinct}
+use Rattle.spec_clauses.specs.Variables.{row_leaves}
 use Rattle.pi_tree.specs.Events.{event_of}
-use Rattle.translation.specs.Goal.{event_variables, variable_at}
+use Rattle.spec_translation.specs.Goal.{event_variables, variable_at}
 use Rattle.query_derive.proofs.Converting.{variables-of_event}
 use Rattle.query_derive.proofs.wanted.variables_of.Goals as goal
 

@@ -3,7 +3,7 @@ use borrow.Author.Tests.{ltb-true}
 use Rattle.pi_tree.specs.Events.{event_of}
 use Rattle.pi_tree.specs.Protocols.{protocol_of}
 use Rattle.pi_tree.specs.Queries.{query_of}
-use Rattle.calculus.specs.Points.{numbered}
+use Rattle.spec_calculus.specs.Points.{numbered}
 use Rattle.query_derive.specs.Sought.{sought_for, all_sought}
 use Rattle.query_derive.proofs.Converting.{numbered-map}
 use Rattle.query_derive.proofs.wanted.wanted_at.Goals as goal

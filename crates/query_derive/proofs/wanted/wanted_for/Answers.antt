@@ -1,4 +1,4 @@
-use Rattle.clauses.specs.Fact.{Bad}
+use Rattle.spec_clauses.specs.Fact.{Bad}
 use Rattle.query_derive.proofs.wanted.wanted_for.Goals as goal
 
 pub returns : goal.returns

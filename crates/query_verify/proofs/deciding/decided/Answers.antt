@@ -1,6 +1,6 @@
 use Rattle.std.proofs.Common.{List, sym, subst}
-use Rattle.terms.specs.Term.{Term}
-use Rattle.clauses.specs.Fact.{Clause}
+use Rattle.spec_terms.specs.Term.{Term}
+use Rattle.spec_clauses.specs.Fact.{Clause}
 use Rattle.clause_saturate.specs.Logs.{IsLogOf}
 use Rattle.query_verify.specs.Asked.{protocol_at}
 use Rattle.query_verify.proofs.Fitting.{small_query, named_fit, named_some, same_later, translates_later}

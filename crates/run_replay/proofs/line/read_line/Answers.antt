@@ -1,8 +1,8 @@
 use Rattle.std.proofs.Common.{refl, ◌∙◌, ap}
 use Rattle.std.specs.Prelude.{option_map, ok_or}
 use Rattle.pi_model.specs.Steps.{step_of}
-use Rattle.run_text.specs.Faults.{Number}
-use Rattle.run_text.specs.Reading.{step_with}
+use Rattle.spec_run_text.specs.Faults.{Number}
+use Rattle.spec_run_text.specs.Reading.{step_with}
 use Rattle.run_replay.specs.Actions.{action_of}
 use Rattle.run_replay.proofs.OneLine.{has_parts, read_no_number, read_step}
 use Rattle.run_replay.proofs.line.read_line.Goals as goal

@@ -1,6 +1,6 @@
 use Rattle.std.proofs.Common.{◌++◌, sym, ◌∙◌, ap}
 use Rattle.std.specs.Prelude.{option_map, option_copied}
-use Rattle.run_text.specs.Reading.{numeral, numerals}
+use Rattle.spec_run_text.specs.Reading.{numeral, numerals}
 use Rattle.run_replay.specs.Cut.{fields_of}
 use Rattle.run_replay.proofs.Fields.{no_number, one_read}
 use Rattle.run_replay.proofs.numbers.numbers.Goals as goal

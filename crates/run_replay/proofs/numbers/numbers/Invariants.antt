@@ -1,6 +1,6 @@
 use Rattle.std.proofs.Common.{◌≡◌, ◌++◌}
 use Rattle.std.specs.Prelude.{option_map, option_copied}
-use Rattle.run_text.specs.Reading.{numerals}
+use Rattle.spec_run_text.specs.Reading.{numerals}
 use Rattle.run_replay.specs.Cut.{fields_of}
 use Rattle.run_replay.proofs.Fields.{to_read}
 use Rattle.run_replay.proofs.numbers.numbers.Given as goal

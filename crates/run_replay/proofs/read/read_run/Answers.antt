@@ -3,7 +3,7 @@ use Rattle.std.proofs.lemmas.List.{map-append}
 use Rattle.std.proofs.lemmas.Result.{err_from_is_err_and}
 use Rattle.std.specs.Prelude.{unwrap_or, ◌==◌}
 use Rattle.pi_model.specs.Steps.{step_of}
-use Rattle.run_text.specs.Reading.{read_line}
+use Rattle.spec_run_text.specs.Reading.{read_line}
 use Rattle.run_replay.specs.Error.{fault_of}
 use Rattle.run_replay.specs.Cut.{behind_first}
 use Rattle.run_replay.proofs.Reading.{IsSoFar, IsSoFar-push, IsSoFar-end, behind_or_nothing, behind_is_shorter, fault_from_line, no_fault, that_fault, refused_at, some_left, none_left}

@@ -1,7 +1,7 @@
 -- what the digits so far spell
 use Rattle.std.proofs.Common.{◌≡◌, ◌+◌, min, take}
-use Rattle.calculus.specs.Bounds.{most_arguments}
-use Rattle.protocol_scope.specs.Names.{decimal}
+use Rattle.spec_calculus.specs.Bounds.{most_arguments}
+use Rattle.spec_protocol_scope.specs.Names.{decimal}
 use Rattle.scope_check.proofs.declarations.capped_number.Given as goal
 
 abbrev pub invariant-loop-digit : goal.invariant-loop-digit

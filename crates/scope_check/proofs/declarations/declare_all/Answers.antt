@@ -1,8 +1,8 @@
 -- Before the first declaration no name is declared.
 use Rattle.std.proofs.Common.{map, ap, arith}
 use Rattle.std.proofs.lemmas.Grind.{common_steps}
-use Rattle.protocol_scope.specs.Names as own
-use Rattle.protocol_scope.specs.Declarations.{declare_all}
+use Rattle.spec_protocol_scope.specs.Names as own
+use Rattle.spec_protocol_scope.specs.Declarations.{declare_all}
 use Rattle.scope_check.specs.Text.{texts_of}
 use Rattle.pi_parser.specs.Files.{declaration_of}
 use Rattle.scope_check.proofs.declarations.declare_all.Goals as goal

@@ -1,7 +1,7 @@
 -- the names so far and those of the declarations from here on are all of them
 use Rattle.std.proofs.Common.{◌≡◌, map, drop}
-use Rattle.protocol_scope.specs.Names.{no_names}
-use Rattle.protocol_scope.specs.Declarations.{declare_all}
+use Rattle.spec_protocol_scope.specs.Names.{no_names}
+use Rattle.spec_protocol_scope.specs.Declarations.{declare_all}
 use Rattle.scope_check.specs.Text.{texts_of}
 use Rattle.pi_parser.specs.Files.{declaration_of}
 use Rattle.scope_check.specs.Names.{names_of, IsKept}

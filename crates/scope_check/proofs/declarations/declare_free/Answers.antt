@@ -1,7 +1,7 @@
 -- The word was not declared before.
 use Rattle.std.proofs.Common.{ap, ◌∙◌, arith}
 use Rattle.std.proofs.lemmas.Grind.{common_steps}
-use Rattle.protocol_scope.specs.Names as own
+use Rattle.spec_protocol_scope.specs.Names as own
 use Rattle.scope_check.specs.Text.{texts_of}
 use Rattle.scope_check.specs.Names.{names_of}
 use Rattle.scope_check.proofs.declarations.declare_free.Goals as goal

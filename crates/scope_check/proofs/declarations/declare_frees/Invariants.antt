@@ -1,6 +1,6 @@
 -- the names so far and those from here on are all of them
 use Rattle.std.proofs.Common.{◌≡◌, drop}
-use Rattle.protocol_scope.specs.Declarations.{declare_frees}
+use Rattle.spec_protocol_scope.specs.Declarations.{declare_frees}
 use Rattle.scope_check.specs.Text.{texts_of}
 use Rattle.scope_check.specs.Names.{names_of, IsKept}
 use Rattle.scope_check.proofs.declarations.declare_frees.Given as goal

@@ -2,9 +2,9 @@
 use Rattle.std.proofs.Common.{refl, ◌∙◌, ap, map, arith}
 use Rattle.std.proofs.lemmas.Grind.{common_steps}
 use Rattle.std.proofs.lemmas.List.{map-append}
-use Rattle.protocol_scope.specs.Names as own
+use Rattle.spec_protocol_scope.specs.Names as own
 use Rattle.scope_check.specs.Text.{texts_of}
-use Rattle.protocol_scope.specs.Declarations.{with_macro}
+use Rattle.spec_protocol_scope.specs.Declarations.{with_macro}
 use Rattle.pi_parser.specs.Processes.{process_of}
 use Rattle.scope_check.specs.declared.names.Meaning.TheVariants.{Macro}
 use Rattle.scope_check.specs.Names.{names_of, macro_of}

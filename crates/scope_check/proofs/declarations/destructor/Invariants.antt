@@ -1,7 +1,7 @@
 -- the rules so far and those from here on are all of them
 use Rattle.std.proofs.Common.{◌≡◌, [], ◌∷◌, map, drop}
-use Rattle.protocol_scope.specs.Declarations.{rule, further_rules}
-use Rattle.protocol_scope.specs.Answers.{◌>>=◌}
+use Rattle.spec_protocol_scope.specs.Declarations.{rule, further_rules}
+use Rattle.spec_protocol_scope.specs.Answers.{◌>>=◌}
 use Rattle.pi_parser.specs.Files as sketched
 use Rattle.pi_tree.specs.Rules.{rule_of}
 use Rattle.scope_check.specs.Scope.{scope_of}

@@ -1,7 +1,7 @@
 -- the patterns so far and those from here on are all of them
 use Rattle.std.proofs.Common.{◌≡◌, map, drop}
-use Rattle.protocol_grammar.specs.Sketch.{patterns_sketch}
-use Rattle.protocol_scope.specs.Patterns as rules
+use Rattle.spec_protocol_grammar.specs.Sketch.{patterns_sketch}
+use Rattle.spec_protocol_scope.specs.Patterns as rules
 use Rattle.pi_parser.specs.Patterns as sketched
 use Rattle.pi_tree.specs.Patterns.{pattern_of}
 use Rattle.scope_check.specs.Bound.{binding_of, bound_of, FindsBindings}

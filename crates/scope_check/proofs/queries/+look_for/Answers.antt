@@ -1,8 +1,8 @@
 -- The restrictions of two parts in a row.
 use Rattle.std.proofs.Common.{ℕ, ◌+◌, List, ◌++◌, ap, ◌∙◌, arith}
 use Rattle.std.proofs.lemmas.Grind.{common_steps}
-use Rattle.calculus.specs.Points.{nodes}
-use Rattle.protocol_scope.specs.Queries as rules
+use Rattle.spec_calculus.specs.Points.{nodes}
+use Rattle.spec_protocol_scope.specs.Queries as rules
 use Rattle.pi_tree.specs.Processes.{process_of}
 use Rattle.scope_check.specs.Restrictions.{summary}
 use Rattle.scope_check.proofs.Restrictions.{both_parts, parts_of}

@@ -1,6 +1,6 @@
 -- the events so far and those from here on are all of them
 use Rattle.std.proofs.Common.{◌≡◌, ◌∷◌, map, drop}
-use Rattle.protocol_scope.specs.Queries as rules
+use Rattle.spec_protocol_scope.specs.Queries as rules
 use Rattle.pi_parser.specs.Terms.{atom_of}
 use Rattle.pi_tree.specs.Events.{event_of}
 use Rattle.scope_check.specs.Scope.{scope_of}

@@ -1,6 +1,6 @@
 -- the alternatives so far and those from here on are all of them
 use Rattle.std.proofs.Common.{◌≡◌, map, drop}
-use Rattle.protocol_scope.specs.Queries as rules
+use Rattle.spec_protocol_scope.specs.Queries as rules
 use Rattle.pi_parser.specs.Files.{alternative_of}
 use Rattle.scope_check.specs.Scope.{scope_of}
 use Rattle.scope_check.specs.Variables.{FindsVariables}

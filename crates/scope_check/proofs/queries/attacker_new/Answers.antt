@@ -1,6 +1,6 @@
 -- What was seen of the restrictions decides.
 use Rattle.std.proofs.Common.{[], refl}
-use Rattle.calculus.specs.Points.{nodes}
+use Rattle.spec_calculus.specs.Points.{nodes}
 use Rattle.pi_tree.specs.Processes.{process_of}
 use Rattle.scope_check.specs.Text.{texts_of}
 use Rattle.scope_check.specs.declared.queries.Seen.TheVariants.{Nowhere, Once, Often}

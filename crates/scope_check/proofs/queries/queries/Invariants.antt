@@ -1,6 +1,6 @@
 -- the queries so far and those of the declarations from here on are all of them
 use Rattle.std.proofs.Common.{◌≡◌, map, drop, length}
-use Rattle.protocol_scope.specs.Queries as rules
+use Rattle.spec_protocol_scope.specs.Queries as rules
 use Rattle.pi_parser.specs.Files.{declaration_of}
 use Rattle.pi_tree.specs.Processes.{process_of}
 use Rattle.pi_tree.specs.Queries.{query_of}

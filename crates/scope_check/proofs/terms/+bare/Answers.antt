@@ -1,8 +1,8 @@
 -- Parentheses round more than one term.
 use Rattle.std.proofs.Common.{◌≡◌, ◌≤◌, List, length, sym, subst, arith}
 use Rattle.std.proofs.lemmas.Grind.{common_steps}
-use Rattle.protocol_grammar.specs.Sketch.{Grouped, TermSketch, terms_sketch}
-use Rattle.protocol_scope.specs.Terms.{bare}
+use Rattle.spec_protocol_grammar.specs.Sketch.{Grouped, TermSketch, terms_sketch}
+use Rattle.spec_protocol_scope.specs.Terms.{bare}
 use Rattle.pi_parser.specs.declared.sketch.TermSketch.{TermSketch as Sketched}
 use Rattle.pi_parser.specs.Terms.{term_of}
 use Rattle.scope_check.proofs.Steps.{bare_many}

@@ -1,8 +1,8 @@
 -- the terms so far and those from here on are all of them
 use Rattle.std.proofs.Common.{◌≡◌, map, drop}
-use Rattle.trees.specs.Tree.{sizes, trees}
-use Rattle.protocol_grammar.specs.Sketch.{terms_sketch}
-use Rattle.protocol_scope.specs.Terms as rules
+use Rattle.spec_trees.specs.Tree.{sizes, trees}
+use Rattle.spec_protocol_grammar.specs.Sketch.{terms_sketch}
+use Rattle.spec_protocol_scope.specs.Terms as rules
 use Rattle.pi_parser.specs.Terms as sketched
 use Rattle.pi_tree.specs.Terms.{term_of}
 use Rattle.scope_check.specs.Scope.{scope_of}

@@ -1,6 +1,6 @@
 use Rattle.std.proofs.Common.{◌≡◌, length, drop, refl, ◌∙◌, ap, subst, arith}
 use Rattle.pi_tree.specs.Protocols.{protocol_of}
-use Rattle.certificate_reading.specs.Runs.{at_end, read_on, read_term}
+use Rattle.spec_certificate_reading.specs.Runs.{at_end, read_on, read_term}
 use Rattle.term_reader.specs.Seen.{reading_of}
 use Rattle.term_reader.proofs.Walk.{at_last}
 use Rattle.term_reader.proofs.reading.read_term.Goals as goal

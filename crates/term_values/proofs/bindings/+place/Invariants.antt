@@ -1,7 +1,7 @@
 use Rattle.std.proofs.Common.{◌≡◌, map, drop}
-use Rattle.trees.specs.Tree.{trees}
-use Rattle.calculus.specs.Values.{bound_to}
-use Rattle.calculus.specs.Matching.{places_row}
+use Rattle.spec_trees.specs.Tree.{trees}
+use Rattle.spec_calculus.specs.Values.{bound_to}
+use Rattle.spec_calculus.specs.Matching.{places_row}
 use Rattle.pi_tree.specs.Terms.{term_of}
 use Rattle.pi_tree.specs.Values.{value_of}
 use Rattle.term_values.specs.Slots.{name_of}

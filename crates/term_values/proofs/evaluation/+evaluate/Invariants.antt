@@ -1,5 +1,5 @@
 use Rattle.std.proofs.Common.{◌≡◌, ◌++◌, map, drop}
-use Rattle.calculus.specs.Values.{values_of}
+use Rattle.spec_calculus.specs.Values.{values_of}
 use Rattle.pi_tree.specs.Terms.{term_of}
 use Rattle.pi_tree.specs.Values.{value_of}
 use Rattle.term_values.proofs.evaluation.+evaluate.Given as goal

@@ -1,5 +1,5 @@
 use Rattle.std.proofs.Common.{◌≡◌, length, map, drop}
-use Rattle.calculus.specs.Values.{same_values, values_of}
+use Rattle.spec_calculus.specs.Values.{same_values, values_of}
 use Rattle.pi_tree.specs.Terms.{term_of}
 use Rattle.pi_tree.specs.Values.{value_of}
 use Rattle.term_values.specs.Bound.{bound_of}

@@ -1,6 +1,6 @@
 use Rattle.std.proofs.Common.{◌≡◌, ap, ◌∙◌, List, map, IfOk, subst}
-use Rattle.calculus.specs.Values as values
-use Rattle.calculus.specs.Values.{values_of}
+use Rattle.spec_calculus.specs.Values as values
+use Rattle.spec_calculus.specs.Values.{values_of}
 use Rattle.pi_tree.specs.Protocols.{protocol_of}
 use Rattle.pi_tree.specs.Rules.{rule_of}
 use Rattle.pi_tree.specs.Values.{value_of}

@@ -1,5 +1,5 @@
 use Rattle.std.proofs.Common.{◌≡◌, ◌++◌, map, drop, filter_map}
-use Rattle.calculus.specs.Matching.{rule_value}
+use Rattle.spec_calculus.specs.Matching.{rule_value}
 use Rattle.pi_tree.specs.Rules.{rule_of}
 use Rattle.pi_tree.specs.Values.{value_of}
 use Rattle.term_values.proofs.expressions.values_by_rules.Given as goal

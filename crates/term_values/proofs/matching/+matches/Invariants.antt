@@ -1,6 +1,6 @@
 use Rattle.std.proofs.Common.{◌≡◌, ◌++◌, length, map, drop, option_map}
-use Rattle.trees.specs.Tree.{trees}
-use Rattle.calculus.specs.Matching.{matched_row}
+use Rattle.spec_trees.specs.Tree.{trees}
+use Rattle.spec_calculus.specs.Matching.{matched_row}
 use Rattle.pi_tree.specs.Patterns.{pattern_of}
 use Rattle.pi_tree.specs.Values.{value_of}
 use Rattle.term_values.proofs.matching.+matches.Given as goal

@@ -1,8 +1,8 @@
 use Rattle.std.proofs.Common.{◌≡◌, map, drop}
 use Rattle.std.specs.List.{list_any}
-use Rattle.trees.specs.Tree.{trees}
-use Rattle.calculus.specs.Values.{values_of}
-use Rattle.calculus.specs.Limits.{is_large, compared_row}
+use Rattle.spec_trees.specs.Tree.{trees}
+use Rattle.spec_calculus.specs.Values.{values_of}
+use Rattle.spec_calculus.specs.Limits.{is_large, compared_row}
 use Rattle.pi_tree.specs.Patterns.{pattern_of}
 use Rattle.term_values.proofs.sizes.+compared.Given as goal
 

@@ -1,5 +1,5 @@
 use Rattle.std.proofs.Common.{◌≡◌, map, drop}
-use Rattle.trees.specs.Tree.{sizes, trees}
+use Rattle.spec_trees.specs.Tree.{sizes, trees}
 use Rattle.pi_tree.specs.Values.{value_of}
 use Rattle.term_values.specs.Room.{room_after}
 use Rattle.term_values.proofs.sizes.+room.Given as goal

@@ -1,6 +1,6 @@
 use Rattle.std.proofs.Common.{◌≡◌, ◌+◌, map, drop}
-use Rattle.trees.specs.Tree.{sizes, trees, binds}
-use Rattle.calculus.specs.Values.{value_of_name}
+use Rattle.spec_trees.specs.Tree.{sizes, trees, binds}
+use Rattle.spec_calculus.specs.Values.{value_of_name}
 use Rattle.pi_tree.specs.Terms.{term_of}
 use Rattle.term_values.specs.Room.{room_after}
 use Rattle.term_values.proofs.sizes.+term_room.Given as goal

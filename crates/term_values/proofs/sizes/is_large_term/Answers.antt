@@ -1,4 +1,4 @@
-use Rattle.calculus.specs.Values.{value_of}
+use Rattle.spec_calculus.specs.Values.{value_of}
 use Rattle.pi_tree.specs.Terms.{term_of}
 use Rattle.term_values.proofs.Room.{small-by_room, large-by_room}
 use Rattle.term_values.proofs.sizes.is_large_term.Goals as goal

@@ -1,6 +1,6 @@
 use Rattle.std.proofs.Common.{◌≡◌, map, drop}
 use Rattle.std.specs.List.{list_any}
-use Rattle.calculus.specs.Limits.{is_large}
+use Rattle.spec_calculus.specs.Limits.{is_large}
 use Rattle.pi_tree.specs.Values.{value_of}
 use Rattle.term_values.proofs.sizes.some_large.Given as goal
 

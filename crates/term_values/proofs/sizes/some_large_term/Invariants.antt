@@ -1,7 +1,7 @@
 use Rattle.std.proofs.Common.{◌≡◌, map, drop}
 use Rattle.std.specs.List.{list_any}
-use Rattle.calculus.specs.Values.{values_of}
-use Rattle.calculus.specs.Limits.{is_large}
+use Rattle.spec_calculus.specs.Values.{values_of}
+use Rattle.spec_calculus.specs.Limits.{is_large}
 use Rattle.pi_tree.specs.Terms.{term_of}
 use Rattle.term_values.proofs.sizes.some_large_term.Given as goal
 

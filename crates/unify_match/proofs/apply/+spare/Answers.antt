@@ -1,6 +1,6 @@
 use Rattle.std.proofs.Common.{◌-◌, arith}
 use Rattle.std.proofs.lemmas.Grind.{common_steps}
-use Rattle.terms.specs.Rank.{ranks}
+use Rattle.spec_terms.specs.Rank.{ranks}
 use Rattle.term_tree.specs.Bank.{symbol_of}
 use Rattle.unify_match.specs.Seen.{seen}
 use Rattle.unify_match.proofs.Walking.{height-at, known-at}

@@ -2,9 +2,9 @@ use Rattle.std.proofs.Common.{◌≡◌, ◌∙◌, ◌<◌, ◌+◌, ◌-◌, L
 use Rattle.std.proofs.lemmas.Grind.{common_steps}
 use Rattle.std.proofs.lemmas.Bool.{false≢true}
 use Rattle.std.proofs.lemmas.List.{take_rest}
-use Rattle.trees.specs.Tree.{Leaf, node, bind}
-use Rattle.terms.specs.Term.{Term}
-use Rattle.terms.specs.Rank.{height}
+use Rattle.spec_trees.specs.Tree.{Leaf, node, bind}
+use Rattle.spec_terms.specs.Term.{Term}
+use Rattle.spec_terms.specs.Rank.{height}
 use Rattle.term_tree.specs.Bank.{tree_at, symbol_of}
 use Rattle.term_tree.specs.declared.bank.Id.{Id}
 use Rattle.term_tree.proofs.BankLaws.{Grows_trans, tree_at-grows}

@@ -1,4 +1,4 @@
-use Rattle.terms.specs.Rank.{height}
+use Rattle.spec_terms.specs.Rank.{height}
 use Rattle.term_tree.specs.Bank.{tree_at}
 use Rattle.unify_match.specs.Substitution.{subst_of, rank_of, arguments}
 use Rattle.unify_match.proofs.Substituting.{IsRebuilding}

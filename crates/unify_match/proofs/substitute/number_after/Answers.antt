@@ -1,6 +1,6 @@
 use Rattle.std.proofs.Common.{◌∙◌, ap, sym, subst}
-use Rattle.trees.specs.Tree.{Leaf}
-use Rattle.terms.proofs.Resolve.{resolved-unbound}
+use Rattle.spec_trees.specs.Tree.{Leaf}
+use Rattle.spec_terms.proofs.Resolve.{resolved-unbound}
 use Rattle.unify_match.specs.declared.substitute.Substitution.{Substitution}
 use Rattle.unify_match.specs.Seen.{seen}
 use Rattle.unify_match.specs.Substitution.{subst_of, IsFinal}

@@ -1,6 +1,6 @@
 use Rattle.std.proofs.Common.{◌∙◌, ap, sym, subst}
-use Rattle.trees.specs.Tree.{Leaf}
-use Rattle.terms.specs.Term.{Term}
+use Rattle.spec_trees.specs.Tree.{Leaf}
+use Rattle.spec_terms.specs.Term.{Term}
 use Rattle.term_tree.specs.Bank.{tree_at, symbol_of, IsNodeOf}
 use Rattle.unify_match.specs.Substitution.{subst_of, CanChange}
 use Rattle.unify_match.proofs.Substituting.{variable-fits, constant_stays}

@@ -1,7 +1,7 @@
 use Rattle.std.proofs.Common.{◌<◌, sym, ap, subst, arith, length, get_or}
 use Rattle.std.proofs.lemmas.Grind.{common_steps}
 use Rattle.std.proofs.lemmas.Bool.{MatchBool-at_true, MatchBool-at_false, false≢true}
-use Rattle.terms.specs.Rank.{height, ranks}
+use Rattle.spec_terms.specs.Rank.{height, ranks}
 use Rattle.term_tree.specs.Bank.{tree_at, symbol_of, IsNodeOf}
 use Rattle.term_tree.specs.declared.bank.Node.{Node}
 use Rattle.term_tree.proofs.BankLaws.{symbol_of-injective}

@@ -1,5 +1,5 @@
 use Rattle.term_tree.specs.Bank.{tree_at}
-use Rattle.terms.specs.Rank.{height, ranks}
+use Rattle.spec_terms.specs.Rank.{height, ranks}
 use Rattle.unify_match.specs.Seen.{seen}
 use Rattle.unify_match.specs.Progress.{effort}
 use Rattle.unify_match.proofs.Unifying.{IsGoing}

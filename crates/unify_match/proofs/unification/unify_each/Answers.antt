@@ -1,7 +1,7 @@
 use Rattle.std.proofs.Common.{◌<◌, ◌+◌, arith, length}
 use Rattle.std.proofs.lemmas.Grind.{common_steps}
 use Rattle.std.proofs.lemmas.Bool.{MatchBool-at_true, MatchBool-at_false}
-use Rattle.terms.specs.Rank.{ranks}
+use Rattle.spec_terms.specs.Rank.{ranks}
 use Rattle.unify_match.specs.Seen.{seen}
 use Rattle.unify_match.proofs.Walking.{heights_of}
 use Rattle.unify_match.proofs.Effort.{Grown-trans}

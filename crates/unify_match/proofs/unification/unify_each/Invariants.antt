@@ -1,5 +1,5 @@
 use Rattle.std.proofs.Common.{◌+◌}
-use Rattle.terms.specs.Rank.{ranks}
+use Rattle.spec_terms.specs.Rank.{ranks}
 use Rattle.unify_match.specs.Seen.{seen}
 use Rattle.unify_match.proofs.Walking.{heights_of}
 use Rattle.unify_match.proofs.Unifying.{IsGoing}

@@ -1,6 +1,6 @@
 use Rattle.std.proofs.Common.{◌≡◌, ◌<◌, drop}
-use Rattle.terms.specs.Binding.{resolved}
-use Rattle.terms.specs.Rank.{height, ranks}
+use Rattle.spec_terms.specs.Binding.{resolved}
+use Rattle.spec_terms.specs.Rank.{height, ranks}
 use Rattle.term_tree.specs.Bank.{tree_at, AreKnown}
 use Rattle.unify_match.specs.Seen.{seen}
 use Rattle.unify_match.specs.Memo.{AreClear}

@@ -1,4 +1,4 @@
-use Rattle.terms.specs.Rank.{height, ranks}
+use Rattle.spec_terms.specs.Rank.{height, ranks}
 use Rattle.term_tree.specs.Bank.{tree_at}
 use Rattle.unify_match.specs.Seen.{seen}
 use Rattle.unify_match.proofs.Walking.{IsOnTheWay}

@@ -1,5 +1,5 @@
 use Rattle.std.proofs.Common.{◌≡◌, ◌≢◌, ◌∙◌, ℕ, List, Option, refl, sym, ap, subst}
-use Rattle.calculus.specs.Syntax as syntax
+use Rattle.spec_calculus.specs.Syntax as syntax
 use Rattle.hv_io.specs.Sink.{appended, AppendsPart}
 use Rattle.verifier_cli.specs.SeenOutcome.{outcome_of}
 use Rattle.verifier_cli.specs.Listing.{words_of}

@@ -1,11 +1,11 @@
 -- What was read is what the file spells.
 use Rattle.std.proofs.Common.{◌≡◌, ◌∙◌, ◌≤◌, ℕ, List, [], length, map, sym, ap, subst, arith}
 use Rattle.std.proofs.lemmas.List.{length-map}
-use Rattle.calculus.specs.Bounds.{most_report_bytes}
+use Rattle.spec_calculus.specs.Bounds.{most_report_bytes}
 use Rattle.hv_io.specs.Faults.{IsFaultCounted}
 use Rattle.pi_tree.specs.Protocols.{protocol_of}
-use Rattle.certificate_reading.specs.Reports.{read_report}
-use Rattle.report_text.specs.Text.{SpellsReport}
+use Rattle.spec_certificate_reading.specs.Reports.{read_report}
+use Rattle.spec_report_text.specs.Text.{SpellsReport}
 use Rattle.fact_reader.specs.Gives.{HasFault}
 use Rattle.cert_reader.specs.Seen.{claim_of}
 use Rattle.verifier_cli.specs.Outcome.{Outcome}

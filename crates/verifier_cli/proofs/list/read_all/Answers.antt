@@ -1,5 +1,5 @@
 use Rattle.std.proofs.Common.{◌≡◌, ◌∙◌, ◌<◌, ap, subst, get_or, length, List}
-use Rattle.clauses.specs.Fact as horn
+use Rattle.spec_clauses.specs.Fact as horn
 use Rattle.term_tree.specs.declared.bank.Id.{Id}
 use Rattle.clause_form.proofs.Walks.{clause_known_at}
 use Rattle.verifier_cli.proofs.list.read_all.Goals as goal

@@ -1,6 +1,6 @@
 use Rattle.std.proofs.Common.{inr, ℕ, List, Option, subst}
-use Rattle.calculus.specs.Syntax as syntax
-use Rattle.protocol_scope.specs.Spells.{Spells}
+use Rattle.spec_calculus.specs.Syntax as syntax
+use Rattle.spec_protocol_scope.specs.Spells.{Spells}
 use Rattle.pi_tree.specs.Protocols.{protocol_of}
 use Rattle.verifier_cli.specs.SeenOutcome.{outcome_of}
 use Rattle.verifier_cli.specs.Command.{OfFile}

@@ -1,9 +1,9 @@
 use Rattle.std.proofs.Common.{sym, subst}
-use Rattle.calculus.specs.Syntax.{Secret, Free}
-use Rattle.trees.specs.Tree.{Leaf}
+use Rattle.spec_calculus.specs.Syntax.{Secret, Free}
+use Rattle.spec_trees.specs.Tree.{Leaf}
 use Rattle.pi_tree.specs.Protocols.{protocol_of}
-use Rattle.protocol_scope.specs.Spells.{Spells}
-use Rattle.ring_text.specs.Meaning.{ring_protocol}
+use Rattle.spec_protocol_scope.specs.Spells.{Spells}
+use Rattle.spec_ring_text.specs.Meaning.{ring_protocol}
 use Rattle.verifier_cli.specs.Outcome.{Outcome}
 use Rattle.verifier_cli.specs.Ringing.{Rings}
 use Rattle.verifier_cli.specs.SeenOutcome.{outcome_of}

@@ -1,6 +1,6 @@
 use Rattle.std.proofs.Common.{◌∙◌, nat_eq, get_or, refl, ap, sym, arith}
 use Rattle.std.proofs.lemmas.List.{take_all}
-use Rattle.clauses.specs.Norm.{distinct, place_of}
+use Rattle.spec_clauses.specs.Norm.{distinct, place_of}
 use Rattle.clause_form.proofs.Tables.{added_or_left}
 use Rattle.clause_form.proofs.numbers.Numbering.firsts.Goals as goal
 

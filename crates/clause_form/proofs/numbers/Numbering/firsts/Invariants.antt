@@ -1,5 +1,5 @@
 use Rattle.std.proofs.Common.{◌≡◌, nat_eq, take}
-use Rattle.clauses.specs.Norm.{distinct}
+use Rattle.spec_clauses.specs.Norm.{distinct}
 use Rattle.clause_form.proofs.numbers.Numbering.firsts.Given as goal
 
 abbrev pub invariant-each : goal.invariant-each

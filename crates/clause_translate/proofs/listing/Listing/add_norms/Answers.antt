@@ -1,4 +1,4 @@
-use Rattle.clauses.specs.Norm.{norms}
+use Rattle.spec_clauses.specs.Norm.{norms}
 use Rattle.clause_form.specs.Seen.{clause_at}
 use Rattle.clause_translate.proofs.Listings.{appended, counted_alone}
 use Rattle.term_tree.proofs.BankLaws.{Grows_refl}

@@ -1,5 +1,5 @@
 use Rattle.std.proofs.Common.{◌≡◌, map, drop}
-use Rattle.calculus.specs.Values.{bound_to}
+use Rattle.spec_calculus.specs.Values.{bound_to}
 use Rattle.destructor_rules.specs.Leaves.{leaf_of}
 use Rattle.destructor_rules.specs.Bindings.{binding_of}
 use Rattle.destructor_rules.proofs.bindings.Bindings.look_up.Given as goal

@@ -1,7 +1,7 @@
 -- The table finds the names with one more.
 use Rattle.std.proofs.Common.{◌≡◌, refl, arith, rules}
 use Rattle.pi_tree.specs.Rules.{destructor_of}
-use Rattle.protocol_scope.specs.Declarations.{with_destructor}
+use Rattle.spec_protocol_scope.specs.Declarations.{with_destructor}
 use Rattle.scope_check.specs.declared.names.Meaning.TheVariants.{Destructor}
 use Rattle.scope_check.specs.declared.names.Names.{Names}
 use Rattle.scope_check.specs.Names.{names_of}

@@ -2,7 +2,7 @@
 use Rattle.std.proofs.Common.{◌≡◌, refl, ap, arith, rules}
 use Rattle.pi_tree.specs.declared.names.Declared.{Declared}
 use Rattle.pi_tree.specs.Names.{declared_of}
-use Rattle.protocol_scope.specs.Declarations.{with_event}
+use Rattle.spec_protocol_scope.specs.Declarations.{with_event}
 use Rattle.scope_check.specs.declared.names.Meaning.TheVariants.{Event}
 use Rattle.scope_check.specs.declared.names.Names.{Names}
 use Rattle.scope_check.specs.Names.{names_of}

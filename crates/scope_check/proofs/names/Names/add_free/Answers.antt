@@ -1,7 +1,7 @@
 -- The table finds the names with one more.
 use Rattle.std.proofs.Common.{◌≡◌, refl, arith, rules}
 use Rattle.pi_tree.specs.Names.{declared_of}
-use Rattle.protocol_scope.specs.Declarations.{with_free}
+use Rattle.spec_protocol_scope.specs.Declarations.{with_free}
 use Rattle.scope_check.specs.declared.names.Meaning.TheVariants.{Free}
 use Rattle.scope_check.specs.declared.names.Names.{Names}
 use Rattle.scope_check.specs.Names.{names_of}

@@ -1,6 +1,6 @@
 use Rattle.std.proofs.Common.{length, [], ◌∷◌, ◌++◌, arith, ap, ◌∙◌, List, sym, subst}
-use Rattle.trees.specs.Tree.{size}
-use Rattle.terms.specs.Term.{Term}
+use Rattle.spec_trees.specs.Tree.{size}
+use Rattle.spec_terms.specs.Term.{Term}
 use Rattle.term_tree.specs.Bank.{capped}
 use Rattle.term_tree.specs.TreeBank.{built, HasArgs, tree_of}
 use Rattle.term_tree.proofs.Built.{built-length, built-append, IsWell-append}

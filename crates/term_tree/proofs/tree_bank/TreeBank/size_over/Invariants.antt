@@ -1,5 +1,5 @@
 use Rattle.std.proofs.Common.{◌≡◌, ◌+◌, ◌≤◌, ◌^◌, map, drop}
-use Rattle.trees.specs.Tree.{trees, sizes}
+use Rattle.spec_trees.specs.Tree.{trees, sizes}
 use Rattle.term_tree.specs.Bank.{tree_at, AreKnown, capped}
 use Rattle.term_tree.proofs.tree_bank.TreeBank.size_over.Given as goal
 

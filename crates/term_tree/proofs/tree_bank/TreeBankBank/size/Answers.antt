@@ -1,5 +1,5 @@
 use Rattle.std.proofs.Common.{length, [], arith, ap, ◌∙◌, sym}
-use Rattle.trees.specs.Tree.{size}
+use Rattle.spec_trees.specs.Tree.{size}
 use Rattle.term_tree.specs.Bank.{capped}
 use Rattle.term_tree.proofs.Built.{built-length, entry_at}
 use Rattle.term_tree.proofs.tree_bank.TreeBankBank.size.Goals as goal

@@ -1,5 +1,5 @@
 use Rattle.std.proofs.Common.{◌≡◌, map, drop}
-use Rattle.calculus.specs.Values.{bound_to}
+use Rattle.spec_calculus.specs.Values.{bound_to}
 use Rattle.term_values.specs.Slots.{name_of}
 use Rattle.term_values.specs.Bindings.{binding_of}
 use Rattle.term_values.proofs.environments.Environment.look_up.Given as goal

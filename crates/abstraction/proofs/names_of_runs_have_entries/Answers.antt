@@ -1,5 +1,0 @@
-use Rattle.abstraction.proofs.Entries.{runs_have_entries}
-use Rattle.abstraction.proofs.names_of_runs_have_entries.Goals as goal
-
-pub returns : goal.returns
-returns c = runs_have_entries

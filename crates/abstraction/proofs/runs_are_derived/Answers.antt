@@ -1,9 +1,0 @@
-use Rattle.abstraction.specs.Trace.{trace_of}
-use Rattle.abstraction.specs.Naming.{naming}
-use Rattle.abstraction.proofs.Older.{runs_are_named}
-use Rattle.abstraction.proofs.Runs.{runs_are_derived}
-use Rattle.abstraction.proofs.runs_are_derived.Goals as goal
-
-pub returns : goal.returns
-returns c = λ P q all steps d proper linear is reached.
-    runs_are_derived P (naming P (trace_of P steps).made) q all is proper.proper linear steps d reached (runs_are_named P steps d reached)

@@ -1,5 +1,0 @@
-use Rattle.abstraction.proofs.Holding.{translations_hold_all}
-use Rattle.abstraction.proofs.translations_hold_all.Goals as goal
-
-pub returns : goal.returns
-returns c = translations_hold_all

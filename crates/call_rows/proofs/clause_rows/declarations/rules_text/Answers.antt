@@ -1,6 +1,0 @@
-use Rattle.pi_tree.specs.Protocols.{protocol_of}
-use Rattle.call_rows.proofs.clause_rows.Rules.{all_shown}
-use Rattle.call_rows.proofs.clause_rows.declarations.rules_text.Goals as goal
-
-pub add_destructors-requires : goal.add_destructors-requires
-add_destructors-requires c = all_shown (protocol_of c.args.protocol.now) c.requires

@@ -1,5 +1,0 @@
-use Rattle.clause_form.specs.Fit.{AreFit}
-use Rattle.call_rows.proofs.log_rows.saturated.fit_clauses.Given as goal
-
-abbrev pub invariant-each : goal.invariant-each
-invariant-each l = AreFit l.bank l.given

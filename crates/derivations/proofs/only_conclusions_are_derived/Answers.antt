@@ -1,5 +1,0 @@
-use Rattle.derivations.proofs.Forest.{bad_not_derived}
-use Rattle.derivations.proofs.only_conclusions_are_derived.Goals as goal
-
-pub returns : goal.returns
-returns c = λ clauses events ts never d. bad_not_derived ts never d

@@ -1,5 +1,0 @@
-use Rattle.placements.proofs.Loose.{loose_is_known}
-use Rattle.placements.proofs.loose_hypotheses_are_variables.Goals as goal
-
-pub returns : goal.returns
-returns c = loose_is_known

@@ -1,7 +1,0 @@
--- The law, from the lemma that proves it.
-use Rattle.protocol_grammar.specs.Classes.{source}
-use Rattle.protocol_grammar.proofs.Answers as laws
-use Rattle.protocol_grammar.proofs.no_sketch_too_deep.Goals as goal
-
-pub returns : goal.returns
-returns c = λ bytes ts f i. laws.sketch_not_deep (source bytes ts) f i

@@ -1,7 +1,0 @@
--- The law, from the lemma that proves it.
-use Rattle.protocol_scope.specs.Spells.{texts}
-use Rattle.protocol_scope.proofs.Points as points
-use Rattle.protocol_scope.proofs.few_points.Goals as goal
-
-pub returns : goal.returns
-returns c = λ bytes p spelled. points.scope_points (texts bytes spelled.1.tokens) spelled.1.sketch p spelled.1.scoped

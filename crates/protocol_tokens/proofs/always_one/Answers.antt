@@ -1,5 +1,0 @@
-use Rattle.protocol_tokens.proofs.Answers.{has_answer}
-use Rattle.protocol_tokens.proofs.always_one.Goals as goal
-
-pub returns : goal.returns
-returns c = has_answer

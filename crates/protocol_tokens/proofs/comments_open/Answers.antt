@@ -1,5 +1,0 @@
-use Rattle.protocol_tokens.proofs.Comments.{holds_comment-LexedTo}
-use Rattle.protocol_tokens.proofs.comments_open.Goals as goal
-
-pub returns : goal.returns
-returns c = holds_comment-LexedTo

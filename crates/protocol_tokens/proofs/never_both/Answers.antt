@@ -1,5 +1,0 @@
-use Rattle.protocol_tokens.proofs.Answers.{Lexed-not_Stops}
-use Rattle.protocol_tokens.proofs.never_both.Goals as goal
-
-pub returns : goal.returns
-returns c = Lexed-not_Stops

@@ -1,5 +1,0 @@
-use Rattle.ring_text.proofs.Whole.{ring_spells}
-use Rattle.ring_text.proofs.rings_are_protocols.Goals as goal
-
-pub returns : goal.returns
-returns c = ring_spells

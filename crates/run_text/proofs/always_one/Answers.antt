@@ -1,5 +1,0 @@
-use Rattle.run_text.proofs.Answers.{always_one}
-use Rattle.run_text.proofs.always_one.Goals as goal
-
-pub returns : goal.returns
-returns c = always_one

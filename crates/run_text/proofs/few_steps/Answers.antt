@@ -1,5 +1,0 @@
-use Rattle.run_text.proofs.Lines.{steps_are_few}
-use Rattle.run_text.proofs.few_steps.Goals as goal
-
-pub returns : goal.returns
-returns c = steps_are_few

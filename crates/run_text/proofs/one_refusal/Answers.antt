@@ -1,5 +1,0 @@
-use Rattle.run_text.proofs.Answers.{one_refusal}
-use Rattle.run_text.proofs.one_refusal.Goals as goal
-
-pub returns : goal.returns
-returns c = one_refusal

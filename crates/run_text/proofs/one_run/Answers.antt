@@ -1,5 +1,0 @@
-use Rattle.run_text.proofs.Answers.{one_run}
-use Rattle.run_text.proofs.one_run.Goals as goal
-
-pub returns : goal.returns
-returns c = one_run

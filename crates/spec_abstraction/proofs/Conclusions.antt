@@ -1,0 +1,184 @@
+-- What the attacker's clauses conclude: names, constructors, rules of destructors, and messages.
+use Rattle.std.proofs.Common.{◌≡◌, ◌∙◌, ℕ, zero, suc, ◌+◌, true, false, cond, nat_eq, Option, Some, None, List, [], ◌∷◌, ◌++◌, map, length, refl, ap, sym, subst, arith}
+use Rattle.std.specs.Prelude.{flat_map, filter_map, slice_get}
+use Rattle.std.specs.List.{AllByRecursion, enumerate_from, cons_option}
+use Rattle.spec_trees.specs.Tree.{Leaf, bind, node}
+use Rattle.spec_trees.proofs.Rows.{bind-node}
+use Rattle.spec_calculus.specs.Syntax.{Rule, Declared, Destructor, Protocol}
+use Rattle.spec_calculus.specs.Points.{numbered}
+use Rattle.spec_calculus.specs.Matching.{rules_of}
+use Rattle.spec_terms.specs.Term.{Ctor, Attacker, Term, Subst}
+use Rattle.spec_clauses.specs.Fact.{Fact, Att, Mess, Clause, fact_under}
+use Rattle.spec_clauses.specs.Flat.{flat, flat_under}
+use Rattle.spec_clauses.specs.Inclusion.{Picks, here, there, Has}
+use Rattle.spec_clauses.proofs.Lists.{all_first, all_second}
+use Rattle.spec_derivations.specs.Derivation.{AreDerived, nothing, by_clause}
+use Rattle.spec_translation.specs.Conversion.{free_term}
+use Rattle.spec_translation.specs.Attacker.{variables_from, name_known, fresh_known, constructor_applied, rule_applied, message_heard, message_sent, attacker_raw}
+use Rattle.spec_abstraction.specs.Taken.{IsTaken}
+use Rattle.spec_abstraction.proofs.Listed.{beside}
+
+-- an item that a filter_map gives of one of the items
+all_of_some : {X Y : Type 0} (P : Y → Type 0) (h : X → Option Y) (xs : List X) (x : X) (y : Y) → Has xs x → h x ≡ Some y → AllByRecursion P (filter_map h xs) → P y
+all_of_some {X} {Y} P h xs x y has e all = of_pick has.1 e all where
+  headed : (o : Option Y) (ys : List Y) → o ≡ Some y → AllByRecursion P (cons_option o ys) → P y
+  headed None ys e a = cc
+  headed (Some z) ys e a = let same : z ≡ y = cc in subst P same a.0
+
+  behind : (o : Option Y) (ys : List Y) → AllByRecursion P (cons_option o ys) → AllByRecursion P ys
+  behind None ys a = a
+  behind (Some z) ys a = a.1
+
+  of_pick : {zs rest : List X} {x : X} → Picks zs x rest → h x ≡ Some y → AllByRecursion P (filter_map h zs) → P y
+  of_pick (here {x = x} {xs = zs}) e a = headed (h x) (filter_map h zs) e a
+  of_pick (there {y = z} {xs = zs} p) e a = of_pick p e (behind (h z) (filter_map h zs) a)
+
+-- an item at a place, with its number
+has_enumerated : {X : Type 0} (n : ℕ) (xs : List X) (k : ℕ) (x : X) → slice_get xs k ≡ Some x → Has (enumerate_from n xs) (n + k, x)
+has_enumerated n [] k x e = cc
+has_enumerated {X} n (y ∷ ys) zero x e =
+    let same : y ≡ x = cc in
+    let at : n ≡ n + 0 = omega arith in
+    (enumerate_from (n + 1) ys, subst (λ p. Picks ((n, y) ∷ enumerate_from (n + 1) ys) p (enumerate_from (n + 1) ys)) (λ i. (at i, same i)) here)
+has_enumerated n (y ∷ ys) (suc k) x e =
+    let h = has_enumerated (n + 1) ys k x e in
+    let at : n + 1 + k ≡ n + suc k = omega arith in
+    subst (λ m. Has ((n, y) ∷ enumerate_from (n + 1) ys) (m, x)) at ((n, y) ∷ h.0, there h.1)
+
+numbered_enumerated : {X : Type 0} (xs : List X) (n : ℕ) (x : X) → numbered xs n ≡ Some x → Has (enumerate_from 1 xs) (n, x)
+numbered_enumerated xs zero x e = cc
+numbered_enumerated xs (suc k) x e =
+    let at : 1 + k ≡ suc k = omega arith in
+    subst (λ m. Has (enumerate_from 1 xs) (m, x)) at (has_enumerated 1 xs k x e)
+
+all_at : {X : Type 0} (P : X → Type 0) (xs : List X) (k : ℕ) (x : X) → slice_get xs k ≡ Some x → AllByRecursion P xs → P x
+all_at P [] k x e a = cc
+all_at P (y ∷ ys) zero x e a = let same : y ≡ x = cc in subst P same a.0
+all_at P (y ∷ ys) (suc k) x e a = all_at P ys k x e a.1
+
+pub all_numbered : {X : Type 0} (P : X → Type 0) (xs : List X) (n : ℕ) (x : X) → numbered xs n ≡ Some x → AllByRecursion P xs → P x
+all_numbered P xs zero x e a = cc
+all_numbered P xs (suc k) x e a = all_at P xs k x e a
+
+-- what holds of all the rules of all destructors holds of those of one
+all_map : {X Y : Type 0} (P : Y → Type 0) (f : X → Y) (xs : List X) → AllByRecursion P (map f xs) → AllByRecursion (λ x. P (f x)) xs
+all_map P f [] a = tt
+all_map P f (x ∷ xs) a = (a.0, all_map P f xs a.1)
+
+all_rules : (P : Protocol) (Q : Clause Term → Type 0) (ds : List Destructor) → AllByRecursion Q (flat_map (λ d. map (rule_applied P) d.rules) ds) → AllByRecursion (λ d. AllByRecursion (λ rule. Q (rule_applied P rule)) d.rules) ds
+all_rules P Q [] a = tt
+all_rules P Q (d ∷ ds) a = (
+  all_map Q (rule_applied P) d.rules (all_first Q (map (rule_applied P) d.rules) (flat_map (λ e. map (rule_applied P) e.rules) ds) a),
+  all_rules P Q ds (all_second Q (map (rule_applied P) d.rules) (flat_map (λ e. map (rule_applied P) e.rules) ds) a),
+)
+
+-- the attacker's raw clauses, one kind at a time
+pub record AttackerHas (P : Protocol) (all : List (Clause Term)) : Type 0 where
+  pub names : AllByRecursion (IsTaken all) (filter_map name_known (enumerate_from 1 P.frees))
+  pub fresh : IsTaken all fresh_known
+  pub constructors : AllByRecursion (IsTaken all) (filter_map constructor_applied (enumerate_from 1 P.constructors))
+  pub rules : AllByRecursion (λ d. AllByRecursion (λ rule. IsTaken all (rule_applied P rule)) d.rules) P.destructors
+  pub heard : IsTaken all message_heard
+  pub sent : IsTaken all message_sent
+
+pub attacker_has : (P : Protocol) (all : List (Clause Term)) → AllByRecursion (IsTaken all) (attacker_raw P) → AttackerHas P all
+attacker_has P all a =
+    let T = IsTaken all in
+    let names = filter_map name_known (enumerate_from 1 P.frees) in
+    let constructors = filter_map constructor_applied (enumerate_from 1 P.constructors) in
+    let rules = flat_map (λ d. map (rule_applied P) d.rules) P.destructors in
+    let last = message_heard ∷ message_sent ∷ [] in
+    let one = all_second T names (fresh_known ∷ (constructors ++ (rules ++ last))) a in
+    let two = all_second T constructors (rules ++ last) one.1 in
+    let three = all_second T rules last two in
+    record {
+      names = all_first T names (fresh_known ∷ (constructors ++ (rules ++ last))) a;
+      fresh = one.0;
+      constructors = all_first T constructors (rules ++ last) one.1;
+      rules = all_rules P T P.destructors (all_first T rules last two);
+      heard = three.0;
+      sent = three.1.0;
+    }
+
+-- the substitution of a list's terms for the variables from 0
+abbrev pub nth : List Term → Subst
+nth [] x = Leaf x
+nth (t ∷ ts) zero = t
+nth (t ∷ ts) (suc x) = nth ts x
+
+pub nth_fills : (all : List Term) (n : ℕ) (us : List Term) → ((x : ℕ) → nth all (n + x) ≡ nth us x) → map (bind (nth all)) (variables_from n (length us)) ≡ us
+nth_fills all n [] same = refl
+nth_fills all n (u ∷ us) same =
+    let e : n + 0 ≡ n = omega arith in
+    let first : nth all n ≡ u = ap (nth all) (sym e) ∙ same 0 in
+    let others = nth_fills all (n + 1) us (λ x. let f : n + 1 + x ≡ n + suc x = omega arith in ap (nth all) f ∙ same (suc x)) in
+    λ i. first i ∷ others i
+
+-- the flat of `att` of terms under a substitution
+pub known_under : (s : Subst) (us : List Term) → flat_under s (map Att us) ≡ flat_map (λ t. flat (Att t)) (map (bind s) us)
+known_under s [] = refl
+known_under s (u ∷ us) = ap (λ fs. flat (Att (bind s u)) ++ fs) (known_under s us)
+
+module _ (P : Protocol) (all : List (Clause Term)) (events : List (Fact Term)) where
+  -- the facts are derived by raw clauses that are taken
+  abbrev pub Derived : List (Fact Term) → Type 0
+  Derived fs = AreDerived (IsTaken all) events fs
+
+  pub both_derived : (fs gs : List (Fact Term)) → Derived fs → Derived gs → Derived (fs ++ gs)
+  both_derived fs gs a b = beside (IsTaken all) events fs gs a b
+
+  -- all that a taken clause concludes under a substitution of derived hypotheses
+  pub applied : (raw : Clause Term) (s : Subst) → IsTaken all raw → Derived (flat_under s raw.hypotheses) → Derived (flat (fact_under s raw.conclusion))
+  applied raw s taken premises = each (flat (fact_under s raw.conclusion)) (λ g h. h) where
+    each : (gs : List (Fact Term)) → ((g : Fact Term) → Has gs g → Has (flat (fact_under s raw.conclusion)) g) → Derived gs
+    each [] part = nothing
+    each (g ∷ gs) part = by_clause {c = raw} {premises = flat_under s raw.hypotheses} taken (record { by = s; premises_are = refl; concludes = part g (gs, here) }) premises (each gs (λ f h. part f (g ∷ h.0, there h.1)))
+
+  module _ (has : AttackerHas P all) where
+    pub rule_taken : (d r : ℕ) (rule : Rule) → numbered (rules_of P d) r ≡ Some rule → IsTaken all (rule_applied P rule)
+    rule_taken d r rule e = go (numbered P.destructors d) refl e where
+      go : (o : Option Destructor) → numbered P.destructors d ≡ o → numbered (rules_of P d) r ≡ Some rule → IsTaken all (rule_applied P rule)
+      go None f e = let same : numbered (rules_of P d) r ≡ numbered [] r = rw f refl in let none : numbered [] r ≡ Some rule = sym same ∙ e in absurd (no_rule r none)
+        where
+          no_rule : (n : ℕ) → numbered {A = Rule} [] n ≡ Some rule → ⊥
+          no_rule zero h = cc
+          no_rule (suc k) h = cc
+      go (Some destructor) f e =
+          let same : numbered (rules_of P d) r ≡ numbered destructor.rules r = rw f refl in
+          all_numbered (λ rule. IsTaken all (rule_applied P rule)) destructor.rules r rule (sym same ∙ e)
+          (all_numbered (λ d. AllByRecursion (λ rule. IsTaken all (rule_applied P rule)) d.rules) P.destructors d destructor f has.rules)
+
+    -- public names, and names of the attacker
+    pub name_derived : (n : ℕ) (declared : Declared) → numbered P.frees n ≡ Some declared → declared.public ≡ true → Derived (Att (free_term n) ∷ [])
+    name_derived n declared stands public =
+        let is : name_known (n, declared) ≡ Some (record { hypotheses = []; conclusion = Att (free_term n) }) = rw public refl in
+        let taken = all_of_some (IsTaken all) name_known (enumerate_from 1 P.frees) (n, declared) (record { hypotheses = []; conclusion = Att (free_term n) }) (numbered_enumerated P.frees n declared stands) is has.names in
+        applied (record { hypotheses = []; conclusion = Att (free_term n) }) Leaf taken nothing
+
+    pub fresh_derived : (n : ℕ) → Derived (Att (node Attacker (Leaf n ∷ [])) ∷ [])
+    fresh_derived n = applied fresh_known (λ x. Leaf n) has.fresh nothing
+
+    -- a message on a channel that the attacker has, heard and sent
+    abbrev two_terms : Term → Term → Subst
+    two_terms t u x = cond (nat_eq x 0) t u
+
+    pub heard_derived : (t u : Term) → Derived (Mess t u ∷ []) → Derived (flat (Att t)) → Derived (flat (Att u))
+    heard_derived t u message channel =
+        applied message_heard (two_terms t u) has.heard
+        (both_derived (Mess t u ∷ []) (flat (Att t) ++ []) message (both_derived (flat (Att t)) [] channel nothing))
+
+    pub sent_derived : (t u : Term) → Derived (flat (Att t)) → Derived (flat (Att u)) → Derived (Mess t u ∷ [])
+    sent_derived t u channel message =
+        applied message_sent (two_terms t u) has.sent
+        (both_derived (flat (Att t)) (flat (Att u) ++ []) channel (both_derived (flat (Att u)) [] message nothing))
+
+    -- a constructor on terms that the attacker has
+    pub constructor_derived : (f : ℕ) (declared : Declared) (ts : List Term) → numbered P.constructors f ≡ Some declared → declared.public ≡ true → declared.is_data ≡ false → declared.arity ≡ length ts → Derived (flat_map (λ t. flat (Att t)) ts) → Derived (Att (node (Ctor f) ts) ∷ [])
+    constructor_derived f declared ts stands public plain count known =
+        let raw : Clause Term = record { hypotheses = map Att (variables_from 0 declared.arity); conclusion = Att (node (Ctor f) (variables_from 0 declared.arity)) } in
+        let is : constructor_applied (f, declared) ≡ Some raw = rw public (rw plain refl) in
+        let taken = all_of_some (IsTaken all) constructor_applied (enumerate_from 1 P.constructors) (f, declared) raw (numbered_enumerated P.constructors f declared stands) is has.constructors in
+        let terms : map (bind (nth ts)) (variables_from 0 declared.arity) ≡ ts = ap (λ n. map (bind (nth ts)) (variables_from 0 n)) count ∙ nth_fills ts 0 ts (λ x. ap (nth ts) (let e : 0 + x ≡ x = omega arith in e)) in
+        let hypotheses : flat_under (nth ts) (map Att (variables_from 0 declared.arity)) ≡ flat_map (λ t. flat (Att t)) ts = known_under (nth ts) (variables_from 0 declared.arity) ∙ ap (flat_map (λ t. flat (Att t))) terms in
+        let conclusion : bind (nth ts) (node (Ctor f) (variables_from 0 declared.arity)) ≡ node (Ctor f) ts = bind-node (nth ts) (Ctor f) (variables_from 0 declared.arity) ∙ ap (node (Ctor f)) terms in
+        subst (λ t. Derived (flat (Att t))) conclusion (applied raw (nth ts) taken (subst Derived (sym hypotheses) known))

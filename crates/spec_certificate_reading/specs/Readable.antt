@@ -1,0 +1,49 @@
+-- What may stand in a certificate's text: terms at most 4,096 levels deep, `bad` as a conclusion and `mev` as a hypothesis alone, rows
+-- with a number, and at most 1,000,000 clauses.
+use Rattle.std.specs.Prelude.{ℕ, ◌≤◌, List, [], ◌∷◌, length}
+use Rattle.std.specs.List.{AllByRecursion}
+use Rattle.spec_trees.specs.Tree.{depth}
+use Rattle.spec_calculus.specs.Bounds.{most_clauses}
+use Rattle.spec_calculus.specs.Syntax.{Protocol}
+use Rattle.spec_terms.specs.Term.{Term}
+use Rattle.spec_clauses.specs.Fact.{Fact, Att, Mess, Ev, Mev, Bad, Clause}
+use Rattle.spec_certificates.specs.Certificate.{Certificate}
+use Rattle.spec_certificate_text.specs.OfProtocol.{IsShort, IsEvent, IsTermOf}
+
+-- a term of the protocol that isn't too deep
+abbrev pub MayStand : Protocol → Term → Type 0
+MayStand P t = IsTermOf P t × (depth t ≤ 4096)
+
+abbrev pub IsHypothesisOf : Protocol → Fact Term → Type 0
+IsHypothesisOf P (Att t) = MayStand P t
+IsHypothesisOf P (Mess t u) = MayStand P t × MayStand P u
+IsHypothesisOf P (Ev event arguments) = IsEvent P event (length arguments) × AllByRecursion (MayStand P) arguments
+IsHypothesisOf P (Mev event arguments) = IsEvent P event (length arguments) × AllByRecursion (MayStand P) arguments
+IsHypothesisOf P (Bad arguments) = ⊥
+
+abbrev pub IsConclusionOf : Protocol → Fact Term → Type 0
+IsConclusionOf P (Att t) = MayStand P t
+IsConclusionOf P (Mess t u) = MayStand P t × MayStand P u
+IsConclusionOf P (Ev event arguments) = IsEvent P event (length arguments) × AllByRecursion (MayStand P) arguments
+IsConclusionOf P (Mev event arguments) = ⊥
+IsConclusionOf P (Bad arguments) = AllByRecursion (MayStand P) arguments
+
+-- a clause that may stand in a text
+pub record IsReadable (P : Protocol) (c : Clause Term) : Type 0 where
+  pub hypotheses : AllByRecursion (IsHypothesisOf P) c.hypotheses
+  pub conclusion : IsConclusionOf P c.conclusion
+
+-- a row of numbers, of which there is one at least, of at most 9 digits
+abbrev pub IsRow : List ℕ → Type 0
+IsRow [] = ⊥
+IsRow (n ∷ ns) = IsShort n × AllByRecursion IsShort ns
+
+-- a certificate of at most so many clauses that may stand in a text
+pub record IsReadableWithin (most : ℕ) (P : Protocol) (c : Certificate) : Type 0 where
+  pub clauses : AllByRecursion (IsReadable P) c.clauses
+  pub few : length c.clauses ≤ most
+  pub rows : AllByRecursion IsRow c.rows
+  pub goals : AllByRecursion IsRow c.goals
+
+abbrev pub IsReadableCertificate : Protocol → Certificate → Type 0
+IsReadableCertificate P c = IsReadableWithin most_clauses P c

@@ -1,0 +1,81 @@
+-- What is of a protocol: each number in it is there, and each symbol has its number of arguments.
+use Rattle.std.specs.Prelude.{◌≡◌, ℕ, ◌<◌, ◌≤◌, ◌^◌, Bool, true, false, Some, List, length}
+use Rattle.std.specs.List.{AllByRecursion}
+use Rattle.spec_trees.specs.Tree.{Trees, Leaf, Node, none, more, trees, items_of}
+use Rattle.spec_calculus.specs.Bounds.{most_digits, most_arguments}
+use Rattle.spec_calculus.specs.Syntax.{Declared, Process, New, Protocol}
+use Rattle.spec_calculus.specs.Points.{numbered, nodes, name_arguments}
+use Rattle.spec_terms.specs.Term.{Sym, Ctor, Data, Tuple, Free, Point, Attacker, Term}
+use Rattle.spec_clauses.specs.Fact.{Fact, Att, Mess, Ev, Mev, Bad, Clause}
+use Rattle.spec_well_formed.specs.Words.{HasDistinctWords}
+use Rattle.spec_protocol_scope.specs.Words.{HasWords}
+use Rattle.spec_certificates.specs.Certificate.{Certificate}
+
+-- a declaration of that number is there
+pub record IsDeclared (declarations : List Declared) (number : ℕ) : Type 0 where
+  pub declared : Declared
+  pub there : numbered declarations number ≡ Some declared
+
+-- so is one of that number of arguments, a data constructor or none
+pub record IsConstructor (P : Protocol) (is_data : Bool) (number arguments : ℕ) : Type 0 where
+  pub declared : Declared
+  pub there : numbered P.constructors number ≡ Some declared
+  pub data_is : declared.is_data ≡ is_data
+  pub arity : declared.arity ≡ arguments
+
+pub record IsEvent (P : Protocol) (number arguments : ℕ) : Type 0 where
+  pub declared : Declared
+  pub there : numbered P.events number ≡ Some declared
+  pub arity : declared.arity ≡ arguments
+
+-- a restriction stands at the point, and its names have so many arguments
+pub record IsRestriction (P : Protocol) (point arguments : ℕ) : Type 0 where
+  pub word : List ℕ
+  pub next : Process
+  pub there : numbered (nodes P.main) point ≡ Some (New word next)
+  pub arity : numbered (name_arguments 0 P.main) point ≡ Some arguments
+
+-- a number of at most 9 digits
+abbrev pub IsShort : ℕ → Type 0
+IsShort n = n < 10 ^ most_digits
+
+-- the symbol is one of the protocol's, and has so many arguments
+abbrev pub IsSymbolOf : Protocol → Sym → ℕ → Type 0
+IsSymbolOf P (Ctor f) n = IsConstructor P false f n
+IsSymbolOf P (Data f) n = IsConstructor P true f n
+IsSymbolOf P (Tuple parts) n = (parts ≡ n) × (2 ≤ n) × (n ≤ most_arguments)
+IsSymbolOf P (Free name) n = IsDeclared P.frees name × (n ≡ 0)
+IsSymbolOf P (Point point) n = IsRestriction P point n × IsShort point
+IsSymbolOf P Attacker n = n ≡ 1
+
+abbrev mutual
+  pub IsTermOf : Protocol → Term → Type 0
+  IsTermOf P (Leaf x) = IsShort x
+  IsTermOf P (Node f arguments) = IsSymbolOf P f (length (items_of arguments)) × AreTermsOf P arguments
+
+  pub AreTermsOf : Protocol → Trees ℕ Sym → Type 0
+  AreTermsOf P none = Unit {0}
+  AreTermsOf P (more t ts) = IsTermOf P t × AreTermsOf P ts
+
+abbrev pub IsFactOf : Protocol → Fact Term → Type 0
+IsFactOf P (Att t) = IsTermOf P t
+IsFactOf P (Mess t u) = IsTermOf P t × IsTermOf P u
+IsFactOf P (Ev event arguments) = IsEvent P event (length arguments) × AreTermsOf P (trees arguments)
+IsFactOf P (Mev event arguments) = IsEvent P event (length arguments) × AreTermsOf P (trees arguments)
+IsFactOf P (Bad arguments) = AreTermsOf P (trees arguments)
+
+pub record IsClauseOf (P : Protocol) (c : Clause Term) : Type 0 where
+  pub hypotheses : AllByRecursion (IsFactOf P) c.hypotheses
+  pub conclusion : IsFactOf P c.conclusion
+
+-- its clauses are of the protocol, and its numbers have at most 9 digits
+pub record IsCertificateOf (P : Protocol) (cert : Certificate) : Type 0 where
+  pub clauses : AllByRecursion (IsClauseOf P) cert.clauses
+  pub rows : AllByRecursion (AllByRecursion IsShort) cert.rows
+  pub goals : AllByRecursion (AllByRecursion IsShort) cert.goals
+
+-- what the words of every protocol that bytes spell are: identifiers, none of a free name or a constructor as a variable's, and no two
+-- declared names have one
+pub record HasNames (P : Protocol) : Type 0 where
+  pub words : HasWords P
+  pub distinct : HasDistinctWords P

@@ -1,0 +1,49 @@
+-- The texts of terms, facts, clauses and certificates, each with what follows it.
+use Rattle.std.specs.Prelude.{ℕ, List, [], ◌∷◌, ◌++◌, codes}
+use Rattle.std.specs.Fmt.{decimal}
+use Rattle.spec_calculus.specs.Syntax.{Protocol}
+use Rattle.spec_terms.specs.Term.{Term}
+use Rattle.spec_clauses.specs.Fact.{Fact, Clause}
+use Rattle.spec_certificates.specs.Certificate.{Certificate}
+use Rattle.spec_certificate_text.specs.Loose.{onto}
+use Rattle.spec_certificate_text.specs.Written.{written, written_fact}
+
+abbrev pub term_text : Protocol → Term → List ℕ → List ℕ
+term_text P t rest = onto (written P t) rest
+
+abbrev pub fact_text : Protocol → Fact Term → List ℕ → List ℕ
+fact_text P f rest = onto (written_fact P f) rest
+
+-- hypotheses behind the first, a comma and a space before each, and a space behind the last
+abbrev pub later_hypotheses : Protocol → List (Fact Term) → List ℕ → List ℕ
+later_hypotheses P [] rest = 32 ∷ rest
+later_hypotheses P (h ∷ hs) rest = 44 ∷ 32 ∷ fact_text P h (later_hypotheses P hs rest)
+
+-- hypotheses; of none, nothing
+abbrev pub hypotheses_text : Protocol → List (Fact Term) → List ℕ → List ℕ
+hypotheses_text P [] rest = rest
+hypotheses_text P (h ∷ hs) rest = fact_text P h (later_hypotheses P hs rest)
+
+-- a clause: its hypotheses, `=> `, and its conclusion
+abbrev pub clause_text : Protocol → Clause Term → List ℕ → List ℕ
+clause_text P c rest = hypotheses_text P c.hypotheses (61 ∷ 62 ∷ 32 ∷ fact_text P c.conclusion rest)
+
+-- `c ` and a clause on a line of its own, for each clause
+abbrev pub clause_lines : Protocol → List (Clause Term) → List ℕ → List ℕ
+clause_lines P [] rest = rest
+clause_lines P (c ∷ cs) rest = 99 ∷ 32 ∷ clause_text P c (10 ∷ clause_lines P cs rest)
+
+-- numbers in decimal digits, a space before each
+abbrev pub numbers_text : List ℕ → List ℕ → List ℕ
+numbers_text [] rest = rest
+numbers_text (n ∷ ns) rest = 32 ∷ (decimal n ++ numbers_text ns rest)
+
+-- a letter and numbers on a line of its own, for each row of numbers
+abbrev pub row_lines : ℕ → List (List ℕ) → List ℕ → List ℕ
+row_lines letter [] rest = rest
+row_lines letter (ns ∷ rows) rest = letter ∷ numbers_text ns (10 ∷ row_lines letter rows rest)
+
+-- a certificate: its first line, its clauses, its cover rows behind `r`, its goal rows behind `g`, and its last line
+abbrev pub certificate_text : Protocol → Certificate → List ℕ → List ℕ
+certificate_text P cert rest =
+    codes "cert 1\n" ++ clause_lines P cert.clauses (row_lines 114 cert.rows (row_lines 103 cert.goals (codes "end\n" ++ rest)))

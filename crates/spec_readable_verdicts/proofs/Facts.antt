@@ -1,0 +1,120 @@
+-- Facts and clauses over a protocol: each symbol and each event is one of the protocol's, with its number of arguments. So it stays under
+-- substitutions, in flat parts and in norms.
+use Rattle.std.proofs.Common.{◌≡◌, ℕ, true, false, cond, List, [], ◌∷◌, map, length, refl, sym, subst, arith}
+use Rattle.std.specs.Prelude.{flat_map}
+use Rattle.std.specs.List.{AllByRecursion}
+use Rattle.std.proofs.lemmas.List.{length-map}
+use Rattle.spec_trees.specs.Tree.{Trees, Leaf, Node, none, more, trees, node, bind}
+use Rattle.spec_well_formed.specs.Terms.{row_length, EachSymbol, EachSymbolInRow}
+use Rattle.spec_calculus.specs.Syntax.{Protocol}
+use Rattle.spec_terms.specs.Term.{Sym, Term, Subst}
+use Rattle.spec_clauses.specs.Fact.{Fact, Att, Mess, Ev, Mev, Bad, Clause, terms_of, fact_under, clause_under}
+use Rattle.spec_clauses.specs.Flat.{is_data, parts, row_parts, flat, flat_parts}
+use Rattle.spec_clauses.specs.Variables.{clause_variables}
+use Rattle.spec_clauses.specs.Norm.{norms, numbering}
+use Rattle.spec_clauses.specs.Inclusion.{Has}
+use Rattle.spec_clauses.proofs.Inclusion.{Has-within, Has-map_source}
+use Rattle.spec_clauses.proofs.Lists.{all_append, all-flat_map, all_weaker}
+use Rattle.spec_clauses.proofs.Norm.{simplified, norm_made}
+use Rattle.spec_clauses.proofs.NormKeeps.{few, few-within, generalized_or}
+use Rattle.spec_clauses.proofs.NormAnswers.{norms-source}
+use Rattle.spec_translation.proofs.Goal.{all_at, all_of_each}
+use Rattle.spec_certificate_text.specs.OfProtocol.{IsEvent, IsSymbolOf}
+use Rattle.spec_readable_verdicts.proofs.Over.{bind-over}
+
+-- a term over the protocol's symbols
+abbrev pub IsTermOver : Protocol → Term → Type 0
+IsTermOver P t = EachSymbol (IsSymbolOf P) t
+
+abbrev pub AreTermsOver : Protocol → List Term → Type 0
+AreTermsOver P ts = AllByRecursion (IsTermOver P) ts
+
+-- the event of a fact is one of the protocol's, with as many arguments
+abbrev pub HasEventOf : Protocol → Fact Term → Type 0
+HasEventOf P (Ev event ts) = IsEvent P event (length ts)
+HasEventOf P (Mev event ts) = IsEvent P event (length ts)
+HasEventOf P _ = Unit {0}
+
+pub record IsFactOver (P : Protocol) (f : Fact Term) : Type 0 where
+  pub event : HasEventOf P f
+  pub terms : AreTermsOver P (terms_of f)
+
+pub record IsClauseOver (P : Protocol) (c : Clause Term) : Type 0 where
+  pub hypotheses : AllByRecursion (IsFactOver P) c.hypotheses
+  pub conclusion : IsFactOver P c.conclusion
+
+row_length-trees : (ts : List Term) → row_length (trees ts) ≡ length ts
+row_length-trees [] = refl
+row_length-trees (t ∷ ts) = omega (arith, row_length-trees ts)
+
+in_row : (P : Protocol) (ts : List Term) → AreTermsOver P ts → EachSymbolInRow (IsSymbolOf P) (trees ts)
+in_row P [] h = tt
+in_row P (t ∷ ts) h = (h.0, in_row P ts h.1)
+
+-- a symbol of the protocol over as many terms over it
+pub node_over : (P : Protocol) (f : Sym) (ts : List Term) → IsSymbolOf P f (length ts) → AreTermsOver P ts → IsTermOver P (node f ts)
+node_over P f ts is h = (subst (IsSymbolOf P f) (sym (row_length-trees ts)) is, in_row P ts h)
+
+module _ (P : Protocol) where
+  -- under a substitution
+  pub terms_over-under : (s : Subst) → ((x : ℕ) → IsTermOver P (s x)) → (ts : List Term) → AreTermsOver P ts → AreTermsOver P (map (bind s) ts)
+  terms_over-under s each [] h = tt
+  terms_over-under s each (t ∷ ts) h = (bind-over (IsSymbolOf P) s each t h.0, terms_over-under s each ts h.1)
+
+  pub fact_over-under : (s : Subst) → ((x : ℕ) → IsTermOver P (s x)) → (f : Fact Term) → IsFactOver P f → IsFactOver P (fact_under s f)
+  fact_over-under s each (Att t) h = record { event = tt; terms = terms_over-under s each (t ∷ []) h.terms }
+  fact_over-under s each (Mess t u) h = record { event = tt; terms = terms_over-under s each (t ∷ u ∷ []) h.terms }
+  fact_over-under s each (Ev event ts) h = record { event = subst (IsEvent P event) (sym (length-map ts (bind s))) h.event; terms = terms_over-under s each ts h.terms }
+  fact_over-under s each (Mev event ts) h = record { event = subst (IsEvent P event) (sym (length-map ts (bind s))) h.event; terms = terms_over-under s each ts h.terms }
+  fact_over-under s each (Bad ts) h = record { event = tt; terms = terms_over-under s each ts h.terms }
+
+  pub facts_over-under : (s : Subst) → ((x : ℕ) → IsTermOver P (s x)) → (fs : List (Fact Term)) → AllByRecursion (IsFactOver P) fs → AllByRecursion (IsFactOver P) (map (fact_under s) fs)
+  facts_over-under s each [] h = tt
+  facts_over-under s each (f ∷ fs) h = (fact_over-under s each f h.0, facts_over-under s each fs h.1)
+
+  pub clause_over-under : (s : Subst) → ((x : ℕ) → IsTermOver P (s x)) → (c : Clause Term) → IsClauseOver P c → IsClauseOver P (clause_under s c)
+  clause_over-under s each c h = record { hypotheses = facts_over-under s each c.hypotheses h.hypotheses; conclusion = fact_over-under s each c.conclusion h.conclusion }
+
+  -- flat parts
+  mutual
+    parts_over : (t : Term) → IsTermOver P t → AreTermsOver P (parts t)
+    parts_over (Leaf x) h = (tt, tt)
+    parts_over (Node f args) h =
+        let row = row_parts_over args h.1 in
+        elim (is_data f) as (λ b. AreTermsOver P (cond b (row_parts args) (Node f args ∷ []))) [ true ↦ row | false ↦ (h, tt) ]
+
+    row_parts_over : (ts : Trees ℕ Sym) → EachSymbolInRow (IsSymbolOf P) ts → AreTermsOver P (row_parts ts)
+    row_parts_over none h = tt
+    row_parts_over (more t ts) h = all_append (IsTermOver P) (parts t) (row_parts ts) (parts_over t h.0) (row_parts_over ts h.1)
+
+  pub known_over : (ts : List Term) → AreTermsOver P ts → AllByRecursion (IsFactOver P) (map Att ts)
+  known_over [] h = tt
+  known_over (t ∷ ts) h = (record { event = tt; terms = (h.0, tt) }, known_over ts h.1)
+
+  flat_over : (f : Fact Term) → IsFactOver P f → AllByRecursion (IsFactOver P) (flat f)
+  flat_over (Att t) h = known_over (parts t) (parts_over t h.terms.0)
+  flat_over (Mess t u) h = (h, tt)
+  flat_over (Ev event ts) h = (h, tt)
+  flat_over (Mev event ts) h = (h, tt)
+  flat_over (Bad ts) h = (h, tt)
+
+  part_over : (c part : Clause Term) → IsClauseOver P c → Has (flat_parts c) part → IsClauseOver P part
+  part_over c part h listed =
+      let (f, there, same) = Has-map_source (λ f. record { hypotheses = flat_map flat c.hypotheses; conclusion = f }) (flat c.conclusion) part listed in
+      subst (IsClauseOver P) (sym same) (record {
+        hypotheses = all-flat_map (IsFactOver P) flat c.hypotheses (all_weaker (IsFactOver P) (λ g. AllByRecursion (IsFactOver P) (flat g)) flat_over c.hypotheses h.hypotheses);
+        conclusion = all_at (IsFactOver P) there.1 (flat_over c.conclusion h.conclusion);
+      })
+
+  -- norms
+  simplified_over : (c : Clause Term) → IsClauseOver P c → IsClauseOver P (simplified c)
+  simplified_over c h = generalized_or (few c) (IsClauseOver P) (λ x e. record { hypotheses = tt; conclusion = record { event = tt; terms = (tt, tt) } }) (record {
+    hypotheses = all_of_each (IsFactOver P) (few c).hypotheses (λ f there. all_at (IsFactOver P) (Has-within (few c).hypotheses c.hypotheses f (few-within c) there).1 h.hypotheses);
+    conclusion = h.conclusion;
+  })
+
+  pub norms_over : (c d : Clause Term) → IsClauseOver P c → Has (norms c) d → IsClauseOver P d
+  norms_over c d h listed =
+      let (part, there, is) = norms-source c d listed in
+      let plain = simplified part in
+      subst (IsClauseOver P) (sym (norm_made part d is).1) (clause_over-under (numbering (clause_variables plain)) (λ x. tt) plain (simplified_over part (part_over c part h there)))

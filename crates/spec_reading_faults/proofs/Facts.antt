@@ -1,0 +1,252 @@
+-- Facts: a fault of syntax, and what is found, is told by the bytes up to the place.
+use Rattle.std.proofs.Common.{◌≡◌, ℕ, ◌+◌, ◌==◌, if◌then◌else◌, Bool, true, false, List, [], ◌∷◌, length, drop, Option, Some, None, codes, refl}
+use Rattle.spec_calculus.specs.Syntax.{Protocol}
+use Rattle.spec_protocol_tokens.specs.Bytes.{begins_word, is_in_word}
+use Rattle.spec_terms.specs.Term.{Term}
+use Rattle.spec_clauses.specs.Fact.{Fact, Att, Mess, Ev, Mev, Bad}
+use Rattle.spec_certificate_reading.specs.Names.{CalledEvent, event_called}
+use Rattle.spec_certificate_reading.specs.Terms.{Syntax, Symbol, Arity}
+use Rattle.spec_certificate_reading.specs.Outcomes.{Outcome, Found, Faulty, next, front, read_fixed, Reader}
+use Rattle.spec_certificate_reading.specs.Facts.{one_term, argument, read_terms, Performed, performed, event_named, read_event, read_att, read_mess, read_ev, bad_arguments, read_bad, read_mev_or_mess, read_hypothesis, read_conclusion}
+use Rattle.spec_reading_faults.proofs.Shared.{IsLocal, Moves, next_local, moves_second, choice_local, choice_moves, found_local, skip_local, skip_moves, never_local, other_local}
+use Rattle.spec_reading_faults.proofs.Terms.{term_local}
+use Rattle.spec_reading_faults.proofs.Parts.{same_local, either_local, fixed_local, run, run_local, things_local}
+
+-- fixed bytes, and then the thing is there
+closed_by : {A : Type 0} → List ℕ → A → Reader A
+closed_by ws x bytes at = next (read_fixed ws bytes at) (λ _ p r. Found x p r)
+
+closed_by-local : {A : Type 0} (ws : List ℕ) (x : A) → IsLocal (closed_by ws x)
+unfolding closed_by
+closed_by-local ws x = next_local (read_fixed ws) (λ at u k p. Found x p k) (fixed_local ws) (λ at u. found_local x)
+
+-- one byte is passed over
+skipping : {A : Type 0} → A → Reader A
+skipping x bytes at = Found x (at + 1) (drop 1 bytes)
+
+skipping_local : {A : Type 0} (x : A) → IsLocal (skipping x)
+unfolding skipping
+skipping_local x = skip_local x
+
+skipping_moves : {A : Type 0} (x : A) → Moves (skipping x)
+unfolding skipping
+skipping_moves x bytes at place y rest e = skip_moves x bytes at place y rest e
+
+no_thing : {A : Type 0} → Reader A
+no_thing bytes at = Faulty at Syntax
+
+no_thing-local : {A : Type 0} → IsLocal {A = A} no_thing
+unfolding no_thing
+no_thing-local = never_local
+
+no_thing-moves : {A : Type 0} → Moves {A = A} no_thing
+unfolding no_thing
+no_thing-moves {A} bytes at place y rest e = absurd (cc)
+
+-- `,` where another follows, or `)`
+behind_argument : Term → Reader (Term × Bool)
+behind_argument t bytes at = if front bytes == 44 then skipping (t, true) bytes at else (if front bytes == 41 then skipping (t, false) bytes at else no_thing bytes at)
+
+behind_argument-local : (t : Term) → IsLocal (behind_argument t)
+unfolding behind_argument
+behind_argument-local t =
+    choice_local (λ b. b == 44) (skipping (t, true)) (λ bytes at. if front bytes == 41 then skipping (t, false) bytes at else no_thing bytes at) (skipping_local (t, true))
+    (choice_local (λ b. b == 41) (skipping (t, false)) no_thing (skipping_local (t, false)) no_thing-local)
+
+behind_argument-moves : (t : Term) → Moves (behind_argument t)
+unfolding behind_argument
+behind_argument-moves t =
+    choice_moves (λ b. b == 44) (skipping (t, true)) (λ bytes at. if front bytes == 41 then skipping (t, false) bytes at else no_thing bytes at) (skipping_moves (t, true))
+    (choice_moves (λ b. b == 41) (skipping (t, false)) no_thing (skipping_moves (t, false)) no_thing-moves)
+
+argument_local : (P : Protocol) → IsLocal (argument P)
+unfolding behind_argument skipping no_thing
+argument_local P = next_local (one_term P) (λ at t. behind_argument t) (term_local P) (λ at t. behind_argument-local t)
+
+argument_moves : (P : Protocol) → Moves (argument P)
+unfolding behind_argument skipping no_thing
+argument_moves P = moves_second (one_term P) (λ at t. behind_argument t) (term_local P) (λ at t. behind_argument-moves t)
+
+terms_local : (P : Protocol) → IsLocal (read_terms P)
+terms_local P = things_local (argument P) (argument_local P) (argument_moves P)
+
+-- Events.
+
+of_arity : ℕ → CalledEvent → List Term → Reader Performed
+of_arity from called ts bytes at = performed from called ts at bytes
+
+of_arity-local : (from : ℕ) (called : CalledEvent) (ts : List Term) → IsLocal (of_arity from called ts)
+unfolding of_arity
+of_arity-local from called ts =
+    let whole : Performed = record { event = called.number; arguments = ts } in
+    either_local (length ts == called.arity) (λ bytes at. Found whole at bytes) (λ bytes at. Faulty from Arity) (found_local whole) (other_local from Arity (λ e. cc))
+
+none : Unit {0}
+none = tt
+
+with_arguments : Protocol → ℕ → CalledEvent → Reader Performed
+with_arguments P from called bytes at = next (skipping none bytes at) (λ u p k. next (read_terms P k p) (λ ts q r. of_arity from called ts r q))
+
+with_arguments-local : (P : Protocol) (from : ℕ) (called : CalledEvent) → IsLocal (with_arguments P from called)
+unfolding with_arguments
+with_arguments-local P from called =
+    next_local (skipping none) (λ at u bytes p. next (read_terms P bytes p) (λ ts q r. of_arity from called ts r q)) (skipping_local none)
+    (λ at u. next_local (read_terms P) (λ at ts. of_arity from called ts) (terms_local P) (λ at ts. of_arity-local from called ts))
+
+of_called : Protocol → ℕ → Option CalledEvent → Reader Performed
+of_called P from found bytes at = event_named P found from at bytes
+
+of_called-local : (P : Protocol) (from : ℕ) (found : Option CalledEvent) → IsLocal (of_called P from found)
+unfolding of_called with_arguments skipping of_arity
+of_called-local P from None = other_local from Symbol (λ e. cc)
+of_called-local P from (Some called) = choice_local (λ b. b == 40) (with_arguments P from called) (of_arity from called []) (with_arguments-local P from called) (of_arity-local from called [])
+
+of_word : Protocol → Reader Performed
+of_word P bytes at = next (run is_in_word bytes at) (λ w p k. of_called P at (event_called P w) k p)
+
+of_word-local : (P : Protocol) → IsLocal (of_word P)
+unfolding of_word
+of_word-local P = next_local (run is_in_word) (λ at w. of_called P at (event_called P w)) (run_local is_in_word) (λ at w. of_called-local P at (event_called P w))
+
+word_or : Protocol → Reader Performed
+word_or P bytes at = if begins_word (front bytes) then of_word P bytes at else no_thing bytes at
+
+event_as : (P : Protocol) (bytes : List ℕ) (at : ℕ) → read_event P bytes at ≡ word_or P bytes at
+unfolding word_or of_word of_called no_thing run
+event_as P bytes at = refl
+
+event_local : (P : Protocol) → IsLocal (read_event P)
+unfolding word_or
+event_local P = same_local (read_event P) (word_or P) (event_as P) (choice_local begins_word (of_word P) no_thing (of_word-local P) no_thing-local)
+
+-- Facts of each kind.
+
+-- fixed bytes, and then what the other reader reads
+pub behind_fixed : {A : Type 0} (ws : List ℕ) (r : Reader A) → IsLocal r → IsLocal (λ bytes at. next (read_fixed ws bytes at) (λ _ p k. r k p))
+behind_fixed ws r local = next_local (read_fixed ws) (λ at u. r) (fixed_local ws) (λ at u. local)
+
+pub closing_local : {A : Type 0} (ws : List ℕ) (x : A) → IsLocal (λ bytes at. next (read_fixed ws bytes at) (λ _ p k. Found x p k))
+closing_local ws x = behind_fixed ws (λ bytes at. Found x at bytes) (found_local x)
+
+att_term : Protocol → Reader (Fact Term)
+att_term P bytes at = next (one_term P bytes at) (λ t p r. next (read_fixed (codes ")") r p) (λ _ p r. Found (Att t) p r))
+
+att_local : (P : Protocol) → IsLocal (read_att P)
+unfolding att_term
+att_local P = behind_fixed (codes "att(") (att_term P) (next_local (one_term P) (λ at t bytes p. next (read_fixed (codes ")") bytes p) (λ _ p r. Found (Att t) p r)) (term_local P) (λ at t. closing_local (codes ")") (Att t)))
+
+second_term : Protocol → Term → Reader (Fact Term)
+second_term P t bytes at = next (one_term P bytes at) (λ u p r. next (read_fixed (codes ")") r p) (λ _ p r. Found (Mess t u) p r))
+
+second_term-local : (P : Protocol) (t : Term) → IsLocal (second_term P t)
+unfolding second_term
+second_term-local P t = next_local (one_term P) (λ at u bytes p. next (read_fixed (codes ")") bytes p) (λ _ p r. Found (Mess t u) p r)) (term_local P) (λ at u. closing_local (codes ")") (Mess t u))
+
+first_term : Protocol → Reader (Fact Term)
+first_term P bytes at = next (one_term P bytes at) (λ t p r. next (read_fixed (codes ",") r p) (λ _ p r. second_term P t r p))
+
+first_term-local : (P : Protocol) → IsLocal (first_term P)
+unfolding first_term
+first_term-local P = next_local (one_term P) (λ at t bytes p. next (read_fixed (codes ",") bytes p) (λ _ p r. second_term P t r p)) (term_local P) (λ at t. behind_fixed (codes ",") (second_term P t) (second_term-local P t))
+
+mess_local : (P : Protocol) → IsLocal (read_mess P)
+unfolding first_term second_term
+mess_local P = behind_fixed (codes "mess(") (first_term P) (first_term-local P)
+
+ev_event : Protocol → Reader (Fact Term)
+ev_event P bytes at = next (read_event P bytes at) (λ e p r. next (read_fixed (codes ")") r p) (λ _ p r. Found (Ev e.event e.arguments) p r))
+
+ev_event-local : (P : Protocol) → IsLocal (ev_event P)
+unfolding ev_event
+ev_event-local P = next_local (read_event P) (λ at e bytes p. next (read_fixed (codes ")") bytes p) (λ _ p r. Found (Ev e.event e.arguments) p r)) (event_local P) (λ at e. closing_local (codes ")") (Ev e.event e.arguments))
+
+ev_local : (P : Protocol) → IsLocal (read_ev P)
+unfolding ev_event
+ev_local P = behind_fixed (codes "ev(") (ev_event P) (ev_event-local P)
+
+mev_event : Protocol → Reader (Fact Term)
+mev_event P bytes at = next (read_event P bytes at) (λ e p r. next (read_fixed (codes ")") r p) (λ _ p r. Found (Mev e.event e.arguments) p r))
+
+mev_event-local : (P : Protocol) → IsLocal (mev_event P)
+unfolding mev_event
+mev_event-local P = next_local (read_event P) (λ at e bytes p. next (read_fixed (codes ")") bytes p) (λ _ p r. Found (Mev e.event e.arguments) p r)) (event_local P) (λ at e. closing_local (codes ")") (Mev e.event e.arguments))
+
+bad_arguments-local : (P : Protocol) → IsLocal (bad_arguments P)
+unfolding skipping
+bad_arguments-local P = choice_local (λ b. b == 41) (skipping []) (read_terms P) (skipping_local []) (terms_local P)
+
+bad_local : (P : Protocol) → IsLocal (read_bad P)
+bad_local P =
+    behind_fixed (codes "bad(") (λ bytes at. next (bad_arguments P bytes at) (λ ts p r. Found (Bad ts) p r))
+    (next_local (bad_arguments P) (λ at ts bytes p. Found (Bad ts) p bytes) (bad_arguments-local P) (λ at ts. found_local (Bad ts)))
+
+-- `mev` and `mess` begin with the same two bytes, and the third tells them apart.
+
+third : Protocol → Reader (Fact Term)
+third P bytes at =
+    if front bytes == 118 then next (read_fixed (codes "v(") bytes at) (λ _ p k. mev_event P k p)
+    else next (read_fixed (codes "ss(") bytes at) (λ _ p k. first_term P k p)
+
+third_local : (P : Protocol) → IsLocal (third P)
+unfolding third
+third_local P =
+    choice_local (λ b. b == 118) (λ bytes at. next (read_fixed (codes "v(") bytes at) (λ _ p k. mev_event P k p)) (λ bytes at. next (read_fixed (codes "ss(") bytes at) (λ _ p k. first_term P k p))
+    (behind_fixed (codes "v(") (mev_event P) (mev_event-local P)) (behind_fixed (codes "ss(") (first_term P) (first_term-local P))
+
+behind_me : Protocol → Reader (Fact Term)
+behind_me P bytes at = next (read_fixed (codes "me") bytes at) (λ _ p k. third P k p)
+
+one_way : {A : Type 0} (t : Bool) (o : Outcome A) → (if t then o else o) ≡ o
+one_way true o = refl
+one_way false o = refl
+
+me_as : (P : Protocol) (bytes : List ℕ) (at : ℕ) → read_mev_or_mess P bytes at ≡ behind_me P bytes at
+unfolding behind_me third mev_event first_term second_term read_fixed
+me_as P [] at = refl
+me_as P (b ∷ []) at = by (b == 109)
+  where
+    by : (t : Bool) → next {A = Unit {0}} {B = Fact Term} (if t then Faulty (at + 1) Syntax else Faulty at Syntax) (λ _ p r. first_term P r p) ≡ next {A = Unit {0}} {B = Fact Term} (if t then Faulty (at + 1) Syntax else Faulty at Syntax) (λ _ p k. third P k p)
+    by true = refl
+    by false = refl
+me_as P (b ∷ c ∷ bytes) at = by (b == 109) (c == 101)
+  where
+    by : (t u : Bool) → (if front bytes == 118 then next (if t then (if u then read_fixed (codes "v(") bytes (at + 1 + 1) else Faulty (at + 1) Syntax) else Faulty at Syntax) (λ _ p k. mev_event P k p)
+        else next (if t then (if u then read_fixed (codes "ss(") bytes (at + 1 + 1) else Faulty (at + 1) Syntax) else Faulty at Syntax) (λ _ p k. first_term P k p))
+        ≡ next {A = Unit {0}} {B = Fact Term} (if t then (if u then Found tt (at + 1 + 1) bytes else Faulty (at + 1) Syntax) else Faulty at Syntax) (λ _ p k. third P k p)
+    by true true = refl
+    by true false = one_way (front bytes == 118) (Faulty (at + 1) Syntax)
+    by false true = one_way (front bytes == 118) (Faulty at Syntax)
+    by false false = one_way (front bytes == 118) (Faulty at Syntax)
+
+mev_or_mess-local : (P : Protocol) → IsLocal (read_mev_or_mess P)
+unfolding behind_me
+mev_or_mess-local P = same_local (read_mev_or_mess P) (behind_me P) (me_as P) (behind_fixed (codes "me") (third P) (third_local P))
+
+ev_or_att : Protocol → Reader (Fact Term)
+ev_or_att P bytes at = if front bytes == 101 then read_ev P bytes at else read_att P bytes at
+
+ev_or_att-local : (P : Protocol) → IsLocal (ev_or_att P)
+unfolding ev_or_att
+ev_or_att-local P = choice_local (λ b. b == 101) (read_ev P) (read_att P) (ev_local P) (att_local P)
+
+pub hypothesis_local : (P : Protocol) → IsLocal (read_hypothesis P)
+unfolding ev_or_att
+hypothesis_local P = choice_local (λ b. b == 109) (read_mev_or_mess P) (ev_or_att P) (mev_or_mess-local P) (ev_or_att-local P)
+
+bad_or_att : Protocol → Reader (Fact Term)
+bad_or_att P bytes at = if front bytes == 98 then read_bad P bytes at else read_att P bytes at
+
+bad_or_att-local : (P : Protocol) → IsLocal (bad_or_att P)
+unfolding bad_or_att
+bad_or_att-local P = choice_local (λ b. b == 98) (read_bad P) (read_att P) (bad_local P) (att_local P)
+
+no_mess : Protocol → Reader (Fact Term)
+no_mess P bytes at = if front bytes == 101 then read_ev P bytes at else bad_or_att P bytes at
+
+no_mess-local : (P : Protocol) → IsLocal (no_mess P)
+unfolding no_mess
+no_mess-local P = choice_local (λ b. b == 101) (read_ev P) (bad_or_att P) (ev_local P) (bad_or_att-local P)
+
+pub conclusion_local : (P : Protocol) → IsLocal (read_conclusion P)
+unfolding no_mess bad_or_att
+conclusion_local P = choice_local (λ b. b == 109) (read_mess P) (no_mess P) (mess_local P) (no_mess-local P)

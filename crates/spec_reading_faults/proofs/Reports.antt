@@ -1,0 +1,249 @@
+-- Reports: a fault of syntax is told by the bytes up to its place, and so no report goes on with these.
+use Rattle.std.proofs.Common.{◌≡◌, ℕ, zero, suc, ◌+◌, ◌≤◌, ◌==◌, if◌then◌else◌, cond, Bool, not, true, false, List, [], ◌∷◌, ◌++◌, length, drop, codes, refl, sym, ◌∙◌, ap, arith}
+use Rattle.std.proofs.lemmas.Bool.Decides.{nat_tests}
+use Rattle.std.specs.List.{prefix_len, position_or_len}
+use Rattle.std.proofs.lemmas.List.Recursion.{is_position_or_len}
+use Rattle.spec_calculus.specs.Syntax.{Protocol}
+use Rattle.spec_certificate_text.specs.OfProtocol.{HasNames, IsShort}
+use Rattle.spec_certificate_reading.specs.Terms.{Syntax, Count}
+use Rattle.spec_certificate_reading.specs.Outcomes.{Outcome, Found, Faulty, next, front, read_fixed, read_number, Reader}
+use Rattle.spec_certificate_reading.specs.Certificates.{read_certificate}
+use Rattle.spec_certificate_reading.specs.Reports.{Claim, Proved, Bare, Unknown, query_number, read_text, read_proof, read_verdict, read_claim, behind_claims, claims_from, read_report}
+use Rattle.spec_report_text.specs.Text.{SpellsReport}
+use Rattle.spec_report_text.proofs.ReportsRead.{refused_is_none}
+use Rattle.spec_reading_faults.proofs.Shared.{Shares, shares_behind, Passed, IsLocal, next_local, choice_local, found_local, never_local, other_local}
+use Rattle.spec_reading_faults.proofs.Parts.{same_local, either_local, fixed_local, number_local, run, run_local}
+use Rattle.spec_reading_faults.proofs.Facts.{behind_fixed}
+use Rattle.spec_reading_faults.proofs.Certificates.{certificate_local}
+
+-- The line of a query.
+
+this_number : ℕ → ℕ → ℕ → Reader (Unit {0})
+this_number number from n bytes at = if n == number then Found tt at bytes else Faulty from Count
+
+this_number-local : (number from n : ℕ) → IsLocal (this_number number from n)
+unfolding this_number
+this_number-local number from n = either_local (n == number) (λ bytes at. Found tt at bytes) (λ bytes at. Faulty from Count) (found_local tt) (other_local from Count (λ e. cc))
+
+numbered_so : ℕ → Reader (Unit {0})
+numbered_so number bytes at = next (read_number bytes at) (λ n p r. this_number number at n r p)
+
+numbered_so-local : (number : ℕ) → IsLocal (numbered_so number)
+unfolding numbered_so
+numbered_so-local number = next_local read_number (λ at n. this_number number at n) number_local (λ at n. this_number-local number at n)
+
+query_number-local : (number : ℕ) → IsLocal (query_number number)
+unfolding numbered_so this_number
+query_number-local number = behind_fixed (codes "query ") (numbered_so number) (numbered_so-local number)
+
+-- Some bytes on a line.
+
+in_line : ℕ → Bool
+in_line b = not (b == 10)
+
+long_as : (bytes : List ℕ) → prefix_len in_line bytes ≡ position_or_len (λ b. b == 10) bytes
+unfolding in_line
+long_as bytes = is_position_or_len (prefix_len in_line) (λ b. b == 10) refl (λ b rest. by (b == 10) (1 + prefix_len in_line rest)) bytes
+  where
+    by : (t : Bool) (n : ℕ) → cond (not t) n 0 ≡ cond t 0 n
+    by true n = refl
+    by false n = refl
+
+line : Reader (Unit {0})
+line bytes at = next (run in_line bytes at) (λ w p k. read_fixed (codes "\n") k p)
+
+line_local : IsLocal line
+unfolding line
+line_local = next_local (run in_line) (λ at w. read_fixed (codes "\n")) (run_local in_line) (λ at w. fixed_local (codes "\n"))
+
+no_line : Reader (Unit {0})
+no_line bytes at = Faulty at Syntax
+
+no_line-local : IsLocal no_line
+unfolding no_line
+no_line-local = never_local
+
+some_line : Reader (Unit {0})
+some_line bytes at = if front bytes == 10 then no_line bytes at else line bytes at
+
+read_so : List ℕ → ℕ → ℕ → Outcome (Unit {0})
+read_so bytes at long = if long == 0 then Faulty at Syntax else read_fixed (codes "\n") (drop long bytes) (at + long)
+
+text_as : (bytes : List ℕ) (at : ℕ) → read_text bytes at ≡ some_line bytes at
+unfolding some_line line no_line run read_so read_fixed in_line
+text_as [] at = let same : at ≡ at + 0 = omega arith in ap (no_line []) same
+text_as (b ∷ bytes) at = ap (read_so (b ∷ bytes) at) (sym (long_as (b ∷ bytes))) ∙ by (b == 10)
+  where
+    rest : ℕ
+    rest = prefix_len in_line bytes
+
+    by : (t : Bool) → read_so (b ∷ bytes) at (cond (not t) (1 + rest) 0) ≡ (if t then Faulty at Syntax else read_fixed (codes "\n") (drop (cond (not t) (1 + rest) 0) (b ∷ bytes)) (at + cond (not t) (1 + rest) 0))
+    by true = refl
+    by false = some rest
+      where
+        none : (k : ℕ) → (1 + k == 0) ≡ false
+        none k = grind (arith, nat_tests)
+
+        some : (k : ℕ) → read_so (b ∷ bytes) at (1 + k) ≡ read_fixed (codes "\n") (drop (1 + k) (b ∷ bytes)) (at + (1 + k))
+        some k = ap (λ t. if t then Faulty at Syntax else read_fixed (codes "\n") (drop (1 + k) (b ∷ bytes)) (at + (1 + k))) (none k)
+
+text_local : IsLocal read_text
+unfolding some_line
+text_local = same_local read_text some_line text_as (choice_local (λ b. b == 10) no_line line no_line-local line_local)
+
+-- What is claimed.
+
+certified : Protocol → Reader Claim
+certified P bytes at = next (read_certificate P bytes at) (λ c p r. Found (Proved c) p r)
+
+certified_local : (P : Protocol) → IsLocal (certified P)
+unfolding certified
+certified_local P = next_local (read_certificate P) (λ at c bytes p. Found (Proved c) p bytes) (certificate_local P) (λ at c. found_local (Proved c))
+
+bare : Reader Claim
+bare bytes at = Found Bare at bytes
+
+bare_local : IsLocal bare
+unfolding bare
+bare_local = found_local Bare
+
+proof_local : (P : Protocol) → IsLocal (read_proof P)
+unfolding certified bare
+proof_local P = choice_local (λ b. b == 99) (certified P) bare (certified_local P) bare_local
+
+reason : Reader Claim
+reason bytes at = next (read_text bytes at) (λ _ p r. Found Unknown p r)
+
+reason_local : IsLocal reason
+unfolding reason
+reason_local = next_local read_text (λ at u bytes p. Found Unknown p bytes) text_local (λ at u. found_local Unknown)
+
+-- ` unknown ` and ` proved` begin with the same byte, and the second tells them apart.
+
+second : Protocol → Reader Claim
+second P bytes at =
+    if front bytes == 117 then next (read_fixed (codes "unknown ") bytes at) (λ _ p k. reason k p)
+    else next (read_fixed (codes "proved\n") bytes at) (λ _ p k. read_proof P k p)
+
+second_local : (P : Protocol) → IsLocal (second P)
+unfolding second
+second_local P =
+    choice_local (λ b. b == 117) (λ bytes at. next (read_fixed (codes "unknown ") bytes at) (λ _ p k. reason k p)) (λ bytes at. next (read_fixed (codes "proved\n") bytes at) (λ _ p k. read_proof P k p))
+    (behind_fixed (codes "unknown ") reason reason_local) (behind_fixed (codes "proved\n") (read_proof P) (proof_local P))
+
+behind_space : Protocol → Reader Claim
+behind_space P bytes at = next (read_fixed (codes " ") bytes at) (λ _ p k. second P k p)
+
+one_way : {A : Type 0} (t : Bool) (o : Outcome A) → (if t then o else o) ≡ o
+one_way true o = refl
+one_way false o = refl
+
+verdict_as : (P : Protocol) (bytes : List ℕ) (at : ℕ) → read_verdict P bytes at ≡ behind_space P bytes at
+unfolding behind_space second reason read_fixed
+verdict_as P [] at = refl
+verdict_as P (b ∷ bytes) at = by (b == 32)
+  where
+    by : (t : Bool) → (if front bytes == 117 then next (if t then read_fixed (codes "unknown ") bytes (at + 1) else Faulty at Syntax) (λ _ p k. reason k p)
+        else next (if t then read_fixed (codes "proved\n") bytes (at + 1) else Faulty at Syntax) (λ _ p k. read_proof P k p))
+        ≡ next {A = Unit {0}} {B = Claim} (if t then Found tt (at + 1) bytes else Faulty at Syntax) (λ _ p k. second P k p)
+    by true = refl
+    by false = one_way (front bytes == 117) (Faulty at Syntax)
+
+verdict_local : (P : Protocol) → IsLocal (read_verdict P)
+unfolding behind_space
+verdict_local P = same_local (read_verdict P) (behind_space P) (verdict_as P) (behind_fixed (codes " ") (second P) (second_local P))
+
+claim_local : (P : Protocol) (number : ℕ) → IsLocal (read_claim P number)
+claim_local P number = next_local (query_number number) (λ at u. read_verdict P) (query_number-local number) (λ at u. verdict_local P)
+
+-- A reader that looks first whether a byte is there.
+
+some_local : {A : Type 0} (r s : Reader A) → ((b : ℕ) (bytes : List ℕ) (at : ℕ) → r (b ∷ bytes) at ≡ s (b ∷ bytes) at)
+    → ((at place : ℕ) → r [] at ≡ Faulty place Syntax → at ≤ place) → ((at place : ℕ) (x : A) (rest : List ℕ) → r [] at ≡ Found x place rest → Passed [] at place rest) → IsLocal s → IsLocal r
+unfolding Shares
+some_local {A} r s same none_later none_passed of_s = record {
+  fault = λ bytes others at n place shares there e. fault_by bytes others at n place shares there e;
+  found = λ bytes others at n place x rest shares there e. found_by bytes others at n place x rest shares there e;
+  passed = λ bytes at place x rest e. passed_by bytes at place x rest e;
+  later = λ bytes at place e. later_by bytes at place e;
+}
+  where
+    fault_by : (bytes others : List ℕ) (at n place : ℕ) → Shares n bytes others → place ≡ at + n → r bytes at ≡ Faulty place Syntax → r others at ≡ Faulty place Syntax
+    fault_by [] others at n place shares there e = absurd shares
+    fault_by (b ∷ bytes) [] at n place shares there e = absurd shares
+    fault_by (b ∷ bytes) (c ∷ others) at n place shares there e = same c others at ∙ of_s.fault (b ∷ bytes) (c ∷ others) at n place shares there (sym (same b bytes at) ∙ e)
+
+    found_by : (bytes others : List ℕ) (at n place : ℕ) (x : A) (rest : List ℕ) → Shares n bytes others → place ≡ at + n → r bytes at ≡ Found x place rest → r others at ≡ Found x place (drop n others)
+    found_by [] others at n place x rest shares there e = absurd shares
+    found_by (b ∷ bytes) [] at n place x rest shares there e = absurd shares
+    found_by (b ∷ bytes) (c ∷ others) at n place x rest shares there e = same c others at ∙ of_s.found (b ∷ bytes) (c ∷ others) at n place x rest shares there (sym (same b bytes at) ∙ e)
+
+    passed_by : (bytes : List ℕ) (at place : ℕ) (x : A) (rest : List ℕ) → r bytes at ≡ Found x place rest → Passed bytes at place rest
+    passed_by [] at place x rest e = none_passed at place x rest e
+    passed_by (b ∷ bytes) at place x rest e = of_s.passed (b ∷ bytes) at place x rest (sym (same b bytes at) ∙ e)
+
+    later_by : (bytes : List ℕ) (at place : ℕ) → r bytes at ≡ Faulty place Syntax → at ≤ place
+    later_by [] at place e = none_later at place e
+    later_by (b ∷ bytes) at place e = of_s.later (b ∷ bytes) at place (sym (same b bytes at) ∙ e)
+
+too_many : Reader (List Claim)
+too_many bytes at = next (read_number bytes at) (λ n p r. Faulty at Count)
+
+too_many-local : IsLocal too_many
+unfolding too_many
+too_many-local = next_local read_number (λ at n bytes p. Faulty at Count) number_local (λ at n. other_local at Count (λ e. cc))
+
+further : Reader (List Claim)
+further bytes at = next (read_fixed (codes "query ") bytes at) (λ _ p k. too_many k p)
+
+further_local : IsLocal further
+unfolding further
+further_local = behind_fixed (codes "query ") too_many too_many-local
+
+ends : List Claim → Reader (List Claim)
+ends claims bytes at = behind_claims claims at bytes
+
+ends_local : (claims : List Claim) → IsLocal (ends claims)
+unfolding ends further too_many
+ends_local claims = some_local (ends claims) further (λ b bytes at. refl)
+    (λ at place e. absurd (cc))
+    (λ at place x rest e. let places : at ≡ place = cc in let rests : [] ≡ rest = cc in record { count = 0; there = omega (arith, places); is = sym rests })
+    further_local
+
+claims_end : (P : Protocol) (number : ℕ) (claims : List Claim) (bytes : List ℕ) (at : ℕ) → claims_from P 0 number claims bytes at ≡ ends claims bytes at
+unfolding claims_from ends
+claims_end P number claims bytes at = refl
+
+claims_none : (P : Protocol) (left number : ℕ) (claims : List Claim) (at : ℕ) → claims_from P (suc left) number claims [] at ≡ Faulty at Count
+unfolding claims_from
+claims_none P left number claims at = refl
+
+one_claim : Protocol → ℕ → ℕ → List Claim → Reader (List Claim)
+one_claim P left number claims bytes at = next (read_claim P number bytes at) (λ c p r. claims_from P left (number + 1) (claims ++ c ∷ []) r p)
+
+claims_more : (P : Protocol) (left number : ℕ) (claims : List Claim) (b : ℕ) (bytes : List ℕ) (at : ℕ) → claims_from P (suc left) number claims (b ∷ bytes) at ≡ one_claim P left number claims (b ∷ bytes) at
+unfolding claims_from one_claim
+claims_more P left number claims b bytes at = refl
+
+none_later : (P : Protocol) (left number : ℕ) (claims : List Claim) (at place : ℕ) → claims_from P (suc left) number claims [] at ≡ Faulty place Syntax → at ≤ place
+none_later P left number claims at place e = let never : Faulty at Count ≡ Faulty place Syntax = sym (claims_none P left number claims at) ∙ e in absurd (cc)
+
+none_passed : (P : Protocol) (left number : ℕ) (claims : List Claim) (at place : ℕ) (x : List Claim) (rest : List ℕ) → claims_from P (suc left) number claims [] at ≡ Found x place rest → Passed [] at place rest
+none_passed P left number claims at place x rest e = let never : Faulty at Count ≡ Found x place rest = sym (claims_none P left number claims at) ∙ e in absurd (cc)
+
+one_claim-local : (P : Protocol) (left number : ℕ) (claims : List Claim) → ((more : List Claim) → IsLocal (claims_from P left (number + 1) more)) → IsLocal (one_claim P left number claims)
+unfolding one_claim
+one_claim-local P left number claims again = next_local (read_claim P number) (λ at c. claims_from P left (number + 1) (claims ++ c ∷ [])) (claim_local P number) (λ at c. again (claims ++ c ∷ []))
+
+claims_local : (P : Protocol) (left number : ℕ) (claims : List Claim) → IsLocal (claims_from P left number claims)
+claims_local P zero number claims = same_local (claims_from P 0 number claims) (ends claims) (claims_end P number claims) (ends_local claims)
+claims_local P (suc left) number claims =
+    some_local (claims_from P (suc left) number claims) (one_claim P left number claims) (claims_more P left number claims) (none_later P left number claims) (none_passed P left number claims)
+    (one_claim-local P left number claims (λ more. claims_local P left (number + 1) more))
+
+pub report_told : (P : Protocol) (before : List ℕ) (b : ℕ) (rest other : List ℕ) → read_report P (before ++ b ∷ rest) ≡ Faulty (length before) Syntax → read_report P (before ++ b ∷ other) ≡ Faulty (length before) Syntax
+report_told P before b rest other e =
+    (claims_local P (length P.queries) 1 []).fault (before ++ b ∷ rest) (before ++ b ∷ other) 0 (length before) (length before) (shares_behind before b rest other) (omega arith) e
+
+pub no_report : (P : Protocol) (before : List ℕ) (b : ℕ) (rest other : List ℕ) (claims : List Claim) → HasNames P → IsShort (length P.queries) → read_report P (before ++ b ∷ rest) ≡ Faulty (length before) Syntax → SpellsReport P (before ++ b ∷ other) claims → ⊥
+no_report P before b rest other claims names short e spells = refused_is_none P names short (before ++ b ∷ other) claims (length before) Syntax (report_told P before b rest other e) spells

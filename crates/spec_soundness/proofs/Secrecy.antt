@@ -1,0 +1,136 @@
+-- Secrets are kept: where a closed list has no solved clause with conclusion `bad`, no run makes the secret known.
+use Rattle.std.proofs.Common.{◌≡◌, ◌∙◌, ℕ, ◌+◌, true, false, List, [], ◌∷◌, ◌++◌, map, length, refl, ap, sym, subst, length-append, arith}
+use Rattle.std.specs.List.{AllByRecursion}
+use Rattle.std.proofs.lemmas.List.{append-nil}
+use Rattle.spec_trees.specs.Tree.{Leaf, bind, node, some_leaf}
+use Rattle.spec_trees.specs.Leaves.{leaves}
+use Rattle.spec_trees.proofs.Rows.{bind-node}
+use Rattle.spec_trees.proofs.Substitution.{bind-Leaf}
+use Rattle.spec_calculus.specs.Syntax.{Name, Made, Variable, Query, Secret, SecretNew, Protocol}
+use Rattle.spec_calculus.specs.Syntax as calculus
+use Rattle.spec_calculus.specs.Values.{MadeName, value_of}
+use Rattle.spec_calculus.specs.Matching.{rules_of}
+use Rattle.spec_calculus.specs.Secrecy.{Holds}
+use Rattle.spec_calculus.proofs.Items.{each-contains}
+use Rattle.spec_well_formed.specs.Rules.{IsProperRule}
+use Rattle.spec_well_formed.specs.Processes.{HasLinearPatterns}
+use Rattle.spec_well_formed.specs.Signature.{signature_of}
+use Rattle.spec_well_formed.specs.Queries.{IsDeclaredFree}
+use Rattle.spec_terms.specs.Term.{Point, Term}
+use Rattle.spec_clauses.specs.Fact.{Fact, Att, Bad, Clause}
+use Rattle.spec_clauses.specs.Flat.{flat, flat_under}
+use Rattle.spec_clauses.specs.Selection.{is_solved}
+use Rattle.spec_clauses.specs.Inclusion.{here, Has}
+use Rattle.spec_clauses.proofs.Inclusion.{all_has, Has-filter_source}
+use Rattle.spec_derivations.specs.Derivation.{Instance, Derive}
+use Rattle.spec_derivations.specs.Closed.{Closes, solved_of}
+use Rattle.spec_derivations.specs.Laws.{SolvedClausesSuffice}
+use Rattle.spec_translation.specs.Conversion.{name_term, leaf_term}
+use Rattle.spec_translation.specs.Attacker.{variables_from}
+use Rattle.spec_translation.specs.Goal.{query_leaf, query_term, goal_raw, arguments_at}
+use Rattle.spec_translation.specs.Translation.{Clauses, IsTranslation}
+use Rattle.spec_translation.specs.Satisfied.{is_bad, AreSatisfied}
+use Rattle.spec_translation.proofs.Conversions.{converted-same}
+use Rattle.spec_abstraction.specs.Trace.{past_count, trace_of}
+use Rattle.spec_abstraction.specs.Naming.{Naming, abstracted, made_term, event_facts, naming}
+use Rattle.spec_abstraction.specs.Taken.{IsTaken}
+use Rattle.spec_abstraction.proofs.Holding.{translations_hold_all}
+use Rattle.spec_abstraction.proofs.Listed.{concluded}
+use Rattle.spec_abstraction.proofs.Values.{abstracted-value}
+use Rattle.spec_abstraction.proofs.Conclusions.{nth, nth_fills}
+use Rattle.spec_abstraction.proofs.Runs.{runs_are_derived}
+use Rattle.spec_abstraction.proofs.Older.{runs_are_named}
+use Rattle.spec_abstraction.proofs.Entries.{is_foreign, runs_have_entries, found_entry}
+use Rattle.spec_soundness.proofs.Roots.{bad_root, concludes_bad}
+
+lengths : {X Y : Type 0} (f : X → Y) (xs : List X) → length (map f xs) ≡ length xs
+lengths f [] = refl
+lengths f (x ∷ xs) = let h = lengths f xs in omega (arith, h)
+
+-- a message of free names is the same term in the query as in a run
+free_leaves : (P : Protocol) (xs : List Name) → AllByRecursion (IsDeclaredFree (signature_of P)) xs → AllByRecursion (λ x. leaf_term [] x ≡ query_leaf x) xs
+free_leaves P [] a = tt
+free_leaves P (calculus.Free n ∷ xs) a = (refl, free_leaves P xs a.1)
+free_leaves P (Made p ∷ xs) a = absurd a.0
+free_leaves P (Variable n ∷ xs) a = absurd a.0
+
+pub secret_term : (P : Protocol) (names : Naming) (message : calculus.Term) → AllByRecursion (IsDeclaredFree (signature_of P)) (leaves message) → abstracted P names (value_of [] message) ≡ query_term P message
+secret_term P names message free =
+    abstracted-value P names [] message ∙ converted-same P (leaf_term []) query_leaf message (free_leaves P (leaves message) free)
+
+module _ (solved_suffice : SolvedClausesSuffice) (P : Protocol) (q : Query) (all clauses : List (Clause Term)) (closes : Closes all clauses) (satisfied : AreSatisfied P q clauses) where
+  -- where `bad` is derived, a solved clause of the closed list concludes it, with premises that are derived
+  pub record ShownBad (events : List (Fact Term)) (ts : List Term) : Type 0 where
+    pub clause : Clause Term
+    pub premises : List (Fact Term)
+    pub listed : Has clauses clause
+    pub solved : is_solved clause.hypotheses ≡ true
+    pub concludes : is_bad clause.conclusion ≡ true
+    pub instance : Instance clause premises (Bad ts)
+    pub derived : Derive (solved_of clauses) events premises
+
+  pub shown_bad : (events : List (Fact Term)) (ts : List Term) → Derive all events (Bad ts ∷ []) → ShownBad events ts
+  shown_bad events ts d =
+      let r = bad_root (Has (solved_of clauses)) events ts refl (solved_suffice all clauses events (Bad ts ∷ []) closes d) in
+      let (listed, solved) = Has-filter_source (λ c. is_solved c.hypotheses) clauses r.clause r.is_rule in
+      record {
+        clause = r.clause;
+        premises = r.premises;
+        listed = listed;
+        solved = solved;
+        concludes = concludes_bad r.clause r.premises ts r.instance;
+        instance = r.instance;
+        derived = r.derived;
+      }
+
+module _ (solved_suffice : SolvedClausesSuffice) (P : Protocol) (all clauses : List (Clause Term)) (closes : Closes all clauses) (proper : (d : ℕ) → AllByRecursion IsProperRule (rules_of P d)) (linear : HasLinearPatterns P.main) where
+  -- the goal of a message: what the attacker has of it shows `bad`
+  message_shows : (message : calculus.Term) (events : List (Fact Term)) → IsTaken all (goal_raw P (Secret message)) → Derive all events (flat (Att (query_term P message))) → Derive all events (Bad [] ∷ [])
+  message_shows message events taken d =
+      let hypotheses : flat_under Leaf (Att (query_term P message) ∷ []) ≡ flat (Att (query_term P message)) = append-nil (flat (Att (bind Leaf (query_term P message)))) ∙ ap (λ t. flat (Att t)) (bind-Leaf (query_term P message)) in
+      concluded events all (goal_raw P (Secret message)) (flat (Att (query_term P message))) (Bad []) taken
+      (record { by = Leaf; premises_are = sym hypotheses; concludes = ([], here) }) d
+
+  pub messages_are_kept : (message : calculus.Term) → AllByRecursion (IsDeclaredFree (signature_of P)) (leaves message) → IsTranslation P (Secret message) (Clauses all) → AreSatisfied P (Secret message) clauses → Holds P (Secret message)
+  messages_are_kept message free is satisfied steps c reached known =
+      let made = (trace_of P steps).made in
+      let names = naming P made in
+      let derived = runs_are_derived P names (Secret message) all is proper linear steps c reached (runs_are_named P steps c reached) in
+      let events = event_facts P names c.events in
+      let has = each-contains (λ v. Derive all events (flat (Att (abstracted P names v)))) c.known (value_of [] message) derived.known known in
+      let there = subst (λ t. Derive all events (flat (Att t))) (secret_term P names message free) has in
+      let goal = (translations_hold_all P (Secret message) all is).goal in
+      let shown = shown_bad solved_suffice P (Secret message) all clauses closes satisfied events [] (message_shows message events goal there) in
+      satisfied shown.clause shown.listed shown.solved shown.concludes
+
+  -- the goal of a restriction: a name of it that the attacker has shows `bad`
+  name_shows : (point : ℕ) (ts : List Term) (events : List (Fact Term)) → arguments_at P point ≡ length ts → IsTaken all (goal_raw P (SecretNew point)) → Derive all events (flat (Att (node (Point point) ts))) → Derive all events (Bad [] ∷ [])
+  name_shows point ts events count taken d =
+      let vars = variables_from 0 (arguments_at P point) in
+      let terms : map (bind (nth ts)) vars ≡ ts = ap (λ n. map (bind (nth ts)) (variables_from 0 n)) count ∙ nth_fills ts 0 ts (λ x. ap (nth ts) (let e : 0 + x ≡ x = omega arith in e)) in
+      let hypotheses : flat_under (nth ts) (Att (node (Point point) vars) ∷ []) ≡ flat (Att (node (Point point) ts)) =
+      append-nil (flat (Att (bind (nth ts) (node (Point point) vars)))) ∙ ap (λ t. flat (Att t)) (bind-node (nth ts) (Point point) vars ∙ ap (node (Point point)) terms) in
+      concluded events all (goal_raw P (SecretNew point)) (flat (Att (node (Point point) ts))) (Bad []) taken
+      (record { by = nth ts; premises_are = sym hypotheses; concludes = ([], here) }) d
+
+  pub names_are_kept : (point : ℕ) → IsTranslation P (SecretNew point) (Clauses all) → AreSatisfied P (SecretNew point) clauses → Holds P (SecretNew point)
+  names_are_kept point is satisfied steps c reached (number, known) =
+      let made = (trace_of P steps).made in
+      let names = naming P made in
+      let named = runs_are_named P steps c reached in
+      let derived = runs_are_derived P names (SecretNew point) all is proper linear steps c reached named in
+      let events = event_facts P names c.events in
+      let has = each-contains (λ v. Derive all events (flat (Att (abstracted P names v)))) c.known (Leaf (MadeName point number)) derived.known known in
+      let lacks = each-contains (λ v. some_leaf (is_foreign made) v ≡ false) c.known (Leaf (MadeName point number)) (runs_have_entries P steps c reached).known known in
+      let (e, entered, at, numbered_so) = found_entry point number made lacks in
+      let term : names point number ≡ made_term P names e = (λ i. names (sym at i) (sym numbered_so i)) ∙ all_has (λ e. names e.point e.number ≡ made_term P names e) made e named entered in
+      let count : arguments_at P e.point ≡ past_count e.past = all_has (λ e. arguments_at P e.point ≡ past_count e.past) made e derived.counted entered in
+      let messages : List Term = map (abstracted P names) e.past.messages in
+      let sessions : List Term = map Leaf e.past.sessions in
+      let size : length (messages ++ sessions) ≡ past_count e.past = length-append messages sessions ∙ (λ i. lengths {Y = Term} (abstracted P names) e.past.messages i + lengths {Y = Term} Leaf e.past.sessions i) in
+      let whole : arguments_at P point ≡ length (messages ++ sessions) = ap (arguments_at P) (sym at) ∙ (count ∙ sym size) in
+      let there : Derive all events (flat (Att (node (Point point) (messages ++ sessions)))) =
+      subst (λ t. Derive all events (flat (Att t))) (term ∙ ap (λ p. name_term p messages sessions) at) has in
+      let goal = (translations_hold_all P (SecretNew point) all is).goal in
+      let shown = shown_bad solved_suffice P (SecretNew point) all clauses closes satisfied events [] (name_shows point (messages ++ sessions) events whole goal there) in
+      satisfied shown.clause shown.listed shown.solved shown.concludes

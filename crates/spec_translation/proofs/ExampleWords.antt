@@ -1,0 +1,78 @@
+-- Words for examples that are worked out by hand.
+use Rattle.std.proofs.Common.{ℕ, zero, suc, true, false, List, [], ◌∷◌}
+use Rattle.spec_trees.specs.Tree.{Leaf, Node, none, node}
+use Rattle.spec_calculus.specs.Syntax.{Name, Variable, Constructor, Rule, Declared}
+use Rattle.spec_calculus.specs.Syntax as calculus
+use Rattle.spec_terms.specs.Term.{Free, Attacker, Term, Subst}
+use Rattle.spec_clauses.specs.Fact.{Fact, Att, Mess, Clause}
+use Rattle.spec_translation.specs.Conversion.{Fresh}
+use Rattle.spec_translation.specs.Visit.{Visit}
+
+-- declarations: free names, constructors, data constructors and events
+abbrev pub public_name : ℕ → Declared
+public_name letter = record { word = letter ∷ []; arity = 0; public = true; is_data = false }
+
+abbrev pub private_name : ℕ → Declared
+private_name letter = record { word = letter ∷ []; arity = 0; public = false; is_data = false }
+
+abbrev pub constructor_of : ℕ → ℕ → Declared
+constructor_of letter arity = record { word = letter ∷ []; arity = arity; public = true; is_data = false }
+
+abbrev pub data_of : ℕ → ℕ → Declared
+data_of letter arity = record { word = letter ∷ []; arity = arity; public = true; is_data = true }
+
+-- terms of a process: the free name and the variable of a number, and a constructor of terms
+abbrev pub name : ℕ → calculus.Term
+name n = Leaf (calculus.Free n)
+
+abbrev pub variable : ℕ → calculus.Term
+variable i = Leaf (Variable i)
+
+abbrev pub apply : ℕ → List calculus.Term → calculus.Term
+apply f ts = node (Constructor f) ts
+
+-- clauses and their terms: variables and free names
+abbrev pub clause : List (Fact Term) → Fact Term → Clause Term
+clause hs f = record { hypotheses = hs; conclusion = f }
+
+abbrev pub x : ℕ → Term
+x n = Leaf n
+
+abbrev pub free : ℕ → Term
+free n = Node (Free n) none
+
+-- `=> att(@[v0])`, `mess(v1,v0), att(v1) => att(v0)`, `att(v0), att(v1) => mess(v0,v1)`
+abbrev pub own_names : Clause Term
+own_names = clause [] (Att (node Attacker (x 0 ∷ [])))
+
+abbrev pub hears : Clause Term
+hears = clause (Mess (x 1) (x 0) ∷ Att (x 1) ∷ []) (Att (x 0))
+
+abbrev pub says : Clause Term
+says = clause (Att (x 0) ∷ Att (x 1) ∷ []) (Mess (x 0) (x 1))
+
+-- the first of a list of terms
+abbrev pub first_of : List Term → Term
+first_of [] = x 0
+first_of (t ∷ ts) = t
+
+-- the substitution of two variables by these terms
+abbrev pub two_terms : Term → Term → Subst
+two_terms t u zero = t
+two_terms t u (suc zero) = u
+two_terms t u (suc (suc n)) = x (suc (suc n))
+
+-- the rules dec(enc(x,y),y) -> x, of the first constructor, and d(x) -> x
+abbrev pub decryption : Rule
+decryption = record { left = apply 1 (variable 1 ∷ variable 2 ∷ []) ∷ variable 2 ∷ []; right = variable 1 }
+
+abbrev pub same_rule : Rule
+same_rule = record { left = variable 1 ∷ []; right = variable 1 }
+
+-- the pattern's variable is 1, where the rule's is 0
+abbrev pub next_variable : Fresh
+next_variable = record { base = 1; first = 1 }
+
+-- a visit in which the first variable stands for the term
+abbrev pub with_value : Term → Visit
+with_value t = record { scope = record { name = Variable 1; term = t } ∷ []; hypotheses = []; messages = []; sessions = [] }

@@ -1,0 +1,209 @@
+-- Translations worked out by hand: names over messages and sessions, private constructors, all branches of a `let`, variables of goals.
+use Rattle.std.proofs.Common.{◌≡◌, ◌∙◌, ℕ, zero, suc, false, Some, List, [], ◌∷◌, refl, ap, arith}
+use Rattle.spec_trees.specs.Tree.{Leaf, node, after}
+use Rattle.spec_calculus.specs.Syntax.{Made, Tuple, Bind, Call, Nil, Output, Input, Replication, New, Let, Event, Rule, EventTerm, Secret, SecretNew, Correspondence, Protocol}
+use Rattle.spec_terms.specs.Term.{Ctor, Point, Term, Subst}
+use Rattle.spec_terms.specs.Term as terms
+use Rattle.spec_clauses.specs.Fact.{Att, Mess, Ev, Mev, Bad, Clause}
+use Rattle.spec_translation.specs.Goal.{event_variables}
+use Rattle.spec_translation.specs.Visit.{first_visit}
+use Rattle.spec_translation.specs.Choice.{Choice, choice_under, IsUnified, rule_choice, RuleGoesOn}
+use Rattle.spec_translation.specs.Course.{Done}
+use Rattle.spec_translation.specs.Translation.{IsTranslation, Clauses, goal_clauses}
+use Rattle.spec_translation.proofs.ExampleWords.{public_name, private_name, constructor_of, name, variable, apply, clause, x, free, own_names, hears, says, same_rule, next_variable, with_value, first_of, two_terms}
+
+-- free c. private fun f/1. query attacker(new n). process !in(c,x); new n; out(c,n)
+abbrev answering : Protocol
+answering = record {
+  frees = public_name 99 ∷ [];
+  constructors = record { word = 102 ∷ []; arity = 1; public = false; is_data = false } ∷ [];
+  destructors = [];
+  events = [];
+  queries = SecretNew 3 ∷ [];
+  main = Replication (Input (name 1) (Leaf (Bind 1)) (New (110 ∷ []) (Output (name 1) (Leaf (Made 3)) Nil)));
+}
+
+abbrev made : Term → Term → Term
+made message session = node (Point 3) (message ∷ session ∷ [])
+
+-- The message comes before the session: `att(v0) => att(n@3[v0,v1])`. The private constructor has no clause.
+pub answering_is_translated : IsTranslation answering (SecretNew 3) (Clauses (
+    clause [] (Att (free 1)) ∷ own_names ∷ hears ∷ says
+    ∷ clause (Att (x 0) ∷ []) (Att (made (x 0) (x 1)))
+    ∷ clause (Att (made (x 0) (x 1)) ∷ []) (Bad []) ∷ []))
+answering_is_translated = (
+  Done (clause (Att (x 0) ∷ []) (Att (made (x 0) (x 1))) ∷ []) 65531,
+  (
+    0,
+    tt,
+    (
+      record { base = 1; first = 1 },
+      record { is_new = ((omega arith, tt), tt); from_first = (omega arith, tt) },
+      (Done [] 65531, refl, refl),
+    ),
+  ),
+  refl,
+)
+
+-- The variables of an event, each once, by first occurrence.
+abbrev asked : EventTerm
+asked = record { event = 1; arguments = node Tuple (variable 2 ∷ variable 1 ∷ []) ∷ variable 2 ∷ variable 3 ∷ [] }
+
+its_variables : event_variables asked ≡ 2 ∷ 1 ∷ 3 ∷ []
+its_variables = refl
+
+-- `ev(e((v0,v1),v0,v2)) => bad(v0,v1,v2)`
+its_goal : goal_clauses answering (Correspondence asked []) ≡ clause (Ev 1 (node (terms.Tuple 2) (x 0 ∷ x 1 ∷ []) ∷ x 0 ∷ x 2 ∷ []) ∷ []) (Bad (x 0 ∷ x 1 ∷ x 2 ∷ [])) ∷ []
+its_goal = refl
+
+-- Two rules: d(x) -> x and d(x) -> h(x,x).
+abbrev pair_rule : Rule
+pair_rule = record { left = variable 1 ∷ []; right = apply 1 (variable 1 ∷ variable 1 ∷ []) }
+
+-- free c. private free k. fun h/2. reduc d(x) -> x; d(x) -> h(x,x). query attacker(k).
+-- process let y = d(c) in out(c,h(y,k)) else out(c,h(k,k))
+abbrev branches : Protocol
+branches = record {
+  frees = public_name 99 ∷ private_name 107 ∷ [];
+  constructors = constructor_of 104 2 ∷ [];
+  destructors = record { word = 100 ∷ []; rules = same_rule ∷ pair_rule ∷ [] } ∷ [];
+  events = [];
+  queries = Secret (name 2) ∷ [];
+  main = Let (Leaf (Bind 1)) (Call 1 (name 1 ∷ [])) (Output (name 1) (apply 1 (variable 1 ∷ name 2 ∷ [])) Nil) (Output (name 1) (apply 1 (name 2 ∷ name 2 ∷ [])) Nil);
+}
+
+abbrev h : Term → Term → Term
+h t u = node (Ctor 1) (t ∷ u ∷ [])
+
+abbrev choice : Rule → Choice
+choice rule = rule_choice branches first_visit (Leaf (Bind 1)) (name 1 ∷ []) rule 0 next_variable
+
+module _ (r : Subst) where
+  same_most : IsUnified (choice_under r (choice same_rule)) → (n : ℕ) → after r (two_terms (free 1) (free 1)) n ≡ r n
+  same_most e zero = ap first_of e.0
+  same_most e (suc zero) = ap first_of e.0 ∙ e.1
+  same_most e (suc (suc n)) = refl
+
+  pair_most : IsUnified (choice_under r (choice pair_rule)) → (n : ℕ) → after r (two_terms (free 1) (h (free 1) (free 1))) n ≡ r n
+  pair_most e zero = ap first_of e.0
+  pair_most e (suc zero) = let first = ap first_of e.0 in (λ i. h (first i) (first i)) ∙ e.1
+  pair_most e (suc (suc n)) = refl
+
+same_goes : RuleGoesOn branches first_visit (Leaf (Bind 1)) (name 1 ∷ []) same_rule (Some (with_value (free 1)))
+same_goes = record {
+  base = 0;
+  at = next_variable;
+  is_new = tt;
+  is_apart = ((omega arith, tt), ((omega arith, tt), tt));
+  is_fresh = record { is_new = tt; from_first = (omega arith, tt) };
+  goes_on = (two_terms (free 1) (free 1), record { accepted = (refl, refl); most = λ r e. (r, same_most r e) }, refl);
+}
+
+pair_goes : RuleGoesOn branches first_visit (Leaf (Bind 1)) (name 1 ∷ []) pair_rule (Some (with_value (h (free 1) (free 1))))
+pair_goes = record {
+  base = 0;
+  at = next_variable;
+  is_new = tt;
+  is_apart = ((omega arith, (omega arith, tt)), ((omega arith, tt), tt));
+  is_fresh = record { is_new = tt; from_first = (omega arith, tt) };
+  goes_on = (two_terms (free 1) (h (free 1) (free 1)), record { accepted = (refl, refl); most = λ r e. (r, pair_most r e) }, refl);
+}
+
+-- what the branches add: of each rule in order, and then the else branch, once
+abbrev first_branch : Clause Term
+first_branch = clause [] (Att (h (free 1) (free 2)))
+
+abbrev second_branch : Clause Term
+second_branch = clause [] (Att (h (h (free 1) (free 1)) (free 2)))
+
+abbrev else_branch : Clause Term
+else_branch = clause [] (Att (h (free 2) (free 2)))
+
+-- The first rule's own clause, `att(v0) => att(v0)`, is a tautology.
+pub branches_are_translated : IsTranslation branches (Secret (name 2)) (Clauses (
+    clause [] (Att (free 1)) ∷ own_names
+    ∷ clause (Att (x 0) ∷ Att (x 1) ∷ []) (Att (h (x 0) (x 1)))
+    ∷ clause (Att (x 0) ∷ []) (Att (h (x 0) (x 0)))
+    ∷ hears ∷ says ∷ first_branch ∷ second_branch ∷ else_branch
+    ∷ clause (Att (free 2) ∷ []) (Bad []) ∷ []))
+branches_are_translated =
+    let first = with_value (free 1) in
+    let second = with_value (h (free 1) (free 1)) in (
+      Done (first_branch ∷ second_branch ∷ else_branch ∷ []) 65529,
+      (
+        Some first ∷ Some second ∷ [],
+        (Some first, Some second ∷ [], same_goes, (Some second, [], pair_goes, refl, refl), refl),
+        (
+          Done (first_branch ∷ []) 65533,
+          (Done [] 65533, refl, refl),
+          (
+            Done (second_branch ∷ else_branch ∷ []) 65529,
+            (
+              Done (second_branch ∷ []) 65531,
+              (Done [] 65531, refl, refl),
+              (Done (else_branch ∷ []) 65529, (Done [] 65529, refl, refl), refl),
+            ),
+            refl,
+          ),
+        ),
+      ),
+      refl,
+    )
+
+-- free c. private free d. fun h/2. event e/1. query attacker(new n).
+-- process !new m; in(c,x); event e(x); !in(d,y); new n; out(c,h(m,h(x,n)))
+abbrev orders : Protocol
+orders = record {
+  frees = public_name 99 ∷ private_name 100 ∷ [];
+  constructors = constructor_of 104 2 ∷ [];
+  destructors = [];
+  events = constructor_of 101 1 ∷ [];
+  queries = SecretNew 7 ∷ [];
+  main = Replication (New (109 ∷ []) (Input (name 1) (Leaf (Bind 1)) (Event (record { event = 1; arguments = variable 1 ∷ [] })
+      (Replication (Input (name 2) (Leaf (Bind 2)) (New (110 ∷ []) (Output (name 1) (apply 1 (Leaf (Made 2) ∷ apply 1 (variable 1 ∷ Leaf (Made 7) ∷ []) ∷ [])) Nil)))))));
+}
+
+-- the outer name over the outer session, and the inner one over both messages and then both sessions
+abbrev outer : Term → Term
+outer session = node (Point 2) (session ∷ [])
+
+abbrev inner : List Term → Term
+inner ts = node (Point 7) ts
+
+abbrev noted : Clause Term
+noted = clause (Att (x 0) ∷ []) (Ev 1 (x 0 ∷ []))
+
+abbrev sent_last : Clause Term
+sent_last = clause (Att (x 1) ∷ Mev 1 (x 1 ∷ []) ∷ Mess (free 2) (x 2) ∷ []) (Att (h (outer (x 0)) (h (x 1) (inner (x 1 ∷ x 2 ∷ x 0 ∷ x 3 ∷ [])))))
+
+-- Hypotheses, messages and sessions stand in the order in which they came.
+pub orders_are_translated : IsTranslation orders (SecretNew 7) (Clauses (
+    clause [] (Att (free 1)) ∷ own_names
+    ∷ clause (Att (x 0) ∷ Att (x 1) ∷ []) (Att (h (x 0) (x 1)))
+    ∷ hears ∷ says ∷ noted ∷ sent_last
+    ∷ clause (Att (inner (x 0 ∷ x 1 ∷ x 2 ∷ x 3 ∷ [])) ∷ []) (Bad []) ∷ []))
+orders_are_translated = (
+  Done (noted ∷ sent_last ∷ []) 65527,
+  (
+    0,
+    tt,
+    (
+      record { base = 1; first = 1 },
+      record { is_new = ((omega arith, tt), ((omega arith, tt), tt)); from_first = (omega arith, tt) },
+      (
+        Done (sent_last ∷ []) 65527,
+        (
+          2,
+          ((omega arith, tt), ((omega arith, tt), ((omega arith, tt), ((omega arith, tt), ((omega arith, tt), ((omega arith, tt), tt)))))),
+          (
+            record { base = 3; first = 2 },
+            record { is_new = ((omega arith, tt), ((omega arith, tt), ((omega arith, tt), ((omega arith, tt), ((omega arith, tt), ((omega arith, tt), ((omega arith, tt), tt))))))); from_first = (omega arith, tt) },
+            (Done [] 65527, refl, refl),
+          ),
+        ),
+        refl,
+      ),
+    ),
+  ),
+  refl,
+)

@@ -1,0 +1,81 @@
+//! The translation of a protocol and a query into clauses. The definitions stand in `specs/`; the functions here
+//! have empty bodies, and say in their contracts what holds of the definitions.
+#![tactic(auto)]
+
+ghost use Rattle.std.specs.Prelude.{◌≡◌, ℕ, Some, List, ◌++◌, false, true, [], ◌∷◌};
+ghost use Rattle.std.specs.List.{AllByRecursion};
+ghost use Rattle.spec_trees.specs.Tree.{Leaf};
+ghost use Rattle.spec_calculus.specs.Syntax.{Bind, Query, Protocol};
+ghost use Rattle.spec_calculus.specs.Syntax as calculus;
+ghost use Rattle.spec_well_formed.specs.Limits.{IsSmallQuery, IsWithinLimits};
+ghost use Rattle.spec_terms.specs.Term.{Term};
+ghost use Rattle.spec_clauses.specs.Fact.{Clause};
+ghost use Rattle.spec_clauses.specs.Norm.{IsNormal};
+ghost use Rattle.spec_clauses.specs.Limits.{is_large_raw, IsWithinLimit};
+ghost use Rattle.spec_clauses.specs.Inclusion.{Has};
+ghost use Rattle.spec_translation.specs.Conversion.{term_in};
+ghost use Rattle.spec_translation.specs.Visit.{Visit, bound};
+ghost use Rattle.spec_translation.specs.Choice.{TermGoesOn};
+ghost use Rattle.spec_translation.specs.Translation.{Translated, Clauses, IsTranslation};
+ghost use Rattle.spec_translation.specs.Translation.{attacker_clauses, goal_clauses};
+ghost use Rattle.spec_translation.specs.Attacker.{attacker_raw};
+ghost use Rattle.spec_translation.specs.Goal.{goal_raw};
+ghost use Rattle.spec_translation.specs.Satisfied.{is_bad};
+ghost use Rattle.spec_translation.specs.Placement.{IsWellPlaced};
+
+/// A protocol and a query have one translation at most: the same clauses in the same order, or the same point,
+/// whatever new variables and most general unifiers are taken.
+pub fn one_translation()
+    ensures { (P : Protocol) (q : Query) (a b : Translated) →
+        IsTranslation P q a → IsTranslation P q b → a ≡ b }
+{}
+
+/// Each protocol and query has a translation: new variables are there at each visit, and whether terms have a
+/// unifier is decided.
+pub fn a_translation()
+    ensures { (P : Protocol) (q : Query) → (out : Translated) × IsTranslation P q out }
+{}
+
+/// A `let` of a term with a variable for its pattern goes on with the variable bound to the term, and with nothing
+/// else of the visit changed.
+pub fn plain_lets_bind()
+    ensures { (P : Protocol) (v : Visit) (i : ℕ) (t : calculus.Term) →
+        TermGoesOn P v (Leaf (Bind i)) t (Some (bound v i (term_in P v.scope t))) }
+{}
+
+/// Each clause of a translation is its own norm, and its facts stand where they may: no `bad` among its
+/// hypotheses, and no `mev` in its conclusion.
+pub fn translations_are_normal()
+    ensures normal { (P : Protocol) (q : Query) (all : List (Clause Term)) (c : Clause Term) →
+        IsTranslation P q (Clauses all) → Has all c → IsNormal c }
+    ensures placed { (P : Protocol) (q : Query) (all : List (Clause Term)) (c : Clause Term) →
+        IsTranslation P q (Clauses all) → Has all c → IsWellPlaced c }
+{}
+
+/// The last clause of a translation is the goal, and it concludes `bad`; no other clause does.
+pub fn translations_have_one_goal()
+    ensures last { (P : Protocol) (q : Query) (all : List (Clause Term)) →
+        IsTranslation P q (Clauses all) → (before : List (Clause Term)) × (goal : Clause Term)
+        × (all ≡ before ++ goal ∷ []) × (goal_clauses P q ≡ goal ∷ [])
+        × (is_bad goal.conclusion ≡ true) × AllByRecursion (λ c. is_bad c.conclusion ≡ false)
+        before }
+    ensures one { (P : Protocol) (q : Query) →
+        (goal : Clause Term) × (goal_clauses P q ≡ goal ∷ []) }
+{}
+
+/// The limit of size. A translation's clauses are those of the attacker, those of visits, each of which is within
+/// the limit, and the goal. Where the protocol and the query are within their own limits, none of the raw clauses
+/// of the attacker is large, nor is the goal's, and so each clause of the translation is within the limit.
+pub fn translations_are_within_the_limit()
+    ensures visits { (P : Protocol) (q : Query) (all : List (Clause Term)) →
+        IsTranslation P q (Clauses all) → (visited : List (Clause Term))
+        × (all ≡ attacker_clauses P ++ (visited ++ goal_clauses P q))
+        × ((c : Clause Term) → Has visited c → IsWithinLimit c) }
+    ensures attacker { (P : Protocol) → IsWithinLimits P →
+        AllByRecursion (λ raw. is_large_raw raw ≡ false) (attacker_raw P) }
+    ensures goal { (P : Protocol) (q : Query) → IsWithinLimits P → IsSmallQuery q →
+        is_large_raw (goal_raw P q) ≡ false }
+    ensures all { (P : Protocol) (q : Query) (all : List (Clause Term)) (c : Clause Term) →
+        IsWithinLimits P → IsSmallQuery q → IsTranslation P q (Clauses all) →
+        Has all c → IsWithinLimit c }
+{}

@@ -1,0 +1,100 @@
+-- What terms and patterns may hold where they stand: leaves that are bound or declared, and symbols with their numbers of arguments.
+use Rattle.std.specs.Prelude.{◌≡◌, ℕ, ◌+◌, ◌<◌, ◌≤◌, true, List, length, Some, Contains, filter_map, Option, None}
+use Rattle.std.specs.List.{AllByRecursion}
+use Rattle.spec_trees.specs.Tree.{Tree, Trees, Leaf, Node, none, more, trees, size, sizes}
+use Rattle.spec_calculus.specs.Syntax.{Name, Free, Made, Variable, Symbol, Constructor, Tuple, Term, Hole, Bind, Equal, Pattern, Expression, Plain, Call, EventTerm, Declared, Destructor}
+use Rattle.spec_calculus.specs.Points.{numbered}
+use Rattle.spec_calculus.specs.Matching.{IsLinear}
+use Rattle.spec_well_formed.specs.Signature.{Signature}
+use Rattle.spec_well_formed.specs.Leaves.{leaves}
+
+-- how many trees stand in a row
+abbrev pub row_length : {L S : Type 0} → Trees L S → ℕ
+row_length none = 0
+row_length (more t ts) = row_length ts + 1
+
+-- this holds of each symbol of the tree and the number of its arguments
+abbrev mutual
+  pub EachSymbol : {L S : Type 0} → (S → ℕ → Type 0) → Tree L S → Type 0
+  EachSymbol Q (Leaf x) = Unit {0}
+  EachSymbol Q (Node f args) = Q f (row_length args) × EachSymbolInRow Q args
+
+  pub EachSymbolInRow : {L S : Type 0} → (S → ℕ → Type 0) → Trees L S → Type 0
+  EachSymbolInRow Q none = Unit {0}
+  EachSymbolInRow Q (more t ts) = EachSymbol Q t × EachSymbolInRow Q ts
+
+-- among these declared names the one of that number has this arity
+pub record HasArity (items : List Declared) (number arity : ℕ) : Type 0 where
+  pub declared : Declared
+  pub stands : numbered items number ≡ Some declared
+  pub is : declared.arity ≡ arity
+
+-- one of these constructors takes so many arguments; a tuple has from 2 to 16 parts
+abbrev pub TakesArguments : Signature → Symbol → ℕ → Type 0
+TakesArguments signature (Constructor number) count = HasArity signature.constructors number count
+TakesArguments signature Tuple count = (2 ≤ count) × (count ≤ 16)
+
+-- one that is a data constructor
+pub record HasDataArity (items : List Declared) (number arity : ℕ) : Type 0 where
+  pub declared : Declared
+  pub stands : numbered items number ≡ Some declared
+  pub is : declared.arity ≡ arity
+  pub is_data : declared.is_data ≡ true
+
+abbrev pub TakesPatterns : Signature → Symbol → ℕ → Type 0
+TakesPatterns signature (Constructor number) count = HasDataArity signature.constructors number count
+TakesPatterns signature Tuple count = (2 ≤ count) × (count ≤ 16)
+
+-- a term over these leaves and constructors, of at most 2,000 symbols
+pub record IsTermOver (signature : Signature) (IsLeaf : Name → Type 0) (t : Term) : Type 0 where
+  pub known : AllByRecursion IsLeaf (leaves t)
+  pub arities : EachSymbol (TakesArguments signature) t
+  pub few : size t ≤ 2000
+
+-- what is bound above, or a declared free name
+abbrev pub IsKnown : Signature → List Name → Name → Type 0
+IsKnown signature bound (Free n) = (0 < n) × (n ≤ length signature.frees)
+IsKnown signature bound (Made p) = Contains bound (Made p)
+IsKnown signature bound (Variable i) = Contains bound (Variable i)
+
+-- a term of a process, where these leaves are bound
+abbrev pub IsTermBelow : Signature → List Name → Term → Type 0
+IsTermBelow signature bound t = IsTermOver signature (IsKnown signature bound) t
+
+-- the variable that a hole binds, if it binds one
+abbrev pub bound_by_hole : Hole → Option Name
+bound_by_hole (Bind i) = Some (Variable i)
+bound_by_hole (Equal t) = None
+
+-- the variables that a pattern binds, from left to right
+abbrev pub bound_by : Pattern → List Name
+bound_by p = filter_map bound_by_hole (leaves p)
+
+abbrev pub IsHoleBelow : Signature → List Name → Hole → Type 0
+IsHoleBelow signature bound (Bind i) = Unit {0}
+IsHoleBelow signature bound (Equal t) = IsTermBelow signature bound t
+
+-- a pattern where these leaves are bound: it binds no variable twice, and none that is bound already
+pub record IsPatternBelow (signature : Signature) (bound : List Name) (p : Pattern) : Type 0 where
+  pub linear : IsLinear p
+  pub new : AllByRecursion (λ x. Contains bound x → ⊥) (bound_by p)
+  pub holes : AllByRecursion (IsHoleBelow signature bound) (leaves p)
+  pub arities : EachSymbol (TakesPatterns signature) p
+
+-- all rules of the destructor of that number take so many arguments
+pub record HasRulesFor (signature : Signature) (number arity : ℕ) : Type 0 where
+  pub destructor : Destructor
+  pub stands : numbered signature.destructors number ≡ Some destructor
+  pub are : AllByRecursion (λ r. length r.left ≡ arity) destructor.rules
+
+-- what a `let` evaluates where these leaves are bound; a destructor's name counts as a symbol
+abbrev pub IsExpressionBelow : Signature → List Name → Expression → Type 0
+IsExpressionBelow signature bound (Plain t) = IsTermBelow signature bound t
+IsExpressionBelow signature bound (Call d arguments) =
+    HasRulesFor signature d (length arguments) × AllByRecursion (IsTermBelow signature bound) arguments
+    × (1 + sizes (trees arguments) ≤ 2000)
+
+-- an event over these leaves
+pub record IsEventOver (signature : Signature) (IsLeaf : Name → Type 0) (e : EventTerm) : Type 0 where
+  pub declared : HasArity signature.events e.event (length e.arguments)
+  pub arguments : AllByRecursion (IsTermOver signature IsLeaf) e.arguments

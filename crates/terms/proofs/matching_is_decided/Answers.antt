@@ -1,5 +1,0 @@
-use Rattle.terms.proofs.Matches.{match_decided}
-use Rattle.terms.proofs.matching_is_decided.Goals as goal
-
-pub returns : goal.returns
-returns c = match_decided

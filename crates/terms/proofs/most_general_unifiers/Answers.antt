@@ -1,9 +1,0 @@
-use Rattle.terms.proofs.Existence.{mgu_exists}
-use Rattle.terms.proofs.Renaming.{mgu_unique}
-use Rattle.terms.proofs.most_general_unifiers.Goals as goal
-
-pub returns-clause-exists : goal.returns-clause-exists
-returns-clause-exists c = mgu_exists
-
-pub returns-clause-unique : goal.returns-clause-unique
-returns-clause-unique c = mgu_unique

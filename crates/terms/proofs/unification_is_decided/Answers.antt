@@ -1,5 +1,0 @@
-use Rattle.terms.proofs.Decision.{unification_decided}
-use Rattle.terms.proofs.unification_is_decided.Goals as goal
-
-pub returns : goal.returns
-returns c = unification_decided

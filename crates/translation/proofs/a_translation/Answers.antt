@@ -1,5 +1,0 @@
-use Rattle.translation.proofs.Existence.{a_translation}
-use Rattle.translation.proofs.a_translation.Goals as goal
-
-pub returns : goal.returns
-returns c = a_translation

@@ -1,5 +1,0 @@
-use Rattle.translation.proofs.OneTranslation.{one_translation}
-use Rattle.translation.proofs.one_translation.Goals as goal
-
-pub returns : goal.returns
-returns c = one_translation

@@ -1,5 +1,0 @@
-use Rattle.translation.proofs.PlainLet.{plain_let_binds}
-use Rattle.translation.proofs.plain_lets_bind.Goals as goal
-
-pub returns : goal.returns
-returns c = plain_let_binds

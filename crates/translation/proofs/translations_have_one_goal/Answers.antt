@@ -1,8 +1,0 @@
-use Rattle.translation.proofs.Goal.{one_goal, last_goal}
-use Rattle.translation.proofs.translations_have_one_goal.Goals as goal
-
-pub returns-clause-last : goal.returns-clause-last
-returns-clause-last c = last_goal
-
-pub returns-clause-one : goal.returns-clause-one
-returns-clause-one c = one_goal

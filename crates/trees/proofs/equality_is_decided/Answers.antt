@@ -1,5 +1,0 @@
-use Rattle.trees.proofs.Equality.{same_tree-decides}
-use Rattle.trees.proofs.equality_is_decided.Goals as goal
-
-pub returns : goal.returns
-returns g c = same_tree-decides

@@ -1,8 +1,0 @@
-use Rattle.trees.proofs.Substitution.{bind-Leaf, bind-bind}
-use Rattle.trees.proofs.substitutions_compose.Goals as goal
-
-pub returns-clause-identity : goal.returns-clause-identity
-returns-clause-identity g c = bind-Leaf
-
-pub returns-clause-composition : goal.returns-clause-composition
-returns-clause-composition g c = bind-bind

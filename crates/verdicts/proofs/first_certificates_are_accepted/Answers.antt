@@ -1,5 +1,0 @@
-use Rattle.verdicts.proofs.Accepting.{proved_accepted}
-use Rattle.verdicts.proofs.first_certificates_are_accepted.Goals as goal
-
-pub returns : goal.returns
-returns c = proved_accepted

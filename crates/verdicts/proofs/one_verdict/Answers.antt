@@ -1,5 +1,0 @@
-use Rattle.verdicts.proofs.Uniqueness.{one_verdict}
-use Rattle.verdicts.proofs.one_verdict.Goals as goal
-
-pub returns : goal.returns
-returns c = one_verdict
