@@ -25,7 +25,7 @@ use Rattle.spec_verdicts.proofs.Entries.{given_shape, entries_shape}
 use Rattle.term_tree.specs.declared.bank.Id.{Id}
 use Rattle.clause_form.specs.Seen.{clause_at, AreClausesIn}
 use Rattle.clause_saturate.specs.declared.log.Entry.{Entry}
-use Rattle.clause_form.specs.Fit.{AreFit}
+use Rattle.clause_form.specs.Fit.{AreFit, clauses_at}
 use Rattle.clause_saturate.specs.Logs.{TellsEntry, TellEntries, TellLog, IsFirstSubsumer, is_unbeaten, live_clauses}
 use Rattle.clause_saturate.specs.Beating.{clauses_of}
 use Rattle.clause_saturate.proofs.Telling.{unbeaten_none, none_unbeaten}

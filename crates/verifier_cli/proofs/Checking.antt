@@ -22,7 +22,7 @@ use Rattle.spec_protocol_scope.specs.Spells.{Spells}
 use Rattle.cert_checker.specs.declared.ruling.Ruling.TheVariants.{Accepted}
 use Rattle.verifier_cli.specs.declared.outcome.Finding.{Finding}
 use Rattle.verifier_cli.specs.declared.outcome.Finding.TheVariants.{Ruled}
-use Rattle.verifier_cli.specs.Outcome.{ReportRefusal, Misspelled, LongReport, Refusal, Protocol, Report, Run, Outcome, Usage, Verified, Checked, Listed, ListLarge, NoQuery, Replayed, Ring, Refused, ReadFault, Memory}
+use Rattle.verifier_cli.specs.Outcome.{ReportRefusal, Misspelled, LongReport, Refusal, Protocol, Report, Run, Outcome, Checked, Refused, ReadFault, Memory}
 use Rattle.verifier_cli.specs.Command.{OfFile, IsRefusalOf, NoneViolated}
 use Rattle.verifier_cli.specs.Checking.{MakesClaims, RefusesReport, IsFindingOf, AreFindingsOf, IsCheckOf, IsOutcomeOfReport, ChecksReport, IsCheckOutcome, Checks}
 use Rattle.verifier_cli.specs.Reading.{IsUnread}
@@ -58,15 +58,7 @@ same_report_refusal r s i j (e, h) = ap (λ (why : ReportRefusal). Report i why)
 check_answers : (P : syntax.Protocol) (bytes : List ℕ) (claims : List Claim) (outcome : Outcome) → IsCheckOf P claims outcome → MakesClaims P bytes claims → IsOutcomeOfReport P bytes outcome
 check_answers P bytes claims (Checked findings) found made = (claims, made, found)
 check_answers P bytes claims Memory found made = tt
-check_answers P bytes claims (Refused refusal) found made = absurd found
-check_answers P bytes claims (Verified verdicts) found made = absurd found
-check_answers P bytes claims (Replayed replay) found made = absurd found
-check_answers P bytes claims (Ring ring) found made = absurd found
-check_answers P bytes claims Usage found made = absurd found
-check_answers P bytes claims ReadFault found made = absurd found
-check_answers P bytes claims (Listed clauses) found made = absurd found
-check_answers P bytes claims (ListLarge point) found made = absurd found
-check_answers P bytes claims (NoQuery number) found made = absurd found
+check_answers P bytes claims _ found made = absurd found
 
 claims_check : (P : syntax.Protocol) → ReportLaws P → (bytes : List ℕ) (claims : List Claim) (outcome : Outcome) → IsCheckOf P claims outcome → MakesClaims P bytes claims → ChecksReport P bytes outcome
 claims_check P laws bytes claims outcome found made = record {
@@ -98,14 +90,7 @@ unread_report_said P laws Counted held (Refused (Protocol line column why)) is o
 unread_report_said P laws Counted held (Refused (Run line why)) is other = absurd is
 unread_report_said P laws Counted held Memory is other = of_any held (λ bytes. ChecksReport P bytes Memory) (memory_checks P)
 unread_report_said P laws Counted held ReadFault is other = absurd (other refl)
-unread_report_said P laws Counted held (Checked findings) is other = absurd is
-unread_report_said P laws Counted held (Replayed replay) is other = absurd is
-unread_report_said P laws Counted held (Ring ring) is other = absurd is
-unread_report_said P laws Counted held Usage is other = absurd is
-unread_report_said P laws Counted held (Verified verdicts) is other = absurd is
-unread_report_said P laws Counted held (Listed clauses) is other = absurd is
-unread_report_said P laws Counted held (ListLarge point) is other = absurd is
-unread_report_said P laws Counted held (NoQuery number) is other = absurd is
+unread_report_said P laws Counted held _ is other = absurd is
 
 -- what is said of a protocol's file where it is refused
 refusal_outcome : (bytes : List ℕ) (refusal : Refusal) → IsRefusalOf bytes refusal → IsCheckOutcome bytes (Refused refusal)
@@ -136,14 +121,7 @@ pub unread_checked : Laws → (Counted : Type 0) (held other : Option (List ℕ)
 unread_checked laws Counted held other (Refused refusal) is read = of_file held (λ bytes. IsRefusalOf bytes refusal) (λ bytes. Checks bytes other (Refused refusal)) (λ bytes r. refusal_checked laws bytes other refusal r) is
 unread_checked laws Counted held other Memory is read = memory_checked held other
 unread_checked laws Counted held other ReadFault is read = absurd (read refl)
-unread_checked laws Counted held other Usage is read = absurd is
-unread_checked laws Counted held other (Checked findings) is read = absurd is
-unread_checked laws Counted held other (Replayed replay) is read = absurd is
-unread_checked laws Counted held other (Ring ring) is read = absurd is
-unread_checked laws Counted held other (Verified verdicts) is read = absurd is
-unread_checked laws Counted held other (Listed clauses) is read = absurd is
-unread_checked laws Counted held other (ListLarge point) is read = absurd is
-unread_checked laws Counted held other (NoQuery number) is read = absurd is
+unread_checked laws Counted held other _ is read = absurd is
 
 -- the laws that the headline rests on: queries of protocols that were read are proper, and those hold whose certificates are accepted
 pub record Acceptance : Type 0 where
@@ -179,13 +157,7 @@ found_violates_none sound laws bytes held Q (Checked findings) spelled is said =
 found_violates_none sound laws bytes held Q (Refused refusal) spelled is said = λ P spells k shown. absurd shown
 found_violates_none sound laws bytes held Q Memory spelled is said = λ P spells k shown. absurd shown
 found_violates_none sound laws bytes held Q ReadFault spelled is said = λ P spells k shown. absurd shown
-found_violates_none sound laws bytes held Q Usage spelled is said = absurd is
-found_violates_none sound laws bytes held Q (Replayed replay) spelled is said = absurd is
-found_violates_none sound laws bytes held Q (Ring ring) spelled is said = absurd is
-found_violates_none sound laws bytes held Q (Verified verdicts) spelled is said = absurd is
-found_violates_none sound laws bytes held Q (Listed clauses) spelled is said = absurd is
-found_violates_none sound laws bytes held Q (ListLarge point) spelled is said = absurd is
-found_violates_none sound laws bytes held Q (NoQuery number) spelled is said = absurd is
+found_violates_none sound laws bytes held Q _ spelled is said = absurd is
 
 -- and where the protocol's file is accepted
 report_outcome : (bytes : List ℕ) (P : syntax.Protocol) (outcome : Outcome) → Spells bytes P → IsOfReport outcome → outcome ≢ ReadFault → IsCheckOutcome bytes outcome
@@ -195,13 +167,7 @@ report_outcome bytes P (Refused (Protocol line column why)) spelled is read = ab
 report_outcome bytes P (Refused (Run line why)) spelled is read = absurd is
 report_outcome bytes P Memory spelled is read = tt
 report_outcome bytes P ReadFault spelled is read = absurd (read refl)
-report_outcome bytes P Usage spelled is read = absurd is
-report_outcome bytes P (Replayed replay) spelled is read = absurd is
-report_outcome bytes P (Ring ring) spelled is read = absurd is
-report_outcome bytes P (Verified verdicts) spelled is read = absurd is
-report_outcome bytes P (Listed clauses) spelled is read = absurd is
-report_outcome bytes P (ListLarge point) spelled is read = absurd is
-report_outcome bytes P (NoQuery number) spelled is read = absurd is
+report_outcome bytes P _ spelled is read = absurd is
 
 report_checks : Acceptance → Laws → (bytes : List ℕ) (held : Option (List ℕ)) (P : syntax.Protocol) (outcome : Outcome) → IsOfReport outcome → outcome ≢ ReadFault → OfFile held (λ text. ChecksReport P text outcome) → Spells bytes P → Checks bytes held outcome
 report_checks sound laws bytes held P outcome is read said spelled = record {
@@ -221,13 +187,7 @@ report_words (Checked findings) is = refl
 report_words (Refused refusal) is = refl
 report_words Memory is = refl
 report_words ReadFault is = refl
-report_words Usage is = absurd is
-report_words (Replayed replay) is = absurd is
-report_words (Ring ring) is = absurd is
-report_words (Verified verdicts) is = absurd is
-report_words (Listed clauses) is = absurd is
-report_words (ListLarge point) is = absurd is
-report_words (NoQuery number) is = absurd is
+report_words _ is = absurd is
 
 -- a call without a report is about a report
 pub unread_is_of_report : (P : syntax.Protocol) (Counted : Type 0) (held : Option (List ℕ)) (outcome : Outcome) → IsUnreadReport P Counted held outcome → IsOfReport outcome
@@ -236,14 +196,7 @@ unread_is_of_report P Counted held (Refused (Protocol line column why)) is = abs
 unread_is_of_report P Counted held (Refused (Run line why)) is = absurd is
 unread_is_of_report P Counted held Memory is = tt
 unread_is_of_report P Counted held ReadFault is = tt
-unread_is_of_report P Counted held (Checked findings) is = absurd is
-unread_is_of_report P Counted held (Replayed replay) is = absurd is
-unread_is_of_report P Counted held (Ring ring) is = absurd is
-unread_is_of_report P Counted held Usage is = absurd is
-unread_is_of_report P Counted held (Verified verdicts) is = absurd is
-unread_is_of_report P Counted held (Listed clauses) is = absurd is
-unread_is_of_report P Counted held (ListLarge point) is = absurd is
-unread_is_of_report P Counted held (NoQuery number) is = absurd is
+unread_is_of_report P Counted held _ is = absurd is
 
 -- a report with a fault is refused, at the line of its place
 pub fault_unread : (P : syntax.Protocol) (Counted : Type 0) (held : Option (List ℕ)) (bytes : List ℕ) (e : CertError) → IfSome held (λ all. bytes ≡ all) → length bytes ≤ most_report_bytes → HasFault e (read_report P bytes) → IsUnreadReport P Counted held (report_not_read bytes e)

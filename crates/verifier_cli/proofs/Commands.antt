@@ -5,7 +5,7 @@ use Rattle.spec_calculus.specs.Syntax.{Protocol}
 use Rattle.verifier_cli.specs.Complete.{IsComeTo}
 use Rattle.verifier_cli.specs.Listing.{IsSpelledAt, IsSource, IsTextOf, source_of}
 use Rattle.verifier_cli.specs.Outcome.{Outcome, ReadFault}
-use Rattle.verifier_cli.specs.Text.{HasItsProtocol, outcome_bytes}
+use Rattle.verifier_cli.specs.Text.{HasText, outcome_bytes}
 use Rattle.verifier_cli.specs.Command.{IsNoCommand, IsUnreadable}
 
 -- what the request that the words make comes to is said of each that they make: there is one
@@ -33,5 +33,5 @@ no_source None held = tt
 no_source (Some request) held = tt
 
 -- the text of an outcome, in the words of the protocol that was asked for
-pub printed : (request : Option Request) (held : List ℕ → Option (List ℕ)) (P Q : Option Protocol) (outcome : Outcome) → P ≡ Q → IsSource request held Q → HasItsProtocol P outcome → IsTextOf request held outcome (outcome_bytes P outcome)
+pub printed : (request : Option Request) (held : List ℕ → Option (List ℕ)) (P Q : Option Protocol) (outcome : Outcome) → P ≡ Q → IsSource request held Q → HasText P outcome → IsTextOf request held outcome (outcome_bytes P outcome)
 printed request held P Q outcome same source words = record { protocol = P; source = subst (IsSource request held) (sym same) source; words = words; is = refl }

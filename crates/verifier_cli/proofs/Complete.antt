@@ -5,7 +5,7 @@ use Rattle.spec_calculus.specs.Syntax.{Protocol}
 use Rattle.spec_certificate_reading.specs.Reports.{Claim}
 use Rattle.spec_calculus.specs.Runs.{Step}
 use Rattle.command_words.specs.Request.{Request, Verify, Check, ListOf, Replay, RingOf, request_of}
-use Rattle.verifier_cli.specs.Outcome.{Outcome, Usage, Verified, Checked, Listed, ListLarge, NoQuery, Replayed, Ring, Refused, ReadFault, Memory}
+use Rattle.verifier_cli.specs.Outcome.{Outcome, Verified, Checked, Listed, ListLarge, NoQuery, Replayed, Ring, ReadFault, Memory}
 use Rattle.verifier_cli.specs.Command.{OfFile, IsDecidedBy, IsUnreadable, NoneViolated, Verifies}
 use Rattle.verifier_cli.specs.Checking.{IsCheckOf, Checks, ChecksReport}
 use Rattle.verifier_cli.specs.Complete.{IsComeTo, AreAccepted, IsOwnOutcome, IsOfAnswer}
@@ -18,30 +18,16 @@ use Rattle.spec_ring_text.specs.Text.{ring_text}
 
 -- a list or a replay shows no query
 listed_violates_none : (bytes : List ℕ) (outcome : Outcome) → IsListOutcome bytes outcome → NoneViolated bytes outcome
-listed_violates_none bytes (Listed clauses) is = λ P spells k shown. absurd shown
-listed_violates_none bytes (ListLarge point) is = λ P spells k shown. absurd shown
-listed_violates_none bytes (NoQuery number) is = λ P spells k shown. absurd shown
-listed_violates_none bytes (Refused refusal) is = λ P spells k shown. absurd shown
-listed_violates_none bytes Memory is = λ P spells k shown. absurd shown
-listed_violates_none bytes Usage is = λ P spells k shown. absurd shown
-listed_violates_none bytes ReadFault is = λ P spells k shown. absurd shown
-listed_violates_none bytes (Replayed replay) is = λ P spells k shown. absurd shown
 listed_violates_none bytes (Ring ring) is = absurd is
 listed_violates_none bytes (Verified verdicts) is = absurd is
 listed_violates_none bytes (Checked findings) is = absurd is
+listed_violates_none bytes _ is = λ P spells k shown. absurd shown
 
 replayed_violates_none : (bytes : List ℕ) (outcome : Outcome) → IsReplayOutcome bytes outcome → NoneViolated bytes outcome
-replayed_violates_none bytes (Replayed replay) is = λ P spells k shown. absurd shown
 replayed_violates_none bytes (Ring ring) is = absurd is
-replayed_violates_none bytes (Refused refusal) is = λ P spells k shown. absurd shown
-replayed_violates_none bytes Memory is = λ P spells k shown. absurd shown
-replayed_violates_none bytes Usage is = λ P spells k shown. absurd shown
-replayed_violates_none bytes ReadFault is = λ P spells k shown. absurd shown
-replayed_violates_none bytes (Listed clauses) is = λ P spells k shown. absurd shown
-replayed_violates_none bytes (ListLarge point) is = λ P spells k shown. absurd shown
-replayed_violates_none bytes (NoQuery number) is = λ P spells k shown. absurd shown
 replayed_violates_none bytes (Verified verdicts) is = absurd is
 replayed_violates_none bytes (Checked findings) is = absurd is
+replayed_violates_none bytes _ is = λ P spells k shown. absurd shown
 
 -- the headline, whatever the command
 pub violates_none : (held : List ℕ → Option (List ℕ)) (request : Request) (outcome : Outcome) → IsComeTo request held outcome → OfFile (source_of request held) (λ bytes. NoneViolated bytes outcome)
@@ -66,67 +52,29 @@ readable held Counted none (RingOf stages) c = c
 own_verdicts : (P : Protocol) (file : List ℕ) (budget : ℕ) (outcome : Outcome) → IsDecidedBy P budget outcome → IsOwnOutcome (Verify file budget) outcome
 own_verdicts P file budget (Verified verdicts) is = tt
 own_verdicts P file budget Memory is = tt
-own_verdicts P file budget (Checked findings) is = absurd is
-own_verdicts P file budget (Listed clauses) is = absurd is
-own_verdicts P file budget (ListLarge point) is = absurd is
-own_verdicts P file budget (NoQuery number) is = absurd is
-own_verdicts P file budget (Replayed replay) is = absurd is
-own_verdicts P file budget (Ring ring) is = absurd is
-own_verdicts P file budget (Refused refusal) is = absurd is
-own_verdicts P file budget Usage is = absurd is
-own_verdicts P file budget ReadFault is = absurd is
+own_verdicts P file budget _ is = absurd is
 
 own_findings : (P : Protocol) (file report : List ℕ) (claims : List Claim) (outcome : Outcome) → IsCheckOf P claims outcome → IsOwnOutcome (Check file report) outcome
 own_findings P file report claims (Checked findings) is = tt
 own_findings P file report claims Memory is = tt
-own_findings P file report claims (Verified verdicts) is = absurd is
-own_findings P file report claims (Listed clauses) is = absurd is
-own_findings P file report claims (ListLarge point) is = absurd is
-own_findings P file report claims (NoQuery number) is = absurd is
-own_findings P file report claims (Replayed replay) is = absurd is
-own_findings P file report claims (Ring ring) is = absurd is
-own_findings P file report claims (Refused refusal) is = absurd is
-own_findings P file report claims Usage is = absurd is
-own_findings P file report claims ReadFault is = absurd is
+own_findings P file report claims _ is = absurd is
 
 own_list : (P : Protocol) (file : List ℕ) (query : ℕ) (outcome : Outcome) → IsListOf P query outcome → IsOwnOutcome (ListOf file query) outcome
 own_list P file query (Listed clauses) is = tt
 own_list P file query (ListLarge point) is = tt
 own_list P file query (NoQuery number) is = tt
 own_list P file query Memory is = tt
-own_list P file query (Verified verdicts) is = absurd is
-own_list P file query (Checked findings) is = absurd is
-own_list P file query (Replayed replay) is = absurd is
-own_list P file query (Ring ring) is = absurd is
-own_list P file query (Refused refusal) is = absurd is
-own_list P file query Usage is = absurd is
-own_list P file query ReadFault is = absurd is
+own_list P file query _ is = absurd is
 
 own_replay : (P : Protocol) (file run : List ℕ) (steps : List Step) (outcome : Outcome) → IsOutcomeOfReplay P steps outcome → IsOwnOutcome (Replay file run) outcome
 own_replay P file run steps (Replayed replay) is = tt
-own_replay P file run steps (Ring ring) is = absurd is
 own_replay P file run steps Memory is = tt
-own_replay P file run steps (Verified verdicts) is = absurd is
-own_replay P file run steps (Checked findings) is = absurd is
-own_replay P file run steps (Listed clauses) is = absurd is
-own_replay P file run steps (ListLarge point) is = absurd is
-own_replay P file run steps (NoQuery number) is = absurd is
-own_replay P file run steps (Refused refusal) is = absurd is
-own_replay P file run steps Usage is = absurd is
-own_replay P file run steps ReadFault is = absurd is
+own_replay P file run steps _ is = absurd is
 
 own_summary : (n : ℕ) (outcome : Outcome) → IsRingOutcome n outcome → IsOwnOutcome (RingOf n) outcome
 own_summary n (Ring ring) is = tt
 own_summary n Memory is = tt
-own_summary n (Verified verdicts) is = absurd is
-own_summary n (Checked findings) is = absurd is
-own_summary n (Listed clauses) is = absurd is
-own_summary n (ListLarge point) is = absurd is
-own_summary n (NoQuery number) is = absurd is
-own_summary n (Replayed replay) is = absurd is
-own_summary n (Refused refusal) is = absurd is
-own_summary n Usage is = absurd is
-own_summary n ReadFault is = absurd is
+own_summary n _ is = absurd is
 
 -- where the files are accepted
 own_come : (held : List ℕ → Option (List ℕ)) (request : Request) (outcome : Outcome) → AreAccepted request held → IsComeTo request held outcome → IsOwnOutcome request outcome
@@ -167,49 +115,11 @@ own_status (Replay file run) (Replayed replay) is = zero_or_one (is_without_viol
 own_status (Replay file run) Memory is = inr (inr refl)
 own_status (RingOf stages) (Ring ring) is = zero_or_one (is_proved ring.verdict)
 own_status (RingOf stages) Memory is = inr (inr refl)
-own_status (Verify file budget) (Checked findings) is = absurd is
-own_status (Verify file budget) (Listed clauses) is = absurd is
-own_status (Verify file budget) (ListLarge point) is = absurd is
-own_status (Verify file budget) (NoQuery number) is = absurd is
-own_status (Verify file budget) (Replayed replay) is = absurd is
-own_status (Verify file budget) (Ring ring) is = absurd is
-own_status (Verify file budget) (Refused refusal) is = absurd is
-own_status (Verify file budget) Usage is = absurd is
-own_status (Verify file budget) ReadFault is = absurd is
-own_status (Check file report) (Verified verdicts) is = absurd is
-own_status (Check file report) (Listed clauses) is = absurd is
-own_status (Check file report) (ListLarge point) is = absurd is
-own_status (Check file report) (NoQuery number) is = absurd is
-own_status (Check file report) (Replayed replay) is = absurd is
-own_status (Check file report) (Ring ring) is = absurd is
-own_status (Check file report) (Refused refusal) is = absurd is
-own_status (Check file report) Usage is = absurd is
-own_status (Check file report) ReadFault is = absurd is
-own_status (ListOf file query) (Verified verdicts) is = absurd is
-own_status (ListOf file query) (Checked findings) is = absurd is
-own_status (ListOf file query) (Replayed replay) is = absurd is
-own_status (ListOf file query) (Ring ring) is = absurd is
-own_status (ListOf file query) (Refused refusal) is = absurd is
-own_status (ListOf file query) Usage is = absurd is
-own_status (ListOf file query) ReadFault is = absurd is
-own_status (Replay file run) (Verified verdicts) is = absurd is
-own_status (Replay file run) (Checked findings) is = absurd is
-own_status (Replay file run) (Listed clauses) is = absurd is
-own_status (Replay file run) (ListLarge point) is = absurd is
-own_status (Replay file run) (NoQuery number) is = absurd is
-own_status (Replay file run) (Ring ring) is = absurd is
-own_status (Replay file run) (Refused refusal) is = absurd is
-own_status (Replay file run) Usage is = absurd is
-own_status (Replay file run) ReadFault is = absurd is
-own_status (RingOf stages) (Verified verdicts) is = absurd is
-own_status (RingOf stages) (Checked findings) is = absurd is
-own_status (RingOf stages) (Listed clauses) is = absurd is
-own_status (RingOf stages) (ListLarge point) is = absurd is
-own_status (RingOf stages) (NoQuery number) is = absurd is
-own_status (RingOf stages) (Replayed replay) is = absurd is
-own_status (RingOf stages) (Refused refusal) is = absurd is
-own_status (RingOf stages) Usage is = absurd is
-own_status (RingOf stages) ReadFault is = absurd is
+own_status (Verify file budget) _ is = absurd is
+own_status (Check file report) _ is = absurd is
+own_status (ListOf file query) _ is = absurd is
+own_status (Replay file run) _ is = absurd is
+own_status (RingOf stages) _ is = absurd is
 
 pub answer_status : (request : Request) (outcome : Outcome) (status : ℕ) → IsOwnOutcome request outcome → status ≡ status_of outcome → IsOfAnswer status
 answer_status request outcome status own is = subst IsOfAnswer (sym is) (own_status request outcome own)

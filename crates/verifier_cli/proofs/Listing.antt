@@ -2,10 +2,10 @@
 use Rattle.std.proofs.Common.{◌≡◌, ◌≢◌, ◌∙◌, ℕ, List, Option, None, Some, inl, inr, refl, ap, subst}
 use Rattle.spec_calculus.specs.Syntax as syntax
 use Rattle.spec_protocol_scope.specs.Spells.{Spells}
-use Rattle.verifier_cli.specs.Outcome.{Refusal, Outcome, Usage, Verified, Checked, Listed, ListLarge, NoQuery, Replayed, Ring, Refused, ReadFault, Memory}
+use Rattle.verifier_cli.specs.Outcome.{Refusal, Outcome, Usage, Listed, ListLarge, NoQuery, Refused, ReadFault, Memory}
 use Rattle.verifier_cli.specs.Command.{OfFile, IsRefusalOf}
 use Rattle.verifier_cli.specs.Reading.{IsUnread}
-use Rattle.verifier_cli.specs.Text.{HasItsProtocol, prints_clauses}
+use Rattle.verifier_cli.specs.Text.{HasText, prints_clauses}
 use Rattle.verifier_cli.specs.Listing.{IsListOf, IsListOutcome, Lists}
 use Rattle.verifier_cli.proofs.Held.{of_any, of_file}
 use Rattle.verifier_cli.proofs.Verifying.{Laws, same_refusal}
@@ -30,14 +30,7 @@ pub unread_listed : Laws → (Counted : Type 0) (held : Option (List ℕ)) (numb
 unread_listed laws Counted held number (Refused refusal) is read = of_file held (λ bytes. IsRefusalOf bytes refusal) (λ bytes. Lists bytes number (Refused refusal)) (λ bytes r. refusal_lists laws bytes number refusal r) is
 unread_listed laws Counted held number Memory is read = memory_listed held number
 unread_listed laws Counted held number ReadFault is read = absurd (read refl)
-unread_listed laws Counted held number Usage is read = absurd is
-unread_listed laws Counted held number (Replayed replay) is read = absurd is
-unread_listed laws Counted held number (Ring ring) is read = absurd is
-unread_listed laws Counted held number (Verified verdicts) is read = absurd is
-unread_listed laws Counted held number (Checked findings) is read = absurd is
-unread_listed laws Counted held number (Listed clauses) is read = absurd is
-unread_listed laws Counted held number (ListLarge point) is read = absurd is
-unread_listed laws Counted held number (NoQuery asked) is read = absurd is
+unread_listed laws Counted held number _ is read = absurd is
 
 -- what is listed of a protocol is neither a call for nothing nor a fault of reading
 pub listed_used : (P : syntax.Protocol) (number : ℕ) (outcome : Outcome) → IsListOf P number outcome → (outcome ≢ Usage) × (outcome ≢ ReadFault)
@@ -45,13 +38,7 @@ listed_used P number (Listed clauses) is = (λ e. cc, λ e. cc)
 listed_used P number (ListLarge point) is = (λ e. cc, λ e. cc)
 listed_used P number (NoQuery asked) is = (λ e. cc, λ e. cc)
 listed_used P number Memory is = (λ e. cc, λ e. cc)
-listed_used P number Usage is = absurd is
-listed_used P number ReadFault is = absurd is
-listed_used P number (Replayed replay) is = absurd is
-listed_used P number (Ring ring) is = absurd is
-listed_used P number (Verified verdicts) is = absurd is
-listed_used P number (Checked findings) is = absurd is
-listed_used P number (Refused refusal) is = absurd is
+listed_used P number _ is = absurd is
 
 -- and where a protocol was read
 list_outcome : (bytes : List ℕ) (P : syntax.Protocol) (number : ℕ) (outcome : Outcome) → Spells bytes P → IsListOf P number outcome → IsListOutcome bytes outcome
@@ -59,13 +46,7 @@ list_outcome bytes P number (Listed clauses) spelled is = (P, spelled)
 list_outcome bytes P number (ListLarge point) spelled is = (P, spelled)
 list_outcome bytes P number (NoQuery asked) spelled is = (P, spelled)
 list_outcome bytes P number Memory spelled is = tt
-list_outcome bytes P number Usage spelled is = absurd is
-list_outcome bytes P number ReadFault spelled is = absurd is
-list_outcome bytes P number (Replayed replay) spelled is = absurd is
-list_outcome bytes P number (Ring ring) spelled is = absurd is
-list_outcome bytes P number (Verified verdicts) spelled is = absurd is
-list_outcome bytes P number (Checked findings) spelled is = absurd is
-list_outcome bytes P number (Refused refusal) spelled is = absurd is
+list_outcome bytes P number _ spelled is = absurd is
 
 list_lists : Laws → (bytes : List ℕ) (P : syntax.Protocol) (number : ℕ) (outcome : Outcome) → IsListOf P number outcome → Spells bytes P → Lists bytes number outcome
 list_lists laws bytes P number outcome is spelled = record {
@@ -78,6 +59,6 @@ pub list_said : Laws → (held : Option (List ℕ)) (P : syntax.Protocol) (numbe
 list_said laws held P number outcome is spelled = of_file held (λ bytes. Spells bytes P) (λ bytes. Lists bytes number outcome) (λ bytes s. list_lists laws bytes P number outcome is s) spelled
 
 -- want of memory prints no clause, and so wants no words
-pub memory_has_words : (P : Option syntax.Protocol) (outcome : Outcome) → outcome ≡ Memory → HasItsProtocol P outcome
+pub memory_has_words : (P : Option syntax.Protocol) (outcome : Outcome) → outcome ≡ Memory → HasText P outcome
 memory_has_words None outcome is = ap prints_clauses is
 memory_has_words (Some P) outcome is = tt

@@ -32,11 +32,11 @@ use Rattle.query_verify.specs.declared.answers.Verdict.TheVariants.{Proved, Budg
 use Rattle.query_verify.specs.Told.{IsAnswer, AnswerQueries}
 use Rattle.verifier_cli.specs.declared.outcome.Finding.{Finding}
 use Rattle.verifier_cli.specs.declared.outcome.Finding.TheVariants.{Ruled, Missing, NotClaimed}
-use Rattle.verifier_cli.specs.Outcome.{Outcome, Usage, Verified, Checked, Listed, ListLarge, NoQuery, Replayed, Ring, Refused, ReadFault, Memory}
+use Rattle.verifier_cli.specs.Outcome.{Outcome, Verified, Checked, Memory}
 use Rattle.verifier_cli.specs.Command.{Becomes, Verifies}
 use Rattle.verifier_cli.specs.Checking.{MakesClaims, IsFindingOf, AreFindingsOf, IsCheckOf, ChecksReport}
 use Rattle.verifier_cli.specs.Listing.{IsSource, IsTextOf}
-use Rattle.verifier_cli.specs.Text.{HasItsProtocol as IsWorded, line, entry_text, verdict_text, verdict_lines, outcome_bytes}
+use Rattle.verifier_cli.specs.Text.{HasText as IsWorded, line, entry_text, verdict_text, verdict_lines, outcome_bytes}
 use Rattle.verifier_cli.specs.ReadBack.{finding_of, IsReportOf, IsReadBack}
 use Rattle.verifier_cli.proofs.Followed.{certificate_followed}
 use Rattle.verifier_cli.proofs.Held.{of_held}
@@ -179,15 +179,7 @@ verdicts_found P budget (q ∷ qs) (v ∷ vs) (f ∷ fs) laws are found =
 check_found : (P : Protocol) (budget : ℕ) (vs : List Verdict) (answer : Outcome) → AreAccepted P budget P.queries → AnswerQueries P budget P.queries vs → IsCheckOf P (map claim_of vs) answer → Becomes (Checked (map finding_of vs)) answer
 check_found P budget vs (Checked findings) laws are found = inl (ap Checked (verdicts_found P budget P.queries vs findings laws are found))
 check_found P budget vs Memory laws are found = inr refl
-check_found P budget vs (Refused refusal) laws are found = absurd found
-check_found P budget vs (Verified verdicts) laws are found = absurd found
-check_found P budget vs (Listed clauses) laws are found = absurd found
-check_found P budget vs (ListLarge point) laws are found = absurd found
-check_found P budget vs (NoQuery number) laws are found = absurd found
-check_found P budget vs (Replayed replay) laws are found = absurd found
-check_found P budget vs (Ring ring) laws are found = absurd found
-check_found P budget vs Usage laws are found = absurd found
-check_found P budget vs ReadFault laws are found = absurd found
+check_found P budget vs _ laws are found = absurd found
 
 -- The two calls.
 
@@ -213,16 +205,7 @@ read_back laws bytes budget (Verified vs) within verified = λ text answer repor
     let makes : MakesClaims P text (map claim_of vs) = (report.fits, subst (λ t. SpellsReport P t (map claim_of vs)) (sym report.is) spells) in
     let said : ChecksReport P text answer = of_held (Some text) (λ t. ChecksReport P t answer) text refl (checks.accepts P report.spelled) in
     check_found P budget vs answer accepted are (said.accepts (map claim_of vs) makes)
-read_back laws bytes budget (Checked findings) within verified = tt
-read_back laws bytes budget (Listed clauses) within verified = tt
-read_back laws bytes budget (ListLarge point) within verified = tt
-read_back laws bytes budget (NoQuery number) within verified = tt
-read_back laws bytes budget (Replayed replay) within verified = tt
-read_back laws bytes budget (Ring ring) within verified = tt
-read_back laws bytes budget (Refused refusal) within verified = tt
-read_back laws bytes budget Usage within verified = tt
-read_back laws bytes budget ReadFault within verified = tt
-read_back laws bytes budget Memory within verified = tt
+read_back laws bytes budget _ within verified = tt
 
 -- the text that is written of verdicts is the one that is read back
 report_of : (file bytes text : List ℕ) (budget : ℕ) (held : List ℕ → Option (List ℕ)) (vs : List Verdict) (protocol : Option Protocol) → IsSource (Some (Verify file budget)) held protocol → IsWorded protocol (Verified vs) → text ≡ outcome_bytes protocol (Verified vs) → held file ≡ Some bytes → length text ≤ most_report_bytes → IsReportOf bytes vs text

@@ -6,7 +6,7 @@ use Rattle.hv_io.specs.Faults.{IsFaultCounted}
 use Rattle.spec_protocol_scope.specs.Spells.{Spells}
 use Rattle.spec_run_text.specs.Faults.{Fault}
 use Rattle.spec_run_text.specs.Text.{SpellsRun, IsRefused}
-use Rattle.verifier_cli.specs.Outcome.{RunRefusal, Faulty, LongRun, Refusal, Protocol, Report, Run, Outcome, Usage, Verified, Checked, Listed, ListLarge, NoQuery, Replayed, Ring, Refused, ReadFault, Memory}
+use Rattle.verifier_cli.specs.Outcome.{RunRefusal, Faulty, LongRun, Refusal, Protocol, Report, Run, Outcome, Replayed, Refused, ReadFault, Memory}
 use Rattle.verifier_cli.specs.Command.{OfFile, IsRefusalOf}
 use Rattle.verifier_cli.specs.Reading.{IsUnread}
 use Rattle.verifier_cli.specs.Replaying.{SpellsSteps, RefusesRun, IsOutcomeOfReplay, IsOutcomeOfRun, RunsOn, IsReplayOutcome, Replays}
@@ -37,16 +37,8 @@ same_run_refusal r s i j (e, h) = ap (λ (why : RunRefusal). Run i why) e ∙ ap
 -- what is said of the replay of the steps that a text spells
 replay_answers : (P : syntax.Protocol) (bytes : List ℕ) (steps : List Step) (outcome : Outcome) → IsOutcomeOfReplay P steps outcome → SpellsSteps bytes steps → IsOutcomeOfRun P bytes outcome
 replay_answers P bytes steps (Replayed replay) shown spelled = (steps, spelled, shown)
-replay_answers P bytes steps (Ring ring) shown spelled = absurd shown
 replay_answers P bytes steps Memory shown spelled = tt
-replay_answers P bytes steps (Refused refusal) shown spelled = absurd shown
-replay_answers P bytes steps (Verified verdicts) shown spelled = absurd shown
-replay_answers P bytes steps (Checked findings) shown spelled = absurd shown
-replay_answers P bytes steps Usage shown spelled = absurd shown
-replay_answers P bytes steps ReadFault shown spelled = absurd shown
-replay_answers P bytes steps (Listed clauses) shown spelled = absurd shown
-replay_answers P bytes steps (ListLarge point) shown spelled = absurd shown
-replay_answers P bytes steps (NoQuery number) shown spelled = absurd shown
+replay_answers P bytes steps _ shown spelled = absurd shown
 
 replay_runs : RunLaws → (P : syntax.Protocol) (bytes : List ℕ) (steps : List Step) (outcome : Outcome) → IsOutcomeOfReplay P steps outcome → SpellsSteps bytes steps → RunsOn P bytes outcome
 replay_runs laws P bytes steps outcome shown spelled = record {
@@ -78,14 +70,7 @@ unread_run_said laws Counted held P (Refused (Protocol line column why)) is othe
 unread_run_said laws Counted held P (Refused (Report line why)) is other = absurd is
 unread_run_said laws Counted held P Memory is other = of_any held (λ bytes. RunsOn P bytes Memory) (memory_runs P)
 unread_run_said laws Counted held P ReadFault is other = absurd (other refl)
-unread_run_said laws Counted held P (Replayed replay) is other = absurd is
-unread_run_said laws Counted held P (Ring ring) is other = absurd is
-unread_run_said laws Counted held P Usage is other = absurd is
-unread_run_said laws Counted held P (Verified verdicts) is other = absurd is
-unread_run_said laws Counted held P (Checked findings) is other = absurd is
-unread_run_said laws Counted held P (Listed clauses) is other = absurd is
-unread_run_said laws Counted held P (ListLarge point) is other = absurd is
-unread_run_said laws Counted held P (NoQuery number) is other = absurd is
+unread_run_said laws Counted held P _ is other = absurd is
 
 -- what is said of a protocol's file where it is refused
 refusal_outcome : (bytes : List ℕ) (refusal : Refusal) → IsRefusalOf bytes refusal → IsReplayOutcome bytes (Refused refusal)
@@ -114,30 +99,17 @@ pub unread_replayed : Laws → (Counted : Type 0) (held other : Option (List ℕ
 unread_replayed laws Counted held other (Refused refusal) is read = of_file held (λ bytes. IsRefusalOf bytes refusal) (λ bytes. Replays bytes other (Refused refusal)) (λ bytes r. refusal_replays laws bytes other refusal r) is
 unread_replayed laws Counted held other Memory is read = memory_replayed held other
 unread_replayed laws Counted held other ReadFault is read = absurd (read refl)
-unread_replayed laws Counted held other Usage is read = absurd is
-unread_replayed laws Counted held other (Replayed replay) is read = absurd is
-unread_replayed laws Counted held other (Ring ring) is read = absurd is
-unread_replayed laws Counted held other (Verified verdicts) is read = absurd is
-unread_replayed laws Counted held other (Checked findings) is read = absurd is
-unread_replayed laws Counted held other (Listed clauses) is read = absurd is
-unread_replayed laws Counted held other (ListLarge point) is read = absurd is
-unread_replayed laws Counted held other (NoQuery number) is read = absurd is
+unread_replayed laws Counted held other _ is read = absurd is
 
 -- and where it is accepted
 run_outcome : (bytes : List ℕ) (P : syntax.Protocol) (outcome : Outcome) → Spells bytes P → IsOfRun outcome → outcome ≢ ReadFault → IsReplayOutcome bytes outcome
 run_outcome bytes P (Replayed replay) spelled is read = (P, spelled)
-run_outcome bytes P (Ring ring) spelled is read = absurd is
 run_outcome bytes P (Refused (Run line why)) spelled is read = (P, spelled)
 run_outcome bytes P (Refused (Protocol line column why)) spelled is read = absurd is
 run_outcome bytes P (Refused (Report line why)) spelled is read = absurd is
 run_outcome bytes P Memory spelled is read = tt
 run_outcome bytes P ReadFault spelled is read = absurd (read refl)
-run_outcome bytes P Usage spelled is read = absurd is
-run_outcome bytes P (Verified verdicts) spelled is read = absurd is
-run_outcome bytes P (Checked findings) spelled is read = absurd is
-run_outcome bytes P (Listed clauses) spelled is read = absurd is
-run_outcome bytes P (ListLarge point) spelled is read = absurd is
-run_outcome bytes P (NoQuery number) spelled is read = absurd is
+run_outcome bytes P _ spelled is read = absurd is
 
 run_replays : Laws → (bytes : List ℕ) (held : Option (List ℕ)) (P : syntax.Protocol) (outcome : Outcome) → IsReplayOutcome bytes outcome → OfFile held (λ text. RunsOn P text outcome) → Spells bytes P → Replays bytes held outcome
 run_replays laws bytes held P outcome is said spelled = record {
@@ -158,13 +130,7 @@ counted_later a b c h (inr e) = inr e
 -- what is about a run prints no clause
 pub run_words : (outcome : Outcome) → IsOfRun outcome → prints_clauses outcome ≡ false
 run_words (Replayed replay) is = refl
-run_words (Ring ring) is = absurd is
 run_words (Refused refusal) is = refl
 run_words Memory is = refl
 run_words ReadFault is = refl
-run_words Usage is = absurd is
-run_words (Verified verdicts) is = absurd is
-run_words (Checked findings) is = absurd is
-run_words (Listed clauses) is = absurd is
-run_words (ListLarge point) is = absurd is
-run_words (NoQuery number) is = absurd is
+run_words _ is = absurd is

@@ -18,7 +18,7 @@ use Rattle.query_verify.specs.Told.{AnswerQueries}
 use Rattle.spec_protocol_scope.specs.Spells.{Spells, Refusal, Refuses}
 use Rattle.spec_ring_text.specs.Text.{ring_text}
 use Rattle.verifier_cli.specs.declared.outcome.Ring.{Ring as Summary}
-use Rattle.verifier_cli.specs.Outcome.{Outcome, Usage, Verified, Checked, Listed, ListLarge, NoQuery, Replayed, Ring, Refused, ReadFault, Memory}
+use Rattle.verifier_cli.specs.Outcome.{Outcome, Usage, Ring, Refused, ReadFault, Memory}
 use Rattle.verifier_cli.specs.Command.{NoneViolated}
 use Rattle.verifier_cli.specs.Reading.{IsNoReading}
 use Rattle.verifier_cli.specs.Ringing.{HasCount, IsSummaryOf, IsRingOf, IsRingOutcome, Rings}
@@ -64,29 +64,13 @@ memory_rings n = record { answers = tt; accepts = λ P spells. tt; none_violated
 pub unread_is_memory : (bytes : List ℕ) → ((why : Refusal) (place : ℕ) → Refuses bytes why place → ⊥) → (outcome : Outcome) → IsNoReading bytes outcome → outcome ≡ Memory
 unread_is_memory bytes never (Refused refusal) is = absurd (never is.why is.place is.refused)
 unread_is_memory bytes never Memory is = refl
-unread_is_memory bytes never Usage is = absurd is
-unread_is_memory bytes never ReadFault is = absurd is
-unread_is_memory bytes never (Verified verdicts) is = absurd is
-unread_is_memory bytes never (Checked findings) is = absurd is
-unread_is_memory bytes never (Listed clauses) is = absurd is
-unread_is_memory bytes never (ListLarge point) is = absurd is
-unread_is_memory bytes never (NoQuery number) is = absurd is
-unread_is_memory bytes never (Replayed replay) is = absurd is
-unread_is_memory bytes never (Ring ring) is = absurd is
+unread_is_memory bytes never _ is = absurd is
 
 -- a ring comes neither to a call for nothing nor to a fault of reading
 pub rings_used : (n : ℕ) (outcome : Outcome) → Rings n outcome → (outcome ≢ Usage) × (outcome ≢ ReadFault)
-rings_used n Usage is = absurd is.answers
-rings_used n ReadFault is = absurd is.answers
-rings_used n (Refused refusal) is = absurd is.answers
 rings_used n Memory is = (λ e. cc, λ e. cc)
 rings_used n (Ring ring) is = (λ e. cc, λ e. cc)
-rings_used n (Verified verdicts) is = absurd is.answers
-rings_used n (Checked findings) is = absurd is.answers
-rings_used n (Listed clauses) is = absurd is.answers
-rings_used n (ListLarge point) is = absurd is.answers
-rings_used n (NoQuery number) is = absurd is.answers
-rings_used n (Replayed replay) is = absurd is.answers
+rings_used n _ is = absurd is.answers
 
 -- a query that is proved is not violated
 summary_violates_none : Soundness → Laws → (n : ℕ) (P : syntax.Protocol) (ring : Summary) → Spells (ring_text n) P → IsSummaryOf P n ring → NoneViolated (ring_text n) (Ring ring)
@@ -99,28 +83,12 @@ summary_violates_none sound laws n P ring spelled is = λ Q spells k shown.
 ring_violates_none : Soundness → Laws → (n : ℕ) (P : syntax.Protocol) (outcome : Outcome) → Spells (ring_text n) P → IsRingOf P n outcome → NoneViolated (ring_text n) outcome
 ring_violates_none sound laws n P (Ring ring) spelled is = summary_violates_none sound laws n P ring spelled is
 ring_violates_none sound laws n P Memory spelled is = λ Q spells k shown. absurd shown
-ring_violates_none sound laws n P Usage spelled is = absurd is
-ring_violates_none sound laws n P ReadFault spelled is = absurd is
-ring_violates_none sound laws n P (Refused refusal) spelled is = absurd is
-ring_violates_none sound laws n P (Verified verdicts) spelled is = absurd is
-ring_violates_none sound laws n P (Checked findings) spelled is = absurd is
-ring_violates_none sound laws n P (Listed clauses) spelled is = absurd is
-ring_violates_none sound laws n P (ListLarge point) spelled is = absurd is
-ring_violates_none sound laws n P (NoQuery number) spelled is = absurd is
-ring_violates_none sound laws n P (Replayed replay) spelled is = absurd is
+ring_violates_none sound laws n P _ spelled is = absurd is
 
 ring_outcome : (n : ℕ) (P : syntax.Protocol) (outcome : Outcome) → Spells (ring_text n) P → IsRingOf P n outcome → IsRingOutcome n outcome
 ring_outcome n P (Ring ring) spelled is = (P, spelled)
 ring_outcome n P Memory spelled is = tt
-ring_outcome n P Usage spelled is = absurd is
-ring_outcome n P ReadFault spelled is = absurd is
-ring_outcome n P (Refused refusal) spelled is = absurd is
-ring_outcome n P (Verified verdicts) spelled is = absurd is
-ring_outcome n P (Checked findings) spelled is = absurd is
-ring_outcome n P (Listed clauses) spelled is = absurd is
-ring_outcome n P (ListLarge point) spelled is = absurd is
-ring_outcome n P (NoQuery number) spelled is = absurd is
-ring_outcome n P (Replayed replay) spelled is = absurd is
+ring_outcome n P _ spelled is = absurd is
 
 -- where the text was read
 pub ring_said : Soundness → Laws → (n : ℕ) (P : syntax.Protocol) (outcome : Outcome) → IsRingOf P n outcome → Spells (ring_text n) P → Rings n outcome

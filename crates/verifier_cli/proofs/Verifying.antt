@@ -12,7 +12,7 @@ use Rattle.query_verify.specs.declared.answers.Verdict.TheVariants.{Proved}
 use Rattle.query_verify.specs.Told.{Tells, IsAnswer, AnswerQueries}
 use Rattle.spec_protocol_scope.specs.Spells as spells
 use Rattle.spec_protocol_scope.specs.Spells.{Spells, Refuses}
-use Rattle.verifier_cli.specs.Outcome.{Refusal, Outcome, Usage, Verified, Checked, Listed, ListLarge, NoQuery, Replayed, Ring, Refused, ReadFault, Memory}
+use Rattle.verifier_cli.specs.Outcome.{Refusal, Outcome, Usage, Verified, Refused, ReadFault, Memory}
 use Rattle.verifier_cli.specs.Command.{OfFile, IsRefusalOf, Verifies, NoneViolated, IsDecidedBy, IsOutcomeOf, refusal_at}
 use Rattle.verifier_cli.specs.Reading.{IsUnread}
 use Rattle.verifier_cli.specs.Text.{prints_clauses}
@@ -63,28 +63,12 @@ none_violated sound laws bytes Q budget answers spelled are P spells k proved =
 decided_outcome : (bytes : List ℕ) (P : syntax.Protocol) (budget : ℕ) (outcome : Outcome) → Spells bytes P → IsDecidedBy P budget outcome → IsOutcomeOf bytes outcome
 decided_outcome bytes P budget (Verified verdicts) spelled is = (P, spelled)
 decided_outcome bytes P budget Memory spelled is = tt
-decided_outcome bytes P budget (Checked findings) spelled is = absurd is
-decided_outcome bytes P budget (Listed clauses) spelled is = absurd is
-decided_outcome bytes P budget (ListLarge point) spelled is = absurd is
-decided_outcome bytes P budget (NoQuery number) spelled is = absurd is
-decided_outcome bytes P budget (Replayed replay) spelled is = absurd is
-decided_outcome bytes P budget (Ring ring) spelled is = absurd is
-decided_outcome bytes P budget (Refused refusal) spelled is = absurd is
-decided_outcome bytes P budget Usage spelled is = absurd is
-decided_outcome bytes P budget ReadFault spelled is = absurd is
+decided_outcome bytes P budget _ spelled is = absurd is
 
 decided_violates_none : Soundness → Laws → (bytes : List ℕ) (P : syntax.Protocol) (budget : ℕ) (outcome : Outcome) → Spells bytes P → IsDecidedBy P budget outcome → NoneViolated bytes outcome
 decided_violates_none sound laws bytes P budget (Verified verdicts) spelled is = none_violated sound laws bytes P budget verdicts spelled is
 decided_violates_none sound laws bytes P budget Memory spelled is = λ Q spells k proved. absurd proved
-decided_violates_none sound laws bytes P budget (Checked findings) spelled is = absurd is
-decided_violates_none sound laws bytes P budget (Listed clauses) spelled is = absurd is
-decided_violates_none sound laws bytes P budget (ListLarge point) spelled is = absurd is
-decided_violates_none sound laws bytes P budget (NoQuery number) spelled is = absurd is
-decided_violates_none sound laws bytes P budget (Replayed replay) spelled is = absurd is
-decided_violates_none sound laws bytes P budget (Ring ring) spelled is = absurd is
-decided_violates_none sound laws bytes P budget (Refused refusal) spelled is = absurd is
-decided_violates_none sound laws bytes P budget Usage spelled is = absurd is
-decided_violates_none sound laws bytes P budget ReadFault spelled is = absurd is
+decided_violates_none sound laws bytes P budget _ spelled is = absurd is
 
 decided_verifies : Soundness → Laws → (bytes : List ℕ) (P : syntax.Protocol) (budget : ℕ) (outcome : Outcome) → IsDecidedBy P budget outcome → Spells bytes P → Verifies bytes budget outcome
 decided_verifies sound laws bytes P budget outcome is spelled = record {
@@ -101,15 +85,7 @@ decided_said sound laws held P budget outcome is spelled = of_file held (λ byte
 pub decided_used : (P : syntax.Protocol) (budget : ℕ) (outcome : Outcome) → IsDecidedBy P budget outcome → (outcome ≢ Usage) × (outcome ≢ ReadFault)
 decided_used P budget (Verified verdicts) is = (λ e. cc, λ e. cc)
 decided_used P budget Memory is = (λ e. cc, λ e. cc)
-decided_used P budget (Checked findings) is = absurd is
-decided_used P budget (Listed clauses) is = absurd is
-decided_used P budget (ListLarge point) is = absurd is
-decided_used P budget (NoQuery number) is = absurd is
-decided_used P budget (Replayed replay) is = absurd is
-decided_used P budget (Ring ring) is = absurd is
-decided_used P budget (Refused refusal) is = absurd is
-decided_used P budget Usage is = absurd is
-decided_used P budget ReadFault is = absurd is
+decided_used P budget _ is = absurd is
 
 -- of a refusal
 pub same_refusal : (bytes : List ℕ) (r s : spells.Refusal) (i j : ℕ) → (r ≡ s) × (i ≡ j) → refusal_at bytes r i ≡ refusal_at bytes s j
@@ -140,25 +116,11 @@ pub unread_verified : Laws → (Counted : Type 0) (held : Option (List ℕ)) (bu
 unread_verified laws Counted held budget (Refused refusal) is other = of_file held (λ bytes. IsRefusalOf bytes refusal) (λ bytes. Verifies bytes budget (Refused refusal)) (λ bytes r. refusal_verifies laws bytes budget refusal r) is
 unread_verified laws Counted held budget Memory is other = memory_verified held budget
 unread_verified laws Counted held budget ReadFault is other = absurd (other refl)
-unread_verified laws Counted held budget (Replayed replay) is other = absurd is
-unread_verified laws Counted held budget (Ring ring) is other = absurd is
-unread_verified laws Counted held budget Usage is other = absurd is
-unread_verified laws Counted held budget (Verified verdicts) is other = absurd is
-unread_verified laws Counted held budget (Checked findings) is other = absurd is
-unread_verified laws Counted held budget (Listed clauses) is other = absurd is
-unread_verified laws Counted held budget (ListLarge point) is other = absurd is
-unread_verified laws Counted held budget (NoQuery number) is other = absurd is
+unread_verified laws Counted held budget _ is other = absurd is
 
 -- it prints no clause
 pub unread_words : (Counted : Type 0) (held : Option (List ℕ)) (outcome : Outcome) → IsUnread Counted held outcome → prints_clauses outcome ≡ false
 unread_words Counted held (Refused refusal) is = refl
 unread_words Counted held Memory is = refl
 unread_words Counted held ReadFault is = refl
-unread_words Counted held (Replayed replay) is = absurd is
-unread_words Counted held (Ring ring) is = absurd is
-unread_words Counted held Usage is = absurd is
-unread_words Counted held (Verified verdicts) is = absurd is
-unread_words Counted held (Checked findings) is = absurd is
-unread_words Counted held (Listed clauses) is = absurd is
-unread_words Counted held (ListLarge point) is = absurd is
-unread_words Counted held (NoQuery number) is = absurd is
+unread_words Counted held _ is = absurd is

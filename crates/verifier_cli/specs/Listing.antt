@@ -12,7 +12,7 @@ use Rattle.spec_translation.specs.Translation.{Translated, Clauses, LargeAt, IsT
 use Rattle.spec_ring_text.specs.Text.{ring_text}
 use Rattle.verifier_cli.specs.Outcome.{Outcome, Listed, ListLarge, NoQuery, Refused, Memory}
 use Rattle.verifier_cli.specs.Command.{OfFile, Becomes, IsRefusalOf, refusal_at}
-use Rattle.verifier_cli.specs.Text.{HasItsProtocol, outcome_bytes}
+use Rattle.verifier_cli.specs.Text.{HasText, outcome_bytes}
 
 -- the protocol's query of that number has this translation
 abbrev pub IsTranslated : syntax.Protocol → ℕ → Translated → Type 0
@@ -71,5 +71,5 @@ IsSource (Some request) held P = IsSpelledAt (source_of request held) P
 pub record IsTextOf (request : Option Request) (held : List ℕ → Option (List ℕ)) (outcome : Outcome) (text : List ℕ) : Type 0 where
   pub protocol : Option syntax.Protocol
   pub source : IsSource request held protocol
-  pub words : HasItsProtocol protocol outcome
+  pub words : HasText protocol outcome
   pub is : text ≡ outcome_bytes protocol outcome

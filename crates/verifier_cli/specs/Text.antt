@@ -174,9 +174,9 @@ prints_clauses (Ring ring) = true
 prints_clauses _ = false
 
 -- where the outcome prints clauses, there is a protocol
-abbrev pub HasItsProtocol : Option syntax.Protocol → Outcome → Type 0
-HasItsProtocol None outcome = prints_clauses outcome ≡ false
-HasItsProtocol (Some P) outcome = Unit {0}
+abbrev pub HasText : Option syntax.Protocol → Outcome → Type 0
+HasText None outcome = prints_clauses outcome ≡ false
+HasText (Some P) outcome = Unit {0}
 
 -- all that a call writes, in the words of its protocol
 abbrev pub outcome_bytes : Option syntax.Protocol → Outcome → List ℕ

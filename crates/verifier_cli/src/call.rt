@@ -18,7 +18,7 @@ ghost use Rattle.verifier_cli.specs.ReadBack.{IsReadBack};
 ghost use Rattle.verifier_cli.specs.Replaying.{Replays};
 ghost use Rattle.verifier_cli.specs.Ringing.{Rings};
 ghost use Rattle.verifier_cli.specs.SeenOutcome.{outcome_of};
-ghost use Rattle.verifier_cli.specs.Text.{HasItsProtocol, outcome_bytes, status_of};
+ghost use Rattle.verifier_cli.specs.Text.{HasText, outcome_bytes, status_of};
 
 use crate::check::check_file;
 use crate::list::list_file;
@@ -44,7 +44,7 @@ fn decide<F: Files>(alloc: Global, words: &[String], files: &mut F) -> Decision
         F.faults files.old name ≤ F.faults files.new name }
     ensures source { IsSource (request_of (map string_bytes words.now)) (F.held files.old)
         (option_map protocol_of result.protocol) }
-    ensures words { HasItsProtocol (option_map protocol_of result.protocol)
+    ensures words { HasText (option_map protocol_of result.protocol)
         (outcome_of result.outcome) }
     ensures unused { IsNoCommand (map string_bytes words.now) →
         Becomes own.Usage (outcome_of result.outcome) }
@@ -107,9 +107,9 @@ fn respond<S: Sink>(
     outcome: Outcome,
     out: &mut S,
 ) -> Answer
-    requires { HasItsProtocol (words_of protocol) (outcome_of outcome) }
+    requires { HasText (words_of protocol) (outcome_of outcome) }
     ensures outcome { Becomes (outcome_of outcome) (outcome_of result.outcome) }
-    ensures words { HasItsProtocol (words_of protocol.entry) (outcome_of result.outcome) }
+    ensures words { HasText (words_of protocol.entry) (outcome_of result.outcome) }
     ensures faults_rise { S.faults out.old ≤ S.faults out.new }
     ensures fault { result.status ≡ 6 → IsFaultCounted (S.faults out.old) (S.faults out.new) }
     ensures status { result.status ≢ 6 → result.status ≡ status_of (outcome_of result.outcome) }

@@ -16,7 +16,7 @@ ghost use Rattle.verifier_cli.specs.Outcome as own;
 ghost use Rattle.verifier_cli.specs.ReportReading.{report_not_loaded, report_not_read};
 ghost use Rattle.verifier_cli.specs.ReportReading.{IsUnreadReport, IsOfReport};
 ghost use Rattle.verifier_cli.specs.SeenOutcome.{outcome_of};
-ghost use Rattle.verifier_cli.specs.Text.{HasItsProtocol};
+ghost use Rattle.verifier_cli.specs.Text.{HasText};
 
 use crate::loading::{Unloaded, load_protocol, load_text};
 use crate::outcome::{Finding, Findings, Outcome, Refusal, ReportCode};
@@ -179,7 +179,7 @@ pub(crate) fn check_file<F: Files>(
     ensures read_faults_rise { (name : List ℕ) →
         F.faults files.old name ≤ F.faults files.new name }
     ensures used { outcome_of result ≢ own.Usage }
-    ensures words { HasItsProtocol None (outcome_of result) }
+    ensures words { HasText None (outcome_of result) }
     ensures fault { outcome_of result ≡ own.ReadFault →
         IsEitherUnreadable file.now report.now (F.held files.old) (λ name.
         IsFaultCounted (F.faults files.old name) (F.faults files.new name)) }

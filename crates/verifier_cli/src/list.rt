@@ -10,7 +10,7 @@ ghost use Rattle.verifier_cli.specs.Listing.{IsListOf, Lists, IsSpelledAt};
 ghost use Rattle.verifier_cli.specs.Loaded.{IsLoaded};
 ghost use Rattle.verifier_cli.specs.Outcome as own;
 ghost use Rattle.verifier_cli.specs.SeenOutcome.{outcome_of};
-ghost use Rattle.verifier_cli.specs.Text.{HasItsProtocol};
+ghost use Rattle.verifier_cli.specs.Text.{HasText};
 
 use crate::loading::load_protocol;
 use crate::outcome::{Decision, Outcome};
@@ -81,7 +81,7 @@ pub(crate) fn list_file<F: Files>(alloc: Global, file: &str, query: u64, files: 
         IsFaultCounted (F.faults files.old file.now) (F.faults files.new file.now) }
     ensures source { IsSpelledAt (F.held files.old file.now)
         (option_map protocol_of result.protocol) }
-    ensures words { HasItsProtocol (option_map protocol_of result.protocol) (outcome_of result.outcome) }
+    ensures words { HasText (option_map protocol_of result.protocol) (outcome_of result.outcome) }
     ensures listed { outcome_of result.outcome ≢ own.ReadFault →
         OfFile (F.held files.old file.now) (λ bytes.
         Lists bytes query (outcome_of result.outcome)) }

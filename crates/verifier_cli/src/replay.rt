@@ -11,7 +11,7 @@ ghost use Rattle.verifier_cli.specs.Outcome as own;
 ghost use Rattle.verifier_cli.specs.Replaying.{SpellsSteps, IsOutcomeOfReplay, RunsOn, Replays};
 ghost use Rattle.verifier_cli.specs.RunReading.{run_not_loaded, run_not_read, IsUnreadRun, IsOfRun};
 ghost use Rattle.verifier_cli.specs.SeenOutcome.{outcome_of};
-ghost use Rattle.verifier_cli.specs.Text.{HasItsProtocol};
+ghost use Rattle.verifier_cli.specs.Text.{HasText};
 
 use crate::loading::{Unloaded, load_protocol, load_text};
 use crate::outcome::{Outcome, Refusal, RunCode};
@@ -108,7 +108,7 @@ pub(crate) fn replay_file<F: Files>(alloc: Global, file: &str, run: &str, files:
     ensures held_stays { (name : List ℕ) → F.held files.new name ≡ F.held files.old name }
     ensures read_faults_rise { (name : List ℕ) → F.faults files.old name ≤ F.faults files.new name }
     ensures used { outcome_of result ≢ own.Usage }
-    ensures words { HasItsProtocol None (outcome_of result) }
+    ensures words { HasText None (outcome_of result) }
     ensures fault { outcome_of result ≡ own.ReadFault →
         IsFaultCounted (F.faults files.old file.now) (F.faults files.new file.now) ⊎
         (OfFile (F.held files.old file.now) (λ bytes. (P : syntax.Protocol) × Spells bytes P) ×

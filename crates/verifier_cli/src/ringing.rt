@@ -12,7 +12,7 @@ ghost use Rattle.verifier_cli.specs.Loaded.{IsLoaded};
 ghost use Rattle.verifier_cli.specs.Outcome as own;
 ghost use Rattle.verifier_cli.specs.Ringing.{HasCount, IsRingOf, IsSummaryOf, Rings};
 ghost use Rattle.verifier_cli.specs.SeenOutcome.{outcome_of};
-ghost use Rattle.verifier_cli.specs.Text.{HasItsProtocol};
+ghost use Rattle.verifier_cli.specs.Text.{HasText};
 
 use crate::loading::protocol_in;
 use crate::outcome::{Decision, Outcome, Ring};
@@ -88,7 +88,7 @@ fn verify_ring(alloc: Global, stages: u64, text: &[u8]) -> Decision
     ensures read { outcome_of result.outcome ≢ own.ReadFault }
     ensures source { IsSpelledAt (Some (ring_text stages))
         (option_map protocol_of result.protocol) }
-    ensures words { HasItsProtocol (option_map protocol_of result.protocol) (outcome_of result.outcome) }
+    ensures words { HasText (option_map protocol_of result.protocol) (outcome_of result.outcome) }
     ensures rings { Rings stages (outcome_of result.outcome) }
 {
     one_protocol();
@@ -120,7 +120,7 @@ pub(crate) fn ring(alloc: Global, stages: u64) -> Decision
     ensures read { outcome_of result.outcome ≢ own.ReadFault }
     ensures source { IsSpelledAt (Some (ring_text stages))
         (option_map protocol_of result.protocol) }
-    ensures words { HasItsProtocol (option_map protocol_of result.protocol) (outcome_of result.outcome) }
+    ensures words { HasText (option_map protocol_of result.protocol) (outcome_of result.outcome) }
     ensures rings { Rings stages (outcome_of result.outcome) }
 {
     match make_ring(alloc, stages) {

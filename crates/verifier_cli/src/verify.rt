@@ -8,7 +8,7 @@ ghost use Rattle.verifier_cli.specs.Listing.{IsSpelledAt};
 ghost use Rattle.verifier_cli.specs.Loaded.{IsLoaded};
 ghost use Rattle.verifier_cli.specs.Outcome as own;
 ghost use Rattle.verifier_cli.specs.SeenOutcome.{outcome_of};
-ghost use Rattle.verifier_cli.specs.Text.{HasItsProtocol};
+ghost use Rattle.verifier_cli.specs.Text.{HasText};
 
 use crate::loading::load_protocol;
 use crate::outcome::{Decision, Outcome};
@@ -47,7 +47,7 @@ pub(crate) fn verify_file<F: Files>(
         IsFaultCounted (F.faults files.old file.now) (F.faults files.new file.now) }
     ensures source { IsSpelledAt (F.held files.old file.now)
         (option_map protocol_of result.protocol) }
-    ensures words { HasItsProtocol (option_map protocol_of result.protocol) (outcome_of result.outcome) }
+    ensures words { HasText (option_map protocol_of result.protocol) (outcome_of result.outcome) }
     ensures verified { outcome_of result.outcome ≢ own.ReadFault →
         OfFile (F.held files.old file.now) (λ bytes.
         Verifies bytes budget (outcome_of result.outcome)) }
