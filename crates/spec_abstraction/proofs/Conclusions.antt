@@ -12,7 +12,8 @@ use Rattle.spec_clauses.specs.Fact.{Fact, Att, Mess, Clause, fact_under}
 use Rattle.spec_clauses.specs.Flat.{flat, flat_under}
 use Rattle.spec_clauses.specs.Inclusion.{Picks, here, there, Has}
 use Rattle.spec_clauses.proofs.Lists.{all_first, all_second}
-use Rattle.spec_derivations.specs.Derivation.{AreDerived, nothing, by_clause}
+use Rattle.spec_derivations.specs.Derivation.{is_required_event, AreDerived, nothing, by_clause}
+use Rattle.spec_derivations.proofs.Forest.{flat_under-no_event}
 use Rattle.spec_translation.specs.Conversion.{free_term}
 use Rattle.spec_translation.specs.Attacker.{variables_from, name_known, fresh_known, constructor_applied, rule_applied, message_heard, message_sent, attacker_raw}
 use Rattle.spec_abstraction.specs.Taken.{IsTaken}
@@ -128,11 +129,11 @@ module _ (P : Protocol) (all : List (Clause Term)) (events : List (Fact Term)) w
   both_derived fs gs a b = beside (IsTaken all) events fs gs a b
 
   -- all that a taken clause concludes under a substitution of derived hypotheses
-  pub applied : (raw : Clause Term) (s : Subst) → IsTaken all raw → Derived (flat_under s raw.hypotheses) → Derived (flat (fact_under s raw.conclusion))
-  applied raw s taken premises = each (flat (fact_under s raw.conclusion)) (λ g h. h) where
+  pub applied : (raw : Clause Term) (s : Subst) → is_required_event raw.conclusion ≡ false → IsTaken all raw → Derived (flat_under s raw.hypotheses) → Derived (flat (fact_under s raw.conclusion))
+  applied raw s plain taken premises = each (flat (fact_under s raw.conclusion)) (λ g h. h) where
     each : (gs : List (Fact Term)) → ((g : Fact Term) → Has gs g → Has (flat (fact_under s raw.conclusion)) g) → Derived gs
     each [] part = nothing
-    each (g ∷ gs) part = by_clause {c = raw} {premises = flat_under s raw.hypotheses} taken (record { by = s; premises_are = refl; concludes = part g (gs, here) }) premises (each gs (λ f h. part f (g ∷ h.0, there h.1)))
+    each (g ∷ gs) part = by_clause {c = raw} {premises = flat_under s raw.hypotheses} (flat_under-no_event s raw.conclusion g plain (part g (gs, here))) taken (record { by = s; premises_are = refl; concludes = part g (gs, here) }) premises (each gs (λ f h. part f (g ∷ h.0, there h.1)))
 
   module _ (has : AttackerHas P all) where
     pub rule_taken : (d r : ℕ) (rule : Rule) → numbered (rules_of P d) r ≡ Some rule → IsTaken all (rule_applied P rule)
@@ -153,10 +154,10 @@ module _ (P : Protocol) (all : List (Clause Term)) (events : List (Fact Term)) w
     name_derived n declared stands public =
         let is : name_known (n, declared) ≡ Some (record { hypotheses = []; conclusion = Att (free_term n) }) = rw public refl in
         let taken = all_of_some (IsTaken all) name_known (enumerate_from 1 P.frees) (n, declared) (record { hypotheses = []; conclusion = Att (free_term n) }) (numbered_enumerated P.frees n declared stands) is has.names in
-        applied (record { hypotheses = []; conclusion = Att (free_term n) }) Leaf taken nothing
+        applied (record { hypotheses = []; conclusion = Att (free_term n) }) Leaf refl taken nothing
 
     pub fresh_derived : (n : ℕ) → Derived (Att (node Attacker (Leaf n ∷ [])) ∷ [])
-    fresh_derived n = applied fresh_known (λ x. Leaf n) has.fresh nothing
+    fresh_derived n = applied fresh_known (λ x. Leaf n) refl has.fresh nothing
 
     -- a message on a channel that the attacker has, heard and sent
     abbrev two_terms : Term → Term → Subst
@@ -164,12 +165,12 @@ module _ (P : Protocol) (all : List (Clause Term)) (events : List (Fact Term)) w
 
     pub heard_derived : (t u : Term) → Derived (Mess t u ∷ []) → Derived (flat (Att t)) → Derived (flat (Att u))
     heard_derived t u message channel =
-        applied message_heard (two_terms t u) has.heard
+        applied message_heard (two_terms t u) refl has.heard
         (both_derived (Mess t u ∷ []) (flat (Att t) ++ []) message (both_derived (flat (Att t)) [] channel nothing))
 
     pub sent_derived : (t u : Term) → Derived (flat (Att t)) → Derived (flat (Att u)) → Derived (Mess t u ∷ [])
     sent_derived t u channel message =
-        applied message_sent (two_terms t u) has.sent
+        applied message_sent (two_terms t u) refl has.sent
         (both_derived (flat (Att t)) (flat (Att u) ++ []) channel (both_derived (flat (Att u)) [] message nothing))
 
     -- a constructor on terms that the attacker has
@@ -181,4 +182,4 @@ module _ (P : Protocol) (all : List (Clause Term)) (events : List (Fact Term)) w
         let terms : map (bind (nth ts)) (variables_from 0 declared.arity) ≡ ts = ap (λ n. map (bind (nth ts)) (variables_from 0 n)) count ∙ nth_fills ts 0 ts (λ x. ap (nth ts) (let e : 0 + x ≡ x = omega arith in e)) in
         let hypotheses : flat_under (nth ts) (map Att (variables_from 0 declared.arity)) ≡ flat_map (λ t. flat (Att t)) ts = known_under (nth ts) (variables_from 0 declared.arity) ∙ ap (flat_map (λ t. flat (Att t))) terms in
         let conclusion : bind (nth ts) (node (Ctor f) (variables_from 0 declared.arity)) ≡ node (Ctor f) ts = bind-node (nth ts) (Ctor f) (variables_from 0 declared.arity) ∙ ap (node (Ctor f)) terms in
-        subst (λ t. Derived (flat (Att t))) conclusion (applied raw (nth ts) taken (subst Derived (sym hypotheses) known))
+        subst (λ t. Derived (flat (Att t))) conclusion (applied raw (nth ts) refl taken (subst Derived (sym hypotheses) known))

@@ -1,6 +1,6 @@
 -- A thread is followed by a visit of its point: what the visit's variables stand for makes it the thread itself, and its hypotheses
 -- are derived. Each step of the thread is followed by a visit below.
-use Rattle.std.proofs.Common.{◌≡◌, ◌∙◌, ℕ, ◌+◌, ◌-◌, ◌<◌, ◌≤◌, Bool, true, false, Option, Some, None, List, [], ◌∷◌, ◌++◌, map, filter_map, refl, ap, sym, subst, arith}
+use Rattle.std.proofs.Common.{◌≡◌, ◌∙◌, ℕ, ◌+◌, ◌-◌, ◌<◌, ◌≤◌, Bool, true, false, cond, Option, Some, None, List, [], ◌∷◌, ◌++◌, map, filter_map, refl, ap, sym, subst, arith}
 use Rattle.std.specs.Prelude.{flat_map}
 use Rattle.std.specs.Option.{option_map_or}
 use Rattle.std.specs.List.{AllByRecursion}
@@ -18,7 +18,7 @@ use Rattle.spec_terms.specs.Term.{Ctor, Data, Tuple, Free, Point, Attacker, Term
 use Rattle.spec_clauses.specs.Fact.{Fact, Att, Mess, Ev, Mev, Clause, fact_under}
 use Rattle.spec_clauses.specs.Flat.{flat, flat_under}
 use Rattle.spec_clauses.specs.Inclusion.{Has}
-use Rattle.spec_derivations.specs.Derivation.{nothing, allowed}
+use Rattle.spec_derivations.specs.Derivation.{is_required_event, nothing, allowed}
 use Rattle.spec_translation.specs.Conversion.{free_term, name_term, term_in, Fresh, fresh_leaf, hole_term, pattern_term, bound_number, hole_standing, pattern_scope}
 use Rattle.spec_translation.specs.Visit.{Visit, standing_under, visit_under, is_public_channel, sent, raw_clause, IsFresh, after_input, after_copy, after_new, event_terms, after_event}
 use Rattle.spec_translation.proofs.Conversions.{converted-bind, converted-same, term_in-under, terms_in-under}
@@ -152,13 +152,17 @@ module _ (P : Protocol) (names : Naming) where
               subst (λ t. Derived P all events (Mess t (bind by m) ∷ [])) (sym channel)
               (sent_derived P all events has (free_term name.number) (bind by m) (name_derived P all events has name.number name.declared name.stands name.public) (subst (Derived P all events) same d))
 
+      -- and no event
+      sent_no_event : (c m : Term) → is_required_event (sent P c m) ≡ false
+      sent_no_event c m = elim (is_public_channel P c) as (λ b. is_required_event (cond b (Att m) (Mess c m)) ≡ false) [ true ↦ refl | false ↦ refl ]
+
       -- what a thread sends is derived
       pub output_sends : (channel message : calculus.Term) (next : Process) → Follows events (Output channel message next) point environment past → Derived P all events (Mess (abstracted P names (value_of environment channel)) (abstracted P names (value_of environment message)) ∷ [])
       output_sends channel message next f =
           let c = term_in P f.visit.scope channel in
           let m = term_in P f.visit.scope message in
           let raw = raw_clause f.visit (sent P c m) in
-          let d = applied P all events raw f.by f.has_visit.0 (premises_derived (Output channel message next) f) in
+          let d = applied P all events raw f.by (sent_no_event c m) f.has_visit.0 (premises_derived (Output channel message next) f) in
           let to = term_there f.by f.visit environment past f.facts f.closed channel in
           let what = term_there f.by f.visit environment past f.facts f.closed message in
           subst (Derived P all events) (λ i. Mess (to i) (what i) ∷ []) (message_derived f.by c m d)
@@ -250,7 +254,7 @@ module _ (P : Protocol) (names : Naming) where
       pub event_derived : (performed : EventTerm) (next : Process) → Follows events (Event performed next) point environment past → Derived P all events (Ev performed.event (map (abstracted P names) (values_of environment performed.arguments)) ∷ [])
       event_derived performed next f =
           let raw = raw_clause f.visit (Ev performed.event (event_terms P f.visit performed)) in
-          let d = applied P all events raw f.by f.has_visit.0 (premises_derived (Event performed next) f) in
+          let d = applied P all events raw f.by refl f.has_visit.0 (premises_derived (Event performed next) f) in
           let terms = terms_there f.by f.visit environment past f.facts f.closed performed.arguments in
           subst (Derived P all events) (λ i. Ev performed.event (terms i) ∷ []) d
 

@@ -159,7 +159,7 @@ module _ (P : Protocol) (names : Naming) where
         rule_hypotheses s rule.left ∙ ap (flat_map (λ t. flat (Att t))) (rule_terms_value 0 Leaf env rule.left lefts ∙ ap (map (abstracted P names)) left) in
         let conclusion : bind s (rule_term P 0 rule.right) ≡ abstracted P names v = rule_term_value 0 Leaf env rule.right rights ∙ ap (abstracted P names) (sym right) in
         subst (λ t. Derived P all events (flat (Att t))) conclusion
-        (applied P all events (rule_applied P rule) s (rule_taken P all events has d r rule stands) (subst (Derived P all events) (sym hypotheses) (all_known vs known)))
+        (applied P all events (rule_applied P rule) s refl (rule_taken P all events has d r rule stands) (subst (Derived P all events) (sym hypotheses) (all_known vs known)))
 
     -- a part of a row
     part_within : (vs : Trees Atom Symbol) (k : ℕ) (w : Value) → slice_get (items_of vs) k ≡ Some w → IsWithin (map Att (parts (abstracted P names w))) (map Att (row_parts (converted_row P (atom_term names) vs)))

@@ -1,7 +1,6 @@
 -- What is derived by raw clauses is derived by the clauses of a list that has their norms.
-use Rattle.std.proofs.Common.{◌∙◌, List, [], ◌∷◌, ◌++◌, map, sym, subst, inl, inr}
+use Rattle.std.proofs.Common.{◌≡◌, ◌∙◌, false, List, [], ◌∷◌, ◌++◌, map, sym, subst, inl, inr}
 use Rattle.std.specs.Prelude.{flat_map}
-use Rattle.std.specs.List.{AllByRecursion}
 use Rattle.spec_terms.specs.Term.{Term}
 use Rattle.spec_clauses.specs.Fact.{Fact, Clause, fact_under}
 use Rattle.spec_clauses.specs.Flat.{flat, flat_under, flat_parts}
@@ -9,7 +8,7 @@ use Rattle.spec_clauses.specs.Norm.{norm, norms}
 use Rattle.spec_clauses.specs.Inclusion.{Has}
 use Rattle.spec_clauses.proofs.Inclusion.{all_has, Has-filter_map, Has-flat_map_source, pick-map}
 use Rattle.spec_clauses.proofs.FlatUnder.{flat_parts-flat, flat_under-flat, flat_under-flats}
-use Rattle.spec_derivations.specs.Derivation.{Instance, AreDerived, nothing, allowed, by_clause, Derive}
+use Rattle.spec_derivations.specs.Derivation.{Instance, is_required_event, AreDerived, nothing, allowed, by_clause, Derive}
 use Rattle.spec_derivations.proofs.Forest.{cut, join, less}
 use Rattle.spec_derivations.proofs.NormLaw.{norm_law}
 use Rattle.spec_abstraction.specs.Taken.{IsTaken}
@@ -35,12 +34,12 @@ part_instance c premises f i =
 
 module _ (events : List (Fact Term)) (clauses : List (Clause Term)) where
   -- what a taken raw clause concludes of derived premises is derived by the list
-  pub concluded : (c : Clause Term) (premises : List (Fact Term)) (f : Fact Term) → IsTaken clauses c → Instance c premises f → Derive clauses events premises → Derive clauses events (f ∷ [])
-  concluded c premises f taken i d =
+  pub concluded : (c : Clause Term) (premises : List (Fact Term)) (f : Fact Term) → is_required_event f ≡ false → IsTaken clauses c → Instance c premises f → Derive clauses events premises → Derive clauses events (f ∷ [])
+  concluded c premises f plain taken i d =
       let (part, is_part, instance) = part_instance c premises f i in
       elim (norm_law part premises f (flat_parts-flat c part is_part) instance) as (λ _. Derive clauses events (f ∷ [])) [
         | inl among ↦ one_of (Has clauses) events premises f among d
-        | inr follows ↦ by_clause (all_has (Has clauses) (norms c) follows.0 taken (Has-filter_map norm (flat_parts c) part follows.0 is_part follows.1))
+        | inr follows ↦ by_clause plain (all_has (Has clauses) (norms c) follows.0 taken (Has-filter_map norm (flat_parts c) part follows.0 is_part follows.1))
             follows.2.instance (less (Has clauses) events follows.2.kept follows.2.within d).derivation nothing
       ]
 
@@ -48,5 +47,5 @@ module _ (events : List (Fact Term)) (clauses : List (Clause Term)) where
 pub taken_derive : (clauses : List (Clause Term)) (events : List (Fact Term)) {fs : List (Fact Term)} → AreDerived (IsTaken clauses) events fs → Derive clauses events fs
 taken_derive clauses events nothing = nothing
 taken_derive clauses events (allowed h d) = allowed h (taken_derive clauses events d)
-taken_derive clauses events (by_clause {c = c} {premises = premises} {f = f} {fs = fs} rule i p d) =
-    beside (Has clauses) events (f ∷ []) fs (concluded events clauses c premises f rule i (taken_derive clauses events p)) (taken_derive clauses events d)
+taken_derive clauses events (by_clause {c = c} {premises = premises} {f = f} {fs = fs} plain rule i p d) =
+    beside (Has clauses) events (f ∷ []) fs (concluded events clauses c premises f plain rule i (taken_derive clauses events p)) (taken_derive clauses events d)

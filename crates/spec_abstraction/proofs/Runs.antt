@@ -82,7 +82,7 @@ module _ (P : Protocol) (names : Naming) (all : List (Clause Term)) (has : Attac
   names_known ((number, declared) ∷ pairs) a = go declared.public a (λ h. names_known pairs h)
     where
       go : (b : Bool) → AllByRecursion (IsTaken all) (cons_option (cond b (Some (record { hypotheses = []; conclusion = Att (free_term number) })) None) (filter_map name_known pairs)) → (AllByRecursion (IsTaken all) (filter_map name_known pairs) → AllByRecursion (IsKnown P names all [] has) (filter_map public_name pairs)) → AllByRecursion (IsKnown P names all [] has) (cons_option (cond b (Some (Leaf (FreeName number))) None) (filter_map public_name pairs))
-      go true h others = (applied P all [] (record { hypotheses = []; conclusion = Att (free_term number) }) Leaf h.0 nothing, others h.1)
+      go true h others = (applied P all [] (record { hypotheses = []; conclusion = Att (free_term number) }) Leaf refl h.0 nothing, others h.1)
       go false h others = others h
 
   module _ (proper : (d : ℕ) → AllByRecursion IsProperRule (rules_of P d)) (linear : HasLinearPatterns P.main) where
@@ -109,7 +109,7 @@ module _ (P : Protocol) (names : Naming) (q : Query) (all : List (Clause Term)) 
       no_event : (k : ℕ) (e : Performed) → slice_get [] k ≡ Some e → ⊥
       no_event k e at = cc
 
-  pub held_runs_are_derived : (steps : List Step) (c : Configuration) → run P steps ≡ Some c → Names P names (trace_of P steps).made → IsDerived P names all c (trace_of P steps).made
+  held_runs_are_derived : (steps : List Step) (c : Configuration) → run P steps ≡ Some c → Names P names (trace_of P steps).made → IsDerived P names all c (trace_of P steps).made
   held_runs_are_derived steps c e named =
       let has = attacker_has P all holds.attacker in
       let tracked = steps_tracked P names all has proper linear steps (start P) c start_trace e named (start_tracked has) in

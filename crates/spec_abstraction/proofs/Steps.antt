@@ -36,7 +36,7 @@ use Rattle.spec_abstraction.proofs.Pairs.{SideBySide, pairs_weaker, pairs_append
 pub more_events : (IsRule : Clause Term → Type 0) (events more : List (Fact Term)) → ((f : Fact Term) → Has events f → Has more f) → {fs : List (Fact Term)} → AreDerived IsRule events fs → AreDerived IsRule more fs
 more_events IsRule events more part nothing = nothing
 more_events IsRule events more part (allowed {e = e} {ts = ts} h d) = allowed (part (Mev e ts) h) (more_events IsRule events more part d)
-more_events IsRule events more part (by_clause rule i p d) = by_clause rule i (more_events IsRule events more part p) (more_events IsRule events more part d)
+more_events IsRule events more part (by_clause plain rule i p d) = by_clause plain rule i (more_events IsRule events more part p) (more_events IsRule events more part d)
 
 -- the thread that acts: where it stands, in which environment, and what the action gives
 pub record Acted {A : Type 0} (P : Protocol) (c : Configuration) (number : ℕ) (action : ℕ → Environment → Process → Option A) (x : A) : Type 0 where

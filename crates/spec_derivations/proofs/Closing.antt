@@ -181,10 +181,10 @@ five_close = record {
 -- The attacker hears what it has sent: a derivation that uses a clause that isn't solved.
 pub channel_derived : Derive five_clauses [] (Att channel ∷ [])
 channel_derived =
-    let known : Derive five_clauses [] (Att channel ∷ []) = by_clause (_, here) (record { by = Leaf; premises_are = refl; concludes = (_, here) }) nothing nothing in
-    let both : Derive five_clauses [] (Att channel ∷ Att channel ∷ []) = by_clause (_, here) (record { by = Leaf; premises_are = refl; concludes = (_, here) }) nothing known in
-    let sent : Derive five_clauses [] (Mess channel channel ∷ Att channel ∷ []) = by_clause (_, there (there (there here))) (record { by = λ x. channel; premises_are = refl; concludes = (_, here) }) both known in
-    by_clause (_, there (there here)) (record { by = λ x. channel; premises_are = refl; concludes = (_, here) }) sent nothing
+    let known : Derive five_clauses [] (Att channel ∷ []) = by_clause refl (_, here) (record { by = Leaf; premises_are = refl; concludes = (_, here) }) nothing nothing in
+    let both : Derive five_clauses [] (Att channel ∷ Att channel ∷ []) = by_clause refl (_, here) (record { by = Leaf; premises_are = refl; concludes = (_, here) }) nothing known in
+    let sent : Derive five_clauses [] (Mess channel channel ∷ Att channel ∷ []) = by_clause refl (_, there (there (there here))) (record { by = λ x. channel; premises_are = refl; concludes = (_, here) }) both known in
+    by_clause refl (_, there (there here)) (record { by = λ x. channel; premises_are = refl; concludes = (_, here) }) sent nothing
 
 -- A pair is heard on the channel: of its parts the channel is known already.
 pair : Term

@@ -1,5 +1,5 @@
 -- Derivations as forests: how many uses of clauses they have, how they are cut and joined.
-use Rattle.std.proofs.Common.{◌≡◌, ℕ, suc, ◌+◌, ◌≤◌, List, [], ◌∷◌, ◌++◌, true, false, refl, sym, ap, ◌∙◌, subst, arith}
+use Rattle.std.proofs.Common.{◌≡◌, ℕ, suc, ◌+◌, ◌≤◌, List, [], ◌∷◌, ◌++◌, false, refl, sym, ap, ◌∙◌, subst, arith}
 use Rattle.spec_trees.specs.Tree.{bind}
 use Rattle.spec_terms.specs.Term.{Term, Subst}
 use Rattle.spec_clauses.specs.Fact.{Fact, Att, Mess, Ev, Mev, Bad, Clause, fact_under}
@@ -7,15 +7,14 @@ use Rattle.spec_clauses.specs.Flat.{flat, parts}
 use Rattle.spec_clauses.specs.Inclusion.{Picks, here, there, Has, IsWithin}
 use Rattle.spec_clauses.proofs.Inclusion.{Has-map_source, Has-one}
 use Rattle.spec_terms.proofs.Decision.{true_false}
-use Rattle.spec_derivations.specs.Laws.{is_required_event}
-use Rattle.spec_derivations.specs.Derivation.{Instance, AreDerived, nothing, allowed, by_clause}
+use Rattle.spec_derivations.specs.Derivation.{Instance, is_required_event, AreDerived, nothing, allowed, by_clause}
 
 module _ (IsRule : Clause Term → Type 0) (events : List (Fact Term)) where
   -- how many clauses are used
   abbrev pub uses : {fs : List (Fact Term)} → AreDerived IsRule events fs → ℕ
   uses nothing = 0
   uses (allowed h d) = uses d
-  uses (by_clause r i p d) = suc (uses p + uses d)
+  uses (by_clause n r i p d) = suc (uses p + uses d)
 
   -- facts are derived by at most n uses of clauses
   pub record AreDerivedWithin (fs : List (Fact Term)) (n : ℕ) : Type 0 where
@@ -30,15 +29,15 @@ module _ (IsRule : Clause Term → Type 0) (events : List (Fact Term)) where
 
   pub cut : {fs rest : List (Fact Term)} {f : Fact Term} → Picks fs f rest → (d : AreDerived IsRule events fs) → Cut f rest (uses d)
   cut here (allowed h d) = record { one = allowed h nothing; others = d; sum = omega arith }
-  cut here (by_clause r i p d) = record { one = by_clause r i p nothing; others = d; sum = omega arith }
+  cut here (by_clause n r i p d) = record { one = by_clause n r i p nothing; others = d; sum = omega arith }
   cut (there q) (allowed h d) = let c = cut q d in record { one = c.one; others = allowed h c.others; sum = c.sum }
-  cut (there q) (by_clause r i p d) = let c = cut q d in let sum = c.sum in record { one = c.one; others = by_clause r i p c.others; sum = omega arith }
+  cut (there q) (by_clause n r i p d) = let c = cut q d in let sum = c.sum in record { one = c.one; others = by_clause n r i p c.others; sum = omega arith }
 
   -- two derivations as one
   pub join : {fs gs : List (Fact Term)} → (a : AreDerived IsRule events fs) (b : AreDerived IsRule events gs) → AreDerivedWithin (fs ++ gs) (uses a + uses b)
   join nothing b = record { derivation = b; few = omega arith }
   join (allowed h a) b = let j = join a b in record { derivation = allowed h j.derivation; few = j.few }
-  join (by_clause r i p a) b = let j = join a b in let few = j.few in record { derivation = by_clause r i p j.derivation; few = omega arith }
+  join (by_clause n r i p a) b = let j = join a b in let few = j.few in record { derivation = by_clause n r i p j.derivation; few = omega arith }
 
   -- fewer facts take no more
   pub less : (gs : List (Fact Term)) {fs : List (Fact Term)} → IsWithin gs fs → (d : AreDerived IsRule events fs) → AreDerivedWithin gs (uses d)
@@ -54,7 +53,15 @@ module _ {IsRule IsOther : Clause Term → Type 0} (events more : List (Fact Ter
   pub grows : {fs : List (Fact Term)} → AreDerived IsRule events fs → AreDerived IsOther more fs
   grows nothing = nothing
   grows (allowed {e = e} {ts = ts} h d) = allowed (allows (Mev e ts) h) (grows d)
-  grows (by_clause {c = c} r i p d) = by_clause (rules c r) i (grows p) (grows d)
+  grows (by_clause {c = c} n r i p d) = by_clause n (rules c r) i (grows p) (grows d)
+
+-- What a fact that is no required event stands for under a substitution is none.
+pub flat_under-no_event : (s : Subst) (h g : Fact Term) → is_required_event h ≡ false → Has (flat (fact_under s h)) g → is_required_event g ≡ false
+flat_under-no_event s (Att t) g plain has = let (u, k, e) = Has-map_source Att (parts (bind s t)) g has in ap is_required_event e
+flat_under-no_event s (Mess t u) g plain has = ap is_required_event (Has-one has)
+flat_under-no_event s (Ev n us) g plain has = ap is_required_event (Has-one has)
+flat_under-no_event s (Mev n us) g plain has = cc
+flat_under-no_event s (Bad us) g plain has = ap is_required_event (Has-one has)
 
 -- the root of a derivation of one fact that is no required event
 pub record Root (IsRule : Clause Term → Type 0) (events : List (Fact Term)) (f : Fact Term) (n : ℕ) : Type 0 where
@@ -67,7 +74,7 @@ pub record Root (IsRule : Clause Term → Type 0) (events : List (Fact Term)) (f
 
 pub root : {IsRule : Clause Term → Type 0} {events : List (Fact Term)} {f : Fact Term} → (d : AreDerived IsRule events (f ∷ [])) → is_required_event f ≡ false → Root IsRule events f (uses IsRule events d)
 root (allowed h nothing) e = cc
-root (by_clause r i p nothing) e = record { clause = _; is_rule = r; above = _; instance = i; derivation = p; used = omega arith }
+root (by_clause n r i p nothing) e = record { clause = _; is_rule = r; above = _; instance = i; derivation = p; used = omega arith }
 
 -- the predicate of a fact
 abbrev predicate : Fact Term → ℕ
@@ -92,13 +99,6 @@ is_bad (Ev n us) e = absurd (omega arith)
 is_bad (Mev n us) e = absurd (omega arith)
 is_bad (Bad us) e = (us, refl)
 
-is_required : (h : Fact Term) → predicate h ≡ 3 → is_required_event h ≡ true
-is_required (Att t) e = absurd (omega arith)
-is_required (Mess t u) e = absurd (omega arith)
-is_required (Ev n us) e = absurd (omega arith)
-is_required (Mev n us) e = refl
-is_required (Bad us) e = absurd (omega arith)
-
 -- What no rule concludes isn't derived.
 pub bad_not_derived : {IsRule : Clause Term → Type 0} {events : List (Fact Term)} (ts : List Term) → ((c : Clause Term) → IsRule c → (us : List Term) → c.conclusion ≡ Bad us → ⊥) → AreDerived IsRule events (Bad ts ∷ []) → ⊥
 bad_not_derived ts never d =
@@ -106,13 +106,10 @@ bad_not_derived ts never d =
     let (us, e) = is_bad r.clause.conclusion (sym (flat_keeps_predicate r.instance.by r.clause.conclusion (Bad ts) r.instance.concludes)) in
     never r.clause r.is_rule us e
 
--- Where no rule concludes a required event, those that are derived are allowed.
-pub required_allowed : {IsRule : Clause Term → Type 0} {events fs rest : List (Fact Term)} {e : ℕ} {ts : List Term} → ((c : Clause Term) → IsRule c → is_required_event c.conclusion ≡ false) → AreDerived IsRule events fs → Picks fs (Mev e ts) rest → Has events (Mev e ts)
-required_allowed {IsRule} {events} {fs} {rest} {e} {ts} never d p = go (cut IsRule events p d).one refl where
+-- Required events that are derived are allowed.
+pub required_allowed : {IsRule : Clause Term → Type 0} {events fs rest : List (Fact Term)} {e : ℕ} {ts : List Term} → AreDerived IsRule events fs → Picks fs (Mev e ts) rest → Has events (Mev e ts)
+required_allowed {IsRule} {events} {fs} {rest} {e} {ts} d p = go (cut IsRule events p d).one refl where
   go : {gs : List (Fact Term)} → AreDerived IsRule events gs → gs ≡ Mev e ts ∷ [] → Has events (Mev e ts)
   go nothing same = cc
   go (allowed {e = g} {ts = us} h q) same = let first : Mev g us ≡ Mev e ts = cc in subst (λ (f : Fact Term). Has events f) first h
-  go (by_clause {c = c} {f = f} r i above q) same =
-      let first : f ≡ Mev e ts = cc in
-      let kind : predicate c.conclusion ≡ 3 = sym (flat_keeps_predicate i.by c.conclusion f i.concludes) ∙ ap predicate first in
-      absurd (true_false (sym (is_required c.conclusion kind) ∙ never c r))
+  go (by_clause {f = f} n r i above q) same = let first : f ≡ Mev e ts = cc in absurd (true_false (sym (ap is_required_event first) ∙ n))

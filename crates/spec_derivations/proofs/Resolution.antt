@@ -24,8 +24,8 @@ use Rattle.spec_clauses.proofs.Firm.{firm_stays}
 use Rattle.spec_clauses.proofs.Apart.{mix, mix-clause, mix-fact_moved, mix-high, flat_under-map}
 use Rattle.spec_clauses.proofs.Selection.{select-picks, select-first_of_largest}
 use Rattle.spec_clauses.proofs.NormKeeps.{normal-everything}
-use Rattle.spec_derivations.specs.Derivation.{Instance}
-use Rattle.spec_derivations.specs.Laws.{ResolutionLaw, PartFollows, is_required_event}
+use Rattle.spec_derivations.specs.Derivation.{Instance, is_required_event}
+use Rattle.spec_derivations.specs.Laws.{ResolutionLaw, PartFollows}
 
 -- A selected fact is no `att` of a variable, and no `mev` under a substitution.
 selectable_firm : (h : Fact Term) → is_selectable h ≡ true → is_variable_known h ≡ false
@@ -152,7 +152,6 @@ resolution_law unsolved at premises f normal selected i =
     let flats = (and_true (is_flat unsolved.conclusion) (list_all is_flat unsolved.hypotheses) normal.flat).1 in
     let one_fact = firm_stays i.by at.fact (all_pass_at is_flat flats listed) (selectable_firm at.fact chosen.selectable) in
     record {
-      fact = fact_under i.by at.fact;
       rest = flat_under i.by at.others;
       picked = subst (λ (hs : List (Fact Term)). Picks hs (fact_under i.by at.fact) (flat_under i.by at.others)) (sym i.premises_are) (pick-flat_map (λ g. flat (fact_under i.by g)) listed one_fact);
       no_event = selectable_no_event i.by at.fact chosen.selectable;

@@ -1,15 +1,15 @@
 -- The three laws on which the soundness of saturation rests, in the words of instances, and what follows of them:
 -- solved clauses suffice (Blanchet 2001, section 4, the theorem on the completeness of selection).
-use Rattle.std.specs.Prelude.{◌≡◌, ◌⊎◌, ℕ, Bool, true, false, Option, Some, List, ◌++◌}
-use Rattle.spec_terms.specs.Term.{Term}
-use Rattle.spec_clauses.specs.Fact.{Fact, Mev, Clause}
+use Rattle.std.specs.Prelude.{◌≡◌, ◌⊎◌, ℕ, true, false, Option, Some, List, ◌++◌}
+use Rattle.spec_terms.specs.Term.{Term, Subst}
+use Rattle.spec_clauses.specs.Fact.{Fact, Clause, fact_under}
 use Rattle.spec_clauses.specs.Flat.{is_flat_clause, flat_parts}
 use Rattle.spec_clauses.specs.Selection.{Selection, select, is_solved}
 use Rattle.spec_clauses.specs.Norm.{IsNormal, norm}
 use Rattle.spec_clauses.specs.Resolvents.{IsRawResolvent}
 use Rattle.spec_clauses.specs.Inclusion.{Picks, Has, IsWithin}
 use Rattle.spec_clauses.specs.Subsumption.{RowHolds, Subsumes}
-use Rattle.spec_derivations.specs.Derivation.{Instance, Derive}
+use Rattle.spec_derivations.specs.Derivation.{Instance, is_required_event, Derive}
 use Rattle.spec_derivations.specs.Closed.{Closes, solved_of}
 
 -- an instance of the clause that concludes the same from no more
@@ -22,11 +22,6 @@ pub record Follows (c : Clause Term) (premises : List (Fact Term)) (f : Fact Ter
 abbrev pub NormLaw : Type 0
 NormLaw = (c : Clause Term) (premises : List (Fact Term)) (f : Fact Term) → is_flat_clause c ≡ true → Instance c premises f → Has premises f ⊎ ((d : Clause Term) × (norm c ≡ Some d) × Follows d premises f)
 
--- whether the fact is `mev`
-abbrev pub is_required_event : Fact Term → Bool
-is_required_event (Mev e ts) = true
-is_required_event _ = false
-
 -- A flat part of a raw resolvent concludes f from the premises of the solved clause and the rest of the unsolved one's.
 pub record PartFollows (raw : Option (Clause Term)) (premises : List (Fact Term)) (f : Fact Term) : Type 0 where
   pub clause : Clause Term
@@ -35,18 +30,17 @@ pub record PartFollows (raw : Option (Clause Term)) (premises : List (Fact Term)
   pub is_part : Has (flat_parts clause) part
   pub follows : Follows part premises f
 
--- The selected hypothesis of an instance is one fact of its premises, and no `mev`; where a solved clause concludes it,
+-- What the selected hypothesis stands for in an instance is one of its premises, and no `mev`; where a solved clause concludes it,
 -- a flat part of the raw resolvent concludes the same from the premises of both without it.
-pub record SelectedPremise (unsolved : Clause Term) (at : Selection) (premises : List (Fact Term)) (f : Fact Term) : Type 0 where
-  pub fact : Fact Term
+pub record SelectedPremise (unsolved : Clause Term) (at : Selection) (premises : List (Fact Term)) (f : Fact Term) (by : Subst) : Type 0 where
   pub rest : List (Fact Term)
-  pub picked : Picks premises fact rest
-  pub no_event : is_required_event fact ≡ false
-  pub resolves : (solved : Clause Term) (raw : Option (Clause Term)) (above : List (Fact Term)) → IsNormal solved → is_solved solved.hypotheses ≡ true → IsRawResolvent solved unsolved at raw → Instance solved above fact → PartFollows raw (above ++ rest) f
+  pub picked : Picks premises (fact_under by at.fact) rest
+  pub no_event : is_required_event (fact_under by at.fact) ≡ false
+  pub resolves : (solved : Clause Term) (raw : Option (Clause Term)) (above : List (Fact Term)) → IsNormal solved → is_solved solved.hypotheses ≡ true → IsRawResolvent solved unsolved at raw → Instance solved above (fact_under by at.fact) → PartFollows raw (above ++ rest) f
 
 -- The law of resolution, for clauses that are their own norms.
 abbrev pub ResolutionLaw : Type 0
-ResolutionLaw = (unsolved : Clause Term) (at : Selection) (premises : List (Fact Term)) (f : Fact Term) → IsNormal unsolved → select unsolved.hypotheses ≡ Some at → Instance unsolved premises f → SelectedPremise unsolved at premises f
+ResolutionLaw = (unsolved : Clause Term) (at : Selection) (premises : List (Fact Term)) (f : Fact Term) → IsNormal unsolved → select unsolved.hypotheses ≡ Some at → (i : Instance unsolved premises f) → SelectedPremise unsolved at premises f i.by
 
 -- The law of rows: where a row holds, what an instance of the special clause concludes, the general one concludes from no more.
 abbrev pub RowLaw : Type 0

@@ -9,10 +9,10 @@ ghost use Rattle.spec_clauses.specs.Selection.{Selection, select, is_solved};
 ghost use Rattle.spec_clauses.specs.Resolvents.{Answer, NoUnifier, Resolvents, Resolves};
 ghost use Rattle.spec_clauses.specs.Inclusion.{Has, IsWithin};
 ghost use Rattle.spec_clauses.specs.Subsumption.{IsCovered};
-ghost use Rattle.spec_derivations.specs.Derivation.{Instance, Derive};
+ghost use Rattle.spec_derivations.specs.Derivation.{Instance, is_required_event, Derive};
 ghost use Rattle.spec_derivations.specs.Closed.{Closes, IsPairClosed, solved_of};
 ghost use Rattle.spec_derivations.specs.Example.{channel, five_clauses, listens, sends_pair, gives_message};
-ghost use Rattle.spec_derivations.specs.Laws.{NormLaw, RowLaw, SubsumptionLaw, ResolutionLaw, SolvedClausesSuffice, is_required_event};
+ghost use Rattle.spec_derivations.specs.Laws.{NormLaw, RowLaw, SubsumptionLaw, ResolutionLaw, SolvedClausesSuffice};
 
 /// The law of norm: an instance of a flat clause has what it concludes among its premises, or the clause's norm
 /// concludes the same from no more.
@@ -58,7 +58,7 @@ pub fn derivations_are_joined_and_grow()
 {}
 
 /// A derived fact that is no required event is concluded by an instance of a clause, from derived premises. A
-/// required event that is derived is allowed, where no clause concludes one.
+/// required event that is derived is allowed.
 pub fn derivations_have_roots()
     ensures concluded { (clauses : List (Clause Term)) (events : List (Fact Term)) (f : Fact Term) →
         is_required_event f ≡ false → Derive clauses events (f ∷ []) →
@@ -66,7 +66,6 @@ pub fn derivations_have_roots()
         Has clauses c × Instance c premises f × Derive clauses events premises }
     ensures allowed { (clauses : List (Clause Term)) (events fs : List (Fact Term))
         (f : Fact Term) →
-        ((c : Clause Term) → Has clauses c → is_required_event c.conclusion ≡ false) →
         Derive clauses events fs → is_required_event f ≡ true → Has fs f → Has events f }
 {}
 

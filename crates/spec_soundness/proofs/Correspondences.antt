@@ -1,5 +1,5 @@
 -- Correspondences hold: where each solved clause of a closed list that concludes `bad` is satisfied, no run violates the correspondence.
-use Rattle.std.proofs.Common.{◌≡◌, ◌∙◌, ℕ, zero, suc, true, false, List, [], ◌∷◌, ◌++◌, map, refl, ap, sym, subst}
+use Rattle.std.proofs.Common.{◌≡◌, ◌∙◌, ℕ, zero, suc, true, List, [], ◌∷◌, ◌++◌, map, refl, ap, sym, subst}
 use Rattle.std.specs.Prelude.{slice_get, take, flat_map}
 use Rattle.std.specs.List.{AllByRecursion}
 use Rattle.spec_trees.specs.Tree.{trees, bind}
@@ -20,13 +20,12 @@ use Rattle.spec_well_formed.specs.Queries.{event_leaves, HasQueryLeaves}
 use Rattle.spec_terms.specs.Term.{Term, Subst}
 use Rattle.spec_clauses.specs.Fact.{Fact, Ev, Mev, Bad, Clause, fact_under}
 use Rattle.spec_clauses.specs.Flat.{flat}
-use Rattle.spec_clauses.specs.Selection.{is_solved}
 use Rattle.spec_clauses.specs.Inclusion.{here, Has}
-use Rattle.spec_clauses.proofs.Inclusion.{all_has, Contains-from_Has, Has-map_source, Has-flat_map, Has-filter_source, Has-one}
+use Rattle.spec_clauses.proofs.Inclusion.{all_has, Contains-from_Has, Has-map_source, Has-flat_map, Has-one}
 use Rattle.spec_clauses.proofs.Lists.{all_append, all_first, all_weaker}
 use Rattle.spec_derivations.specs.Derivation.{Instance, Derive}
 use Rattle.spec_derivations.specs.Closed.{Closes, solved_of}
-use Rattle.spec_derivations.specs.Laws.{SolvedClausesSuffice, is_required_event}
+use Rattle.spec_derivations.specs.Laws.{SolvedClausesSuffice}
 use Rattle.spec_derivations.proofs.Forest.{required_allowed}
 use Rattle.spec_translation.specs.Conversion.{converted, converted_row}
 use Rattle.spec_translation.specs.Goal.{query_leaf, query_term, event_variables, goal_raw, required}
@@ -39,12 +38,11 @@ use Rattle.spec_abstraction.specs.OneToOne.{is_foreign, IsOneToOne}
 use Rattle.spec_abstraction.proofs.Holding.{translations_hold_all}
 use Rattle.spec_abstraction.proofs.Listed.{concluded}
 use Rattle.spec_abstraction.proofs.Values.{converted_row-trees}
-use Rattle.spec_abstraction.proofs.Runs.{held_runs_are_derived}
+use Rattle.spec_abstraction.proofs.Runs.{runs_are_derived}
 use Rattle.spec_abstraction.proofs.Older.{runs_are_named}
 use Rattle.spec_abstraction.proofs.Entries.{runs_have_entries}
 use Rattle.spec_abstraction.proofs.OneToOne.{runs_are_one_to_one}
 use Rattle.spec_soundness.proofs.Secrecy.{shown_bad}
-use Rattle.spec_soundness.proofs.Plain.{is_plain, plain_of, plain_conclusion, holds_plain, closes_plain}
 use Rattle.spec_soundness.proofs.Extension.{is_bound, bound_first, bound_second, leaf_under, IsBack, places_row_back, places_row_bound, Answers, event_back, bindings_of, bindings_back, all_performed}
 use Rattle.spec_soundness.proofs.Instances.{IsQueryLeaf, numbered_leaves, bound_terms, terms_bound, left_same}
 
@@ -61,20 +59,14 @@ terms_under P r s (t ∷ ts) =
     let first : bind r (bind s (query_term P t)) ≡ converted P (leaf_under r s) t = ap (bind r) (converted-bind P s query_leaf t) ∙ converted-bind P r (λ x. bind s (query_leaf x)) t in
     let others = terms_under P r s ts in λ i. first i ∷ others i
 
--- the only solved clauses that a list without clauses of required events has
-solved_plain : (clauses : List (Clause Term)) (c : Clause Term) → Has (solved_of (plain_of clauses)) c → is_required_event c.conclusion ≡ false
-solved_plain clauses c h =
-    let (has, solved) = Has-filter_source (λ c. is_solved c.hypotheses) (plain_of clauses) c h in
-    plain_conclusion c (Has-filter_source is_plain clauses c has).1
-
 -- Required events that an instance of a clause has among its premises were performed, with the terms of the hypotheses.
-module _ (P : Protocol) (made : List MadeAt) (one : IsOneToOne P (naming P made) made) (performed : List Performed) (lacks : AllByRecursion (EventLacks (is_foreign made)) performed) (clauses : List (Clause Term)) (c : Clause Term) (premises : List (Fact Term)) (f : Fact Term) (i : Instance c premises f) (derived : Derive (solved_of (plain_of clauses)) (event_facts P (naming P made) performed) premises) (s : Subst) where
+module _ (P : Protocol) (made : List MadeAt) (one : IsOneToOne P (naming P made) made) (performed : List Performed) (lacks : AllByRecursion (EventLacks (is_foreign made)) performed) (clauses : List (Clause Term)) (c : Clause Term) (premises : List (Fact Term)) (f : Fact Term) (i : Instance c premises f) (derived : Derive (solved_of clauses) (event_facts P (naming P made) performed) premises) (s : Subst) where
   required_found : (e : EventTerm) → Has c.hypotheses (fact_under s (required P e)) → (p : Performed) × Has performed p × Answers P made one i.by s e p
   required_found e has =
       let terms = map (bind i.by) (map (bind s) (map (query_term P) e.arguments)) in
       let premise : Has premises (Mev e.event terms) = subst (λ fs. Has fs (Mev e.event terms)) (sym i.premises_are)
       (Has-flat_map (λ h. flat (fact_under i.by h)) c.hypotheses (fact_under s (required P e)) (Mev e.event terms) has ([], here)) in
-      let (p, happened, same) = Has-map_source (event_fact P (naming P made)) performed (Mev e.event terms) (required_allowed (solved_plain clauses) derived premise.1) in
+      let (p, happened, same) = Has-map_source (event_fact P (naming P made)) performed (Mev e.event terms) (required_allowed derived premise.1) in
       let event : e.event ≡ p.event = cc in
       let arguments : terms ≡ map (abstracted P (naming P made)) p.arguments = cc in
       let row : converted_row P (leaf_under i.by s) (trees e.arguments) ≡ converted_row P (atom_term (naming P made)) (trees p.arguments) =
@@ -105,8 +97,8 @@ module _ (solved_suffice : SolvedClausesSuffice) (P : Protocol) (left : EventTer
       let before = take index c.events in
       let one = runs_are_one_to_one P steps c reached in
       let lacks = (runs_have_entries P steps c reached).events in
-      let holds = holds_plain P (Correspondence left alternatives) all (translations_hold_all P (Correspondence left alternatives) all is) in
-      let derived = held_runs_are_derived P names (Correspondence left alternatives) (plain_of all) holds proper linear steps c reached (runs_are_named P steps c reached) in
+      let holds = translations_hold_all P (Correspondence left alternatives) all is in
+      let derived = runs_are_derived P names (Correspondence left alternatives) all is proper linear steps c reached (runs_are_named P steps c reached) in
       let s = bound_terms P names environment in
       let terms = terms_bound P names environment left.arguments left_leaves in
       let goal : Instance (goal_raw P (Correspondence left alternatives)) (performed_fact P names happened ∷ []) (Bad (bad_terms s)) = record {
@@ -114,10 +106,9 @@ module _ (solved_suffice : SolvedClausesSuffice) (P : Protocol) (left : EventTer
         premises_are = ap (λ ts. Ev left.event ts ∷ []) (sym terms);
         concludes = ([], here);
       } in
-      let bad = concluded (event_facts P names before) (plain_of all) (goal_raw P (Correspondence left alternatives)) (performed_fact P names happened ∷ []) (Bad (bad_terms s)) holds.goal goal (derived.happened index happened violated.is_instance) in
-      let satisfied_plain : AreSatisfied P (Correspondence left alternatives) (plain_of clauses) = λ d has solved concludes. satisfied d (Has-filter_source is_plain clauses d has).0 solved concludes in
-      let shown = shown_bad solved_suffice P (Correspondence left alternatives) (plain_of all) (plain_of clauses) (closes_plain all clauses closes) satisfied_plain (event_facts P names before) (bad_terms s) bad in
-      let met : IsMet P left alternatives shown.clause = satisfied_plain shown.clause shown.listed shown.solved shown.concludes in
+      let bad = concluded (event_facts P names before) all (goal_raw P (Correspondence left alternatives)) (performed_fact P names happened ∷ []) (Bad (bad_terms s)) refl holds.goal goal (derived.happened index happened violated.is_instance) in
+      let shown = shown_bad solved_suffice P (Correspondence left alternatives) all clauses closes satisfied (event_facts P names before) (bad_terms s) bad in
+      let met : IsMet P left alternatives shown.clause = satisfied shown.clause shown.listed shown.solved shown.concludes in
       let r = shown.instance.by in
       let both : Has (Bad (map (bind r) (bad_terms met.by)) ∷ []) (Bad (bad_terms s)) = subst (λ g. Has (flat (fact_under r g)) (Bad (bad_terms s))) met.conclusion shown.instance.concludes in
       let bads : Bad (bad_terms s) ≡ Bad (map (bind r) (bad_terms met.by)) = Has-one both in

@@ -3,7 +3,6 @@
 use Rattle.std.proofs.Common.{◌≡◌, ◌∙◌, Bool, true, false, ◌||◌, cond, Some, List, [], ◌∷◌, ◌++◌, refl, ap, sym, subst}
 use Rattle.std.specs.Prelude.{unwrap_or}
 use Rattle.std.specs.List.{AllByRecursion, list_any}
-use Rattle.std.proofs.lemmas.Bool.{eq-eqb, eqb-true}
 use Rattle.spec_trees.specs.Tree.{Trees, Leaf, Node, none, more, trees, bind, some_leaf, some_leaves}
 use Rattle.spec_trees.proofs.Rows.{trees-injective, binds-trees}
 use Rattle.spec_trees.proofs.Occurrence.{or_false, some_leaves-never}

@@ -1,6 +1,5 @@
 pub mod Roots
 pub mod Secrecy
-pub mod Plain
 pub mod Extension
 pub mod Instances
 pub mod Correspondences

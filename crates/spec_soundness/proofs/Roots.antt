@@ -20,7 +20,7 @@ pub record Root (IsRule : Clause Term → Type 0) (events : List (Fact Term)) (f
 pub bad_root : (IsRule : Clause Term → Type 0) (events : List (Fact Term)) (ts : List Term) {fs : List (Fact Term)} → fs ≡ Bad ts ∷ [] → AreDerived IsRule events fs → Root IsRule events (Bad ts)
 bad_root IsRule events ts e nothing = cc
 bad_root IsRule events ts e (allowed {e = g} {ts = us} h d) = cc
-bad_root IsRule events ts e (by_clause {c = c} {premises = premises} {f = f} rule i p d) =
+bad_root IsRule events ts e (by_clause {c = c} {premises = premises} {f = f} plain rule i p d) =
     let same : f ≡ Bad ts = cc in record { clause = c; premises = premises; is_rule = rule; instance = subst (Instance c premises) same i; derived = p }
 
 -- a list of one item has that item

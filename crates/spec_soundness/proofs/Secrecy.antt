@@ -88,7 +88,7 @@ module _ (solved_suffice : SolvedClausesSuffice) (P : Protocol) (all clauses : L
   message_shows : (message : calculus.Term) (events : List (Fact Term)) → IsTaken all (goal_raw P (Secret message)) → Derive all events (flat (Att (query_term P message))) → Derive all events (Bad [] ∷ [])
   message_shows message events taken d =
       let hypotheses : flat_under Leaf (Att (query_term P message) ∷ []) ≡ flat (Att (query_term P message)) = append-nil (flat (Att (bind Leaf (query_term P message)))) ∙ ap (λ t. flat (Att t)) (bind-Leaf (query_term P message)) in
-      concluded events all (goal_raw P (Secret message)) (flat (Att (query_term P message))) (Bad []) taken
+      concluded events all (goal_raw P (Secret message)) (flat (Att (query_term P message))) (Bad []) refl taken
       (record { by = Leaf; premises_are = sym hypotheses; concludes = ([], here) }) d
 
   pub messages_are_kept : (message : calculus.Term) → AllByRecursion (IsDeclaredFree (signature_of P)) (leaves message) → IsTranslation P (Secret message) (Clauses all) → AreSatisfied P (Secret message) clauses → Holds P (Secret message)
@@ -110,7 +110,7 @@ module _ (solved_suffice : SolvedClausesSuffice) (P : Protocol) (all clauses : L
       let terms : map (bind (nth ts)) vars ≡ ts = ap (λ n. map (bind (nth ts)) (variables_from 0 n)) count ∙ nth_fills ts 0 ts (λ x. ap (nth ts) (let e : 0 + x ≡ x = omega arith in e)) in
       let hypotheses : flat_under (nth ts) (Att (node (Point point) vars) ∷ []) ≡ flat (Att (node (Point point) ts)) =
       append-nil (flat (Att (bind (nth ts) (node (Point point) vars)))) ∙ ap (λ t. flat (Att t)) (bind-node (nth ts) (Point point) vars ∙ ap (node (Point point)) terms) in
-      concluded events all (goal_raw P (SecretNew point)) (flat (Att (node (Point point) ts))) (Bad []) taken
+      concluded events all (goal_raw P (SecretNew point)) (flat (Att (node (Point point) ts))) (Bad []) refl taken
       (record { by = nth ts; premises_are = sym hypotheses; concludes = ([], here) }) d
 
   pub names_are_kept : (point : ℕ) → IsTranslation P (SecretNew point) (Clauses all) → AreSatisfied P (SecretNew point) clauses → Holds P (SecretNew point)
