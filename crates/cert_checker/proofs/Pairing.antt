@@ -1,5 +1,5 @@
 -- What a pair's answer is to the stage of the pairs.
-use Rattle.std.proofs.Common.{◌≡◌, ℕ, ◌<◌, None, List, refl, inl, arith}
+use Rattle.std.proofs.Common.{ℕ, ◌<◌, List, refl, inl, arith}
 use Rattle.spec_terms.specs.Term.{Term}
 use Rattle.spec_calculus.specs.Bounds.{most_symbols}
 use Rattle.spec_clauses.specs.Fact.{Clause, clause_terms, clause_size}
@@ -21,9 +21,6 @@ module _ (clauses : List (Clause Term)) (i j : Numbered) where
   -- the pair, if the second clause is unsolved
   abbrev pub Two : List Pair
   Two = pairs_with i (select j.clause.hypotheses) j
-
-  pub none_due : (rows : List (List ℕ)) → select j.clause.hypotheses ≡ None → AreClosed clauses Two rows rows
-  none_due rows none = rw none refl
 
   pub no_unifier : (rows : List (List ℕ)) → Gives i.clause j.clause NoUnifier → AreClosed clauses Two rows rows
   no_unifier rows g = rw g.is_selected (rows, record { answer = NoUnifier; gives = g.gives; covered = refl }, refl)

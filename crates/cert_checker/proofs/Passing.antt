@@ -2,18 +2,16 @@
 use Rattle.std.proofs.Common.{◌≡◌, ◌∙◌, ℕ, zero, suc, ◌+◌, ◌<◌, ◌≤◌, true, false, Option, Some, None, List, [], ◌∷◌, ◌++◌, length, get_or, drop, refl, ap, sym, subst, arith, add-one}
 use Rattle.std.specs.Prelude.{slice_get, option_map}
 use Rattle.std.proofs.lemmas.Bool.{false≢true}
-use Rattle.std.proofs.lemmas.List.{length-map}
+use Rattle.std.proofs.lemmas.List.{length-map, drop_all}
 use Rattle.std.proofs.lemmas.Option.{slice_get-map, slice_get-get_or}
 use Rattle.spec_terms.specs.Term.{Term}
-use Rattle.spec_terms.proofs.Replace.{some_same}
-use Rattle.spec_clauses.specs.Fact.{Fact, Clause}
+use Rattle.spec_clauses.specs.Fact.{Clause}
 use Rattle.spec_clauses.specs.Selection.{Selection, select, is_solved}
 use Rattle.spec_clauses.proofs.Selection.{select-none}
 use Rattle.spec_clauses.specs.Resolvents.{Resolvents}
 use Rattle.spec_certificates.specs.Certificate.{CoverRowHolds, Numbered, numbered_from, Pair, pairs_with, pairs_of_solved, pairs_of}
 use Rattle.term_tree.specs.declared.bank.Id.{Id}
 use Rattle.clause_form.specs.Seen.{clause_at}
-use Rattle.literal_selection.specs.Best.{selected_place}
 use Rattle.clause_resolve.specs.Apart.{IsSelectedAt}
 use Rattle.clause_resolve.specs.Answers.{Gives, IsAnswerOf}
 use Rattle.clause_resolve.specs.declared.resolving.Resolved.{Resolved}
@@ -22,6 +20,8 @@ use Rattle.cert_checker.specs.Stages.{AreShown, FirstUnshown, AreClosed, FirstOp
 use Rattle.cert_checker.specs.Rulings.{ruling_of}
 use Rattle.clause_form.specs.Fit.{AreFit, clauses_at}
 use Rattle.cert_checker.specs.Answers.{numbered_at, where_shown, IsShownSo, IsClosedSo, pairs_of_two, pairs_with_all, pairs_if_solved, pair_at, pairs_at, pairs_at_solved}
+use Rattle.cert_checker.specs.Unsolved.{unsolved_from}
+use Rattle.cert_checker.specs.declared.unsolved.Unsolved.{Unsolved}
 use Rattle.cert_checker.specs.declared.ruling.Ruling.{Ruling}
 use Rattle.cert_checker.specs.declared.ruling.Ruling.TheVariants as rulings
 use Rattle.cert_checker.specs.declared.ruling.Shown as shown
@@ -29,7 +29,8 @@ use Rattle.cert_checker.specs.declared.ruling.Shown.TheVariants as shown_so
 use Rattle.cert_checker.specs.declared.ruling.Closed as closed
 use Rattle.cert_checker.specs.declared.ruling.Closed.TheVariants as closed_so
 use Rattle.clause_form.proofs.Fit.{resolvents_fit}
-use Rattle.cert_checker.proofs.Pairing.{none_due, no_unifier, too_large, all_covered, one_uncovered}
+use Rattle.cert_checker.proofs.Pairing.{no_unifier, too_large, all_covered, one_uncovered}
+use Rattle.cert_checker.proofs.UnsolvedOnes.{pairs_at_places, all_pairs, place_next, none_left}
 use Rattle.cert_checker.proofs.Walking.{with_number, clause_at_place, none_ahead, IsPassed, pass_begins, pass_goes_on, pass_fails, pass_ends}
 
 -- the clause at a place, with its number
@@ -39,20 +40,9 @@ numbered_place all cs i d within =
     let there : slice_get (clauses_at all cs) i ≡ Some (clause_at all (get_or cs i d)) = slice_get-map (clause_at all) cs i ∙ ap (option_map (clause_at all)) (slice_get-get_or cs i d within) in
     clause_at_place 1 (clauses_at all cs) i (clause_at all (get_or cs i d)) there ∙ ap (λ n. Some (with_number n (clause_at all (get_or cs i d)))) number
 
--- the hypothesis that is found is the selected one; and where none is, nothing is selected
-pub selected_as : (all : List Term) (cs : List (Clause Id)) (j at : ℕ) (e : Clause Id) (o : Option ℕ) → j < length cs → o ≡ Some at → o ≡ selected_place (clause_at all (get_or cs j e)).hypotheses → (c : Clause Id) → slice_get cs j ≡ Some c → IsSelectedAt (clause_at all c) at
-selected_as all cs j at e o within found told c there =
-    let same : get_or cs j e ≡ c = some_same (sym (slice_get-get_or cs j e within) ∙ there) in
-    subst (λ (x : Clause Id). IsSelectedAt (clause_at all x) at) same (sym told ∙ found)
-
+-- the hypothesis that is selected of the clause at a place
 pub selected_at : (all : List Term) (cs : List (Clause Id)) (j at : ℕ) (e : Clause Id) → j < length cs → ((c : Clause Id) → slice_get cs j ≡ Some c → IsSelectedAt (clause_at all c) at) → IsSelectedAt (clause_at all (get_or cs j e)) at
 selected_at all cs j at e within each = each (get_or cs j e) (slice_get-get_or cs j e within)
-
-pub none_selected : (hs : List (Fact Term)) (o : Option ℕ) → o ≡ None → o ≡ selected_place hs → select hs ≡ None
-none_selected hs o none told = go (select hs) (sym told ∙ none) where
-  go : (s : Option Selection) → option_map (λ (at : Selection). at.index) s ≡ None → s ≡ None
-  go None e = refl
-  go (Some at) e = cc
 
 -- resolvents are fit
 pub made_fit : (new : List Term) (solved unsolved : Clause Term) (found : Resolved) (made : List (Clause Id)) → found ≡ resolved_so.Clauses made → IsAnswerOf new solved unsolved found → AreFit new made
@@ -76,10 +66,6 @@ module _ (all : List Term) (cs : List (Clause Id)) (rows : List (List ℕ)) (fro
 
   open_by : (ruling : Ruling) → FirstOpen (clauses_at all cs) (pairs_with A (select (clause_at all (get_or cs j e)).hypotheses) B) (drop from rows) (ruling_of ruling) → IsClosedSo (clauses_at all cs) (pair_at (numbered_at all cs) i j) rows from (closed_so.Except ruling)
   open_by ruling x = subst (λ ps. FirstOpen (clauses_at all cs) ps (drop from rows) (ruling_of ruling)) (sym two) x
-
-  -- the second clause is solved
-  pub pair_not_due : select (clause_at all (get_or cs j e)).hypotheses ≡ None → IsClosedSo (clauses_at all cs) (pair_at (numbered_at all cs) i j) rows from (closed_so.All from)
-  pair_not_due none = closed_by from (none_due (clauses_at all cs) A B (drop from rows) none)
 
   pub pair_apart : (new : List Term) (found : Resolved) → found ≡ resolved_so.NoUnifier → IsAnswerOf new (clause_at all (get_or cs i d)) (clause_at all (get_or cs j e)) found → IsClosedSo (clauses_at all cs) (pair_at (numbered_at all cs) i j) rows from (closed_so.All from)
   pair_apart new found same answer = closed_by from (no_unifier (clauses_at all cs) A B (drop from rows) (subst (λ (r : Resolved). IsAnswerOf new (clause_at all (get_or cs i d)) (clause_at all (get_or cs j e)) r) same answer))
@@ -112,20 +98,6 @@ numbered_length n (c ∷ cs) = ap suc (numbered_length (n + 1) cs)
 at_length : (all : List Term) (cs : List (Clause Id)) → length (numbered_at all cs) ≡ length cs
 at_length all cs = numbered_length 1 (clauses_at all cs) ∙ length-map cs (clause_at all)
 
--- of a clause with those ahead, the pair with the next one comes first
-pairs_step : (i : Option Numbered) (x : Numbered) (xs : List Numbered) → pairs_with_all i (x ∷ xs) ≡ pairs_of_two i (Some x) ++ pairs_with_all i xs
-pairs_step None x xs = refl
-pairs_step (Some i) x xs = refl
-
-pairs_none : (i : Option Numbered) → pairs_with_all i [] ≡ []
-pairs_none None = refl
-pairs_none (Some i) = refl
-
-pairs_next : (i : Option Numbered) (xs : List Numbered) (k : ℕ) → k < length xs → pairs_with_all i (drop k xs) ≡ pairs_of_two i (slice_get xs k) ++ pairs_with_all i (drop (k + 1) xs)
-pairs_next i xs k within =
-    let next = ahead xs k within in
-    ap (pairs_with_all i) next.2 ∙ (pairs_step i next.0 (drop (suc k) xs) ∙ λ t. pairs_of_two i (sym next.1 t) ++ pairs_with_all i (drop (sym (add-one k) t) xs))
-
 solved_next : (xs : List Numbered) (k : ℕ) → k < length xs → pairs_of (drop k xs) xs ≡ pairs_at_solved xs k ++ pairs_of (drop (k + 1) xs) xs
 solved_next xs k within =
     let next = ahead xs k within in
@@ -155,38 +127,44 @@ passed_none all cs rows from i d within unsolved = subst (λ ps. AreClosed (clau
 
 -- Pairs that are passed one after the other, over a bank that comes back each time.
 module _ (all : List Term) (cs : List (Clause Id)) (rows : List (List ℕ)) (from : ℕ) where
-  -- of a solved clause, those with the clauses before the place
-  pub record PassedWith (i : ℕ) (now : List Term) (k next : ℕ) : Type 0 where
-    pub passed : IsPassed (clauses_at all cs) (pairs_at (numbered_at all cs) i) rows from (pairs_with_all (slice_get (numbered_at all cs) i) (drop k (numbered_at all cs))) next
+  -- of a solved clause, those with the unsolved ones before the place among these
+  pub record PassedWith (i : ℕ) (us : List Unsolved) (now : List Term) (k next : ℕ) : Type 0 where
+    pub passed : IsPassed (clauses_at all cs) (pairs_at (numbered_at all cs) i) rows from (pairs_at_places (slice_get (numbered_at all cs) i) (numbered_at all cs) (drop k us)) next
     pub same : now ≡ all
 
-  pub with_begins : (i : ℕ) → PassedWith i all 0 from
-  with_begins i = record { passed = pass_begins (clauses_at all cs) (pairs_at (numbered_at all cs) i) rows from; same = refl }
-
-  with_next : (i k : ℕ) → k < length cs → pairs_with_all (slice_get (numbered_at all cs) i) (drop k (numbered_at all cs)) ≡ pair_at (numbered_at all cs) i k ++ pairs_with_all (slice_get (numbered_at all cs) i) (drop (k + 1) (numbered_at all cs))
-  with_next i k within = pairs_next (slice_get (numbered_at all cs) i) (numbered_at all cs) k (omega (arith, within, at_length all cs))
+  pub with_begins : (i : ℕ) (us : List Unsolved) → us ≡ unsolved_from 0 (clauses_at all cs) → PassedWith i us all 0 from
+  with_begins i us found = record {
+    passed = subst (λ (ps : List Pair). IsPassed (clauses_at all cs) (pairs_at (numbered_at all cs) i) rows from ps from) (sym (all_pairs all cs i us found)) (pass_begins (clauses_at all cs) (pairs_at (numbered_at all cs) i) rows from);
+    same = refl;
+  }
 
   back_in : (now : List Term) (ps : List (Clause Id) → List Term → List Pair) (next : ℕ) (o : closed.Closed) → now ≡ all → IsClosedSo (clauses_at now cs) (ps cs now) rows next o → IsClosedSo (clauses_at all cs) (ps cs all) rows next o
   back_in now ps next o same x = subst (λ (t : List Term). IsClosedSo (clauses_at t cs) (ps cs t) rows next o) same x
 
-  pub with_goes_on : (i k next left : ℕ) (now later : List Term) (o : closed.Closed) → PassedWith i now k next → k < length cs → later ≡ now → o ≡ closed_so.All left → IsClosedSo (clauses_at now cs) (pair_at (numbered_at now cs) i k) rows next o → PassedWith i later (k + 1) left
-  with_goes_on i k next left now later o was within kept e x = record {
-    passed = pass_goes_on (clauses_at all cs) (pairs_at (numbered_at all cs) i) rows from (pairs_with_all (slice_get (numbered_at all cs) i) (drop k (numbered_at all cs))) (pair_at (numbered_at all cs) i k)
-        (pairs_with_all (slice_get (numbered_at all cs) i) (drop (k + 1) (numbered_at all cs))) next left (with_next i k within)
-        (subst (λ (r : closed.Closed). IsClosedSo (clauses_at all cs) (pair_at (numbered_at all cs) i k) rows next r) e (back_in now (λ c t. pair_at (numbered_at t c) i k) next o was.same x)) was.passed;
-    same = kept ∙ was.same;
-  }
+  -- the unsolved clause at the place among them is next
+  module _ (i : ℕ) (us : List Unsolved) (k next : ℕ) (now : List Term) (was : PassedWith i us now k next) where
+    abbrev those : ℕ → List Pair
+    those n = pairs_at_places (slice_get (numbered_at all cs) i) (numbered_at all cs) (drop n us)
 
-  pub with_fails : (i k next : ℕ) (ruling : Ruling) (now : List Term) (o : closed.Closed) → PassedWith i now k next → k < length cs → o ≡ closed_so.Except ruling → IsClosedSo (clauses_at now cs) (pair_at (numbered_at now cs) i k) rows next o → IsClosedSo (clauses_at all cs) (pairs_at (numbered_at all cs) i) rows from (closed_so.Except ruling)
-  with_fails i k next ruling now o was within e x =
-      pass_fails (clauses_at all cs) (pairs_at (numbered_at all cs) i) rows from (pairs_with_all (slice_get (numbered_at all cs) i) (drop k (numbered_at all cs))) (pair_at (numbered_at all cs) i k)
-      (pairs_with_all (slice_get (numbered_at all cs) i) (drop (k + 1) (numbered_at all cs))) next (ruling_of ruling) (with_next i k within)
-      (subst (λ (r : closed.Closed). IsClosedSo (clauses_at all cs) (pair_at (numbered_at all cs) i k) rows next r) e (back_in now (λ c t. pair_at (numbered_at t c) i k) next o was.same x)) was.passed
+    module _ (d : Unsolved) (within : k < length us) (o : closed.Closed) (x : IsClosedSo (clauses_at now cs) (pair_at (numbered_at now cs) i (get_or us k d).place) rows next o) where
+      comes : (r : closed.Closed) → o ≡ r → IsClosedSo (clauses_at all cs) (pair_at (numbered_at all cs) i (get_or us k d).place) rows next r
+      comes r e = subst (λ (r : closed.Closed). IsClosedSo (clauses_at all cs) (pair_at (numbered_at all cs) i (get_or us k d).place) rows next r) e (back_in now (λ c t. pair_at (numbered_at t c) i (get_or us k d).place) next o was.same x)
 
-  pub with_ends : (i k next : ℕ) (now : List Term) → PassedWith i now k next → length cs ≤ k → IsClosedSo (clauses_at all cs) (pairs_at (numbered_at all cs) i) rows from (closed_so.All next)
-  with_ends i k next now was past =
-      pass_ends (clauses_at all cs) (pairs_at (numbered_at all cs) i) rows from (pairs_with_all (slice_get (numbered_at all cs) i) (drop k (numbered_at all cs))) next
-      (ap (pairs_with_all (slice_get (numbered_at all cs) i)) (none_ahead 1 (clauses_at all cs) k (omega (arith, past, length-map cs (clause_at all)))) ∙ pairs_none (slice_get (numbered_at all cs) i)) was.passed
+      pub with_goes_on : (left : ℕ) (later : List Term) → later ≡ now → o ≡ closed_so.All left → PassedWith i us later (k + 1) left
+      with_goes_on left later kept e = record {
+        passed = pass_goes_on (clauses_at all cs) (pairs_at (numbered_at all cs) i) rows from (those k) (pair_at (numbered_at all cs) i (get_or us k d).place) (those (k + 1)) next left
+            (place_next (slice_get (numbered_at all cs) i) (numbered_at all cs) us k d within) (comes (closed_so.All left) e) was.passed;
+        same = kept ∙ was.same;
+      }
+
+      pub with_fails : (ruling : Ruling) → o ≡ closed_so.Except ruling → IsClosedSo (clauses_at all cs) (pairs_at (numbered_at all cs) i) rows from (closed_so.Except ruling)
+      with_fails ruling e =
+          pass_fails (clauses_at all cs) (pairs_at (numbered_at all cs) i) rows from (those k) (pair_at (numbered_at all cs) i (get_or us k d).place) (those (k + 1)) next (ruling_of ruling)
+          (place_next (slice_get (numbered_at all cs) i) (numbered_at all cs) us k d within) (comes (closed_so.Except ruling) e) was.passed
+
+    pub with_ends : length us ≤ k → IsClosedSo (clauses_at all cs) (pairs_at (numbered_at all cs) i) rows from (closed_so.All next)
+    with_ends past =
+        pass_ends (clauses_at all cs) (pairs_at (numbered_at all cs) i) rows from (those k) next (none_left (slice_get (numbered_at all cs) i) (numbered_at all cs) (drop k us) (drop_all k us past)) was.passed
 
   -- of all clauses, those before the place
   pub record PassedAll (now : List Term) (k next : ℕ) : Type 0 where

@@ -1,11 +1,10 @@
 -- A walk along clauses, or along pairs, and along rows: what comes of what is still ahead comes of all.
 use Rattle.std.proofs.Common.{◌≡◌, ◌∙◌, ℕ, zero, suc, ◌+◌, ◌≤◌, Bool, true, false, Some, List, [], ◌∷◌, ◌++◌, length, drop, refl, ap, sym, subst, inl, inr, arith}
-use Rattle.std.specs.Prelude.{slice_get, filter, flat_map}
+use Rattle.std.specs.Prelude.{slice_get, filter}
 use Rattle.std.proofs.lemmas.List.{drop-drop}
 use Rattle.spec_terms.specs.Term.{Term}
 use Rattle.spec_clauses.specs.Fact.{Clause}
-use Rattle.spec_clauses.specs.Selection.{select}
-use Rattle.spec_certificates.specs.Certificate.{Numbered, numbered_from, Pair, pairs_of_solved, pairs_of}
+use Rattle.spec_certificates.specs.Certificate.{Numbered, numbered_from, Pair}
 use Rattle.spec_certificates.specs.Ruling.{Ruling}
 use Rattle.cert_checker.specs.Stages.{Shows, NextShows, AreShown, FirstUnshown, AreClosed, FirstOpen, HasShape, AreInShape, FirstMisshapen}
 
@@ -98,13 +97,6 @@ module _ (clauses : List (Clause Term)) (ps : List Pair) (rows : List (List ℕ)
 
   pub pass_ends : (ahead : List Pair) (next : ℕ) → ahead ≡ [] → IsPassed clauses ps rows from ahead next → AreClosed clauses ps (drop from rows) (drop next rows)
   pass_ends ahead next e w = w.closed (drop next rows) (subst (λ a. AreClosed clauses a (drop next rows) (drop next rows)) (sym e) refl)
-
--- the pairs of what is ahead
-pub pairs_ahead : (f : Numbered → List Pair) (cs behind : List Numbered) (c : Numbered) → cs ≡ c ∷ behind → flat_map f cs ≡ f c ++ flat_map f behind
-pairs_ahead f cs behind c e = ap (flat_map f) e
-
-pub solved_ahead : (each cs behind : List Numbered) (c : Numbered) → cs ≡ c ∷ behind → pairs_of cs each ≡ pairs_of_solved (select c.clause.hypotheses) c each ++ pairs_of behind each
-solved_ahead each cs behind c e = ap (λ l. pairs_of l each) e
 
 -- shapes of clauses
 pub record IsLooked (n : ℕ) (cs ahead : List Numbered) : Type 0 where

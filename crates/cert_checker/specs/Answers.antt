@@ -1,5 +1,5 @@
 -- What is answered of each stage.
-use Rattle.std.specs.Prelude.{ℕ, ◌+◌, Option, Some, None, List, [], ◌∷◌, map, drop, slice_get, flat_map}
+use Rattle.std.specs.Prelude.{ℕ, ◌+◌, Option, Some, None, List, [], drop, slice_get, flat_map}
 use Rattle.spec_terms.specs.Term.{Term}
 use Rattle.spec_clauses.specs.Fact.{Clause}
 use Rattle.spec_clauses.specs.Selection.{select}

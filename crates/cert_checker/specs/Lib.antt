@@ -5,3 +5,4 @@ pub mod Rulings
 pub mod Answers
 pub mod Shaping
 pub mod Sufficing
+pub mod Unsolved

@@ -10,12 +10,14 @@ ghost use Rattle.cert_checker.specs.declared.ruling.Shown.TheVariants as shown_s
 ghost use Rattle.clause_form.specs.Fit.{AreFit, clauses_at};
 ghost use Rattle.cert_checker.specs.Answers.{numbered_at, where_shown};
 ghost use Rattle.cert_checker.specs.Answers.{IsClosedSo, pair_at, pairs_at, pairs_at_solved};
+ghost use Rattle.cert_checker.specs.Unsolved.{unsolved_from};
 
 use crate::checker::Checker;
 use crate::covering::are_covered;
 use crate::ruling::{Closed, Ruling, Shown};
+use crate::unsolved::{Unsolved, unsolved_ones};
 use clause_resolve::{Resolved, resolvents};
-use literal_selection::{is_solved, selected};
+use literal_selection::is_solved;
 use std::alloc::AllocError;
 use term_tree::Bank;
 
@@ -49,7 +51,7 @@ fn closed_where(pair: Pair, shown: Shown) -> Closed
 
 /// Whether the resolvents of a pair, on the hypothesis at that place, are covered by the rows from a place on. On Ok the bank
 /// is as before.
-fn close_at<B: Bank>(
+fn close_pair<B: Bank>(
     bank: &mut B,
     checker: &Checker<'_>,
     pair: Pair,
@@ -81,37 +83,18 @@ fn close_at<B: Bank>(
     }
 }
 
-/// The same where the second clause is unsolved; where it isn't, no row is used.
-fn close_pair<B: Bank>(
-    bank: &mut B,
-    checker: &Checker<'_>,
-    pair: Pair,
-    from: usize,
-) -> Result<Closed, AllocError>
-    requires fit { AreFit (B.trees bank.old) checker.now.clauses.now }
-    requires solved { pair.solved < length checker.now.clauses.now }
-    requires unsolved { pair.unsolved < length checker.now.clauses.now }
-    ensures closed { let all = B.trees bank.old in IfOk result (λ closed.
-        IsClosedSo (clauses_at all checker.now.clauses.now)
-        (pair_at (numbered_at all checker.now.clauses.now) pair.solved pair.unsolved)
-        checker.now.cert.now.rows from closed) }
-    ensures bank { IfOk result (λ _. B.trees bank.new ≡ B.trees bank.old) }
-{
-    match selected(bank, &checker.clauses[pair.unsolved]) {
-        None => Ok(Closed::All(from)),
-        Some(at) => close_at(bank, checker, pair, at, from),
-    }
-}
-
 /// Whether the resolvents of a solved clause with each unsolved one are covered.
 fn close_solved<B: Bank>(
     bank: &mut B,
     checker: &Checker<'_>,
     solved: usize,
+    unsolved: &[Unsolved],
     from: usize,
 ) -> Result<Closed, AllocError>
     requires fit { AreFit (B.trees bank.old) checker.now.clauses.now }
     requires solved { solved < length checker.now.clauses.now }
+    requires unsolved { unsolved.now ≡ unsolved_from 0
+        (clauses_at (B.trees bank.old) checker.now.clauses.now) }
     ensures closed { let all = B.trees bank.old in IfOk result (λ closed.
         IsClosedSo (clauses_at all checker.now.clauses.now)
         (pairs_at (numbered_at all checker.now.clauses.now) solved)
@@ -119,8 +102,12 @@ fn close_solved<B: Bank>(
     ensures bank { IfOk result (λ _. B.trees bank.new ≡ B.trees bank.old) }
 {
     let mut next = from;
-    'each: for unsolved in 0..checker.clauses.len() {
-        match close_pair(bank, checker, Pair { solved, unsolved }, next)? {
+    'each: for one in unsolved {
+        let pair = Pair {
+            solved,
+            unsolved: one.place,
+        };
+        match close_pair(bank, checker, pair, one.at, next)? {
             Closed::All(left) => next = left,
             Closed::Except(ruling) => return Ok(Closed::Except(ruling)),
         }
@@ -133,10 +120,13 @@ fn close_one<B: Bank>(
     bank: &mut B,
     checker: &Checker<'_>,
     solved: usize,
+    unsolved: &[Unsolved],
     from: usize,
 ) -> Result<Closed, AllocError>
     requires fit { AreFit (B.trees bank.old) checker.now.clauses.now }
     requires solved { solved < length checker.now.clauses.now }
+    requires unsolved { unsolved.now ≡ unsolved_from 0
+        (clauses_at (B.trees bank.old) checker.now.clauses.now) }
     ensures closed { let all = B.trees bank.old in IfOk result (λ closed.
         IsClosedSo (clauses_at all checker.now.clauses.now)
         (pairs_at_solved (numbered_at all checker.now.clauses.now) solved)
@@ -146,10 +136,37 @@ fn close_one<B: Bank>(
     if !is_solved(bank, &checker.clauses[solved]) {
         return Ok(Closed::All(from));
     }
-    close_solved(bank, checker, solved, from)
+    close_solved(bank, checker, solved, unsolved, from)
 }
 
-/// Whether the resolvents of all pairs are covered, by the rows from a place on in order. On Ok the bank is as before.
+/// Whether the resolvents of each solved clause with each unsolved one are covered.
+fn close_all<B: Bank>(
+    bank: &mut B,
+    checker: &Checker<'_>,
+    unsolved: &[Unsolved],
+    from: usize,
+) -> Result<Closed, AllocError>
+    requires fit { AreFit (B.trees bank.old) checker.now.clauses.now }
+    requires unsolved { unsolved.now ≡ unsolved_from 0
+        (clauses_at (B.trees bank.old) checker.now.clauses.now) }
+    ensures closed { let all = B.trees bank.old in IfOk result (λ closed.
+        IsClosedSo (clauses_at all checker.now.clauses.now)
+        (let each = numbered_at all checker.now.clauses.now in pairs_of each each)
+        checker.now.cert.now.rows from closed) }
+    ensures bank { IfOk result (λ _. B.trees bank.new ≡ B.trees bank.old) }
+{
+    let mut next = from;
+    'each: for solved in 0..checker.clauses.len() {
+        match close_one(bank, checker, solved, unsolved, next)? {
+            Closed::All(left) => next = left,
+            Closed::Except(ruling) => return Ok(Closed::Except(ruling)),
+        }
+    }
+    Ok(Closed::All(next))
+}
+
+/// Whether the resolvents of all pairs are covered, by the rows from a place on in order. The unsolved clauses are sought out
+/// once, since nearly all clauses may be solved. On Ok the bank is as before.
 pub(crate) fn are_closed<B: Bank>(
     bank: &mut B,
     checker: &Checker<'_>,
@@ -162,12 +179,6 @@ pub(crate) fn are_closed<B: Bank>(
         checker.now.cert.now.rows from closed) }
     ensures bank { IfOk result (λ _. B.trees bank.new ≡ B.trees bank.old) }
 {
-    let mut next = from;
-    'each: for solved in 0..checker.clauses.len() {
-        match close_one(bank, checker, solved, next)? {
-            Closed::All(left) => next = left,
-            Closed::Except(ruling) => return Ok(Closed::Except(ruling)),
-        }
-    }
-    Ok(Closed::All(next))
+    let unsolved = unsolved_ones(bank, checker)?;
+    close_all(bank, checker, &unsolved, from)
 }

@@ -26,6 +26,7 @@ mod left_over;
 pub mod ruling;
 mod satisfying;
 mod shaping;
+mod unsolved;
 
 pub use crate::checking::check_cert;
 pub use crate::ruling::Ruling;

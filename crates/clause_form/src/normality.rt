@@ -19,6 +19,7 @@ use crate::normal::is_general;
 use crate::occurrences::count_in_clause;
 use crate::same::is_among;
 use crate::selectable::is_variable_known;
+use limits::MOST_SYMBOLS;
 use term_tree::{Bank, Id, Node};
 
 /// So many hypotheses are marked by their keys.
@@ -28,7 +29,7 @@ const MARKED: usize = 32;
 const COUNTED: usize = 4;
 
 /// So many variables have a place in the table.
-const PLACED: usize = 4096;
+const PLACED: usize = MOST_SYMBOLS as usize;
 
 /// Whether a fact is flat: no `att` of a data constructor or a tuple.
 fn is_flat<B: Bank>(bank: &B, fact: &Fact) -> bool

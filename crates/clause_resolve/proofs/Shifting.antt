@@ -42,7 +42,7 @@ mutual
       ]
 
 -- so it has a number when it is set apart
-pub low_fits : (all : List Term) (id : Id) → IsLow all id → (x : ℕ) → IsTrue (has_var x (tree_at all id)) → x + 4096 < 4294967296
+pub low_fits : (all : List Term) (id : Id) → IsLow all id → (x : ℕ) → IsTrue (has_var x (tree_at all id)) → x + most_symbols < 4294967296
 low_fits all id low x h = let below : x < most_symbols = below_in most_symbols x (tree_at all id) low.below h in omega arith
 
 -- as the bank grows

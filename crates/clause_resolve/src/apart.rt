@@ -12,13 +12,14 @@ ghost use Rattle.clause_resolve.specs.Low.{AreLow, IsLowFact, AreLowFacts, HasLo
 ghost use Rattle.clause_resolve.specs.Apart.{IsSelectedAt, IsApart};
 
 use clause_form::{Clause, Fact, Facts, Ids};
+use limits::MOST_SYMBOLS;
 use std::alloc::{AllocError, Global};
 use term_tree::{Bank, Id};
 use unify_match::shifted;
 
 /// The number from which on variables are numbered that are set apart: the limit of size, since a clause
 /// that is its own norm has variables below its size.
-const OFFSET: u32 = 4096;
+const OFFSET: u32 = MOST_SYMBOLS as u32;
 
 /// An unsolved clause set apart: its selected hypothesis, and the clause of the others and the conclusion.
 #[derive(Drop)]

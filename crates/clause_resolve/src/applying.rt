@@ -15,12 +15,10 @@ ghost use Rattle.clause_resolve.specs.Stops.{StopsAt};
 
 use crate::stop::Stop;
 use clause_form::{Clause, Fact, Facts, Ids, head_symbols};
+use limits::MOST_SYMBOLS;
 use std::alloc::Global;
 use term_tree::{Bank, Id};
 use unify_match::{Binds, apply_bound};
-
-/// The most symbols of a clause.
-const MOST_SYMBOLS: u64 = 4096;
 
 /// Takes symbols from those that are left.
 fn spend(symbols: u64, left: &mut u64) -> Result<(), Stop>

@@ -11,6 +11,7 @@ ghost use Rattle.clause_form.specs.Seen.{fact_at, clause_at, IsFactIn, AreFactsI
 ghost use Rattle.clause_resolve.specs.Budget.{is_over, some_over};
 
 use clause_form::{Clause, Fact, is_data_symbol, size_of_fact};
+use limits::MOST_SYMBOLS;
 use term_tree::{Bank, Id, Node, SIZE_LIMIT};
 
 /// So many symbols more, as they are told.
@@ -78,7 +79,7 @@ fn flat_size_of_facts<B: Bank>(bank: &B, facts: &[Fact]) -> u64
 fn is_over_limit(symbols: u64) -> bool
     ensures { (n : ℕ) → symbols ≡ capped n → result ≡ is_over n }
 {
-    symbols > 4096
+    symbols > MOST_SYMBOLS
 }
 
 /// Whether `att` of some flat part of a term has, with so many symbols more, more than the limit.

@@ -8,13 +8,14 @@ ghost use Rattle.clause_form.specs.Seen.{IsFactIn, AreFactsIn};
 
 use crate::board::Board;
 use clause_form::Fact;
+use limits::MOST_SYMBOLS;
 use std::alloc::{AllocError, Global};
 use term_tree::{Bank, Id, Node};
 use unify_match::Binds;
 
 /// Variables are numbered below this in a clause that is its own norm within the limit of size; others are taken to be
 /// shared by no hypotheses.
-const VARIABLES: usize = 4096;
+const VARIABLES: usize = MOST_SYMBOLS as usize;
 
 /// What is found while facts are looked at in turn: by variable the fact in which it was met first, and by fact the first
 /// fact of its part, both by their indices.

@@ -4,6 +4,7 @@ use Rattle.std.proofs.lemmas.Bool.{eq-eqb}
 use Rattle.std.proofs.lemmas.List.{length-map}
 use Rattle.std.specs.List.{list_any}
 use Rattle.std.specs.Option.{option_map_or}
+use Rattle.spec_calculus.specs.Bounds.{most_arguments}
 use Rattle.spec_calculus.specs.Syntax.{Process, Output, Input, Parallel, Replication, New, Let, Event, Declared, Rule, Protocol}
 use Rattle.spec_calculus.specs.Points.{numbered, nodes, point_after}
 use Rattle.spec_calculus.specs.Values.{Value, Environment, same_value, value_of}
@@ -172,7 +173,7 @@ module _ (P : Protocol) (c : Configuration) where
 
   -- a constructor
   can_build-parts : (f count : ℕ) → can_build P f count ≡ (takes P f count && is_public_constructor P f)
-  can_build-parts zero count = plain (nat_le 2 count && nat_le count 16)
+  can_build-parts zero count = plain (nat_le 2 count && nat_le count most_arguments)
     where
       plain : (b : Bool) → b ≡ (b && true)
       plain true = refl

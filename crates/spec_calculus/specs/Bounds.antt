@@ -21,7 +21,7 @@ most_line_bytes = 256
 abbrev pub most_digits : ℕ
 most_digits = 9
 
--- levels of the grammar that are open at a place
+-- levels of the grammar that are open at a place of the text of a protocol
 abbrev pub most_levels : ℕ
 most_levels = 512
 
@@ -65,6 +65,10 @@ most_points_above = 511
 abbrev pub most_symbols : ℕ
 most_symbols = 4096
 
+-- levels of a term in the text of a certificate
+abbrev pub most_term_levels : ℕ
+most_term_levels = 4096
+
 -- visits of one translation
 abbrev pub most_visits : ℕ
 most_visits = 65536
@@ -72,3 +76,11 @@ most_visits = 65536
 -- clauses of a certificate
 abbrev pub most_clauses : ℕ
 most_clauses = 1000000
+
+-- the greatest budget: entries of a log
+abbrev pub most_budget : ℕ
+most_budget = 1000000
+
+-- keys of a ring
+abbrev pub most_keys : ℕ
+most_keys = 400

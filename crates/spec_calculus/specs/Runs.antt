@@ -3,6 +3,7 @@ use Rattle.std.specs.Prelude.{ℕ, zero, suc, ◌+◌, Bool, true, false, ◌&&�
 use Rattle.std.specs.List.{list_any, enumerate_from}
 use Rattle.std.specs.Option.{option_map_or}
 use Rattle.spec_trees.specs.Tree.{Leaf, Node, trees, items_of}
+use Rattle.spec_calculus.specs.Bounds.{most_arguments}
 use Rattle.spec_calculus.specs.Syntax.{Made, Symbol, Constructor, Tuple, Process, Output, Input, Parallel, Replication, New, Let, Event, Declared, Protocol}
 use Rattle.spec_calculus.specs.Points.{numbered, replaced, nodes, point_after}
 use Rattle.spec_calculus.specs.Values.{FreeName, MadeName, AttackerName, Value, Environment, same_value, value_of, values_of}
@@ -104,7 +105,7 @@ known_values c (k ∷ ks) = option_and_then (λ v. option_map (λ vs. v ∷ vs) 
 
 -- whether the attacker may apply the constructor, or for 0 the tuple, to that many values
 abbrev pub can_build : Protocol → ℕ → ℕ → Bool
-can_build P zero count = nat_le 2 count && nat_le count 16
+can_build P zero count = nat_le 2 count && nat_le count most_arguments
 can_build P (suc f) count = option_map_or (λ declared. declared.public && nat_eq declared.arity count) (numbered P.constructors (suc f)) false
 
 abbrev pub built : ℕ → List Value → Value

@@ -79,9 +79,9 @@ one_number_there bytes at x p r e =
 
 one_number_found : Complete one_number_text (IsOne IsShort) one_number
 one_number_found (n, true) rest at short =
-    joined (read_number (number_text n (32 ∷ rest)) at) behind_number n (32 ∷ rest) (n, true) rest (number_found n (32 ∷ rest) at short refl) (λ p. record { place = p + 1; is = refl })
+    joined (read_number (number_text n (32 ∷ rest)) at) behind_number n (32 ∷ rest) (n, true) rest (number_found n 32 rest at short refl) (λ p. record { place = p + 1; is = refl })
 one_number_found (n, false) rest at short =
-    joined (read_number (number_text n (10 ∷ rest)) at) behind_number n (10 ∷ rest) (n, false) rest (number_found n (10 ∷ rest) at short refl)
+    joined (read_number (number_text n (10 ∷ rest)) at) behind_number n (10 ∷ rest) (n, false) rest (number_found n 10 rest at short refl)
     (λ p. joined (read_fixed (codes "\n") (10 ∷ rest) p) (λ _ q r. Found (n, false) q r) tt rest (n, false) rest (fixed_found (codes "\n") rest p) (λ q. record { place = q; is = refl }))
 
 one_number_long : (x : ℕ × Bool) (k : List ℕ) → length k + 1 ≤ length (one_number_text x k)

@@ -17,7 +17,7 @@ use Rattle.spec_certificate_text.proofs.Names.{event_word_is_word}
 use Rattle.spec_certificate_reading.specs.Names.{CalledEvent, event_called}
 use Rattle.spec_certificate_reading.specs.Terms.{Syntax, Arity}
 use Rattle.spec_certificate_reading.specs.Outcomes.{Outcome, Found, Faulty, next, front, read_fixed}
-use Rattle.spec_certificate_reading.specs.Facts.{term_outcome, one_term, argument, read_terms, Performed, performed, event_named, read_event, read_att, read_mess, read_ev, read_mev, bad_arguments, read_bad, read_hypothesis, read_conclusion}
+use Rattle.spec_certificate_reading.specs.Facts.{term_outcome, one_term, argument, read_terms, Performed, performed, event_named, event_before, read_event, read_att, read_mess, read_ev, read_mev, bad_arguments, read_bad, read_hypothesis, read_conclusion}
 use Rattle.spec_certificate_reading.specs.Readable.{MayStand, IsHypothesisOf, IsConclusionOf}
 use Rattle.spec_certificate_reading.proofs.Read.{term_text-read}
 use Rattle.spec_certificate_reading.proofs.Called.{event_word_called}
@@ -91,21 +91,26 @@ begins_there : (w k : List ℕ) → IsWord w → begins_word (front (w ++ k)) �
 begins_there [] k is = absurd (let never : false ≡ true = is.begins in cc)
 begins_there (b ∷ w) k is = is.begins
 
-word_found : (P : Protocol) (w k : List ℕ) (called : CalledEvent) (at : ℕ) (e : Performed) (r : List ℕ) → IsWord w → Stops is_in_word k → event_called P w ≡ Some called → ((q : ℕ) → Finds (event_named P (Some called) at q k) e r) → Finds (read_event P (w ++ k) at) e r
-word_found P w k called at e r is stops names named =
+-- behind its word more bytes stand
+before_found : (P : Protocol) (w : List ℕ) (called : CalledEvent) (ts : List Term) (from q : ℕ) (k : List ℕ) (e : Performed) (r : List ℕ) → event_called P w ≡ Some called → Finds (event_named P (Some called) from q (behind_word P ts (41 ∷ k))) e r → Finds (event_before P w from q (behind_word P ts (41 ∷ k))) e r
+before_found P w called [] from q k e r names found = record { place = found.place; is = ap (λ o. event_named P o from q (41 ∷ k)) names ∙ found.is }
+before_found P w called (t ∷ ts) from q k e r names found = record { place = found.place; is = ap (λ o. event_named P o from q (behind_word P (t ∷ ts) (41 ∷ k))) names ∙ found.is }
+
+word_found : (P : Protocol) (w k : List ℕ) (at : ℕ) (e : Performed) (r : List ℕ) → IsWord w → Stops is_in_word k → ((q : ℕ) → Finds (event_before P w at q k) e r) → Finds (read_event P (w ++ k) at) e r
+word_found P w k at e r is stops named =
     let long = prefix_len is_in_word (w ++ k) in
     let so : long ≡ length w = run_stops is_in_word w k is.goes_on stops in
     let whole : take long (w ++ k) ≡ w = ap (λ n. take n (w ++ k)) so ∙ take-append_seam w k in
     let behind : drop long (w ++ k) ≡ k = ap (λ n. drop n (w ++ k)) so ∙ drop-append_seam w k in
     let found = named (at + long) in
-    when_true (begins_word (front (w ++ k))) (event_named P (event_called P (take long (w ++ k))) at (at + long) (drop long (w ++ k))) (Faulty at Syntax) e r (begins_there w k is)
-    record { place = found.place; is = ap (λ v. event_named P (event_called P v) at (at + long) (drop long (w ++ k))) whole ∙ (ap (λ o. event_named P o at (at + long) (drop long (w ++ k))) names ∙ (ap (event_named P (Some called) at (at + long)) behind ∙ found.is)) }
+    when_true (begins_word (front (w ++ k))) (event_before P (take long (w ++ k)) at (at + long) (drop long (w ++ k))) (Faulty at Syntax) e r (begins_there w k is)
+    record { place = found.place; is = ap (λ v. event_before P v at (at + long) (drop long (w ++ k))) whole ∙ (ap (event_before P w at (at + long)) behind ∙ found.is) }
 
 pub event_found : (P : Protocol) → HasNames P → (e : Performed) (k : List ℕ) (at : ℕ) → IsPerformed P e → Finds (read_event P (event_text P e (41 ∷ k)) at) e (41 ∷ k)
 event_found P names e k at is =
     subst (λ bytes. Finds (read_event P bytes at) e (41 ∷ k)) (sym (event_is P e (41 ∷ k)))
-    (word_found P (declared_word P.events e.event) (behind_word P e.arguments (41 ∷ k)) (called_as e) at e (41 ∷ k) (event_word_is_word P e.event (length e.arguments) names is.event) (stops_there P e.arguments k)
-    (event_word_called P names e.event (length e.arguments) is.event) (λ q. named_found P names e.event e.arguments at q k is.each))
+    (word_found P (declared_word P.events e.event) (behind_word P e.arguments (41 ∷ k)) at e (41 ∷ k) (event_word_is_word P e.event (length e.arguments) names is.event) (stops_there P e.arguments k)
+    (λ q. before_found P (declared_word P.events e.event) (called_as e) e.arguments at q k e (41 ∷ k) (event_word_called P names e.event (length e.arguments) is.event) (named_found P names e.event e.arguments at q k is.each)))
 
 -- Facts of each kind.
 

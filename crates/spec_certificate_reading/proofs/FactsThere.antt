@@ -15,12 +15,12 @@ use Rattle.spec_certificate_reading.specs.Names.{CalledEvent, event_called}
 use Rattle.spec_certificate_reading.specs.Terms.{Syntax}
 use Rattle.spec_certificate_reading.specs.Runs.{Read, Done, Refused, read_term}
 use Rattle.spec_certificate_reading.specs.Outcomes.{Outcome, Found, Faulty, next, front, read_fixed}
-use Rattle.spec_certificate_reading.specs.Facts.{term_outcome, one_term, argument, read_terms, Performed, performed, event_named, read_event, read_att, read_mess, read_ev, read_mev, bad_arguments, read_bad, read_mev_or_mess, read_hypothesis, read_conclusion}
+use Rattle.spec_certificate_reading.specs.Facts.{term_outcome, one_term, argument, read_terms, Performed, performed, event_named, event_before, read_event, read_att, read_mess, read_ev, read_mev, bad_arguments, read_bad, read_mev_or_mess, read_hypothesis, read_conclusion}
 use Rattle.spec_certificate_reading.specs.Readable.{MayStand, IsHypothesisOf, IsConclusionOf}
 use Rattle.spec_certificate_reading.proofs.Runs.{read_term-sound}
 use Rattle.spec_certificate_reading.proofs.Kept.{read_term-kept}
 use Rattle.spec_certificate_reading.proofs.Called.{event_called_is}
-use Rattle.spec_certificate_reading.proofs.Parts.{IsThere, Sound, Parts, parts, chosen, equal_byte, front_is, fixed_there}
+use Rattle.spec_certificate_reading.proofs.Parts.{IsThere, Sound, Parts, parts, chosen, equal_byte, front_is, fixed_there, ended_found}
 use Rattle.spec_certificate_reading.proofs.Things.{things_text, IsOne, things_there}
 
 done : (o : Read) (t : Term) (p : ℕ) (r : List ℕ) → term_outcome o ≡ Found t p r → o ≡ Done t p r
@@ -31,7 +31,7 @@ done (Refused q c) t p r e = absurd (cc)
 term_there : (P : Protocol) (bytes : List ℕ) (at : ℕ) (t : Term) (p b : ℕ) (k r : List ℕ) → one_term P bytes at ≡ Found t p k → k ≡ b ∷ r → IsThere (term_text P) (MayStand P) bytes t (b ∷ r)
 term_there P bytes at t p b k r e is =
     let read : read_term P bytes at ≡ Done t p (b ∷ r) = done (read_term P bytes at) t p (b ∷ r) (e ∙ ap (Found t p) is) in
-    record { text = read_term-sound P bytes at t p b r read; is = read_term-kept P bytes at t p (b ∷ r) read }
+    record { text = read_term-sound P bytes at t p (b ∷ r) read; is = read_term-kept P bytes at t p (b ∷ r) read }
 
 -- a term was read, and then these bytes
 record TermThen {B : Type 0} (P : Protocol) (ws : List ℕ) (f : Term → ℕ → List ℕ → Outcome B) (bytes : List ℕ) (y : B) (p : ℕ) (r : List ℕ) : Type 0 where
@@ -141,8 +141,9 @@ pub event_there : (P : Protocol) → Sound (event_text P) (IsPerformed P) (read_
 event_there P bytes at e p r found =
     let long = prefix_len is_in_word bytes in
     let word = take long bytes in
-    chosen (begins_word (front bytes)) (event_named P (event_called P word) at (at + long) (drop long bytes)) (Faulty at Syntax) e p r (IsThere (event_text P) (IsPerformed P) bytes e r) found
-    (λ begins named. named_there P bytes word (event_called P word) at (at + long) (drop long bytes) e p r (sym (take-append-drop long bytes)) refl named)
+    chosen (begins_word (front bytes)) (event_before P word at (at + long) (drop long bytes)) (Faulty at Syntax) e p r (IsThere (event_text P) (IsPerformed P) bytes e r) found
+    (λ begins named. named_there P bytes word (event_called P word) at (at + long) (drop long bytes) e p r (sym (take-append-drop long bytes)) refl
+    (ended_found (at + long) (drop long bytes) (event_named P (event_called P word) at (at + long) (drop long bytes)) e p r named))
     (λ none never. absurd (cc))
 
 -- Facts, each of its kind.

@@ -16,20 +16,21 @@ use Rattle.spec_certificate_text.proofs.Runs.{both_right}
 use Rattle.spec_certificate_reading.specs.Names.{Named, symbol_called, name_called}
 use Rattle.spec_certificate_reading.specs.Terms.{Arity, Syntax, Number, Symbol, Count, Open, Mode, Begins, InWord, InDigits, AtBracket, Ended, Reading, Step, Goes, Ends, Fault}
 use Rattle.spec_certificate_reading.specs.Steps.{is_deep, goes, unless_deep, opened, with_parts, has_arity, closed, closing_byte, may_close, may_go_on, may_be_empty, after_term, begin_term, at_begin, after_variable, after_name, after_word, apply, in_word, after_point, after_number, after_digits, in_digits, at_bracket, step_in, step}
-use Rattle.spec_certificate_reading.specs.Runs.{Done, followed, at_end, read_on, read_term}
+use Rattle.spec_certificate_reading.specs.Runs.{Done, followed, read_on, read_term}
 use Rattle.spec_certificate_reading.proofs.Named.{symbol_called_is, name_called_is}
+use Rattle.spec_certificate_reading.proofs.Runs.{none_at_end}
 
 -- so many heads above it, the term is of the protocol and not too deep
-record IsHeld (P : Protocol) (above : ℕ) (t : Term) : Type 0 where
-  is_of : IsTermOf P t
-  shallow : above + depth t ≤ 4096
+pub record IsHeld (P : Protocol) (above : ℕ) (t : Term) : Type 0 where
+  pub is_of : IsTermOf P t
+  pub shallow : above + depth t ≤ 4096
 
-AreHeld : Protocol → ℕ → List Term → Type 0
+unfoldable pub AreHeld : Protocol → ℕ → List Term → Type 0
 AreHeld P above [] = Unit {0}
 AreHeld P above (t ∷ ts) = IsHeld P above t × AreHeld P above ts
 
 -- the symbol is of the protocol; how many parts a tuple has is not known yet
-IsHeadOf : Protocol → Sym → ℕ → Type 0
+unfoldable pub IsHeadOf : Protocol → Sym → ℕ → Type 0
 IsHeadOf P (Tuple n) arity = Unit {0}
 IsHeadOf P (Ctor f) arity = IsSymbolOf P (Ctor f) arity
 IsHeadOf P (Data f) arity = IsSymbolOf P (Data f) arity
@@ -37,22 +38,22 @@ IsHeadOf P (Free a) arity = IsSymbolOf P (Free a) arity
 IsHeadOf P (Point p) arity = IsSymbolOf P (Point p) arity
 IsHeadOf P Attacker arity = IsSymbolOf P Attacker arity
 
-HeadsOf : Protocol → List Open → Type 0
+unfoldable pub HeadsOf : Protocol → List Open → Type 0
 HeadsOf P [] = Unit {0}
 HeadsOf P (o ∷ heads) = IsHeadOf P o.symbol o.arity × AreHeld P (suc (length heads)) o.arguments × HeadsOf P heads
 
-ModeOf : Protocol → ℕ → Mode → Type 0
+unfoldable pub ModeOf : Protocol → ℕ → Mode → Type 0
 ModeOf P above (Ended t) = IsHeld P above t
 ModeOf P above Begins = Unit {0}
 ModeOf P above (InWord w) = Unit {0}
 ModeOf P above (InDigits w d) = Unit {0}
 ModeOf P above AtBracket = Unit {0}
 
-record ReadingOf (P : Protocol) (r : Reading) : Type 0 where
-  heads : HeadsOf P r.heads
-  mode : ModeOf P (length r.heads) r.mode
+pub record ReadingOf (P : Protocol) (r : Reading) : Type 0 where
+  pub heads : HeadsOf P r.heads
+  pub mode : ModeOf P (length r.heads) r.mode
 
-StepOf : Protocol → Step → Type 0
+unfoldable pub StepOf : Protocol → Step → Type 0
 StepOf P (Goes r) = ReadingOf P r
 StepOf P (Ends t) = IsHeld P 0 t
 StepOf P (Fault place code) = Unit {0}
@@ -61,7 +62,7 @@ choose : (Q : Step → Type 0) (test : Bool) (x y : Step) → (test ≡ true →
 choose Q true x y first second = first refl
 choose Q false x y first second = second refl
 
-not_deep : (heads : List Open) → is_deep heads ≡ false → length heads + 1 ≤ 4096
+pub not_deep : (heads : List Open) → is_deep heads ≡ false → length heads + 1 ≤ 4096
 not_deep heads e = grind (arith, nat_tests)
 
 fault_kept : (P : Protocol) (place : ℕ) (code : _) → StepOf P (Fault place code)
@@ -85,7 +86,7 @@ unfolding AreHeld
 held_depths P above [] held room = omega (arith, room)
 held_depths P above (t ∷ ts) held room = omega (arith, held.0.shallow, held_depths P above ts held.1 room)
 
-held_push : (P : Protocol) (above : ℕ) (ts : List Term) (t : Term) → AreHeld P above ts → IsHeld P above t → AreHeld P above (ts ++ t ∷ [])
+pub held_push : (P : Protocol) (above : ℕ) (ts : List Term) (t : Term) → AreHeld P above ts → IsHeld P above t → AreHeld P above (ts ++ t ∷ [])
 unfolding AreHeld
 held_push P above [] t held is = (is, tt)
 held_push P above (u ∷ us) t held is = (held.0, held_push P above us t held.1 is)
@@ -258,7 +259,7 @@ at_bracket-kept P at heads from b of_heads =
     choose (StepOf P) (b == 91) (opened heads record { symbol = Attacker; arity = 1 } from) (Fault at Syntax)
     (λ is. opened-kept P heads record { symbol = Attacker; arity = 1 } from of_heads refl) (λ none. fault_kept P at Syntax)
 
-step-kept : (P : Protocol) (at : ℕ) (r : Reading) (b : ℕ) → ReadingOf P r → StepOf P (step P at r b)
+pub step-kept : (P : Protocol) (at : ℕ) (r : Reading) (b : ℕ) → ReadingOf P r → StepOf P (step P at r b)
 unfolding ModeOf
 step-kept P at r b is = by r.mode is.mode
   where
@@ -269,15 +270,9 @@ step-kept P at r b is = by r.mode is.mode
     by AtBracket of_mode = at_bracket-kept P at r.heads r.from b is.heads
     by (Ended t) of_mode = after_term-kept P at t r.heads r.from b is.heads of_mode
 
-end_kept : (P : Protocol) (at : ℕ) (s : Step) (t : Term) (place : ℕ) (rest : List ℕ) → StepOf P s → at_end at s ≡ Done t place rest → IsHeld P 0 t
-unfolding StepOf
-end_kept P at (Goes r) t place rest kept e = absurd (cc)
-end_kept P at (Ends u) t place rest kept e = let same : u ≡ t = cc in subst (IsHeld P 0) same kept
-end_kept P at (Fault p c) t place rest kept e = absurd (cc)
-
 read_on-kept : (P : Protocol) (bytes : List ℕ) (at : ℕ) (r : Reading) (t : Term) (place : ℕ) (rest : List ℕ) → ReadingOf P r → read_on P bytes at r ≡ Done t place rest → IsHeld P 0 t
 unfolding StepOf
-read_on-kept P [] at r t place rest is e = end_kept P at (step P at r 10) t place rest (step-kept P at r 10 is) e
+read_on-kept P [] at r t place rest is e = absurd (none_at_end at r.heads r.from r.mode t place rest e)
 read_on-kept P (c ∷ bytes) at r t place rest is e = by (step P at r c) (step-kept P at r c is) e (read_on-kept P bytes (at + 1))
   where
     by : (s : Step) → StepOf P s → followed (read_on P bytes (at + 1)) at (c ∷ bytes) s ≡ Done t place rest

@@ -19,7 +19,7 @@ mutual
   row_long none k = omega arith
   row_long (more t ts) k = omega (arith, onto_long t (behind ts k), behind_long ts k)
 
-  behind_long : (ts : LooseRow) (k : List ℕ) → length k ≤ length (behind ts k)
+  pub behind_long : (ts : LooseRow) (k : List ℕ) → length k ≤ length (behind ts k)
   behind_long none k = omega arith
   behind_long (more t ts) k = omega (arith, onto_long t (behind ts k), behind_long ts k)
 

@@ -13,7 +13,7 @@ use Rattle.spec_certificate_text.specs.Spelled.{Stops}
 use Rattle.spec_certificate_text.proofs.Names.{decimal_digits}
 use Rattle.spec_certificate_text.proofs.Runs.{both_left, both_right}
 use Rattle.spec_certificate_reading.specs.Terms.{Syntax}
-use Rattle.spec_certificate_reading.specs.Outcomes.{Outcome, Found, Faulty, next, Reader, front, read_fixed, as_number, read_number}
+use Rattle.spec_certificate_reading.specs.Outcomes.{Outcome, Found, Faulty, next, Reader, front, ended, read_fixed, as_number, number_before, read_number}
 
 -- what was found is the text of a thing of this kind, and then the rest
 pub record IsThere {A : Type 0} (spell : A → List ℕ → List ℕ) (Is : A → Type 0) (bytes : List ℕ) (x : A) (rest : List ℕ) : Type 0 where
@@ -109,6 +109,12 @@ run_stops test (b ∷ w) rest all stops =
     let later : prefix_len test (w ++ rest) ≡ length w = run_stops test w rest (both_right (test b) (list_all test w) all) stops in
     ap (λ t. cond t (1 + prefix_len test (w ++ rest)) 0) first ∙ omega (arith, later)
 
+-- Words and numbers, which end before another byte.
+
+pub ended_found : {A : Type 0} (place : ℕ) (rest : List ℕ) (o : Outcome A) (x : A) (p : ℕ) (r : List ℕ) → ended place rest o ≡ Found x p r → o ≡ Found x p r
+ended_found place [] o x p r e = absurd (cc)
+ended_found place (b ∷ rest) o x p r e = e
+
 -- Numbers.
 
 abbrev pub number_text : ℕ → List ℕ → List ℕ
@@ -125,21 +131,25 @@ number_by from ds (Some m) place behind n p r is e =
 pub number_there : Sound number_text IsShort read_number
 number_there bytes at n p r e =
     let long = prefix_len is_ascii_digit bytes in
-    chosen (long == 0) (Faulty at Syntax) (as_number at (numeral (take long bytes)) (at + long) (drop long bytes)) n p r (IsThere number_text IsShort bytes n r) e
+    chosen (long == 0) (Faulty at Syntax) (number_before at (numeral (take long bytes)) (at + long) (drop long bytes)) n p r (IsThere number_text IsShort bytes n r) e
     (λ none never. absurd (cc))
-    (λ some found. subst (λ bs. IsThere number_text IsShort bs n r) (take-append-drop long bytes) (number_by at (take long bytes) (numeral (take long bytes)) (at + long) (drop long bytes) n p r refl found))
+    (λ some found. subst (λ bs. IsThere number_text IsShort bs n r) (take-append-drop long bytes) (number_by at (take long bytes) (numeral (take long bytes)) (at + long) (drop long bytes) n p r refl
+    (ended_found (at + long) (drop long bytes) (as_number at (numeral (take long bytes)) (at + long) (drop long bytes)) n p r found)))
 
 some_digits : (ds : List ℕ) (n : ℕ) → numeral ds ≡ Some n → (length ds == 0) ≡ false
 some_digits [] n e = absurd (cc)
 some_digits (d ∷ ds) n e = other_byte (suc (length ds)) 0 (λ never. absurd (cc))
 
-number_of : (ds rest : List ℕ) (n at long : ℕ) → numeral ds ≡ Some n → long ≡ length ds → Finds (if long == 0 then Faulty at Syntax else as_number at (numeral (take long (ds ++ rest))) (at + long) (drop long (ds ++ rest))) n rest
-number_of ds rest n at long is so =
+number_of : (ds : List ℕ) (b : ℕ) (k : List ℕ) (n at long : ℕ) → numeral ds ≡ Some n → long ≡ length ds
+    → Finds (if long == 0 then Faulty at Syntax else number_before at (numeral (take long (ds ++ b ∷ k))) (at + long) (drop long (ds ++ b ∷ k))) n (b ∷ k)
+number_of ds b k n at long is so =
+    let rest = b ∷ k in
     let whole : take long (ds ++ rest) ≡ ds = ap (λ k. take k (ds ++ rest)) so ∙ take-append_seam ds rest in
     let behind : drop long (ds ++ rest) ≡ rest = ap (λ k. drop k (ds ++ rest)) so ∙ drop-append_seam ds rest in
-    when_false (long == 0) (Faulty at Syntax) (as_number at (numeral (take long (ds ++ rest))) (at + long) (drop long (ds ++ rest))) n rest (ap (λ k. k == 0) so ∙ some_digits ds n is)
-    record { place = at + long; is = ap (λ es. as_number at (numeral es) (at + long) (drop long (ds ++ rest))) whole ∙ (ap (λ o. as_number at o (at + long) (drop long (ds ++ rest))) is ∙ ap (λ k. Found n (at + long) k) behind) }
+    when_false (long == 0) (Faulty at Syntax) (number_before at (numeral (take long (ds ++ rest))) (at + long) (drop long (ds ++ rest))) n rest (ap (λ k. k == 0) so ∙ some_digits ds n is)
+    record { place = at + long; is = ap (λ es. number_before at (numeral es) (at + long) (drop long (ds ++ rest))) whole ∙ (ap (λ o. number_before at o (at + long) (drop long (ds ++ rest))) is ∙ ap (number_before at (Some n) (at + long)) behind) }
 
-pub number_found : (n : ℕ) (rest : List ℕ) (at : ℕ) → IsShort n → Stops is_ascii_digit rest → Finds (read_number (number_text n rest) at) n rest
-number_found n rest at short stops =
-    number_of (decimal n) rest n at (prefix_len is_ascii_digit (decimal n ++ rest)) (numeral-decimal n short) (run_stops is_ascii_digit (decimal n) rest (decimal_digits n short) stops)
+-- a number before a byte that is no digit
+pub number_found : (n b : ℕ) (rest : List ℕ) (at : ℕ) → IsShort n → is_ascii_digit b ≡ false → Finds (read_number (number_text n (b ∷ rest)) at) n (b ∷ rest)
+number_found n b rest at short stops =
+    number_of (decimal n) b rest n at (prefix_len is_ascii_digit (decimal n ++ b ∷ rest)) (numeral-decimal n short) (run_stops is_ascii_digit (decimal n) (b ∷ rest) (decimal_digits n short) stops)

@@ -22,13 +22,13 @@ use Rattle.spec_certificate_reading.specs.Runs.{read_on, read_term, Done}
 use Rattle.spec_certificate_reading.proofs.Complete.{reading, goes_to, taken, passed, shallow, begins_at, Reaches, variable_read, constant_read, head_over, applied_read, digits_start}
 use Rattle.spec_certificate_reading.proofs.Called.{free_called, constructor_called, point_called}
 
-itself : (n : ℕ) → (n == n) ≡ true
+pub itself : (n : ℕ) → (n == n) ≡ true
 itself n = grind (arith, nat_tests)
 
 at_most : (m n : ℕ) → m ≤ n → nat_le m n ≡ true
 at_most m n le = grind (arith, nat_tests)
 
-close_ends : (s : Sym) → goes_on (closing_byte s) ≡ false
+pub close_ends : (s : Sym) → goes_on (closing_byte s) ≡ false
 close_ends (Ctor f) = refl
 close_ends (Data f) = refl
 close_ends (Tuple n) = refl
@@ -36,7 +36,7 @@ close_ends (Free a) = refl
 close_ends (Point p) = refl
 close_ends Attacker = refl
 
-close_no_comma : (s : Sym) → (closing_byte s == 44) ≡ false
+pub close_no_comma : (s : Sym) → (closing_byte s == 44) ≡ false
 close_no_comma (Ctor f) = refl
 close_no_comma (Data f) = refl
 close_no_comma (Tuple n) = refl
@@ -131,13 +131,13 @@ closes_at P heads named f n since done t k place from m fits count room =
     (taken ((closing_byte named.symbol == closing_byte named.symbol) && may_close named.symbol (length done + 1)) (closed o heads (done ++ t ∷ [])) (Fault place Syntax) _ may closed_so))
 
 -- an argument ends, and another comes
-goes_on_at : (P : Protocol) (heads : List Open) (named : Named) (since : ℕ) (done : List Term) (t : Term) (k : List ℕ) (place from : ℕ) → may_go_on named.symbol ≡ true
+pub goes_on_at : (P : Protocol) (heads : List Open) (named : Named) (since : ℕ) (done : List Term) (t : Term) (k : List ℕ) (place from : ℕ) → may_go_on named.symbol ≡ true
     → read_on P (44 ∷ k) place (reading (head_over named since done ∷ heads) (Ended t) from) ≡ read_on P k (place + 1) (reading (head_over named since (done ++ t ∷ []) ∷ heads) Begins from)
 goes_on_at P heads named since done t k place from may =
     goes_to P 44 k place (reading (head_over named since done ∷ heads) (Ended t) from) (reading (head_over named since (done ++ t ∷ []) ∷ heads) Begins from)
     (taken (may_go_on named.symbol) (goes (head_over named since (done ++ t ∷ []) ∷ heads) Begins from) _ _ may refl)
 
-node_text : (P : Protocol) (f : Sym) (t : Term) (ts : Trees ℕ Sym) (k : List ℕ) → term_text P (Node f (more t ts)) k ≡ head_text P f (row (written_row P (more t ts)) (closing_byte f ∷ k))
+pub node_text : (P : Protocol) (f : Sym) (t : Term) (ts : Trees ℕ Sym) (k : List ℕ) → term_text P (Node f (more t ts)) k ≡ head_text P f (row (written_row P (more t ts)) (closing_byte f ∷ k))
 node_text P (Ctor f) t ts k = refl
 node_text P (Data f) t ts k = refl
 node_text P (Tuple n) t ts k = refl
@@ -177,7 +177,7 @@ HasSome none = ⊥
 HasSome (more t ts) = Unit {0}
 
 -- a term is read wherever there is room for it
-abbrev IsRead : Protocol → Term → Type 0
+abbrev pub IsRead : Protocol → Term → Type 0
 IsRead P t = (heads : List Open) → length heads + depth t ≤ 4096 → (at from b : ℕ) (k : List ℕ) → goes_on b ≡ false → Reaches P (term_text P t (b ∷ k)) at (reading heads Begins from) (b ∷ k) heads t
 
 -- so are arguments, the last of a symbol, behind those that were read
@@ -231,7 +231,7 @@ variable_is_read : (P : Protocol) (x : ℕ) → IsTermOf P (Leaf x) → IsRead P
 variable_is_read P x is heads room at from b k ends = variable_read P x b k at heads 0 from is (omega (arith, room)) ends
 
 mutual
-  term_read : (P : Protocol) → HasNames P → (t : Term) → IsTermOf P t → IsRead P t
+  pub term_read : (P : Protocol) → HasNames P → (t : Term) → IsTermOf P t → IsRead P t
   term_read P names (Leaf x) is = variable_is_read P x is
   term_read P names (Node f ts) is = node_read P names f ts is.0 (arguments_read P names f ts is.1)
 

@@ -25,7 +25,7 @@ pub unless_deep-sound : (P : Protocol) (text : List ℕ) (b : ℕ) (k : List ℕ
 unless_deep-sound P text b k heads from s sound = when P text b k (is_deep heads) (Fault from _) s (λ deep. tt) (λ shallow. sound)
 
 -- one more argument
-arguments_text-push : (P : Protocol) (ts : List Term) (t : Term) (k : List ℕ) → arguments_text P (ts ++ t ∷ []) k ≡ arguments_text P ts (term_text P t (44 ∷ k))
+pub arguments_text-push : (P : Protocol) (ts : List Term) (t : Term) (k : List ℕ) → arguments_text P (ts ++ t ∷ []) k ≡ arguments_text P ts (term_text P t (44 ∷ k))
 arguments_text-push P [] t k = refl
 arguments_text-push P (u ∷ us) t k = ap (λ rest. term_text P u (44 ∷ rest)) (arguments_text-push P us t k)
 
@@ -50,7 +50,7 @@ headed_closed P (Free a) n (u ∷ us) t k = refl
 headed_closed P (Point p) n ts t k = refl
 headed_closed P Attacker n ts t k = refl
 
-closed_text : (P : Protocol) (s : Sym) (n : ℕ) (ts : List Term) (t : Term) (k : List ℕ) → head_text P s (arguments_text P ts (term_text P t (closing_byte s ∷ k))) ≡ term_text P (node (with_parts s n) (ts ++ t ∷ [])) k
+pub closed_text : (P : Protocol) (s : Sym) (n : ℕ) (ts : List Term) (t : Term) (k : List ℕ) → head_text P s (arguments_text P ts (term_text P t (closing_byte s ∷ k))) ≡ term_text P (node (with_parts s n) (ts ++ t ∷ [])) k
 closed_text P s n ts t k = ap (head_text P s) (sym (row_text P ts t (closing_byte s ∷ k))) ∙ sym (headed_closed P s n ts t k)
 
 closed-sound : (P : Protocol) (text : List ℕ) (b : ℕ) (k : List ℕ) (o : Open) (heads : List Open) (ts : List Term) → text ≡ heads_text P heads (term_text P (node (with_parts o.symbol (length ts)) ts) k) → IsSound P text b k (closed o heads ts)
@@ -84,7 +84,7 @@ begin_term-sound P text b k at heads e =
     (λ is. unless_deep-sound P text b k heads at (goes heads AtBracket at) (e ∙ ap (λ c. heads_text P heads (c ∷ k)) (same_byte b 64 is)))
     (λ none. tt)))
 
-empty_name : (P : Protocol) (s : Sym) (ts : List Term) (k : List ℕ) → may_be_empty s ts ≡ true → head_text P s (arguments_text P ts (93 ∷ k)) ≡ term_text P (node (with_parts s 0) []) k
+pub empty_name : (P : Protocol) (s : Sym) (ts : List Term) (k : List ℕ) → may_be_empty s ts ≡ true → head_text P s (arguments_text P ts (93 ∷ k)) ≡ term_text P (node (with_parts s 0) []) k
 empty_name P (Point p) [] k e = refl
 empty_name P (Point p) (t ∷ ts) k e = absurd (cc)
 empty_name P (Ctor f) ts k e = absurd (cc)

@@ -21,7 +21,7 @@ use Rattle.spec_certificate_reading.proofs.Named.{IsWorded, symbol_called_is, na
 use Rattle.spec_certificate_reading.proofs.Sound.{when, same_byte, unless_deep-sound, after_term-sound, at_begin-sound}
 
 -- the name of a variable is `v` and the rest of it
-variable_rest : (word : List ℕ) → is_variable word ≡ true → word ≡ 118 ∷ drop 1 word
+pub variable_rest : (word : List ℕ) → is_variable word ≡ true → word ≡ 118 ∷ drop 1 word
 variable_rest [] e = absurd (cc)
 variable_rest (b ∷ []) e = absurd (cc)
 variable_rest (b ∷ d ∷ ds) e = ap (λ c. c ∷ d ∷ ds) (same_byte b 118 (both_left (b == 118) (list_all is_ascii_digit (d ∷ ds)) e))
@@ -31,7 +31,7 @@ after_variable-sound P text b k at heads from digits None is e = tt
 after_variable-sound P text b k at heads from digits (Some x) is e =
     after_term-sound P text b k at (Leaf x) heads from (e ∙ ap (λ ds. heads_text P heads (118 ∷ (ds ++ (b ∷ k)))) (numeral_some digits x is).0)
 
-alone_text : (P : Protocol) (s : Sym) (rest : List ℕ) → IsWorded s → term_text P (node s []) rest ≡ symbol_word P s ++ rest
+pub alone_text : (P : Protocol) (s : Sym) (rest : List ℕ) → IsWorded s → term_text P (node s []) rest ≡ symbol_word P s ++ rest
 alone_text P (Ctor f) rest worded = refl
 alone_text P (Data f) rest worded = refl
 alone_text P (Free a) rest worded = refl
@@ -39,7 +39,7 @@ alone_text P (Tuple n) rest worded = absurd worded
 alone_text P (Point p) rest worded = absurd worded
 alone_text P Attacker rest worded = absurd worded
 
-applied_text : (P : Protocol) (s : Sym) (rest : List ℕ) → IsWorded s → head_text P s rest ≡ symbol_word P s ++ (40 ∷ rest)
+pub applied_text : (P : Protocol) (s : Sym) (rest : List ℕ) → IsWorded s → head_text P s rest ≡ symbol_word P s ++ (40 ∷ rest)
 applied_text P (Ctor f) rest worded = refl
 applied_text P (Data f) rest worded = refl
 applied_text P (Free a) rest worded = refl

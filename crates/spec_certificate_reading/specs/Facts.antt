@@ -8,7 +8,7 @@ use Rattle.spec_clauses.specs.Fact.{Fact, Att, Mess, Ev, Mev, Bad}
 use Rattle.spec_certificate_reading.specs.Names.{CalledEvent, event_called}
 use Rattle.spec_certificate_reading.specs.Terms.{Syntax, Symbol, Arity}
 use Rattle.spec_certificate_reading.specs.Runs.{Read, Done, Refused, read_term}
-use Rattle.spec_certificate_reading.specs.Outcomes.{Outcome, Found, Faulty, next, front, read_fixed, Reader, things}
+use Rattle.spec_certificate_reading.specs.Outcomes.{Outcome, Found, Faulty, next, front, ended, read_fixed, Reader, things}
 
 -- what was read of a term
 abbrev pub term_outcome : Read → Outcome Term
@@ -46,11 +46,15 @@ event_named P (Some called) from place rest =
     if front rest == 40 then next (read_terms P (drop 1 rest) (place + 1)) (λ ts p r. performed from called ts p r)
     else performed from called [] place rest
 
+-- an event of which the word stands before these bytes
+abbrev pub event_before : Protocol → List ℕ → ℕ → ℕ → List ℕ → Outcome Performed
+event_before P word from place rest = ended place rest (event_named P (event_called P word) from place rest)
+
 -- an event
 abbrev pub read_event : Protocol → Reader Performed
 read_event P bytes at =
     if begins_word (front bytes)
-    then event_named P (event_called P (take (prefix_len is_in_word bytes) bytes)) at (at + prefix_len is_in_word bytes) (drop (prefix_len is_in_word bytes) bytes)
+    then event_before P (take (prefix_len is_in_word bytes) bytes) at (at + prefix_len is_in_word bytes) (drop (prefix_len is_in_word bytes) bytes)
     else Faulty at Syntax
 
 -- Facts of each kind.

@@ -30,16 +30,25 @@ read_fixed [] bytes at = Found tt at bytes
 read_fixed (w ∷ ws) [] at = Faulty at Syntax
 read_fixed (w ∷ ws) (b ∷ bytes) at = if b == w then read_fixed ws bytes (at + 1) else Faulty at Syntax
 
+-- what comes of a word or a number that ends before these bytes, the first of which stands at the place: at the end of all bytes none ends
+abbrev pub ended : {A : Type 0} → ℕ → List ℕ → Outcome A → Outcome A
+ended place [] outcome = Faulty place Syntax
+ended place (b ∷ rest) outcome = outcome
+
 -- digits that are this number, if one
 abbrev pub as_number : ℕ → Option ℕ → ℕ → List ℕ → Outcome ℕ
 as_number from None place rest = Faulty from Number
 as_number from (Some n) place rest = Found n place rest
 
+-- digits up to the place, before these bytes
+abbrev pub number_before : ℕ → Option ℕ → ℕ → List ℕ → Outcome ℕ
+number_before from number place rest = ended place rest (as_number from number place rest)
+
 -- a number: all digits that stand there, of which there has to be one
 abbrev pub read_number : Reader ℕ
 read_number bytes at =
     if prefix_len is_ascii_digit bytes == 0 then Faulty at Syntax
-    else as_number at (numeral (take (prefix_len is_ascii_digit bytes) bytes)) (at + prefix_len is_ascii_digit bytes) (drop (prefix_len is_ascii_digit bytes) bytes)
+    else number_before at (numeral (take (prefix_len is_ascii_digit bytes) bytes)) (at + prefix_len is_ascii_digit bytes) (drop (prefix_len is_ascii_digit bytes) bytes)
 
 -- Rows of things, which are read in order.
 

@@ -5,7 +5,8 @@
 //! stands round terms is read from left to right, each part behind the one before. A refusal has a place and a code: that of a
 //! word, of a number or of a symbol's arguments is where these begin. Parts are met in the order of their places, and the
 //! first fault that is met is told; only the arguments of a symbol are counted where they end, and by then all of them were
-//! read without a fault.
+//! read without a fault. Where the bytes end no word and no number has ended: none is looked up, and the fault is that the
+//! text does not go on.
 //!
 //! The definitions stand in `specs/`. The laws about them that a reader would ask for are the contracts of the functions
 //! below, which do nothing.
@@ -31,7 +32,8 @@ ghost use Rattle.spec_certificate_reading.specs.Readable.{IsHypothesisOf, IsConc
 
 /// Small texts, and what is read of them: a term, a bare symbol with a wrong number of arguments, an unknown argument, a
 /// variable that is applied, numbers with a leading zero, an unknown restriction, a name without its arguments, a tuple of one
-/// part, and a text that is cut off.
+/// part, and texts that are cut off: before a term, within a word that would have a wrong number of arguments, or within one
+/// that names nothing, within a number, and behind a term.
 pub fn worked_readings()
     ensures term { read_term sending (codes "enc(n@2[v0],k))") 7 ≡
         Done (enc (made 2) k) 21 (codes ")") }
@@ -44,13 +46,18 @@ pub fn worked_readings()
     ensures name { read_term sending (codes "n@2[]") 0 ≡ Refused 0 Arity }
     ensures part { read_term sending (codes "(c)") 0 ≡ Refused 2 Syntax }
     ensures cut { read_term sending (codes "enc(c,") 0 ≡ Refused 6 Syntax }
+    ensures cut_symbol { read_term sending (codes "enc(enc") 0 ≡ Refused 7 Syntax }
+    ensures cut_word { read_term sending (codes "enc(e") 0 ≡ Refused 5 Syntax }
+    ensures cut_number { read_term sending (codes "(c,v01") 0 ≡ Refused 6 Syntax }
+    ensures cut_point { read_term sending (codes "x@3") 0 ≡ Refused 3 Syntax }
+    ensures cut_behind { read_term sending (codes "@[c]") 0 ≡ Refused 4 Syntax }
 {}
 
 /// A term that was read is what the bytes begin with: its text, and then the rest. It is a term of the protocol, at most
 /// 4,096 levels deep, and the place is the one behind it.
 pub fn what_is_read_is_there()
-    ensures text { (P : Protocol) (bytes : List ℕ) (at place b : ℕ) (t : Term) (rest : List ℕ) →
-        read_term P bytes at ≡ Done t place (b ∷ rest) → bytes ≡ term_text P t (b ∷ rest) }
+    ensures text { (P : Protocol) (bytes : List ℕ) (at place : ℕ) (t : Term) (rest : List ℕ) →
+        read_term P bytes at ≡ Done t place rest → bytes ≡ term_text P t rest }
     ensures is_of { (P : Protocol) (bytes : List ℕ) (at place : ℕ) (t : Term) (rest : List ℕ) →
         read_term P bytes at ≡ Done t place rest → IsTermOf P t × (depth t ≤ 4096) }
     ensures place { (P : Protocol) (bytes : List ℕ) (at place : ℕ) (t : Term) (rest : List ℕ) →

@@ -1,5 +1,6 @@
 -- Readers that choose between good ones are good.
 use Rattle.std.proofs.Common.{◌≡◌, ◌≢◌, ℕ, ◌+◌, ◌≤◌, ◌⊎◌, Bool, true, false, cond, List, [], ◌∷◌, ◌++◌, Option, Some, None, refl, sym, ap, subst, inl, inr, ◌∙◌, arith}
+use Rattle.spec_calculus.specs.Bounds.{most_levels}
 use Rattle.spec_protocol_grammar.specs.declared.class.Class.{Class}
 use Rattle.spec_protocol_grammar.specs.declared.class.Class.TheVariants as w
 use Rattle.spec_protocol_grammar.specs.Classes.{Source, same, fits}
@@ -123,7 +124,7 @@ unlike c d h e = contra (same c d) (true-same c d e) h where
 
 -- something, and what may follow it
 module _ {X Y : Type 0} {most : ℕ} {LowP Low : ℕ → Type 0} {sp : X → List Item} {C : Class → Type 0} {r : Reader X} {sq : Y → List Item} {D : Class → Type 0} {q : Reader Y}
-    (l : ℕ) (h : l ≤ 512) (c : Class) (plain : Plain c) (n : fits c w.End ≡ false) (wider : (d : Class) → D d → C d) (apart : (d : Class) → D d → c ≢ d)
+    (l : ℕ) (h : l ≤ most_levels) (c : Class) (plain : Plain c) (n : fits c w.End ≡ false) (wider : (d : Class) → D d → C d) (apart : (d : Class) → D d → c ≢ d)
     (lower : (at e : ℕ) → Low at → at ≤ e → LowP (e + 1)) (g : Good most All false sp C r) (k : Good most LowP false sq D q) where
   followed_behind : (s : Source) (at e : ℕ) (x : X) → IsFound false sp C s at x e → (b : Bool) → same c (s e).class ≡ b
       → IsRight false (both_items sp (optional_items l c sq)) D s at (cond b (step (q s (e + 1)) (λ y j. Found (x, Some y) j)) (Found (x, None) e))
@@ -214,7 +215,7 @@ read_done (TooDeep i) = refl
 read_done (Tired i) = refl
 
 -- nothing, or a word and something behind it, with nothing before
-pub good_optional : {Y : Type 0} {most : ℕ} {LowP Low : ℕ → Type 0} {sq : Y → List Item} {D : Class → Type 0} {q : Reader Y} (l : ℕ) → l ≤ 512 → (c : Class) → Plain c → fits c w.End ≡ false → ((d : Class) → D d → c ≢ d)
+pub good_optional : {Y : Type 0} {most : ℕ} {LowP Low : ℕ → Type 0} {sq : Y → List Item} {D : Class → Type 0} {q : Reader Y} (l : ℕ) → l ≤ most_levels → (c : Class) → Plain c → fits c w.End ≡ false → ((d : Class) → D d → c ≢ d)
     → ((at e : ℕ) → Low at → at ≤ e → LowP (e + 1)) → Good most LowP false sq D q → Good most Low false (optional_items l c sq) D (optional c q)
 good_optional {Y} {most} {LowP} {Low} {sq} {D} {q} l h c plain n apart lower k =
     good_same (built (λ p. p.1) (both done (optional c q))) (optional c q) (λ s at. read_done (optional c q s at))

@@ -1,5 +1,6 @@
 -- Readers that are put together of good ones are good.
 use Rattle.std.proofs.Common.{◌≡◌, ◌≢◌, ℕ, ◌+◌, ◌≤◌, Bool, true, false, cond, List, [], ◌∷◌, ◌++◌, refl, sym, ap, subst, inl, inr, ◌∙◌, arith}
+use Rattle.spec_calculus.specs.Bounds.{most_levels}
 use Rattle.spec_protocol_grammar.specs.declared.class.Class.{Class}
 use Rattle.spec_protocol_grammar.specs.declared.class.Class.TheVariants as w
 use Rattle.spec_protocol_grammar.specs.Classes.{Source, Word, same, fits}
@@ -75,7 +76,7 @@ good_done {C} {last} most = record {
 abbrev pub numbered_items : {X : Type 0} → ℕ → Class → (X → List Item) → ℕ × X → List Item
 numbered_items l c sp p = kept l p.0 c ∷ sp p.1
 
-module _ {X : Type 0} {most : ℕ} {last : Bool} {sp : X → List Item} {C : Class → Type 0} {r : Reader X} (l : ℕ) (h : l ≤ 512) (c : Class) (n : fits c w.End ≡ false) (g : Good most All last sp C r) where
+module _ {X : Type 0} {most : ℕ} {last : Bool} {sp : X → List Item} {C : Class → Type 0} {r : Reader X} (l : ℕ) (h : l ≤ most_levels) (c : Class) (n : fits c w.End ≡ false) (g : Good most All last sp C r) where
   numbered_right : (s : Source) (at : ℕ) (b : Bool) → fits c (s at).class ≡ b
       → IsRight last (numbered_items l c sp) C s at (cond b (step (r s (at + 1)) (λ x e. Found ((s at).number, x) e)) (Unexpected at))
   numbered_right s at false e = record { other = (0, g.some); leads = inl refl; firm = g.some_firm; inside = inside_nothing s at }
@@ -120,7 +121,7 @@ abbrev pub then_items : {X Y : Type 0} → (X → List Item) → ℕ → Class �
 then_items sp l c sq p = sp p.0 ++ (word l c ∷ sq p.1)
 
 module _ {X Y : Type 0} {most : ℕ} {last : Bool} {sp : X → List Item} {C : Class → Type 0} {r : Reader X} {sq : Y → List Item} {D : Class → Type 0} {q : Reader Y}
-    (l : ℕ) (h : l ≤ 512) (c : Class) (plain : Plain c) (f : C c) (g : Good most All false sp C r) (k : Good most All last sq D q) where
+    (l : ℕ) (h : l ≤ most_levels) (c : Class) (plain : Plain c) (f : C c) (g : Good most All false sp C r) (k : Good most All last sq D q) where
   then_later : (s : Source) (e : ℕ) (x : X) → Later {X = X × Y} e (cond (fits c (s e).class) (step (q s (e + 1)) (λ y j. Found (x, y) j)) (Unexpected e))
   then_later s e x = later_cond (fits c (s e).class) where
     later_found : (o : Read Y) → Later (e + 1) o → Later {X = X × Y} e (step o (λ y j. Found (x, y) j))
@@ -154,7 +155,7 @@ module _ {X Y : Type 0} {most : ℕ} {last : Bool} {sp : X → List Item} {C : C
       (λ i v. deep_front s (sp x.0) (word l c ∷ sq x.1) at i v) (omega (arith, words_later s (sq x.1) (mid + 1) end parts.2.1))
 
 module _ {X Y : Type 0} {most : ℕ} {last : Bool} {sp : X → List Item} {C : Class → Type 0} {r : Reader X} {sq : Y → List Item} {D : Class → Type 0} {q : Reader Y}
-    (l : ℕ) (h : l ≤ 512) (c : Class) (plain : Plain c) (n : fits c w.End ≡ false) (f : C c) (g : Good most All false sp C r) (k : Good most All last sq D q) where
+    (l : ℕ) (h : l ≤ most_levels) (c : Class) (plain : Plain c) (n : fits c w.End ≡ false) (f : C c) (g : Good most All false sp C r) (k : Good most All last sq D q) where
   then_behind : (s : Source) (at e : ℕ) (x : X) → IsFound false sp C s at x e → (b : Bool) → fits c (s e).class ≡ b
       → IsRight last (then_items sp l c sq) D s at (cond b (step (q s (e + 1)) (λ y j. Found (x, y) j)) (Unexpected e))
   then_behind s at e x m false z = record {
@@ -194,7 +195,7 @@ module _ {X Y : Type 0} {most : ℕ} {last : Bool} {sp : X → List Item} {C : C
   }
 
 -- something, and the end of the file
-module _ {X : Type 0} {most : ℕ} {sp : X → List Item} {C : Class → Type 0} {r : Reader X} (D : Class → Type 0) (l : ℕ) (h : l ≤ 512) (f : C w.End) (g : Good most All false sp C r) where
+module _ {X : Type 0} {most : ℕ} {sp : X → List Item} {C : Class → Type 0} {r : Reader X} (D : Class → Type 0) (l : ℕ) (h : l ≤ most_levels) (f : C w.End) (g : Good most All false sp C r) where
   ended_behind : (s : Source) (at e : ℕ) (x : X) → IsFound false sp C s at x e → (b : Bool) → fits w.End (s e).class ≡ b
       → IsRight true (then_items sp l w.End done_items) D s at (cond b (Found (x, tt) (e + 1)) (Unexpected e))
   ended_behind s at e x m false z = record {

@@ -1,5 +1,6 @@
 -- Declarations and files are read as they are spelled.
 use Rattle.std.proofs.Common.{◌≡◌, ◌≢◌, ℕ, zero, suc, ◌+◌, ◌≤◌, ◌⊎◌, Bool, true, false, List, [], ◌∷◌, ◌++◌, refl, sym, ap, subst, inl, inr, arith}
+use Rattle.spec_calculus.specs.Bounds.{most_levels}
 use Rattle.spec_protocol_grammar.specs.declared.class.Class.{Class}
 use Rattle.spec_protocol_grammar.specs.declared.class.Class.TheVariants as w
 use Rattle.spec_protocol_grammar.specs.Classes.{Source, same, fits}
@@ -27,7 +28,7 @@ EndsAlternative c = NotOpen c × (w.And ≢ c)
 abbrev EndsQuestion : Class → Type 0
 EndsQuestion c = EndsAlternative c × (w.Or ≢ c)
 
-h : 0 ≤ 512
+h : 0 ≤ most_levels
 h = omega arith
 
 -- behind a word
@@ -38,7 +39,7 @@ good_name : (most : ℕ) → Good most All false name Any name_at
 good_name most = good_built name name_from (λ x. refl) (good_numbered 0 h w.Name refl (good_done most)) (λ n. (n, tt)) (λ n. refl)
 
 good_happening : (most : ℕ) → Good most All false happening NotOpen (happening_at most)
-good_happening most = good_built happening happening_from (λ x. refl) (behind w.Event (λ k e. e) refl (good_atom most 512 1 refl)) (λ a. (tt, a)) (λ a. refl)
+good_happening most = good_built happening happening_from (λ x. refl) (behind w.Event (λ k e. e) refl (good_atom most most_levels 1 refl)) (λ a. (tt, a)) (λ a. refl)
 
 good_alternative : (most : ℕ) → Good most All false alternative EndsAlternative (alternative_at most)
 unfolding alternative_at
@@ -72,11 +73,11 @@ not_new s at end (Named n ts) z = differs_from w.New w.Name (s at).class z.0.1 r
 not_new s at end (Grouped n ts) z = differs_from w.New w.Open (s at).class z.0.1 refl
 
 module _ (most : ℕ) where
-  one_term : Good most All false (term 1) NotOpen (term_at most 512)
-  one_term = good_term most 512 1 refl
+  one_term : Good most All false (term 1) NotOpen (term_at most most_levels)
+  one_term = good_term most most_levels 1 refl
 
   abbrev attacked : Reader ((Unit {0} × (ℕ × (Unit {0} × Unit {0}))) ⊎ (TermSketch × Unit {0}))
-  attacked = either w.New (then_marked done w.New (with_place w.Name (then_marked done w.Close done))) (then_marked (term_at most 512) w.Close done)
+  attacked = either w.New (then_marked done w.New (with_place w.Name (then_marked done w.Close done))) (then_marked (term_at most most_levels) w.Close done)
 
   abbrev attacked_items : (Unit {0} × (ℕ × (Unit {0} × Unit {0}))) ⊎ (TermSketch × Unit {0}) → List Item
   attacked_items = either_items (then_items done_items 0 w.New (numbered_items 0 w.Name (then_items done_items 0 w.Close done_items))) (then_items (term 1) 0 w.Close done_items)
@@ -93,8 +94,8 @@ module _ (most : ℕ) where
   attacker_way : Way most question EndsQuestion attacker_from (with_place w.Attacker (then_marked done w.Open attacked))
   attacker_way = record { items = _; spelled = attacker_spelled; good = good_numbered 0 h w.Attacker refl (behind w.Open (λ k e. e) refl good_attacked) }
 
-  correspondence_way : Way most question EndsQuestion correspondence (with_place w.Event (then_marked (atom_at most 512) w.Implies (alternatives_at most)))
-  correspondence_way = record { items = _; spelled = λ x. refl; good = good_numbered 0 h w.Event refl (good_then 0 h w.Implies (λ k e. e) refl (λ e. cc) (good_atom most 512 1 refl) (good_alternatives most)) }
+  correspondence_way : Way most question EndsQuestion correspondence (with_place w.Event (then_marked (atom_at most most_levels) w.Implies (alternatives_at most)))
+  correspondence_way = record { items = _; spelled = λ x. refl; good = good_numbered 0 h w.Event refl (good_then 0 h w.Implies (λ k e. e) refl (λ e. cc) (good_atom most most_levels 1 refl) (good_alternatives most)) }
 
   question_sound : (c : Class) → Sound false question EndsQuestion (question_by most c)
   question_sound w.Attacker = way_sound attacker_way
@@ -112,7 +113,7 @@ module _ (most : ℕ) where
       (record { some = AttackerNew 0 0; some_firm = λ c i. tt; sound = choice_sound question_sound; complete = question_complete })
 
   abbrev rule_reader : Reader (ℕ × (Unit {0} × ((TermSketch × List TermSketch) × (Unit {0} × TermSketch))))
-  rule_reader = with_place w.Name (then_marked done w.Open (then_marked (list_at most w.Comma (term_at most 512)) w.Close (then_marked done w.Arrow (term_at most 512))))
+  rule_reader = with_place w.Name (then_marked done w.Open (then_marked (list_at most w.Comma (term_at most most_levels)) w.Close (then_marked done w.Arrow (term_at most most_levels))))
 
   abbrev rule_items : ℕ × (Unit {0} × ((TermSketch × List TermSketch) × (Unit {0} × TermSketch))) → List Item
   rule_items = numbered_items 0 w.Name (then_items done_items 0 w.Open (then_items (list_items 0 w.Comma (term 1)) 0 w.Close (then_items done_items 0 w.Arrow (term 1))))
@@ -195,12 +196,12 @@ module _ (most : ℕ) where
   query_way : Way most declaration Any query (with_place w.Query (then_marked (question_at most) w.Dot done))
   query_way = record { items = _; spelled = λ x. refl; good = good_numbered 0 h w.Query refl (good_then 0 h w.Dot (λ k e. e) refl ((λ e. cc, λ e. cc), λ e. cc) good_question (good_done most)) }
 
-  definition_way : Way most declaration Any definition (with_place w.Let (with_place w.Name (then_marked done w.Equals (then_marked (process_at most 512) w.Dot done))))
+  definition_way : Way most declaration Any definition (with_place w.Let (with_place w.Name (then_marked done w.Equals (then_marked (process_at most most_levels) w.Dot done))))
   definition_way = record {
     items = _;
     spelled = λ x. refl;
     good = good_numbered 0 h w.Let refl (good_numbered 0 h w.Name refl (behind w.Equals (λ k e. e) refl
-        (good_then 0 h w.Dot (λ k e. e) refl ((λ e. cc, λ e. cc, λ e. cc), λ e. cc) (good_process most 512 1 refl) (good_done most))));
+        (good_then 0 h w.Dot (λ k e. e) refl ((λ e. cc, λ e. cc, λ e. cc), λ e. cc) (good_process most most_levels 1 refl) (good_done most))));
   }
 
   declaration_sound : (c : Class) → Sound false declaration Any (declaration_by most c)
@@ -277,8 +278,8 @@ main_items = numbered_items 0 w.Process (then_items (process 1) 0 w.End done_ite
 
 good_main : (most : ℕ) → Good most All true main_items Any (main_at most)
 unfolding main_at
-good_main most = good_same (with_place w.Process (then_marked (process_at most 512) w.End done)) (main_at most) (λ s at. refl)
-    (good_numbered 0 h w.Process refl (good_ended Any 0 h ((λ e. cc, λ e. cc, λ e. cc), λ e. cc) (good_process most 512 1 refl)))
+good_main most = good_same (with_place w.Process (then_marked (process_at most most_levels) w.End done)) (main_at most) (λ s at. refl)
+    (good_numbered 0 h w.Process refl (good_ended Any 0 h ((λ e. cc, λ e. cc, λ e. cc), λ e. cc) (good_process most most_levels 1 refl)))
 
 abbrev declarations_items : List DeclarationSketch × Rest → List Item
 declarations_items x = declarations x.0 (main_items x.1)

@@ -1,5 +1,6 @@
 -- Lists are read as they are spelled.
 use Rattle.std.proofs.Common.{◌≡◌, ◌≢◌, ℕ, zero, suc, ◌+◌, ◌≤◌, false, List, [], ◌∷◌, ◌++◌, Option, Some, None, refl, arith}
+use Rattle.spec_calculus.specs.Bounds.{most_levels}
 use Rattle.spec_protocol_grammar.specs.declared.class.Class.{Class}
 use Rattle.spec_protocol_grammar.specs.declared.class.Class.TheVariants as w
 use Rattle.spec_protocol_grammar.specs.Classes.{fits}
@@ -27,7 +28,7 @@ others_spelled l c sp None = refl
 others_spelled l c sp (Some x) = refl
 
 module _ {X : Type 0} {most : ℕ} {sp : X → List Item} {C D : Class → Type 0} {r : Reader X}
-    (l : ℕ) (h : l ≤ 512) (c : Class) (plain : Plain c) (n : fits c w.End ≡ false) (wider : (d : Class) → D d → C d) (apart : (d : Class) → D d → c ≢ d) (g : Good most All false sp C r) where
+    (l : ℕ) (h : l ≤ most_levels) (c : Class) (plain : Plain c) (n : fits c w.End ≡ false) (wider : (d : Class) → D d → C d) (apart : (d : Class) → D d → c ≢ d) (g : Good most All false sp C r) where
   tired : Good most (λ at. most ≤ at + 0) false (list_items l c sp) D (λ s at. Tired at)
   tired = record {
     some = (g.some, []);
@@ -71,7 +72,7 @@ NotComma c = NotOpen c × (w.Comma ≢ c)
 pub closes : NotComma w.Close
 closes = (λ e. cc, λ e. cc)
 
-module _ {X : Type 0} {most : ℕ} {sp : X → List Item} {r : Reader X} (l : ℕ) (h : l ≤ 512) (g : Good most All false sp NotOpen r) where
+module _ {X : Type 0} {most : ℕ} {sp : X → List Item} {r : Reader X} (l : ℕ) (h : l ≤ most_levels) (g : Good most All false sp NotOpen r) where
   -- a list, a comma between two of its parts, and a parenthesis behind it
   pub good_parts : {C : Class → Type 0} → Good most All false (then_items (list_items l w.Comma sp) l w.Close done_items) C (then_marked (list_at most w.Comma r) w.Close done)
   good_parts = good_then l h w.Close (λ k e. e) refl closes (good_list {D = NotComma} l h w.Comma (λ k e. e) refl (λ d i. i.0) (λ d i. i.1) g) (good_done most)

@@ -1,5 +1,6 @@
 -- Patterns and events are read as they are spelled.
 use Rattle.std.proofs.Common.{◌≡◌, ℕ, zero, suc, ◌+◌, ◌<◌, ◌≤◌, true, false, List, [], ◌∷◌, ◌++◌, refl, ap, subst, inl, arith}
+use Rattle.spec_calculus.specs.Bounds.{most_levels}
 use Rattle.spec_protocol_grammar.specs.declared.class.Class.{Class}
 use Rattle.spec_protocol_grammar.specs.declared.class.Class.TheVariants as w
 use Rattle.spec_protocol_grammar.specs.Classes.{Source, fits}
@@ -34,7 +35,7 @@ patterns_spelled : (l : ℕ) (p : PatternSketch × List PatternSketch) → patte
 patterns_spelled l p = ap (λ is. pattern (l + 1) p.0 ++ is) (commas_spelled l p.1)
 
 module _ {most : ℕ} (left l : ℕ) (d : left + (l + 1) ≡ 513) (below : Reader PatternSketch) (g : Good most All false (pattern (l + 1)) NotOpen below) where
-  h : l ≤ 512
+  h : l ≤ most_levels
   h = omega arith
 
   named_good : Good most All false (numbered_items l w.Name (arguments_items l (pattern (l + 1)))) NotOpen (with_place w.Name (arguments_at most below))
@@ -73,7 +74,7 @@ module _ {most : ℕ} (left l : ℕ) (d : left + (l + 1) ≡ 513) (below : Reade
   pattern_level = record { some = NamedPattern 0 no_patterns; some_firm = λ c i. (i, tt); sound = choice_sound pattern_sound; complete = pattern_complete }
 
 -- patterns and events below the last level
-module _ (l : ℕ) (h : 512 < l) where
+module _ (l : ℕ) (h : most_levels < l) where
   pattern_begun : (s : Source) (at : ℕ) (c : Class) → (s at).class ≡ c → begins_pattern c ≡ true → IsDeep (pattern l) NotOpen s at at
   pattern_begun s at w.Name e b = record { other = NamedPattern (s at).number no_patterns; deep = ((refl, ap (fits w.Name) e), inl (h, refl)); firm = λ c i. (i, tt) }
   pattern_begun s at w.Equals e b = record { other = Equal (s at).number (Named 0 none); deep = ((refl, ap (fits w.Equals) e), inl (h, refl)); firm = λ c i. (i, tt) }

@@ -1,5 +1,6 @@
 -- Terms, patterns and events are read as they are spelled.
 use Rattle.std.proofs.Common.{◌≡◌, ℕ, zero, suc, ◌+◌, ◌<◌, ◌≤◌, Bool, true, false, List, [], ◌∷◌, ◌++◌, refl, ap, subst, inl, arith}
+use Rattle.spec_calculus.specs.Bounds.{most_levels}
 use Rattle.spec_protocol_grammar.specs.declared.class.Class.{Class}
 use Rattle.spec_protocol_grammar.specs.declared.class.Class.TheVariants as w
 use Rattle.spec_protocol_grammar.specs.Classes.{Source, same, fits}
@@ -40,7 +41,7 @@ arguments_spelled l (t ∷ ts) = ap (λ is. word l w.Open ∷ ((term (l + 1) t +
 pub terms_spelled : (l : ℕ) (p : TermSketch × List TermSketch) → terms l (terms_sketch (list_of p)) ≡ list_items l w.Comma (term (l + 1)) p
 terms_spelled l p = ap (λ is. term (l + 1) p.0 ++ is) (more_spelled l p.1)
 
-module _ {most : ℕ} (l : ℕ) (h : l ≤ 512) (below : Reader TermSketch) (g : Good most All false (term (l + 1)) NotOpen below) where
+module _ {most : ℕ} (l : ℕ) (h : l ≤ most_levels) (below : Reader TermSketch) (g : Good most All false (term (l + 1)) NotOpen below) where
   named_good : Good most All false (numbered_items l w.Name (arguments_items l (term (l + 1)))) NotOpen (with_place w.Name (arguments_at most below))
   named_good = good_numbered l h w.Name refl (good_arguments l h g)
 
@@ -71,7 +72,7 @@ module _ {most : ℕ} (l : ℕ) (h : l ≤ 512) (below : Reader TermSketch) (g :
   term_level = record { some = Named 0 none; some_firm = λ c i. (i, tt); sound = choice_sound term_sound; complete = term_complete }
 
 -- a term below the last level
-module _ (l : ℕ) (h : 512 < l) where
+module _ (l : ℕ) (h : most_levels < l) where
   term_begun : (s : Source) (at : ℕ) (c : Class) → (s at).class ≡ c → begins_term c ≡ true → IsDeep (term l) NotOpen s at at
   term_begun s at w.Name e b = record { other = Named (s at).number none; deep = ((refl, ap (fits w.Name) e), inl (h, refl)); firm = λ c i. (i, tt) }
   term_begun s at w.Open e b = record {

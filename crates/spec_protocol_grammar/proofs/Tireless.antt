@@ -1,6 +1,7 @@
 -- Reading with more fuel than the file has words never tires.
 use Rattle.std.proofs.Common.{◌≡◌, ℕ, zero, suc, ◌+◌, ◌<◌, ◌≤◌, Bool, true, false, cond, None, Some, inl, inr, refl, ap, ◌∙◌, sym, arith}
 use Rattle.std.proofs.lemmas.Bool.{cases_lt}
+use Rattle.spec_calculus.specs.Bounds.{most_levels}
 use Rattle.spec_protocol_grammar.specs.declared.class.Class.{Class}
 use Rattle.spec_protocol_grammar.specs.declared.class.Class.TheVariants as w
 use Rattle.spec_protocol_grammar.specs.Classes.{Source, same, fits}
@@ -228,14 +229,14 @@ module _ (size : ℕ) where
           let below = units_steady left in
           (record { rests = λ at l. let whole = unit_by_steady left (unit_at most left) (process_at most left) below.0 below.1 (s at).class in whole.rests at l }, process_steps left below.0 below.1)
 
-      process_steady : Steady (process_at most 512)
-      process_steady = (units_steady 512).1
+      process_steady : Steady (process_at most most_levels)
+      process_steady = (units_steady most_levels).1
 
       name_steady : Steady name_at
       name_steady = built_steady name_from _ (numbered_steady w.Name done refl done_steady)
 
       happening_steady : Steady (happening_at most)
-      happening_steady = built_steady happening_from _ (then_steady done w.Event (atom_at most 512) refl done_steady (atom_steady 512))
+      happening_steady = built_steady happening_from _ (then_steady done w.Event (atom_at most most_levels) refl done_steady (atom_steady most_levels))
 
       alternative_steady : Steady (alternative_at most)
       unfolding alternative_at
@@ -251,8 +252,8 @@ module _ (size : ℕ) where
       question_by_steady : (c : Class) → Steady (question_by most c)
       question_by_steady w.Attacker = built_steady attacker_from _ (numbered_steady w.Attacker _ refl (then_steady done w.Open _ refl done_steady
           (either_steady w.New _ _ (then_steady done w.New _ refl done_steady (numbered_steady w.Name _ refl (then_steady done w.Close done refl done_steady done_steady)))
-          (then_steady (term_at most 512) w.Close done refl (term_steady 512) done_steady))))
-      question_by_steady w.Event = built_steady correspondence _ (numbered_steady w.Event _ refl (then_steady (atom_at most 512) w.Implies _ refl (atom_steady 512) alternatives_steady))
+          (then_steady (term_at most most_levels) w.Close done refl (term_steady most_levels) done_steady))))
+      question_by_steady w.Event = built_steady correspondence _ (numbered_steady w.Event _ refl (then_steady (atom_at most most_levels) w.Implies _ refl (atom_steady most_levels) alternatives_steady))
       question_by_steady _ = record { rests = λ at l. tt }
 
       question_steady : Steady (question_at most)
@@ -262,9 +263,9 @@ module _ (size : ℕ) where
       rule_steady : Steady (rule_at most)
       unfolding rule_at
       rule_steady = record {
-        rests = λ at l. let whole = built_steady rule_from (with_place w.Name (then_marked done w.Open (then_marked (list_at most w.Comma (term_at most 512)) w.Close (then_marked done w.Arrow (term_at most 512)))))
-            (numbered_steady w.Name _ refl (then_steady done w.Open _ refl done_steady (then_steady _ w.Close _ refl (list_steady w.Comma (term_at most 512) refl (term_steady 512))
-            (then_steady done w.Arrow (term_at most 512) refl done_steady (term_steady 512))))) in whole.rests at l;
+        rests = λ at l. let whole = built_steady rule_from (with_place w.Name (then_marked done w.Open (then_marked (list_at most w.Comma (term_at most most_levels)) w.Close (then_marked done w.Arrow (term_at most most_levels)))))
+            (numbered_steady w.Name _ refl (then_steady done w.Open _ refl done_steady (then_steady _ w.Close _ refl (list_steady w.Comma (term_at most most_levels) refl (term_steady most_levels))
+            (then_steady done w.Arrow (term_at most most_levels) refl done_steady (term_steady most_levels))))) in whole.rests at l;
       }
 
       sized_steady : Steady sized_at
@@ -283,7 +284,7 @@ module _ (size : ℕ) where
       declaration_by_moving w.Event = built_moving event_from _ (numbered_moving w.Event sized_at refl sized_steady)
       declaration_by_moving w.Query = built_moving query _ (numbered_moving w.Query _ refl (then_steady (question_at most) w.Dot done refl question_steady done_steady))
       declaration_by_moving w.Let = built_moving definition _ (numbered_moving w.Let _ refl (numbered_steady w.Name _ refl (then_steady done w.Equals _ refl done_steady
-          (then_steady (process_at most 512) w.Dot done refl process_steady done_steady))))
+          (then_steady (process_at most most_levels) w.Dot done refl process_steady done_steady))))
       declaration_by_moving _ = record { moves = λ at l. tt }
 
       declaration_moving : Moving (declaration_at most)
@@ -298,9 +299,9 @@ module _ (size : ℕ) where
       main_answers : (at : ℕ) → at ≤ size → Answers (main_at most s at)
       unfolding main_at
       main_answers at l =
-          choice Answers (fits w.Process (s at).class) (step (then_marked (process_at most 512) w.End done s (at + 1)) (λ x e. Found ((s at).number, x) e)) (Unexpected at)
+          choice Answers (fits w.Process (s at).class) (step (then_marked (process_at most most_levels) w.End done s (at + 1)) (λ x e. Found ((s at).number, x) e)) (Unexpected at)
           (λ t. let before = word_before (fits w.Process) refl at l t in
-          built_answers (then_marked (process_at most 512) w.End done s (at + 1)) (λ x. ((s at).number, x)) (marked_answers (process_at most 512) w.End (at + 1) (process_steady.rests (at + 1) (omega arith))))
+          built_answers (then_marked (process_at most most_levels) w.End done s (at + 1)) (λ x. ((s at).number, x)) (marked_answers (process_at most most_levels) w.End (at + 1) (process_steady.rests (at + 1) (omega arith))))
           (λ t. tt)
 
       declarations_answer : (rounds at : ℕ) → at ≤ size → size < at + rounds → Answers (declarations_at most rounds s at)

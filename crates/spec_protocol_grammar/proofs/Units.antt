@@ -1,5 +1,6 @@
 -- Units and processes are read as they are spelled.
 use Rattle.std.proofs.Common.{◌≡◌, ◌≢◌, ℕ, zero, suc, ◌+◌, ◌<◌, ◌≤◌, true, false, List, [], ◌∷◌, Option, Some, None, refl, ap, inl, arith}
+use Rattle.spec_calculus.specs.Bounds.{most_levels}
 use Rattle.spec_protocol_grammar.specs.declared.class.Class.{Class}
 use Rattle.spec_protocol_grammar.specs.declared.class.Class.TheVariants as w
 use Rattle.spec_protocol_grammar.specs.Classes.{Source, fits}
@@ -58,7 +59,7 @@ process_there (Process u b) = refl
 
 module _ {most : ℕ} (left l : ℕ) (d : left + (l + 1) ≡ 513) (below : Reader UnitSketch) (inside : Reader ProcessSketch)
     (g : Good most All false (unit (l + 1)) EndsUnit below) (k : Good most All false (process (l + 1)) EndsProcess inside) where
-  h : l ≤ 512
+  h : l ≤ most_levels
   h = omega arith
 
   t : Good most All false (term (l + 1)) NotOpen (term_at most left)
@@ -154,7 +155,7 @@ module _ {most : ℕ} (left l : ℕ) (d : left + (l + 1) ≡ 513) (below : Reade
       process_back process_there
 
 -- units and processes below the last level
-module _ (l : ℕ) (h : 512 < l) where
+module _ (l : ℕ) (h : most_levels < l) where
   abbrev fit : (s : Source) (at : ℕ) (c : Class) → (s at).class ≡ c → fits c (s at).class ≡ fits c c
   fit s at c e = ap (fits c) e
 
@@ -187,7 +188,7 @@ module _ (l : ℕ) (h : 512 < l) where
   unit_deep = good_deep begins_unit (Zero 0) (λ s at. inl refl) (λ c i. tt) (λ s at b. unit_begun s at (s at).class refl b) unit_sunk
 
 -- a process stands too deep where its first unit does
-module _ (l : ℕ) (h : 512 < l) where
+module _ (l : ℕ) (h : most_levels < l) where
   process_begun : (s : Source) (at : ℕ) → IsDeep (unit (l + 1)) EndsUnit s at at → IsDeep (process l) EndsProcess s at at
   process_begun s at f = record {
     other = Process f.other alone;

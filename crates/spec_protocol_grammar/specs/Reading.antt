@@ -2,6 +2,7 @@
 -- this finds exactly what is spelled, and faults exactly where the file is refused.
 use Rattle.std.specs.Prelude.{ℕ, zero, suc, ◌+◌, Bool, true, false, cond, List, [], ◌∷◌, ◌⊎◌, Option, Some, None}
 use Rattle.std.proofs.Common.{inl, inr}
+use Rattle.spec_calculus.specs.Bounds.{most_levels}
 use Rattle.spec_protocol_grammar.specs.declared.class.Class.{Class}
 use Rattle.spec_protocol_grammar.specs.declared.class.Class.TheVariants as w
 use Rattle.spec_protocol_grammar.specs.Classes.{Source, same, fits}
@@ -245,7 +246,7 @@ happening_from parts = parts.1
 
 -- `event atom`
 abbrev pub happening_at : ℕ → Reader AtomSketch
-happening_at most = built happening_from (then_marked done w.Event (atom_at most 512))
+happening_at most = built happening_from (then_marked done w.Event (atom_at most most_levels))
 
 abbrev pub alternative_from : AtomSketch × List AtomSketch → AlternativeSketch
 alternative_from parts = record { atom = parts.0; others = parts.1 }
@@ -272,8 +273,8 @@ correspondence parts = Correspondence parts.0 parts.1.0 parts.1.1
 abbrev pub question_by : ℕ → Class → Reader QuerySketch
 question_by most w.Attacker =
     built attacker_from (with_place w.Attacker (then_marked done w.Open
-    (either w.New (then_marked done w.New (with_place w.Name (then_marked done w.Close done))) (then_marked (term_at most 512) w.Close done))))
-question_by most w.Event = built correspondence (with_place w.Event (then_marked (atom_at most 512) w.Implies (alternatives_at most)))
+    (either w.New (then_marked done w.New (with_place w.Name (then_marked done w.Close done))) (then_marked (term_at most most_levels) w.Close done))))
+question_by most w.Event = built correspondence (with_place w.Event (then_marked (atom_at most most_levels) w.Implies (alternatives_at most)))
 question_by most _ = refused
 
 unfoldable pub question_at : ℕ → Reader QuerySketch
@@ -284,8 +285,8 @@ rule_from parts = record { first = parts.0; arguments = terms_sketch (list_of pa
 
 unfoldable pub rule_at : ℕ → Reader RuleSketch
 rule_at most s at =
-    built rule_from (with_place w.Name (then_marked done w.Open (then_marked (list_at most w.Comma (term_at most 512)) w.Close
-    (then_marked done w.Arrow (term_at most 512))))) s at
+    built rule_from (with_place w.Name (then_marked done w.Open (then_marked (list_at most w.Comma (term_at most most_levels)) w.Close
+    (then_marked done w.Arrow (term_at most most_levels))))) s at
 
 -- `name/arity.`
 abbrev pub sized_at : Reader (ℕ × (Unit {0} × (ℕ × (Unit {0} × Unit {0}))))
@@ -329,7 +330,7 @@ declaration_by most w.Data = built data_from (with_place w.Data sized_at)
 declaration_by most w.Reduc = built reduc (with_place w.Reduc (then_marked (list_at most w.Semicolon (rule_at most)) w.Dot done))
 declaration_by most w.Event = built event_from (with_place w.Event sized_at)
 declaration_by most w.Query = built query (with_place w.Query (then_marked (question_at most) w.Dot done))
-declaration_by most w.Let = built definition (with_place w.Let (with_place w.Name (then_marked done w.Equals (then_marked (process_at most 512) w.Dot done))))
+declaration_by most w.Let = built definition (with_place w.Let (with_place w.Name (then_marked done w.Equals (then_marked (process_at most most_levels) w.Dot done))))
 declaration_by most _ = refused
 
 unfoldable pub declaration_at : ℕ → Reader DeclarationSketch
@@ -337,7 +338,7 @@ declaration_at most s at = declaration_by most (s at).class s at
 
 -- the main process
 unfoldable pub main_at : ℕ → Reader (ℕ × (ProcessSketch × Unit {0}))
-main_at most s at = with_place w.Process (then_marked (process_at most 512) w.End done) s at
+main_at most s at = with_place w.Process (then_marked (process_at most most_levels) w.End done) s at
 
 abbrev pub Rest : Type 0
 Rest = ℕ × (ProcessSketch × Unit {0})

@@ -1,14 +1,15 @@
 -- Where the grammar refuses a file.
 use Rattle.std.specs.Prelude.{◌≡◌, ℕ, ◌+◌, ◌<◌, ◌≤◌, ◌⊎◌, List, [], ◌∷◌}
+use Rattle.spec_calculus.specs.Bounds.{most_levels}
 use Rattle.spec_protocol_grammar.specs.declared.class.Class.TheVariants as w
 use Rattle.spec_protocol_grammar.specs.Classes.{Source}
 use Rattle.spec_protocol_grammar.specs.Sketch.{FileSketch}
 use Rattle.spec_protocol_grammar.specs.Spelling.{Item, one, no, nothing, IsWord, IsGreedy, file}
 
--- the words from `at` up to the one before `i` are the first of these items, in at most 512 levels, and one more is wanted
+-- the words from `at` up to the one before `i` are the first of these items, within the limit of levels, and one more is wanted
 abbrev pub LeadsTo : Source → ℕ → List Item → ℕ → Type 0
 LeadsTo s at [] i = ⊥
-LeadsTo s at (one level number class ∷ items) i = (at ≡ i) ⊎ (IsWord (s at) number class × (level ≤ 512) × LeadsTo s (at + 1) items i)
+LeadsTo s at (one level number class ∷ items) i = (at ≡ i) ⊎ (IsWord (s at) number class × (level ≤ most_levels) × LeadsTo s (at + 1) items i)
 LeadsTo s at (no class ∷ items) i = LeadsTo s at items i
 LeadsTo s at (nothing ∷ items) i = ⊥
 
@@ -19,11 +20,11 @@ Has s at (one level number class ∷ items) i = IsWord (s at) number class × ((
 Has s at (no class ∷ items) i = Has s at items i
 Has s at (nothing ∷ items) i = ⊥
 
--- and the one at `i` is the first that stands below level 512
+-- and the one at `i` is the first that stands below the limit of levels
 abbrev pub DeepAt : Source → ℕ → List Item → ℕ → Type 0
 DeepAt s at [] i = ⊥
 DeepAt s at (one level number class ∷ items) i =
-    IsWord (s at) number class × (((512 < level) × (at ≡ i)) ⊎ ((level ≤ 512) × DeepAt s (at + 1) items i))
+    IsWord (s at) number class × (((most_levels < level) × (at ≡ i)) ⊎ ((level ≤ most_levels) × DeepAt s (at + 1) items i))
 DeepAt s at (no class ∷ items) i = DeepAt s at items i
 DeepAt s at (nothing ∷ items) i = ⊥
 
@@ -36,7 +37,7 @@ pub record IsUnexpected (s : Source) (size i : ℕ) : Type 0 where
   pub before : LeadsTo s 0 (file other) i
   pub none : (f : FileSketch) → IsGreedy (file f) w.End → Has s 0 (file f) i → ⊥
 
--- the file is refused at this word: it begins the first construct that would stand at level 513
+-- the file is refused at this word: it begins the first construct that would stand below the limit of levels
 pub record IsTooDeep (s : Source) (i : ℕ) : Type 0 where
   pub other : FileSketch
   pub greedy : IsGreedy (file other) w.End

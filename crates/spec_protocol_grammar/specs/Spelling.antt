@@ -2,6 +2,7 @@
 -- holds it directly. A process of the file or of a macro and each term or event of a declaration or query stands at
 -- level 1; a process, unit, term, event or pattern stands one level below the one of these that holds it directly.
 use Rattle.std.specs.Prelude.{◌≡◌, ◌≢◌, ℕ, ◌+◌, ◌≤◌, Bool, true, false, IsTrue, List, [], ◌∷◌, ◌++◌, Option, Some, None}
+use Rattle.spec_calculus.specs.Bounds.{most_levels}
 use Rattle.spec_protocol_grammar.specs.declared.class.Class.{Class}
 use Rattle.spec_protocol_grammar.specs.declared.class.Class.TheVariants as w
 use Rattle.spec_protocol_grammar.specs.Classes.{Word, Source, fits}
@@ -175,10 +176,10 @@ Words s at (one level number class ∷ items) end = IsWord (s at) number class �
 Words s at (no class ∷ items) end = Words s at items end
 Words s at (nothing ∷ items) end = ⊥
 
--- no item stands below level 512
+-- no item stands below the limit of levels
 abbrev pub IsShallow : List Item → Type 0
 IsShallow [] = Unit {0}
-IsShallow (one level number class ∷ items) = (level ≤ 512) × IsShallow items
+IsShallow (one level number class ∷ items) = (level ≤ most_levels) × IsShallow items
 IsShallow (no class ∷ items) = IsShallow items
 IsShallow (nothing ∷ items) = IsShallow items
 
@@ -197,7 +198,7 @@ IsGreedy (one level number class ∷ items) behind = IsGreedy items behind
 IsGreedy (no class ∷ items) behind = (class ≢ first_of items behind) × IsGreedy items behind
 IsGreedy (nothing ∷ items) behind = ⊥
 
--- the file is spelled as the sketch is, from its first word to its end, in at most 512 levels
+-- the file is spelled as the sketch is, from its first word to its end, within the limit of levels
 pub record IsSketch (s : Source) (f : FileSketch) : Type 0 where
   pub greedy : IsGreedy (file f) w.End
   pub end : ℕ

@@ -2,6 +2,7 @@
 use Rattle.std.proofs.Common.{◌≡◌, ℕ, suc, ◌+◌, ◌≤◌, Bool, true, false, not, nat_eq, nat_le, ◌&&◌, List, [], ◌∷◌, length, is_some, Ok, inl, inr, refl, ap, subst, ◌∙◌, sym, arith}
 use Rattle.std.specs.List.{AllByRecursion}
 use Rattle.std.proofs.lemmas.Bool.{leb-true, eqb-true}
+use Rattle.spec_calculus.specs.Bounds.{most_names, most_arguments, most_rules}
 use Rattle.spec_calculus.specs.Syntax as calculus
 use Rattle.spec_calculus.specs.Refusals.{AreUniform}
 use Rattle.spec_calculus.proofs.Items.{each-weaker}
@@ -38,28 +39,28 @@ IsWordOf IsName text word = (n : ℕ) × IsName n × (text n ≡ word)
 
 -- what is declared is as it should be, where each token that declares a name is such
 pub record AreDeclared (IsName : ℕ → Type 0) (text : Texts) (names : Names) : Type 0 where
-  pub few : count_of names ≤ 1024
+  pub few : count_of names ≤ most_names
   pub frees : AllByRecursion (λ d. IsWordOf IsName text d.word × (is_variable d.word ≡ false)) names.frees
   pub constructors : AllByRecursion (λ d. IsWordOf IsName text d.word × (is_variable d.word ≡ false)) names.constructors
-  pub arities : AllByRecursion (λ d. d.arity ≤ 16) names.constructors
+  pub arities : AllByRecursion (λ d. d.arity ≤ most_arguments) names.constructors
   pub destructors : AllByRecursion (λ d. IsWordOf IsName text d.word) names.destructors
   pub rules : AllByRecursion (IsDestructorOver (signature_with names)) names.destructors
   pub events : AllByRecursion (λ d. IsWordOf IsName text d.word) names.events
-  pub event_arities : AllByRecursion (λ d. d.arity ≤ 16) names.events
+  pub event_arities : AllByRecursion (λ d. d.arity ≤ most_arguments) names.events
   pub macros : AllByRecursion (λ m. IsSolidProcess IsName m.body) names.macros
 
 -- a new name
 pub record IsNew (s : Scope) (n : ℕ) (word : List ℕ) : Type 0 where
   pub unknown : is_some (look s n) ≡ false
-  pub room : count_of s.names + 1 ≤ 1024
+  pub room : count_of s.names + 1 ≤ most_names
   pub is : word ≡ s.text n
 
 pub new_name : (s : Scope) (n : ℕ) (word : List ℕ) → rules.new_name s n ≡ Ok word → IsNew s n word
 new_name s n word e =
     elim (chosen (is_some (look s n)) (fault Twice n) _ word e) [
       | inl h ↦ absurd (faulty Twice n word h.1)
-      | inr h ↦ let k = kept (nat_le (count_of s.names + 1) 1024) n (s.text n) word h.1 in
-          record { unknown = h.0; room = leb-true (count_of s.names + 1) 1024 k.0; is = k.1 }
+      | inr h ↦ let k = kept (nat_le (count_of s.names + 1) most_names) n (s.text n) word h.1 in
+          record { unknown = h.0; room = leb-true (count_of s.names + 1) most_names k.0; is = k.1 }
     ]
 
 no_variable : (known variable : Bool) → known ≡ false → (not known && variable) ≡ false → variable ≡ false
@@ -74,8 +75,8 @@ new_symbol s n word e =
       | inr h ↦ let new = new_name s n word h.1 in (new, no_variable (is_some (look s n)) (is_variable (s.text n)) new.unknown h.0)
     ]
 
-pub arity : (text : Texts) (n a : ℕ) → rules.arity text n ≡ Ok a → a ≤ 16
-arity text n a e = let k = kept (nat_le (decimal (text n)) 16) n (decimal (text n)) a e in subst (λ (x : ℕ). x ≤ 16) (sym k.1) (leb-true (decimal (text n)) 16 k.0)
+pub arity : (text : Texts) (n a : ℕ) → rules.arity text n ≡ Ok a → a ≤ most_arguments
+arity text n a e = let k = kept (nat_le (decimal (text n)) most_arguments) n (decimal (text n)) a e in subst (λ (x : ℕ). x ≤ most_arguments) (sym k.1) (leb-true (decimal (text n)) most_arguments k.0)
 
 -- the rules of a destructor behind the first
 record Further (s : Scope) (given : ℕ) (many : ℕ) (rs : List calculus.Rule) : Type 0 where
@@ -117,10 +118,10 @@ destructor IsName s n first others solid all d e =
     let word = stepped (rules.new_name s first.first) _ d e in
     let a = stepped (rules.rule s first) _ d word.later in
     let b = stepped (rules.further_rules s first others) _ d a.later in
-    let k = kept (nat_le (1 + length others) 16) n (record { word = word.value; rules = a.value ∷ b.value }) d b.later in
+    let k = kept (nat_le (1 + length others) most_rules) n (record { word = word.value; rules = a.value ∷ b.value }) d b.later in
     let one = ruled s first solid.arguments solid.result a.value a.first in
     let more = further_rules IsName s first others all b.value b.first in
-    let few : 1 + length others ≤ 16 = leb-true (1 + length others) 16 k.0 in
+    let few : 1 + length others ≤ most_rules = leb-true (1 + length others) most_rules k.0 in
     subst (Destructed s first.first) (sym k.1) (record {
       new = new_name s first.first word.value word.first;
       over = record {

@@ -2,6 +2,7 @@
 use Rattle.std.proofs.Common.{◌≡◌, ℕ, ◌+◌, ◌≤◌, Bool, true, false, List, [], ◌∷◌, ◌++◌, length, Ok, refl, ap, subst, ◌∙◌, sym, arith}
 use Rattle.std.specs.List.{AllByRecursion}
 use Rattle.std.proofs.lemmas.List.{length-append}
+use Rattle.spec_calculus.specs.Bounds.{most_names, most_arguments}
 use Rattle.spec_calculus.specs.Syntax as calculus
 use Rattle.spec_calculus.proofs.Items.{each-append, each-weaker}
 use Rattle.spec_protocol_grammar.specs.Sketch.{ProcessSketch, RuleSketch, DeclarationSketch, Free, Fun, Data, Reduc, Event, Query, Definition}
@@ -26,7 +27,7 @@ module _ (IsName : ℕ → Type 0) (text : Texts) where
   is_word names n word name new = (n, name, sym new.is)
 
   module _ (names : Names) (are : AreDeclared IsName text names) where
-    free_declared : (d : calculus.Declared) → count_of names + 1 ≤ 1024 → IsWordOf IsName text d.word × (is_variable d.word ≡ false) → AreDeclared IsName text (rules.with_free names d)
+    free_declared : (d : calculus.Declared) → count_of names + 1 ≤ most_names → IsWordOf IsName text d.word × (is_variable d.word ≡ false) → AreDeclared IsName text (rules.with_free names d)
     free_declared d room word = record {
       few = let more = one_more names.frees d in omega arith;
       frees = each-append _ names.frees (d ∷ []) are.frees (word, tt);
@@ -39,7 +40,7 @@ module _ (IsName : ℕ → Type 0) (text : Texts) where
       macros = are.macros;
     }
 
-    constructor_declared : (d : calculus.Declared) → count_of names + 1 ≤ 1024 → IsWordOf IsName text d.word × (is_variable d.word ≡ false) → d.arity ≤ 16 → AreDeclared IsName text (rules.with_constructor names d)
+    constructor_declared : (d : calculus.Declared) → count_of names + 1 ≤ most_names → IsWordOf IsName text d.word × (is_variable d.word ≡ false) → d.arity ≤ most_arguments → AreDeclared IsName text (rules.with_constructor names d)
     constructor_declared d room word small = record {
       few = let more = one_more names.constructors d in omega arith;
       frees = are.frees;
@@ -67,7 +68,7 @@ module _ (IsName : ℕ → Type 0) (text : Texts) where
       macros = are.macros;
     }
 
-    event_declared : (d : calculus.Declared) → count_of names + 1 ≤ 1024 → IsWordOf IsName text d.word → d.arity ≤ 16 → AreDeclared IsName text (rules.with_event names d)
+    event_declared : (d : calculus.Declared) → count_of names + 1 ≤ most_names → IsWordOf IsName text d.word → d.arity ≤ most_arguments → AreDeclared IsName text (rules.with_event names d)
     event_declared d room word small = record {
       few = let more = one_more names.events d in omega arith;
       frees = are.frees;
@@ -80,7 +81,7 @@ module _ (IsName : ℕ → Type 0) (text : Texts) where
       macros = are.macros;
     }
 
-    macro_declared : (m : Macro) → count_of names + 1 ≤ 1024 → IsSolidProcess IsName m.body → AreDeclared IsName text (rules.with_macro names m)
+    macro_declared : (m : Macro) → count_of names + 1 ≤ most_names → IsSolidProcess IsName m.body → AreDeclared IsName text (rules.with_macro names m)
     macro_declared m room solid = record {
       few = let more = one_more names.macros m in omega arith;
       frees = are.frees;

@@ -3,6 +3,7 @@ use Rattle.std.proofs.Common.{◌≡◌, ℕ, zero, suc, ◌+◌, Bool, true, fa
 use Rattle.std.specs.Option.{option_or}
 use Rattle.std.specs.Str.{bytes_eq}
 use Rattle.std.proofs.lemmas.Slice.Eq.{bytes_eq-Decides}
+use Rattle.spec_calculus.specs.Bounds.{most_rules}
 use Rattle.spec_calculus.specs.Syntax as calculus
 use Rattle.spec_calculus.specs.Points.{numbered}
 use Rattle.spec_well_formed.specs.Signature.{Signature}
@@ -164,7 +165,7 @@ module _ (text : Texts) where
         let c = stepped (rules.rule (among text names) first) _ a.value b.later in
         let more = stepped (rules.further_rules (among text names) first others) _ a.value c.later in
         let d : calculus.Destructor = record { word = b.value; rules = c.value ∷ more.value } in
-        let k = kept (nat_le (1 + length others) 16) n d a.value more.later in
+        let k = kept (nat_le (1 + length others) most_rules) n d a.value more.later in
         let new = new_name (among text names) first.first b.value b.first in
         subst Distinct (ap (rules.with_destructor names) (sym k.1) ∙ found_one (rules.with_destructor names a.value) next a.later)
         (distinct_more (signature_with names) (signature_with (rules.with_destructor names d)) (declared.Destructor (suc (length names.destructors))) b.value distinct (fresh (among text names) first.first b.value new) (adds_destructor names d))

@@ -3,6 +3,7 @@ use Rattle.std.proofs.Common.{◌≡◌, ℕ, ◌+◌, nat_eq, nat_le, List, [],
 use Rattle.std.specs.List.{AllByRecursion}
 use Rattle.std.proofs.lemmas.Bool.{leb-true}
 use Rattle.spec_trees.specs.Tree.{trees, sizes}
+use Rattle.spec_calculus.specs.Bounds.{most_written_symbols}
 use Rattle.spec_calculus.specs.Syntax.{Rule, EventTerm, Expression, Plain, Call}
 use Rattle.spec_calculus.specs.Points.{numbered}
 use Rattle.spec_calculus.specs.Refusals.{AreUniform}
@@ -74,9 +75,9 @@ module _ (s : Scope) (uniform : AllByRecursion (λ d. AreUniform d.rules) s.name
   call_below : (n number : ℕ) (ts : TermsSketch) → AreSolid ts → HasRulesFor (signature_with s.names) number (count ts) → (x : Expression) → rules.call s outer n number ts ≡ Ok x → Below x
   call_below n number ts solid has x e =
       let a = stepped (rules.process_terms s outer ts) _ x e in
-      let k = kept (nat_le (1 + sizes (trees a.value)) 2000) n (Call number a.value) x a.later in
+      let k = kept (nat_le (1 + sizes (trees a.value)) most_written_symbols) n (Call number a.value) x a.later in
       let r = terms_below s outer bindable ts solid a.value a.first in
-      subst Below (sym k.1) (subst (HasRulesFor (signature_with s.names) number) (sym r.counts) has, r.each, leb-true (1 + sizes (trees a.value)) 2000 k.0)
+      subst Below (sym k.1) (subst (HasRulesFor (signature_with s.names) number) (sym r.counts) has, r.each, leb-true (1 + sizes (trees a.value)) most_written_symbols k.0)
 
   plain_below : (t : TermSketch) → IsSolid t → (x : Expression) → rules.plain s outer t ≡ Ok x → Below x
   plain_below t solid x e =

@@ -2,6 +2,7 @@
 use Rattle.std.proofs.Common.{◌≡◌, ℕ, suc, ◌+◌, ◌<◌, ◌≤◌, Bool, true, false, nat_eq, List, [], ◌∷◌, ◌++◌, length, map, Contains, Option, None, Some, Ok, refl, subst, ◌∙◌, sym, arith, if◌then◌else◌}
 use Rattle.std.specs.List.{AllByRecursion}
 use Rattle.spec_trees.specs.Tree.{Leaf, node, trees, size}
+use Rattle.spec_calculus.specs.Bounds.{most_written_symbols}
 use Rattle.spec_calculus.specs.Syntax.{Name, Free, Made, Variable, Symbol, Constructor, Tuple, Term}
 use Rattle.spec_calculus.proofs.Items.{each-append}
 use Rattle.spec_well_formed.specs.Signature.{Signature}
@@ -34,7 +35,7 @@ module _ (signature : Signature) (IsLeaf : Name → Type 0) where
   rows_arities [] h = tt
   rows_arities (t ∷ ts) h = (h.0.arities, rows_arities ts h.1)
 
-  pub over_node : (f : Symbol) (ts : List Term) → TakesArguments signature f (length ts) → size (node f ts) ≤ 2000 → AllByRecursion (IsTermOver signature IsLeaf) ts → IsTermOver signature IsLeaf (node f ts)
+  pub over_node : (f : Symbol) (ts : List Term) → TakesArguments signature f (length ts) → size (node f ts) ≤ most_written_symbols → AllByRecursion (IsTermOver signature IsLeaf) ts → IsTermOver signature IsLeaf (node f ts)
   over_node f ts takes small h = record {
     known = rows_known ts h;
     arities = (subst (TakesArguments signature f) (sym (row_length-trees ts)) takes, rows_arities ts h);

@@ -1,5 +1,6 @@
 -- Bytes spell one protocol at most, or are refused for one reason at one place at most, and never both.
 use Rattle.std.proofs.Common.{◌≡◌, ℕ, ◌<◌, ◌≤◌, List, length, Ok, Err, refl, sym, ap, subst, ◌∙◌, arith}
+use Rattle.spec_calculus.specs.Bounds.{most_bytes}
 use Rattle.spec_calculus.specs.Syntax.{Protocol}
 use Rattle.spec_protocol_tokens.specs.Token.{Token}
 use Rattle.spec_protocol_tokens.specs.Lexed.{Lexed}
@@ -136,25 +137,25 @@ one_refused bytes (Scoped code) LongFile i j a b = absurd b
 one_refused bytes LongFile s i j a b = absurd a
 
 -- a file that is not too long is refused as its bytes are
-short_refused : (bytes : List ℕ) (r : Refusal) (i : ℕ) → length bytes ≤ 1048576 → Refuses bytes r i → IsRefusedAt bytes r i
+short_refused : (bytes : List ℕ) (r : Refusal) (i : ℕ) → length bytes ≤ most_bytes → Refuses bytes r i → IsRefusedAt bytes r i
 short_refused bytes (Lexical why) i short r = r.1
 short_refused bytes Unexpected i short r = r.1
 short_refused bytes TooDeep i short r = r.1
 short_refused bytes (Scoped code) i short r = r.1
 short_refused bytes LongFile i short r = omega (arith, r.0)
 
-too_long : (n : ℕ) → 1048576 < n → n ≤ 1048576 → ⊥
+too_long : (n : ℕ) → most_bytes < n → n ≤ most_bytes → ⊥
 too_long n a b = omega arith
 
 -- and one that is too long for that alone
-long_refused : (bytes : List ℕ) (r : Refusal) (i : ℕ) → 1048576 < length bytes → Refuses bytes r i → (r ≡ LongFile) × (i ≡ 0)
+long_refused : (bytes : List ℕ) (r : Refusal) (i : ℕ) → most_bytes < length bytes → Refuses bytes r i → (r ≡ LongFile) × (i ≡ 0)
 long_refused bytes (Lexical why) i long r = absurd (too_long (length bytes) long r.0)
 long_refused bytes Unexpected i long r = absurd (too_long (length bytes) long r.0)
 long_refused bytes TooDeep i long r = absurd (too_long (length bytes) long r.0)
 long_refused bytes (Scoped code) i long r = absurd (too_long (length bytes) long r.0)
 long_refused bytes LongFile i long r = (refl, r.1)
 
-both_short : (bytes : List ℕ) (r s : Refusal) (i j : ℕ) → length bytes ≤ 1048576 → Refuses bytes r i → Refuses bytes s j → (r ≡ s) × (i ≡ j)
+both_short : (bytes : List ℕ) (r s : Refusal) (i j : ℕ) → length bytes ≤ most_bytes → Refuses bytes r i → Refuses bytes s j → (r ≡ s) × (i ≡ j)
 both_short bytes r s i j short a b = one_refused bytes r s i j (short_refused bytes r i short a) (short_refused bytes s j short b)
 
 pub refuses_one : (bytes : List ℕ) (r s : Refusal) (i j : ℕ) → Refuses bytes r i → Refuses bytes s j → (r ≡ s) × (i ≡ j)

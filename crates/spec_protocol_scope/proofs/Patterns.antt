@@ -5,6 +5,7 @@ use Rattle.std.proofs.lemmas.Bool.{leb-true, eqb-true}
 use Rattle.std.proofs.lemmas.List.{length-append, append-nil, append_assoc, map-append}
 use Rattle.std.proofs.lemmas.List.Elements.{filter_map-append}
 use Rattle.spec_trees.specs.Tree.{Leaf, node, trees}
+use Rattle.spec_calculus.specs.Bounds.{most_arguments}
 use Rattle.spec_calculus.specs.Syntax as calculus
 use Rattle.spec_calculus.specs.Syntax.{Name, Variable, Symbol, Hole, Bind, Term, Pattern}
 use Rattle.spec_calculus.specs.Matching.{is_binding, IsLinear, IsLinearRow}
@@ -201,9 +202,9 @@ module _ (s : Scope) (outer : List Bound) (first : ℕ) where
   parts_read before n (p ∷ []) behind read row some e = subst (OneRead before) (found_one (p, behind) read e) (single_read before p behind row)
   parts_read before n (p ∷ q ∷ ps) behind read row some e =
       let c = stepped (rules.grouped n (p ∷ q ∷ ps)) _ read e in
-      let small = kept (nat_le (length (p ∷ q ∷ ps)) 16) n (node calculus.Tuple (p ∷ q ∷ ps)) c.value c.first in
+      let small = kept (nat_le (length (p ∷ q ∷ ps)) most_arguments) n (node calculus.Tuple (p ∷ q ∷ ps)) c.value c.first in
       subst (OneRead before) (ap (λ (x : Pattern). (x, behind)) (sym small.1) ∙ found_one (c.value, behind) read c.later)
-      (over_patterns calculus.Tuple before (p ∷ q ∷ ps) behind (omega arith, leb-true (length (p ∷ q ∷ ps)) 16 small.0) row)
+      (over_patterns calculus.Tuple before (p ∷ q ∷ ps) behind (omega arith, leb-true (length (p ∷ q ∷ ps)) most_arguments small.0) row)
 
   grouped_read : (before : List Bound) (n : ℕ) (ps : PatternsSketch) → RowsRead before ps → 0 < count ps → (read : Pattern × List Bound) → rules.pattern s outer first before (GroupedPattern n ps) ≡ Ok read → OneRead before read
   grouped_read before n ps rows some read e =

@@ -3,6 +3,7 @@ use Rattle.std.proofs.Common.{◌≡◌, ℕ, ◌+◌, ◌<◌, ◌≤◌, true,
 use Rattle.std.specs.List.{AllByRecursion}
 use Rattle.std.proofs.lemmas.Bool.{leb-true}
 use Rattle.spec_trees.proofs.Equality.{and_true}
+use Rattle.spec_calculus.specs.Bounds.{most_points, most_points_above}
 use Rattle.spec_calculus.specs.Syntax as calculus
 use Rattle.spec_calculus.specs.Syntax.{Name, Free, Made, Variable, Term, Hole, Bind, Pattern, Expression, EventTerm}
 use Rattle.spec_calculus.specs.Points.{nodes}
@@ -23,10 +24,10 @@ use Rattle.spec_protocol_scope.proofs.Points.{together, crowded_in}
 -- a point where there is room, and the numbers behind it
 pub record Room (above : ℕ) (now next : Numbers) : Type 0 where
   pub is : next ≡ counted now
-  pub few : above ≤ 511
+  pub few : above ≤ most_points_above
 
 room_by : (site : Site) (now next : Numbers) → (is_room site now ≡ true) × (next ≡ counted now) → Room site.above now next
-room_by site now next h = record { is = h.1; few = leb-true site.above 511 (and_true (nat_le now.point 4096) (nat_le site.above 511) h.0).1 }
+room_by site now next h = record { is = h.1; few = leb-true site.above most_points_above (and_true (nat_le now.point most_points) (nat_le site.above most_points_above) h.0).1 }
 
 pub room : (site : Site) (now : Numbers) (n : ℕ) (next : Numbers) → rules.reached site now n ≡ Ok next → Room site.above now next
 room site now n next e = room_by site now next (passed (is_room site now) (counted now) next (fault TooMany (unwrap_or site.used n)) (faulty TooMany (unwrap_or site.used n)) e)
@@ -78,7 +79,7 @@ module _ (signature : Signature) (IsWord : List ℕ → Type 0) where
     pub below : IsProcessBelow signature names now.point read.0
     pub counts : read.1.point ≡ now.point + length (nodes read.0)
     pub up : now.variable ≤ read.1.variable
-    pub way : above + height read.0 ≤ 512
+    pub way : above + height read.0 ≤ 1 + most_points_above
     pub words : EachWord IsWord read.0
 
   module _ (names : List Name) (above : ℕ) (now next : Numbers) (room : Room above now next) where

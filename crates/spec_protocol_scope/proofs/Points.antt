@@ -1,10 +1,11 @@
--- A process has at most 4,096 points, and the number behind them counts them.
+-- A process has no more points than the limit, and the number behind them counts them.
 use Rattle.std.proofs.Common.{◌≡◌, ℕ, suc, ◌+◌, ◌≤◌, Bool, true, false, if◌then◌else◌, nat_le, List, [], ◌∷◌, ◌++◌, length, Option, Some, None, unwrap_or, Ok, refl, ap, subst, ◌∙◌, arith}
 use Rattle.std.proofs.lemmas.Bool.{leb-true}
 use Rattle.std.proofs.lemmas.List.{length-append}
 use Rattle.std.specs.Str.{bytes_eq}
 use Rattle.spec_trees.specs.Tree.{Leaf}
 use Rattle.spec_trees.proofs.Equality.{and_true}
+use Rattle.spec_calculus.specs.Bounds.{most_points, most_points_above}
 use Rattle.spec_calculus.specs.Syntax as calculus
 use Rattle.spec_calculus.specs.Points.{nodes}
 use Rattle.spec_protocol_grammar.specs.Sketch.{ProcessSketch, Process, alone, beside, UnitSketch, Zero, Macro, Inner, Replicated, New, Output, Input, Happens, Let, If, NextSketch, omitted, given, FileSketch}
@@ -20,10 +21,10 @@ use Rattle.spec_protocol_scope.specs.Scope.{scope, protocol_of}
 use Rattle.spec_protocol_scope.specs.Processes as rules
 use Rattle.spec_protocol_scope.specs.Processes.{Numbers, Site, Expansion, Macros, is_room, counted}
 
--- a process with its points numbered from here: the number behind them counts them, and they are no more than 4,096
+-- a process with its points numbered from here: the number behind them counts them, and they are no more than the limit
 record Counted (now : Numbers) (read : calculus.Process × Numbers) : Type 0 where
   counts : read.1.point ≡ now.point + length (nodes read.0)
-  few : read.1.point ≤ 4097
+  few : read.1.point ≤ most_points + 1
 
 -- so is what a macro stands for at each place
 abbrev Counts : Expansion → Type 0
@@ -35,10 +36,10 @@ AllCount macros = (word : List ℕ) (e : Expansion) → macros word ≡ Some e �
 -- a point that is reached is the next one
 record Reached (now next : Numbers) : Type 0 where
   is : next ≡ counted now
-  few : now.point ≤ 4096
+  few : now.point ≤ most_points
 
 by_room : (site : Site) (now next : Numbers) → (is_room site now ≡ true) × (next ≡ counted now) → Reached now next
-by_room site now next h = record { is = h.1; few = leb-true now.point 4096 (and_true (nat_le now.point 4096) (nat_le site.above 511) h.0).0 }
+by_room site now next h = record { is = h.1; few = leb-true now.point most_points (and_true (nat_le now.point most_points) (nat_le site.above most_points_above) h.0).0 }
 
 reached : (site : Site) (now : Numbers) (n : ℕ) (next : Numbers) → rules.reached site now n ≡ Ok next → Reached now next
 reached site now n next e = by_room site now next (passed (is_room site now) (counted now) next (fault TooMany (unwrap_or site.used n)) (faulty TooMany (unwrap_or site.used n)) e)
@@ -190,17 +191,17 @@ macros_counted s macros all (m ∷ ms) =
 no_macros_counted : AllCount rules.no_macros
 no_macros_counted word e is = absurd (let same = is in cc)
 
--- the main process has at most 4,096 points
-pub main_points : (s : Scope) (main : ProcessSketch) (p : calculus.Process) → rules.main_process s main ≡ Ok p → length (nodes p) ≤ 4096
+-- the main process has no more points than the limit
+pub main_points : (s : Scope) (main : ProcessSketch) (p : calculus.Process) → rules.main_process s main ≡ Ok p → length (nodes p) ≤ most_points
 main_points s main p e =
     let a = stepped (rules.process s (rules.macros_of s rules.no_macros s.names.macros) (record { bound = []; above = 0; used = None }) (record { point = 1; variable = 1 }) main) _ p e in
     let c = process_counted s (rules.macros_of s rules.no_macros s.names.macros) (macros_counted s rules.no_macros no_macros_counted s.names.macros) (record { bound = []; above = 0; used = None }) (record { point = 1; variable = 1 }) main a.value a.first in
-    subst (λ (q : calculus.Process). length (nodes q) ≤ 4096) (found_one a.value.0 p a.later) (omega (arith, c.counts, c.few))
+    subst (λ (q : calculus.Process). length (nodes q) ≤ most_points) (found_one a.value.0 p a.later) (omega (arith, c.counts, c.few))
 
 -- and so has the main process of a protocol
-pub scope_points : (text : names.Texts) (f : FileSketch) (p : calculus.Protocol) → scope text f ≡ Ok p → length (nodes p.main) ≤ 4096
+pub scope_points : (text : names.Texts) (f : FileSketch) (p : calculus.Protocol) → scope text f ≡ Ok p → length (nodes p.main) ≤ most_points
 scope_points text f p e =
     let a = stepped (declare_all text names.no_names f.declarations) _ p e in
     let b = stepped (rules.main_process (record { text = text; names = a.value }) f.main) _ p a.later in
     let c = stepped (queries (record { text = text; names = a.value }) b.value 0 f.declarations) _ p b.later in
-    subst (λ (q : calculus.Protocol). length (nodes q.main) ≤ 4096) (found_one (protocol_of a.value b.value c.value) p c.later) (main_points (record { text = text; names = a.value }) f.main b.value b.first)
+    subst (λ (q : calculus.Protocol). length (nodes q.main) ≤ most_points) (found_one (protocol_of a.value b.value c.value) p c.later) (main_points (record { text = text; names = a.value }) f.main b.value b.first)

@@ -4,6 +4,7 @@ use Rattle.std.specs.List.{AllByRecursion, flat_map}
 use Rattle.std.specs.Str.{bytes_eq}
 use Rattle.std.proofs.lemmas.Bool.{leb-true}
 use Rattle.spec_trees.specs.Tree.{trees, sizes}
+use Rattle.spec_calculus.specs.Bounds.{most_alternatives, most_events, most_queries, most_written_symbols}
 use Rattle.spec_calculus.specs.Syntax as calculus
 use Rattle.spec_calculus.specs.Syntax.{Name, Made, Variable, Term, Process, EventTerm, Secret, SecretNew}
 use Rattle.spec_calculus.specs.Points.{numbered, nodes, is_restriction}
@@ -105,11 +106,11 @@ module _ (s : Scope) where
   asked_event : (v : List ℕ) (a : AtomSketch) → AreSolid a.arguments → (read : EventTerm × List ℕ) → rules.asked_event s v a ≡ Ok read → AskedEvent v read
   asked_event v a solid read e =
       let b = stepped (terms.event s InEvent v a) _ read e in
-      let k = kept (nat_le (1 + sizes (trees b.value.0.arguments)) 2000) a.first b.value read b.later in
+      let k = kept (nat_le (1 + sizes (trees b.value.0.arguments)) most_written_symbols) a.first b.value read b.later in
       subst (AskedEvent v) (sym k.1) (record {
         over = event_over s InEvent tt v a solid b.value b.first;
         leads = event_leads v a solid b.value b.first;
-        small = leb-true (1 + sizes (trees b.value.0.arguments)) 2000 k.0;
+        small = leb-true (1 + sizes (trees b.value.0.arguments)) most_written_symbols k.0;
       })
 
   -- events in a row, of so many sketches
@@ -148,9 +149,9 @@ module _ (s : Scope) where
   alternative : (a : AlternativeSketch) → IsSolidAlternative a → (v : List ℕ) (read : List EventTerm × List ℕ) → rules.alternative s v a ≡ Ok read → AskedAlternative v read
   alternative a solid v read e =
       let b = stepped (rules.asked_events s v (a.atom ∷ a.others)) _ read e in
-      let k = kept (nat_le (1 + length a.others) 16) (a.atom.first - 1) b.value read b.later in
+      let k = kept (nat_le (1 + length a.others) most_events) (a.atom.first - 1) b.value read b.later in
       let r = asked_events (a.atom ∷ a.others) solid v b.value b.first in
-      let few : 1 + length a.others ≤ 16 = leb-true (1 + length a.others) 16 k.0 in
+      let few : 1 + length a.others ≤ most_events = leb-true (1 + length a.others) most_events k.0 in
       subst (AskedAlternative v) (sym k.1) (record { over = r.over; leads = r.leads; small = ((let c = r.counts in omega arith), r.small) })
 
   alternatives : (as' : List AlternativeSketch) → AllByRecursion IsSolidAlternative as' → (v : List ℕ) (read : List (List EventTerm) × List ℕ) → rules.alternatives s v as' ≡ Ok read → AskedAlternatives v (length as') read
@@ -192,23 +193,23 @@ module _ (s : Scope) where
   question main n (Correspondence word a as') solid asked e =
       let b = stepped (rules.asked_event s [] a) _ asked e in
       let c = stepped (rules.alternatives s b.value.1 as') _ asked b.later in
-      let k = kept (nat_le (length as') 16) n (calculus.Correspondence b.value.0 c.value.0) asked c.later in
+      let k = kept (nat_le (length as') most_alternatives) n (calculus.Correspondence b.value.0 c.value.0) asked c.later in
       subst (Asked signature main) (sym k.1)
-      (correspondence main b.value c.value (length as') (asked_event [] a solid.0 b.value b.first) (alternatives as' solid.1 b.value.1 c.value c.first) (leb-true (length as') 16 k.0))
+      (correspondence main b.value c.value (length as') (asked_event [] a solid.0 b.value b.first) (alternatives as' solid.1 b.value.1 c.value c.first) (leb-true (length as') most_alternatives k.0))
 
   -- queries behind so many others
   pub record AllAsked (main : Process) (before : ℕ) (qs : List calculus.Query) : Type 0 where
     pub each : AllByRecursion (Asked signature main) qs
-    pub few : before + length qs ≤ 256
+    pub few : before + length qs ≤ most_queries
 
-  pub queries : (IsName : ℕ → Type 0) (main : Process) (ds : List DeclarationSketch) → AllByRecursion (IsSolidDeclaration IsName) ds → (before : ℕ) → before ≤ 256 → (qs : List calculus.Query) → rules.queries s main before ds ≡ Ok qs → AllAsked main before qs
+  pub queries : (IsName : ℕ → Type 0) (main : Process) (ds : List DeclarationSketch) → AllByRecursion (IsSolidDeclaration IsName) ds → (before : ℕ) → before ≤ most_queries → (qs : List calculus.Query) → rules.queries s main before ds ≡ Ok qs → AllAsked main before qs
   queries IsName main [] solid before few qs e = subst (AllAsked main before) (found_one [] qs e) (record { each = tt; few = omega arith })
   queries IsName main (Query n q ∷ ds) solid before few qs e =
       let a = stepped (rules.one_query s main n q before) _ qs e in
       let b = stepped (rules.queries s main (before + 1) ds) _ qs a.later in
       let c = stepped (rules.question s main n q) _ a.value a.first in
-      let k = kept (nat_le (before + 1) 256) n c.value a.value c.later in
-      let others = queries IsName main ds solid.1 (before + 1) (leb-true (before + 1) 256 k.0) b.value b.first in
+      let k = kept (nat_le (before + 1) most_queries) n c.value a.value c.later in
+      let others = queries IsName main ds solid.1 (before + 1) (leb-true (before + 1) most_queries k.0) b.value b.first in
       subst (AllAsked main before) (found_one (a.value ∷ b.value) qs b.later)
       (record { each = (subst (Asked signature main) (sym k.1) (question main n q solid.0 c.value c.first), others.each); few = let f = others.few in omega arith })
   queries IsName main (Free n public x xs ∷ ds) solid before few qs e = queries IsName main ds solid.1 before few qs e

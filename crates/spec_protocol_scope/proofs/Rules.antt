@@ -4,6 +4,7 @@ use Rattle.std.specs.List.{AllByRecursion}
 use Rattle.std.proofs.lemmas.Bool.{leb-true}
 use Rattle.spec_trees.specs.Tree.{trees, size, sizes}
 use Rattle.spec_trees.proofs.Equality.{and_true}
+use Rattle.spec_calculus.specs.Bounds.{most_arguments, most_written_symbols}
 use Rattle.spec_calculus.specs.Syntax.{Name, Term}
 use Rattle.spec_calculus.specs.Syntax as calculus
 use Rattle.spec_calculus.proofs.Items.{each-append}
@@ -49,7 +50,7 @@ ruled s r arguments result rule e =
     let a = stepped (rules.terms s OnLeft [] r.arguments) _ rule e in
     let b = stepped (rules.term s OnRight a.value.1 r.result) _ rule a.later in
     let k = kept _ r.first (made s a.value.0 b.value.0 a.value.1 b.value.1) rule b.later in
-    let both = and_true (nat_le (count r.arguments) 16) (nat_le (1 + sizes (trees a.value.0) + size b.value.0) 2000) k.0 in
+    let both = and_true (nat_le (count r.arguments) most_arguments) (nat_le (1 + sizes (trees a.value.0) + size b.value.0) most_written_symbols) k.0 in
     let l = row_holds s OnLeft Leading LeadingRow (leading s OnLeft tt) r.arguments arguments [] a.value a.first in
     let r' = term_holds s OnRight Leading LeadingRow (leading s OnRight tt) r.result result a.value.1 b.value b.first in
     let same = term_holds s OnRight Unchanged UnchangedRow (unchanging s) r.result result a.value.1 b.value b.first in
@@ -59,8 +60,8 @@ ruled s r arguments result rule e =
       proper = proper_rule s a.value.0 b.value.0 a.value.1 b.value.1 l.row r' same lefts.row over_right;
       over = record { left = lefts.row; right = over_right };
       small = record {
-        arguments = subst (λ (n : ℕ). n ≤ 16) (sym l.counts) (leb-true (count r.arguments) 16 both.0);
-        symbols = leb-true (1 + sizes (trees a.value.0) + size b.value.0) 2000 both.1;
+        arguments = subst (λ (n : ℕ). n ≤ most_arguments) (sym l.counts) (leb-true (count r.arguments) most_arguments both.0);
+        symbols = leb-true (1 + sizes (trees a.value.0) + size b.value.0) most_written_symbols both.1;
       };
       counts = l.counts;
     })

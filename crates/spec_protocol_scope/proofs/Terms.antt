@@ -3,6 +3,7 @@ use Rattle.std.proofs.Common.{◌≡◌, ℕ, ◌<◌, ◌≤◌, Bool, true, na
 use Rattle.std.proofs.lemmas.Bool.{leb-true, eqb-true}
 use Rattle.spec_trees.specs.Tree.{node, size}
 use Rattle.spec_trees.proofs.Equality.{and_true}
+use Rattle.spec_calculus.specs.Bounds.{most_arguments, most_written_symbols}
 use Rattle.spec_calculus.specs.Syntax.{Constructor, Tuple, Term}
 use Rattle.spec_protocol_grammar.specs.Sketch.{TermSketch, Named, Grouped, TermsSketch, none, more}
 use Rattle.spec_protocol_scope.specs.Answers.{Kind, Unknown, Arity, ◌>>=◌, fault}
@@ -41,8 +42,8 @@ constructed n given (Some MeansMacro) number e = absurd (faulty Kind n number e)
 pub record HoldsByForm (s : Scope) (setting : Setting) (One : List ℕ → Term → List ℕ → Type 0) (Row : List ℕ → List Term → List ℕ → Type 0) : Type 0 where
   pub of_leaf : (v : List ℕ) (n : ℕ) (read : Term × List ℕ) → rules.leaf s setting v n ≡ Ok read → One v read.0 read.1
   pub of_node : (v : List ℕ) (n number arity : ℕ) (is_data : Bool) (ts : List Term) (w : List ℕ) → look s n ≡ Some (MeansConstructor number arity is_data) → arity ≡ length ts
-      → size (node (Constructor number) ts) ≤ 2000 → Row v ts w → One v (node (Constructor number) ts) w
-  pub of_tuple : (v : List ℕ) (ts : List Term) (w : List ℕ) → 2 ≤ length ts → length ts ≤ 16 → size (node Tuple ts) ≤ 2000 → Row v ts w → One v (node Tuple ts) w
+      → size (node (Constructor number) ts) ≤ most_written_symbols → Row v ts w → One v (node (Constructor number) ts) w
+  pub of_tuple : (v : List ℕ) (ts : List Term) (w : List ℕ) → 2 ≤ length ts → length ts ≤ most_arguments → size (node Tuple ts) ≤ most_written_symbols → Row v ts w → One v (node Tuple ts) w
   pub of_single : (v : List ℕ) (t : Term) (w : List ℕ) → Row v (t ∷ []) w → One v t w
   pub of_none : (v : List ℕ) → Row v [] v
   pub of_more : (v : List ℕ) (t : Term) (w : List ℕ) (ts : List Term) (z : List ℕ) → One v t w → Row w ts z → Row v (t ∷ ts) z
@@ -66,9 +67,9 @@ module _ (s : Scope) (setting : Setting) (One : List ℕ → Term → List ℕ �
       let c = stepped (rules.sized n (node (Constructor a.value) b.value.0)) _ read b.later in
       let d = constructed n (count ts) (look s n) a.value a.first in
       let r = rows b.value b.first in
-      let small = kept (nat_le (size (node (Constructor a.value) b.value.0)) 2000) n (node (Constructor a.value) b.value.0) c.value c.first in
+      let small = kept (nat_le (size (node (Constructor a.value) b.value.0)) most_written_symbols) n (node (Constructor a.value) b.value.0) c.value c.first in
       subst (λ (x : Term × List ℕ). One v x.0 x.1) (ap (λ (t : Term). (t, b.value.1)) (sym small.1) ∙ found_one (c.value, b.value.1) read c.later)
-      (by.of_node v n a.value d.arity d.is_data b.value.0 b.value.1 d.is (d.takes ∙ sym r.counts) (leb-true (size (node (Constructor a.value) b.value.0)) 2000 small.0) r.row)
+      (by.of_node v n a.value d.arity d.is_data b.value.0 b.value.1 d.is (d.takes ∙ sym r.counts) (leb-true (size (node (Constructor a.value) b.value.0)) most_written_symbols small.0) r.row)
 
   named_holds : (v : List ℕ) (n : ℕ) (ts : TermsSketch) (rows : Rows v ts) (read : Term × List ℕ) → rules.term s setting v (Named n ts) ≡ Ok read → One v read.0 read.1
   named_holds v n ts rows read e =
@@ -78,10 +79,10 @@ module _ (s : Scope) (setting : Setting) (One : List ℕ → Term → List ℕ �
       → (rules.tuple n parts >>= λ whole. found (whole, w)) ≡ Ok read → One v read.0 read.1
   tuple_holds v n parts w read row many e =
       let c = stepped (rules.tuple n parts) _ read e in
-      let small = kept (nat_le (length parts) 16 && nat_le (size (node Tuple parts)) 2000) n (node Tuple parts) c.value c.first in
-      let both = and_true (nat_le (length parts) 16) (nat_le (size (node Tuple parts)) 2000) small.0 in
+      let small = kept (nat_le (length parts) most_arguments && nat_le (size (node Tuple parts)) most_written_symbols) n (node Tuple parts) c.value c.first in
+      let both = and_true (nat_le (length parts) most_arguments) (nat_le (size (node Tuple parts)) most_written_symbols) small.0 in
       subst (λ (x : Term × List ℕ). One v x.0 x.1) (ap (λ (t : Term). (t, w)) (sym small.1) ∙ found_one (c.value, w) read c.later)
-      (by.of_tuple v parts w many (leb-true (length parts) 16 both.0) (leb-true (size (node Tuple parts)) 2000 both.1) row)
+      (by.of_tuple v parts w many (leb-true (length parts) most_arguments both.0) (leb-true (size (node Tuple parts)) most_written_symbols both.1) row)
 
   parts_hold : (v : List ℕ) (n : ℕ) (parts : List Term) (w : List ℕ) (read : Term × List ℕ) → Row v parts w → 0 < length parts
       → (rules.grouped n parts >>= λ whole. found (whole, w)) ≡ Ok read → One v read.0 read.1

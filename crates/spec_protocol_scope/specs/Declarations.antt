@@ -1,26 +1,27 @@
 -- Declarations other than queries, in order; of a macro only its name is looked at.
 use Rattle.std.specs.Prelude.{ℕ, ◌+◌, Bool, true, false, nat_eq, nat_le, ◌&&◌, not, if◌then◌else◌, List, [], ◌∷◌, ◌++◌, length, is_some, Ok}
 use Rattle.spec_trees.specs.Tree.{size, sizes, trees}
+use Rattle.spec_calculus.specs.Bounds.{most_names, most_arguments, most_rules, most_written_symbols}
 use Rattle.spec_calculus.specs.Syntax as calculus
 use Rattle.spec_protocol_grammar.specs.Sketch.{ProcessSketch, RuleSketch, DeclarationSketch, Free, Fun, Data, Reduc, Event, Query, Definition}
 use Rattle.spec_protocol_scope.specs.Answers.{Answer, Twice, Arity, Kind, fault, within, ◌>>=◌}
 use Rattle.spec_protocol_scope.specs.Names.{Texts, Names, Scope, Macro, count_of, look, same_text, is_variable, decimal}
 use Rattle.spec_protocol_scope.specs.Terms.{OnLeft, OnRight, count, term, terms}
 
--- a new name: nothing else is declared so, and at most 1,024 names are
+-- a new name: nothing else is declared so, and no more names are than the limit
 abbrev pub new_name : Scope → ℕ → Answer (List ℕ)
 new_name s n =
     if is_some (look s n) then fault Twice n
-    else within (nat_le (count_of s.names + 1) 1024) n (s.text n)
+    else within (nat_le (count_of s.names + 1) most_names) n (s.text n)
 
 -- a new free name or constructor: its name is not a variable's
 abbrev pub new_symbol : Scope → ℕ → Answer (List ℕ)
 new_symbol s n =
     if not (is_some (look s n)) && is_variable (s.text n) then fault Kind n else new_name s n
 
--- the arity that a number spells, which is at most 16
+-- the arity that a number spells, which is within the limit of arguments
 abbrev pub arity : Texts → ℕ → Answer ℕ
-arity text n = within (nat_le (decimal (text n)) 16) n (decimal (text n))
+arity text n = within (nat_le (decimal (text n)) most_arguments) n (decimal (text n))
 
 -- a free name
 abbrev pub free_name : Scope → Bool → ℕ → Answer calculus.Declared
@@ -42,12 +43,12 @@ event s n a = do
   size ← arity s.text a
   Ok (record { word = word; arity = size; public = true; is_data = false })
 
--- a rule: at most 16 arguments, and 2,000 symbols with the destructor's
+-- a rule: within the limits of arguments, and of written symbols with the destructor's
 abbrev pub rule : Scope → RuleSketch → Answer calculus.Rule
 rule s r = do
   left ← terms s OnLeft [] r.arguments
   right ← term s OnRight left.1 r.result
-  within (nat_le (count r.arguments) 16 && nat_le (1 + sizes (trees left.0) + size right.0) 2000) r.first (record { left = left.0; right = right.0 })
+  within (nat_le (count r.arguments) most_arguments && nat_le (1 + sizes (trees left.0) + size right.0) most_written_symbols) r.first (record { left = left.0; right = right.0 })
 
 -- a further rule, which has the number of arguments and the name of the first
 abbrev pub further_rule : Scope → RuleSketch → RuleSketch → Answer calculus.Rule
@@ -62,13 +63,13 @@ further_rules s first (r ∷ rs) = do
   others ← further_rules s first rs
   Ok (one ∷ others)
 
--- a destructor, at the word `reduc`: its rules see the names that are declared before it, and are at most 16
+-- a destructor, at the word `reduc`: its rules see the names that are declared before it, and are within the limit of rules
 abbrev pub destructor : Scope → ℕ → RuleSketch → List RuleSketch → Answer calculus.Destructor
 destructor s n first others = do
   word ← new_name s first.first
   one ← rule s first
   more ← further_rules s first others
-  within (nat_le (1 + length others) 16) n (record { word = word; rules = one ∷ more })
+  within (nat_le (1 + length others) most_rules) n (record { word = word; rules = one ∷ more })
 
 -- the names with one more
 abbrev pub with_free : Names → calculus.Declared → Names

@@ -1,6 +1,7 @@
 -- Patterns.
 use Rattle.std.specs.Prelude.{ℕ, ◌+◌, nat_eq, nat_le, if◌then◌else◌, List, [], ◌∷◌, ◌++◌, length, Option, Some, None, is_some, Ok}
 use Rattle.spec_trees.specs.Tree.{Leaf, node}
+use Rattle.spec_calculus.specs.Bounds.{most_arguments}
 use Rattle.spec_calculus.specs.Syntax as calculus
 use Rattle.spec_protocol_grammar.specs.Sketch.{PatternSketch, NamedPattern, Equal, GroupedPattern, PatternsSketch, no_patterns, more_patterns}
 use Rattle.spec_protocol_scope.specs.Answers.{Answer, Unknown, Twice, Kind, fault, within, ◌>>=◌}
@@ -29,10 +30,10 @@ binder s number found n =
     if is_some (bound_as s.text found n) then fault Twice n
     else Ok (Leaf (calculus.Bind number), found ++ record { token = n; name = calculus.Variable number } ∷ [])
 
--- what `(parts)` stands for: one pattern is itself, more are a tuple of at most 16 parts
+-- what `(parts)` stands for: one pattern is itself, more are a tuple within the limit of arguments
 abbrev pub grouped : ℕ → List calculus.Pattern → Answer calculus.Pattern
 grouped n (p ∷ []) = Ok p
-grouped n parts = within (nat_le (length parts) 16) n (node calculus.Tuple parts)
+grouped n parts = within (nat_le (length parts) most_arguments) n (node calculus.Tuple parts)
 
 -- below these binders, where the pattern's first variable has this number; terms are read as outside of the pattern
 abbrev mutual

@@ -2,6 +2,7 @@
 use Rattle.std.specs.Prelude.{ℕ, ◌+◌, Bool, nat_le, ◌&&◌, if◌then◌else◌, List, [], ◌∷◌, ◌++◌, length, Option, Some, None, unwrap_or, Ok}
 use Rattle.std.specs.Str.{bytes_eq}
 use Rattle.spec_trees.specs.Tree.{Leaf}
+use Rattle.spec_calculus.specs.Bounds.{most_points, most_points_above}
 use Rattle.spec_calculus.specs.Syntax as calculus
 use Rattle.spec_protocol_grammar.specs.Sketch.{ProcessSketch, Process, alone, beside, UnitSketch, Zero, Macro, Inner, Replicated, New, Output, Input, Happens, Let, If, NextSketch, omitted, given}
 use Rattle.spec_protocol_scope.specs.Answers.{Answer, Code, Unknown, Kind, TooMany, fault, ◌>>=◌}
@@ -86,9 +87,9 @@ first_of (Happens n a k) = n
 first_of (Let n p t u k) = n
 first_of (If n t v u k) = n
 
--- whether one more point may stand there: it is at most the 4,096th, with at most 511 above it
+-- whether one more point may stand there: it is within the limits of points, and of points above it
 abbrev pub is_room : Site → Numbers → Bool
-is_room site now = nat_le now.point 4096 && nat_le site.above 511
+is_room site now = nat_le now.point most_points && nat_le site.above most_points_above
 
 -- the next point is met
 abbrev pub counted : Numbers → Numbers

@@ -2,6 +2,7 @@
 use Rattle.std.specs.Prelude.{ℕ, ◌+◌, ◌-◌, nat_le, if◌then◌else◌, List, [], ◌∷◌, length, Ok}
 use Rattle.std.specs.Str.{bytes_eq}
 use Rattle.spec_trees.specs.Tree.{sizes, trees}
+use Rattle.spec_calculus.specs.Bounds.{most_alternatives, most_events, most_queries, most_written_symbols}
 use Rattle.spec_calculus.specs.Syntax as calculus
 use Rattle.spec_calculus.specs.Points.{nodes}
 use Rattle.spec_protocol_grammar.specs.Sketch.{AtomSketch, AlternativeSketch, QuerySketch, AttackerNew, Attacker, Correspondence, DeclarationSketch, Free, Fun, Data, Reduc, Event, Query, Definition}
@@ -22,11 +23,11 @@ only_point x [] = fault Unknown x
 only_point x (point ∷ []) = Ok (calculus.SecretNew point)
 only_point x (point ∷ further ∷ points) = fault AmbiguousNew x
 
--- an event of a query, of at most 2,000 symbols with its own
+-- an event of a query, of no more symbols, with its own, than may be written
 abbrev pub asked_event : Scope → List ℕ → AtomSketch → Reading calculus.EventTerm
 asked_event s variables a = do
   read ← event s InEvent variables a
-  within (nat_le (1 + sizes (trees read.0.arguments)) 2000) a.first read
+  within (nat_le (1 + sizes (trees read.0.arguments)) most_written_symbols) a.first read
 
 -- events in a row
 abbrev pub asked_events : Scope → List ℕ → List AtomSketch → Reading (List calculus.EventTerm)
@@ -36,11 +37,11 @@ asked_events s variables (a ∷ as') = do
   others ← asked_events s first.1 as'
   Ok (first.0 ∷ others.0, others.1)
 
--- an alternative of at most 16 events; its first token is the word `event`, right before its first event
+-- an alternative within the limit of events; its first token is the word `event`, right before its first event
 abbrev pub alternative : Scope → List ℕ → AlternativeSketch → Reading (List calculus.EventTerm)
 alternative s variables a = do
   read ← asked_events s variables (a.atom ∷ a.others)
-  within (nat_le (1 + length a.others) 16) (a.atom.first - 1) read
+  within (nat_le (1 + length a.others) most_events) (a.atom.first - 1) read
 
 -- alternatives in a row
 abbrev pub alternatives : Scope → List ℕ → List AlternativeSketch → Reading (List (List calculus.EventTerm))
@@ -59,13 +60,13 @@ question s main n (Attacker attacker t) = do
 question s main n (Correspondence word a as') = do
   left ← asked_event s [] a
   read ← alternatives s left.1 as'
-  within (nat_le (length as') 16) n (calculus.Correspondence left.0 read.0)
+  within (nat_le (length as') most_alternatives) n (calculus.Correspondence left.0 read.0)
 
--- one query more, of which there may be 256
+-- one query more, within the limit of queries
 abbrev pub one_query : Scope → calculus.Process → ℕ → QuerySketch → ℕ → Answer calculus.Query
 one_query s main n q before = do
   read ← question s main n q
-  within (nat_le (before + 1) 256) n read
+  within (nat_le (before + 1) most_queries) n read
 
 -- the queries among these declarations, behind so many others
 abbrev pub queries : Scope → calculus.Process → ℕ → List DeclarationSketch → Answer (List calculus.Query)

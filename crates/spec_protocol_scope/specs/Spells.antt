@@ -1,6 +1,7 @@
 -- What the bytes of a file spell, and where they are refused.
 use Rattle.std.specs.Prelude.{◌≡◌, ℕ, ◌<◌, ◌≤◌, ◌⊎◌, List, [], length, slice_get, Ok}
 use Rattle.std.specs.Option.{option_map_or}
+use Rattle.spec_calculus.specs.Bounds.{most_bytes}
 use Rattle.spec_calculus.specs.Syntax.{Protocol}
 use Rattle.spec_protocol_tokens.specs.Token.{Token, text}
 use Rattle.spec_protocol_tokens.specs.Piece as piece
@@ -37,7 +38,7 @@ pub record IsProtocolOf (bytes : List ℕ) (p : Protocol) : Type 0 where
 
 -- the bytes, which are not too many, spell the protocol
 abbrev pub Spells : List ℕ → Protocol → Type 0
-Spells bytes p = (length bytes ≤ 1048576) × IsProtocolOf bytes p
+Spells bytes p = (length bytes ≤ most_bytes) × IsProtocolOf bytes p
 
 -- why the bytes of a file are refused
 pub data Refusal : Type 0 where
@@ -45,11 +46,11 @@ pub data Refusal : Type 0 where
   Lexical : (why : piece.Refusal) → Refusal
   -- no file of the grammar goes on with a token
   Unexpected : Refusal
-  -- a construct would stand below level 512
+  -- a construct would stand below the limit of levels
   TooDeep : Refusal
   -- by the rules of scope
   Scoped : (code : Code) → Refusal
-  -- they are more than 1,048,576
+  -- they are more than a protocol's text may have
   LongFile : Refusal
 
 -- no file of the grammar goes on with the token at this place, or at the end
@@ -60,7 +61,7 @@ pub record IsUnexpectedAt (bytes : List ℕ) (place : ℕ) : Type 0 where
   pub refused : IsUnexpected (source bytes tokens) (length tokens) token
   pub stands : place_of bytes tokens token ≡ place
 
--- at this place begins the first construct that would stand below level 512
+-- at this place begins the first construct that would stand below the limit of levels
 pub record IsTooDeepAt (bytes : List ℕ) (place : ℕ) : Type 0 where
   pub tokens : List Token
   pub lexed : Lexed bytes tokens
@@ -88,8 +89,8 @@ IsRefusedAt bytes LongFile place = ⊥
 
 -- the bytes of a file are refused so, and there: a long file before all else, at its begin
 abbrev pub Refuses : List ℕ → Refusal → ℕ → Type 0
-Refuses bytes LongFile place = (1048576 < length bytes) × (place ≡ 0)
-Refuses bytes refusal place = (length bytes ≤ 1048576) × IsRefusedAt bytes refusal place
+Refuses bytes LongFile place = (most_bytes < length bytes) × (place ≡ 0)
+Refuses bytes refusal place = (length bytes ≤ most_bytes) × IsRefusedAt bytes refusal place
 
 -- the bytes spell a protocol, or are refused for some reason at some place
 abbrev pub HasAnswer : List ℕ → Type 0

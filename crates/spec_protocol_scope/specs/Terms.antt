@@ -1,6 +1,7 @@
 -- Terms, expressions and events.
 use Rattle.std.specs.Prelude.{ℕ, ◌+◌, nat_eq, nat_le, ◌&&◌, if◌then◌else◌, List, [], ◌∷◌, ◌++◌, length, Option, Some, None, Ok}
 use Rattle.spec_trees.specs.Tree.{Leaf, node, size, sizes, trees}
+use Rattle.spec_calculus.specs.Bounds.{most_arguments, most_written_symbols}
 use Rattle.spec_calculus.specs.Syntax.{Name, Free, Variable, Constructor, Tuple, Term, Expression, Plain, Call, EventTerm}
 use Rattle.spec_protocol_grammar.specs.Sketch.{TermSketch, Named, Grouped, TermsSketch, none, more, AtomSketch}
 use Rattle.spec_protocol_scope.specs.Answers.{Answer, Unknown, Arity, Kind, LooseVariable, fault, within, ◌>>=◌}
@@ -108,13 +109,13 @@ event_named n given None = fault Unknown n
 event_named n given (Some (MeansEvent number arity)) = taking n number arity given
 event_named n given (Some meaning) = fault Kind n
 
--- the term, where it has at most 2,000 symbols
+-- the term, where it has no more symbols than may be written
 abbrev pub sized : ℕ → Term → Answer Term
-sized n t = within (nat_le (size t) 2000) n t
+sized n t = within (nat_le (size t) most_written_symbols) n t
 
--- a tuple of these parts, which is one of at most 16
+-- a tuple of these parts, which is one within the limit of arguments
 abbrev pub tuple : ℕ → List Term → Answer Term
-tuple n parts = within (nat_le (length parts) 16 && nat_le (size (node Tuple parts)) 2000) n (node Tuple parts)
+tuple n parts = within (nat_le (length parts) most_arguments && nat_le (size (node Tuple parts)) most_written_symbols) n (node Tuple parts)
 
 -- what `(parts)` stands for: one term is itself, more are a tuple
 abbrev pub grouped : ℕ → List Term → Answer Term
@@ -169,7 +170,7 @@ abbrev mutual
 abbrev pub call : Scope → List Bound → ℕ → ℕ → TermsSketch → Answer Expression
 call s bound n destructor ts = do
   arguments ← process_terms s bound ts
-  within (nat_le (1 + sizes (trees arguments)) 2000) n (Call destructor arguments)
+  within (nat_le (1 + sizes (trees arguments)) most_written_symbols) n (Call destructor arguments)
 
 -- a term as an expression
 abbrev pub plain : Scope → List Bound → TermSketch → Answer Expression

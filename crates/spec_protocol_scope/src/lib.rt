@@ -5,6 +5,7 @@
 #![tactic(auto)]
 
 ghost use Rattle.std.specs.Prelude.{◌≡◌, ◌≤◌, ℕ, List, length, Ok};
+ghost use Rattle.spec_calculus.specs.Bounds.{most_points};
 ghost use Rattle.spec_calculus.specs.Syntax.{Process, Protocol};
 ghost use Rattle.spec_calculus.specs.Points.{nodes};
 ghost use Rattle.spec_well_formed.specs.Limits.{IsWithinLimits};
@@ -41,15 +42,15 @@ pub fn always_one()
     ensures { (bytes : List ℕ) → HasAnswer bytes }
 {}
 
-/// A main process that keeps the rules of scope has at most 4,096 points.
+/// A main process that keeps the rules of scope has no more points than the limit.
 pub fn main_process_points()
     ensures { (s : Scope) (main : ProcessSketch) (p : Process) → main_process s main ≡ Ok p →
-        length (nodes p) ≤ 4096 }
+        length (nodes p) ≤ most_points }
 {}
 
-/// A protocol that bytes spell has at most 4,096 points.
+/// A protocol that bytes spell has no more points than the limit.
 pub fn few_points()
-    ensures { (bytes : List ℕ) (p : Protocol) → Spells bytes p → length (nodes p.main) ≤ 4096 }
+    ensures { (bytes : List ℕ) (p : Protocol) → Spells bytes p → length (nodes p.main) ≤ most_points }
 {}
 
 /// The rules of a protocol that bytes spell hold variables alone, numbered from 1 by first occurrence, and those of one
@@ -75,7 +76,7 @@ pub fn within_limits()
 {}
 
 /// In a protocol that bytes spell each leaf of a term is bound above it or declared, each symbol has its number of
-/// arguments, each term has at most 2,000 symbols, and nothing is bound twice on a way.
+/// arguments, each term has no more symbols than may be written, and nothing is bound twice on a way.
 pub fn well_scoped()
     ensures { (bytes : List ℕ) (p : Protocol) → Spells bytes p → IsWellScoped p }
 {}

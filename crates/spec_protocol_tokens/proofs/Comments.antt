@@ -6,6 +6,7 @@ use Rattle.std.specs.Char.{is_ascii_digit}
 use Rattle.std.proofs.lemmas.Bool.{eqb-true, eqb-false, cases_lt, not-true}
 use Rattle.std.proofs.lemmas.List.{drop-drop}
 use Rattle.std.proofs.Math.Seq.{drop-length}
+use Rattle.spec_calculus.specs.Bounds.{most_digits}
 use Rattle.spec_protocol_tokens.specs.Token.{Token, Number, Symbol}
 use Rattle.spec_protocol_tokens.specs.Bytes.{is_blank, begins_word, is_in_word, symbols}
 use Rattle.spec_protocol_tokens.specs.Laws.{holds_comment, is_comment}
@@ -106,7 +107,7 @@ Tells-comment_of bytes (Some n) h = h
 
 Tells-number_of : (bytes : List ℕ) (digits : ℕ) → holds_comment bytes ≡ holds_comment (drop digits bytes) → Tells bytes (number_of digits)
 Tells-number_of bytes digits h =
-    either_way (Tells bytes) (leb digits 9) (Lexeme Number digits) (Refused LongNumber) (λ _. h) (λ _. tt)
+    either_way (Tells bytes) (leb digits most_digits) (Lexeme Number digits) (Refused LongNumber) (λ _. h) (λ _. tt)
 
 Tells-symbol_of : (bytes : List ℕ) (size : ℕ) → Skips bytes size → Tells bytes (symbol_of size)
 Tells-symbol_of bytes size skips =

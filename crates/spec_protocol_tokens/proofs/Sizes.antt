@@ -8,6 +8,7 @@ use Rattle.std.proofs.lemmas.List.Sums.{prefix_len-le-length}
 use Rattle.std.proofs.lemmas.Slice.Eq.{starts_is}
 use Rattle.std.proofs.lemmas.Bool.{eqb-false}
 use Rattle.std.proofs.lemmas.Bool.Decides.{Decides-eqb}
+use Rattle.spec_calculus.specs.Bounds.{most_digits}
 use Rattle.spec_protocol_tokens.specs.Token.{Number, Symbol}
 use Rattle.spec_protocol_tokens.specs.Bytes.{is_blank, begins_word, is_in_word, symbols}
 use Rattle.spec_protocol_tokens.specs.Laws.{FitsIn}
@@ -56,7 +57,7 @@ FitsIn-comment_of n (Some k) two h = (omega arith, omega (arith, h, two))
 
 FitsIn-number_of : (n digits : ℕ) → 0 < digits → digits ≤ n → FitsIn n (number_of digits)
 FitsIn-number_of n digits some all =
-    either_way (FitsIn n) (leb digits 9) (Lexeme Number digits) (Refused LongNumber) (λ _. (some, all)) (λ _. tt)
+    either_way (FitsIn n) (leb digits most_digits) (Lexeme Number digits) (Refused LongNumber) (λ _. (some, all)) (λ _. tt)
 
 FitsIn-symbol_of : (n size : ℕ) → size ≤ n → FitsIn n (symbol_of size)
 FitsIn-symbol_of n size all =

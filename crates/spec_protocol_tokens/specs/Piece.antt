@@ -2,6 +2,7 @@
 use Rattle.std.specs.Prelude.{ℕ, ◌+◌, max, if◌then◌else◌, ◌==◌, nat_eq, nat_le, Bool, List, [], ◌∷◌, length, take, drop, Option, Some, None, option_map, codes}
 use Rattle.std.specs.List.{prefix_len, starts_with}
 use Rattle.std.specs.Char.{is_ascii_digit}
+use Rattle.spec_calculus.specs.Bounds.{most_digits}
 use Rattle.spec_protocol_tokens.specs.Token.{TokenKind, Identifier, Reserved, Number, Symbol}
 use Rattle.spec_protocol_tokens.specs.Bytes.{is_blank, begins_word, is_in_word, is_reserved, symbols}
 
@@ -9,7 +10,7 @@ use Rattle.spec_protocol_tokens.specs.Bytes.{is_blank, begins_word, is_in_word, 
 pub data Refusal : Type 0 where
   BadByte : Refusal  -- nothing begins with this byte
   OpenComment : Refusal  -- a comment has no end
-  LongNumber : Refusal  -- a number has more than 9 digits
+  LongNumber : Refusal  -- a number has more digits than the limit
 
 -- what stands at the front of the bytes, with its number of bytes
 pub data Piece : Type 0 where
@@ -46,7 +47,7 @@ word_kind word = if is_reserved word then Reserved else Identifier
 
 -- a number of so many digits
 abbrev pub number_of : ℕ → Piece
-number_of digits = if nat_le digits 9 then Lexeme Number digits else Refused LongNumber
+number_of digits = if nat_le digits most_digits then Lexeme Number digits else Refused LongNumber
 
 -- a symbol of so many bytes; of none, there is no symbol
 abbrev pub symbol_of : ℕ → Piece

@@ -6,9 +6,9 @@ use Rattle.spec_terms.specs.Term.{Term}
 use Rattle.spec_clauses.specs.Fact.{Fact, Att, Mess, Ev, Mev, Bad}
 use Rattle.spec_certificate_reading.specs.Names.{CalledEvent, event_called}
 use Rattle.spec_certificate_reading.specs.Terms.{Syntax, Symbol, Arity}
-use Rattle.spec_certificate_reading.specs.Outcomes.{Outcome, Found, Faulty, next, front, read_fixed, Reader}
+use Rattle.spec_certificate_reading.specs.Outcomes.{Outcome, Found, Faulty, next, front, ended, read_fixed, Reader}
 use Rattle.spec_certificate_reading.specs.Facts.{one_term, argument, read_terms, Performed, performed, event_named, read_event, read_att, read_mess, read_ev, bad_arguments, read_bad, read_mev_or_mess, read_hypothesis, read_conclusion}
-use Rattle.spec_reading_faults.proofs.Shared.{IsLocal, Moves, next_local, moves_second, choice_local, choice_moves, found_local, skip_local, skip_moves, never_local, other_local}
+use Rattle.spec_reading_faults.proofs.Shared.{IsLocal, Moves, next_local, moves_second, choice_local, choice_moves, found_local, skip_local, skip_moves, never_local, other_local, ended_local}
 use Rattle.spec_reading_faults.proofs.Terms.{term_local}
 use Rattle.spec_reading_faults.proofs.Parts.{same_local, either_local, fixed_local, run, run_local, things_local}
 
@@ -101,18 +101,25 @@ unfolding of_called with_arguments skipping of_arity
 of_called-local P from None = other_local from Symbol (λ e. cc)
 of_called-local P from (Some called) = choice_local (λ b. b == 40) (with_arguments P from called) (of_arity from called []) (with_arguments-local P from called) (of_arity-local from called [])
 
+of_ended : Protocol → ℕ → List ℕ → Reader Performed
+of_ended P from w bytes at = ended at bytes (of_called P from (event_called P w) bytes at)
+
+of_ended-local : (P : Protocol) (from : ℕ) (w : List ℕ) → IsLocal (of_ended P from w)
+unfolding of_ended
+of_ended-local P from w = ended_local (of_called P from (event_called P w)) (of_called-local P from (event_called P w))
+
 of_word : Protocol → Reader Performed
-of_word P bytes at = next (run is_in_word bytes at) (λ w p k. of_called P at (event_called P w) k p)
+of_word P bytes at = next (run is_in_word bytes at) (λ w p k. of_ended P at w k p)
 
 of_word-local : (P : Protocol) → IsLocal (of_word P)
 unfolding of_word
-of_word-local P = next_local (run is_in_word) (λ at w. of_called P at (event_called P w)) (run_local is_in_word) (λ at w. of_called-local P at (event_called P w))
+of_word-local P = next_local (run is_in_word) (λ at w. of_ended P at w) (run_local is_in_word) (λ at w. of_ended-local P at w)
 
 word_or : Protocol → Reader Performed
 word_or P bytes at = if begins_word (front bytes) then of_word P bytes at else no_thing bytes at
 
 event_as : (P : Protocol) (bytes : List ℕ) (at : ℕ) → read_event P bytes at ≡ word_or P bytes at
-unfolding word_or of_word of_called no_thing run
+unfolding word_or of_word of_ended of_called no_thing run
 event_as P bytes at = refl
 
 event_local : (P : Protocol) → IsLocal (read_event P)

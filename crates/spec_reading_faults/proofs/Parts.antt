@@ -6,9 +6,9 @@ use Rattle.std.specs.Char.{is_ascii_digit}
 use Rattle.std.specs.List.{prefix_len}
 use Rattle.spec_run_text.specs.Reading.{numeral}
 use Rattle.spec_certificate_reading.specs.Terms.{Syntax, Number, Count}
-use Rattle.spec_certificate_reading.specs.Outcomes.{Outcome, Found, Faulty, next, Reader, front, read_fixed, as_number, read_number, things_from, things, lines_from}
+use Rattle.spec_certificate_reading.specs.Outcomes.{Outcome, Found, Faulty, next, Reader, front, ended, read_fixed, as_number, number_before, read_number, things_from, things, lines_from}
 use Rattle.spec_certificate_reading.proofs.Things.{lines_full}
-use Rattle.spec_reading_faults.proofs.Shared.{Shares, shares_less, shares_drop, shares_some, Passed, IsLocal, Moves, passed_on, as_told, next_local, choice_local, found_local, never_local, other_local}
+use Rattle.spec_reading_faults.proofs.Shared.{Shares, shares_less, shares_drop, shares_some, Passed, IsLocal, Moves, passed_on, as_told, next_local, choice_local, found_local, never_local, other_local, ended_local}
 
 -- a reader that answers the same is as local
 pub same_local : {A : Type 0} (r s : Reader A) → ((bytes : List ℕ) (at : ℕ) → r bytes at ≡ s bytes at) → IsLocal s → IsLocal r
@@ -150,28 +150,32 @@ run_local test = record {
         let same = run_shared test n bytes others shares (omega (arith, long)) in
         ap (λ k. Found (take k others) (at + k) (drop k others)) same.0 ∙ (ap (λ w. Found w (at + prefix_len test bytes) (drop (prefix_len test bytes) others)) (sym same.1 ∙ words) ∙ (ap (λ p. Found x p (drop (prefix_len test bytes) others)) places ∙ ap (λ k. Found x place (drop k others)) long))
 
+number_as : ℕ → Option ℕ → Reader ℕ
+number_as from o bytes at = as_number from o at bytes
+
+number_as-local : (from : ℕ) (o : Option ℕ) → IsLocal (number_as from o)
+unfolding number_as
+number_as-local from None = other_local from Number (λ e. cc)
+number_as-local from (Some n) = found_local n
+
 number_or : ℕ → Option ℕ → Reader ℕ
-number_or from o bytes at = as_number from o at bytes
+number_or from o bytes at = ended at bytes (number_as from o bytes at)
 
 number_or-local : (from : ℕ) (o : Option ℕ) → IsLocal (number_or from o)
 unfolding number_or
-number_or-local from None = other_local from Number (λ e. cc)
-number_or-local from (Some n) = found_local n
+number_or-local from o = ended_local (number_as from o) (number_as-local from o)
 
-number_as : (bytes : List ℕ) (at : ℕ) → read_number bytes at ≡ (if is_ascii_digit (front bytes) then next (run is_ascii_digit bytes at) (λ ds p k. number_or at (numeral ds) k p) else Faulty at Syntax)
-unfolding run number_or
-number_as [] at = refl
-number_as (b ∷ bytes) at = by (is_ascii_digit b)
+number_is : (bytes : List ℕ) (at : ℕ) → read_number bytes at ≡ (if is_ascii_digit (front bytes) then next (run is_ascii_digit bytes at) (λ ds p k. number_or at (numeral ds) k p) else Faulty at Syntax)
+unfolding run number_or number_as
+number_is [] at = refl
+number_is (b ∷ bytes) at = by (is_ascii_digit b)
   where
     none : (k : ℕ) → (1 + k == 0) ≡ false
     none k = grind (arith, nat_tests)
 
-    read : ℕ → Outcome ℕ
-    read k = if k == 0 then Faulty at Syntax else as_number at (numeral (take k (b ∷ bytes))) (at + k) (drop k (b ∷ bytes))
-
-    by : (t : Bool) → (if cond t (1 + prefix_len is_ascii_digit bytes) 0 == 0 then Faulty at Syntax else as_number at (numeral (take (cond t (1 + prefix_len is_ascii_digit bytes) 0) (b ∷ bytes))) (at + cond t (1 + prefix_len is_ascii_digit bytes) 0) (drop (cond t (1 + prefix_len is_ascii_digit bytes) 0) (b ∷ bytes)))
-        ≡ (if t then as_number at (numeral (take (cond t (1 + prefix_len is_ascii_digit bytes) 0) (b ∷ bytes))) (at + cond t (1 + prefix_len is_ascii_digit bytes) 0) (drop (cond t (1 + prefix_len is_ascii_digit bytes) 0) (b ∷ bytes)) else Faulty at Syntax)
-    by true = let k = 1 + prefix_len is_ascii_digit bytes in ap (λ t. if t then Faulty at Syntax else as_number at (numeral (take k (b ∷ bytes))) (at + k) (drop k (b ∷ bytes))) (none (prefix_len is_ascii_digit bytes))
+    by : (t : Bool) → (if cond t (1 + prefix_len is_ascii_digit bytes) 0 == 0 then Faulty at Syntax else number_before at (numeral (take (cond t (1 + prefix_len is_ascii_digit bytes) 0) (b ∷ bytes))) (at + cond t (1 + prefix_len is_ascii_digit bytes) 0) (drop (cond t (1 + prefix_len is_ascii_digit bytes) 0) (b ∷ bytes)))
+        ≡ (if t then number_before at (numeral (take (cond t (1 + prefix_len is_ascii_digit bytes) 0) (b ∷ bytes))) (at + cond t (1 + prefix_len is_ascii_digit bytes) 0) (drop (cond t (1 + prefix_len is_ascii_digit bytes) 0) (b ∷ bytes)) else Faulty at Syntax)
+    by true = let k = 1 + prefix_len is_ascii_digit bytes in ap (λ t. if t then Faulty at Syntax else number_before at (numeral (take k (b ∷ bytes))) (at + k) (drop k (b ∷ bytes))) (none (prefix_len is_ascii_digit bytes))
     by false = refl
 
 digits : Reader ℕ
@@ -183,7 +187,7 @@ digits_local = next_local (run is_ascii_digit) (λ at ds. number_or at (numeral 
 
 as_digits : (bytes : List ℕ) (at : ℕ) → read_number bytes at ≡ (if is_ascii_digit (front bytes) then digits bytes at else Faulty at Syntax)
 unfolding digits
-as_digits bytes at = number_as bytes at
+as_digits bytes at = number_is bytes at
 
 pub number_local : IsLocal read_number
 number_local = same_local read_number (λ bytes at. if is_ascii_digit (front bytes) then digits bytes at else Faulty at Syntax) as_digits (choice_local is_ascii_digit digits (λ bytes at. Faulty at Syntax) digits_local never_local)

@@ -2,7 +2,7 @@
 use Rattle.std.proofs.Common.{◌≡◌, ℕ, zero, suc, ◌+◌, ◌-◌, ◌≤◌, Bool, true, false, if◌then◌else◌, List, [], ◌∷◌, ◌++◌, length, drop, refl, sym, ◌∙◌, ap, subst, arith}
 use Rattle.std.proofs.lemmas.List.{drop-drop}
 use Rattle.spec_certificate_reading.specs.Terms.{Code, Syntax}
-use Rattle.spec_certificate_reading.specs.Outcomes.{Outcome, Found, Faulty, next, Reader, front}
+use Rattle.spec_certificate_reading.specs.Outcomes.{Outcome, Found, Faulty, next, Reader, front, ended}
 
 -- so many bytes and one more are there, and the same
 unfoldable pub Shares : ℕ → List ℕ → List ℕ → Type 0
@@ -181,6 +181,36 @@ choice_moves_by a b of_a of_b bytes at place x rest false e = of_b bytes at plac
 
 pub choice_moves : {A : Type 0} (test : ℕ → Bool) (a b : Reader A) → Moves a → Moves b → Moves (λ bytes at. if test (front bytes) then a bytes at else b bytes at)
 choice_moves test a b of_a of_b bytes at place x rest e = choice_moves_by a b of_a of_b bytes at place x rest (test (front bytes)) e
+
+-- What ends before another byte, and not at the end of the bytes.
+
+cut_fault : {A : Type 0} (r : Reader A) → IsLocal r → (bytes others : List ℕ) (at n place : ℕ) → Shares n bytes others → place ≡ at + n → ended at bytes (r bytes at) ≡ Faulty place Syntax → ended at others (r others at) ≡ Faulty place Syntax
+unfolding Shares
+cut_fault r local [] others at n place shares there e = absurd shares
+cut_fault r local (b ∷ bytes) [] at n place shares there e = absurd shares
+cut_fault r local (b ∷ bytes) (c ∷ others) at n place shares there e = local.fault (b ∷ bytes) (c ∷ others) at n place shares there e
+
+cut_found : {A : Type 0} (r : Reader A) → IsLocal r → (bytes others : List ℕ) (at n place : ℕ) (x : A) (rest : List ℕ) → Shares n bytes others → place ≡ at + n → ended at bytes (r bytes at) ≡ Found x place rest → ended at others (r others at) ≡ Found x place (drop n others)
+unfolding Shares
+cut_found r local [] others at n place x rest shares there e = absurd shares
+cut_found r local (b ∷ bytes) [] at n place x rest shares there e = absurd shares
+cut_found r local (b ∷ bytes) (c ∷ others) at n place x rest shares there e = local.found (b ∷ bytes) (c ∷ others) at n place x rest shares there e
+
+cut_passed : {A : Type 0} (r : Reader A) → IsLocal r → (bytes : List ℕ) (at place : ℕ) (x : A) (rest : List ℕ) → ended at bytes (r bytes at) ≡ Found x place rest → Passed bytes at place rest
+cut_passed r local [] at place x rest e = absurd (cc)
+cut_passed r local (b ∷ bytes) at place x rest e = local.passed (b ∷ bytes) at place x rest e
+
+cut_later : {A : Type 0} (r : Reader A) → IsLocal r → (bytes : List ℕ) (at place : ℕ) → ended at bytes (r bytes at) ≡ Faulty place Syntax → at ≤ place
+cut_later r local [] at place e = let places : at ≡ place = cc in omega (arith, places)
+cut_later r local (b ∷ bytes) at place e = local.later (b ∷ bytes) at place e
+
+pub ended_local : {A : Type 0} (r : Reader A) → IsLocal r → IsLocal (λ bytes at. ended at bytes (r bytes at))
+ended_local r local = record {
+  fault = λ bytes others at n place shares there e. cut_fault r local bytes others at n place shares there e;
+  found = λ bytes others at n place x rest shares there e. cut_found r local bytes others at n place x rest shares there e;
+  passed = λ bytes at place x rest e. cut_passed r local bytes at place x rest e;
+  later = λ bytes at place e. cut_later r local bytes at place e;
+}
 
 -- What reads no byte, and what passes over one.
 

@@ -1,5 +1,5 @@
 -- Terms: a fault of syntax, and what is found, is told by the bytes up to the place.
-use Rattle.std.proofs.Common.{◌≡◌, ℕ, zero, suc, ◌+◌, ◌-◌, ◌≤◌, Bool, true, false, ◌==◌, ◌&&◌, if◌then◌else◌, List, [], ◌∷◌, ◌++◌, length, drop, Option, Some, None, sym, ◌∙◌, ap, arith}
+use Rattle.std.proofs.Common.{◌≡◌, ℕ, zero, suc, ◌+◌, ◌-◌, ◌≤◌, Bool, true, false, ◌==◌, ◌&&◌, if◌then◌else◌, List, [], ◌∷◌, ◌++◌, length, drop, Option, Some, None, refl, sym, ◌∙◌, ap, arith}
 use Rattle.std.specs.Char.{is_ascii_digit}
 use Rattle.spec_trees.specs.Tree.{Leaf, node}
 use Rattle.spec_calculus.specs.Syntax.{Protocol}
@@ -10,16 +10,17 @@ use Rattle.spec_run_text.specs.Reading.{numeral}
 use Rattle.spec_certificate_reading.specs.Names.{Named, symbol_called, name_called}
 use Rattle.spec_certificate_reading.specs.Terms.{Syntax, Number, Symbol, Arity, Count, Open, Mode, Begins, InWord, InDigits, AtBracket, Ended, Reading, Step, Goes, Ends, Fault}
 use Rattle.spec_certificate_reading.specs.Steps.{is_deep, goes, unless_deep, opened, with_parts, has_arity, closed, closing_byte, may_close, may_go_on, may_be_empty, after_term, begin_term, at_begin, after_variable, after_name, after_word, apply, in_word, after_point, after_number, after_digits, step_in, step}
-use Rattle.spec_certificate_reading.specs.Runs.{Read, Done, Refused, followed, at_end, read_on, read_term}
+use Rattle.spec_certificate_reading.specs.Runs.{Read, Done, Refused, followed, cut_off, at_end, read_on, read_term}
 use Rattle.spec_certificate_reading.specs.Outcomes.{Found, Faulty}
 use Rattle.spec_certificate_reading.specs.Facts.{term_outcome, one_term}
+use Rattle.spec_certificate_reading.proofs.Runs.{none_at_end}
 use Rattle.spec_reading_faults.proofs.Shared.{Shares, Passed, IsLocal}
 
--- a fault of syntax stands no earlier
-Ahead : ℕ → Step → Type 0
+-- a fault of syntax stands at the byte that is looked at
+unfoldable pub Ahead : ℕ → Step → Type 0
 Ahead at (Goes r) = Unit {0}
 Ahead at (Ends t) = Unit {0}
-Ahead at (Fault place code) = code ≡ Syntax → at ≤ place
+Ahead at (Fault place code) = code ≡ Syntax → at ≡ place
 
 goes_ahead : (at : ℕ) (heads : List Open) (mode : Mode) (from : ℕ) → Ahead at (goes heads mode from)
 unfolding Ahead
@@ -35,7 +36,7 @@ opened_ahead at heads named from = tt
 
 here_ahead : (at : ℕ) → Ahead at (Fault at Syntax)
 unfolding Ahead
-here_ahead at = λ e. omega arith
+here_ahead at = λ e. refl
 
 number_ahead : (at place : ℕ) → Ahead at (Fault place Number)
 unfolding Ahead
@@ -139,7 +140,7 @@ after_digits-ahead : (P : Protocol) (at : ℕ) (heads : List Open) (from : ℕ) 
 after_digits-ahead P at heads from word [] b = unless_deep-ahead at heads from (Fault at Syntax) (here_ahead at)
 after_digits-ahead P at heads from word (d ∷ ds) b = after_number-ahead P at heads from word (d ∷ ds) (numeral (d ∷ ds)) b
 
-step-ahead : (P : Protocol) (at : ℕ) (heads : List Open) (from : ℕ) (mode : Mode) (b : ℕ) → Ahead at (step_in P at heads from mode b)
+pub step-ahead : (P : Protocol) (at : ℕ) (heads : List Open) (from : ℕ) (mode : Mode) (b : ℕ) → Ahead at (step_in P at heads from mode b)
 step-ahead P at heads from Begins b = at_begin-ahead at heads b
 step-ahead P at heads from (InWord word) b = in_word-ahead P at heads from word b
 step-ahead P at heads from (InDigits word digits) b =
@@ -160,22 +161,28 @@ followed_later next at bytes (Fault p c) place ahead later e =
     let codes : c ≡ Syntax = cc in
     omega (arith, ahead codes, places)
 
-end_later : (at : ℕ) (s : Step) (place : ℕ) → Ahead at s → at_end at s ≡ Refused place Syntax → at ≤ place
-unfolding Ahead
-end_later at (Goes r) place ahead e = let places : at ≡ place = cc in omega (arith, places)
-end_later at (Ends t) place ahead e = absurd (cc)
-end_later at (Fault p c) place ahead e =
-    let places : p ≡ place = cc in
-    let codes : c ≡ Syntax = cc in
-    omega (arith, ahead codes, places)
+cut_later : (at : ℕ) (heads : List Open) (from place : ℕ) → cut_off at heads from ≡ Refused place Syntax → at ≤ place
+cut_later at heads from place e = by (is_deep heads) e
+  where
+    by : (deep : Bool) → (if deep then Refused from Count else Refused at Syntax) ≡ Refused place Syntax → at ≤ place
+    by true told = absurd (cc)
+    by false told = let places : at ≡ place = cc in omega (arith, places)
+
+end_later : (at : ℕ) (heads : List Open) (from : ℕ) (mode : Mode) (place : ℕ) → at_end at heads from mode ≡ Refused place Syntax → at ≤ place
+end_later at [] from Begins place e = let places : at ≡ place = cc in omega (arith, places)
+end_later at (o ∷ heads) from Begins place e = cut_later at heads o.place place e
+end_later at heads from (InWord word) place e = cut_later at heads from place e
+end_later at heads from (InDigits word digits) place e = cut_later at heads from place e
+end_later at heads from AtBracket place e = cut_later at heads from place e
+end_later at heads from (Ended t) place e = cut_later at heads from place e
 
 read_later : (P : Protocol) (bytes : List ℕ) (at place : ℕ) (r : Reading) → read_on P bytes at r ≡ Refused place Syntax → at ≤ place
-read_later P [] at place r e = end_later at (step P at r 10) place (step-ahead P at r.heads r.from r.mode 10) e
+read_later P [] at place r e = end_later at r.heads r.from r.mode place e
 read_later P (b ∷ bytes) at place r e =
     followed_later (read_on P bytes (at + 1)) at (b ∷ bytes) (step P at r b) place (step-ahead P at r.heads r.from r.mode b)
     (λ s told. omega (arith, read_later P bytes (at + 1) place s told)) e
 
-read_fault : (P : Protocol) (n : ℕ) (bytes others : List ℕ) (at place : ℕ) (r : Reading) → Shares n bytes others → place ≡ at + n → read_on P bytes at r ≡ Refused place Syntax → read_on P others at r ≡ Refused place Syntax
+pub read_fault : (P : Protocol) (n : ℕ) (bytes others : List ℕ) (at place : ℕ) (r : Reading) → Shares n bytes others → place ≡ at + n → read_on P bytes at r ≡ Refused place Syntax → read_on P others at r ≡ Refused place Syntax
 unfolding Shares
 read_fault P n [] others at place r shares there e = absurd shares
 read_fault P n (b ∷ bytes) [] at place r shares there e = absurd shares
@@ -194,13 +201,8 @@ read_fault P (suc n) (b ∷ bytes) (c ∷ others) at place r shares there e = ap
     by (Ends t) told again = absurd (cc)
     by (Fault p code) told again = told
 
-read_passed : (P : Protocol) (bytes : List ℕ) (at place : ℕ) (t : Term) (rest : List ℕ) (r : Reading) → read_on P bytes at r ≡ Done t place rest → Passed bytes at place rest
-read_passed P [] at place t rest r e = by (step P at r 10) e
-  where
-    by : (s : Step) → at_end at s ≡ Done t place rest → Passed [] at place rest
-    by (Goes s) told = absurd (cc)
-    by (Ends u) told = let places : at ≡ place = cc in let rests : [] ≡ rest = cc in record { count = 0; there = omega (arith, places); is = sym rests }
-    by (Fault p code) told = absurd (cc)
+pub read_passed : (P : Protocol) (bytes : List ℕ) (at place : ℕ) (t : Term) (rest : List ℕ) (r : Reading) → read_on P bytes at r ≡ Done t place rest → Passed bytes at place rest
+read_passed P [] at place t rest r e = absurd (none_at_end at r.heads r.from r.mode t place rest e)
 read_passed P (b ∷ bytes) at place t rest r e = by (step P at r b) e (λ s. read_passed P bytes (at + 1) place t rest s)
   where
     by : (s : Step) → followed (read_on P bytes (at + 1)) at (b ∷ bytes) s ≡ Done t place rest → ((s : Reading) → read_on P bytes (at + 1) s ≡ Done t place rest → Passed bytes (at + 1) place rest) → Passed (b ∷ bytes) at place rest

@@ -187,7 +187,7 @@ query_found : (number : ℕ) (rest : List ℕ) (at : ℕ) → IsShort number →
 query_found number rest at short =
     joined (read_fixed (codes "query ") (query_text number (32 ∷ rest)) at) (behind_query number) tt (decimal number ++ 32 ∷ rest) tt (32 ∷ rest)
     (fixed_found (codes "query ") (decimal number ++ 32 ∷ rest) at)
-    (λ from. joined (read_number (decimal number ++ 32 ∷ rest) from) (when_number number from) number (32 ∷ rest) tt (32 ∷ rest) (number_found number (32 ∷ rest) from short refl)
+    (λ from. joined (read_number (decimal number ++ 32 ∷ rest) from) (when_number number from) number (32 ∷ rest) tt (32 ∷ rest) (number_found number 32 rest from short refl)
     (λ p. when_true (number == number) (Found tt p (32 ∷ rest)) (Faulty from Count) tt (32 ∷ rest) (same_byte number) record { place = p; is = refl }))
 
 text_found : (reason rest : List ℕ) (at : ℕ) → IsReason reason → Finds (read_text (reason ++ 10 ∷ rest) at) tt rest

@@ -5,6 +5,7 @@ use Rattle.std.specs.Fmt.{decimal}
 use Rattle.std.proofs.lemmas.Bool.{le-leb}
 use Rattle.std.proofs.lemmas.List.{append-nil}
 use Rattle.spec_trees.specs.Tree.{Leaf}
+use Rattle.spec_calculus.specs.Bounds.{most_names}
 use Rattle.spec_calculus.specs.Syntax.{Free, Declared, Process, Secret}
 use Rattle.spec_protocol_scope.specs.Names.{Texts, find_declared, meaning_of, no_names}
 use Rattle.spec_protocol_scope.specs.Declarations.{declare_free, declare_all}
@@ -20,11 +21,11 @@ use Rattle.spec_ring_text.proofs.Rules as rules
 use Rattle.spec_ring_text.proofs.Spelled.{Reads}
 
 -- a key that is declared is one free name more
-key_declared : (T : Texts) (frees : List Declared) (n i : ℕ) → T n ≡ key i → find_declared frees (key i) ≡ None → length frees + 3 ≤ 1024
+key_declared : (T : Texts) (frees : List Declared) (n i : ℕ) → T n ≡ key i → find_declared frees (key i) ≡ None → length frees + 3 ≤ most_names
     → declare_free T (names_of frees) false n ≡ Ok (names_of (frees ++ free_name (key i) false ∷ []))
 key_declared T frees n i e none few =
     let nothing : meaning_of T (names_of frees) (T n) ≡ None = ap (meaning_of T (names_of frees)) e ∙ key_means_nothing T frees i none in
-    let short : nat_le (length frees + 1 + 1 + 0 + 0 + 1) 1024 ≡ true = le-leb _ 1024 (omega arith) in
+    let short : nat_le (length frees + 1 + 1 + 0 + 0 + 1) most_names ≡ true = le-leb _ most_names (omega arith) in
     rw (nothing, short, e, key_no_variable (decimal i)) refl
 
 -- the keys are declared one after another

@@ -1,6 +1,7 @@
 -- The tokens of a ring are spelled as its sketch is.
 use Rattle.std.proofs.Common.{◌≡◌, ℕ, ◌+◌, ◌<◌, ◌≤◌, false, List, [], ◌∷◌, ◌++◌, drop, refl, ap, sym, ◌∙◌, subst, arith, add-one}
 use Rattle.std.specs.Prelude.{◌≢◌, zero, suc, slice_index_or}
+use Rattle.spec_calculus.specs.Bounds.{most_levels}
 use Rattle.spec_protocol_grammar.specs.declared.class.Class.{Class}
 use Rattle.spec_protocol_grammar.specs.declared.class.Class.TheVariants as w
 use Rattle.spec_protocol_grammar.specs.Classes.{same, words}
@@ -20,10 +21,10 @@ abbrev later : List Class → List Class
 later [] = []
 later (c ∷ cs) = cs
 
--- from this place on these classes are those of the items, in at most 512 levels, and nothing is omitted that comes next
+-- from this place on these classes are those of the items, within the limit of levels, and nothing is omitted that comes next
 abbrev Follow : ℕ → List Class → List Item → Type 0
 Follow at cs [] = Unit {0}
-Follow at cs (one level number class ∷ items) = (IsWord (record { number = at; class = first cs }) number class × (level ≤ 512)) × Follow (at + 1) (later cs) items
+Follow at cs (one level number class ∷ items) = (IsWord (record { number = at; class = first cs }) number class × (level ≤ most_levels)) × Follow (at + 1) (later cs) items
 Follow at cs (no class ∷ items) = (same class (first_of items w.End) ≡ false) × Follow at cs items
 Follow at cs (nothing ∷ items) = ⊥
 
@@ -66,15 +67,15 @@ follow_greedy at cs (no class ∷ items) h = (apart class (first_of items w.End)
 follow_greedy at cs (nothing ∷ items) h = absurd h
 
 -- a process of the ring, which stands at this level, and what follows it
-pass_follows : (b l i j : ℕ) (cs : List Chunk) (items : List Item) → l + 5 ≤ 512 → same w.Semicolon (first_of items w.End) ≡ false → same w.Else (first_of items w.End) ≡ false
+pass_follows : (b l i j : ℕ) (cs : List Chunk) (items : List Item) → l + 5 ≤ most_levels → same w.Semicolon (first_of items w.End) ≡ false → same w.Else (first_of items w.End) ≡ false
     → Follow (further 29 b) (classes cs) items → Follow b (later (classes (pass_chunk i j cs))) (unit l (pass_sketch b) ++ items)
 pass_follows b l i j cs items h semicolon otherwise more =
-    let h0 : l ≤ 512 = omega arith in
-    let h1 : l + 1 ≤ 512 = omega arith in
-    let h2 : l + 1 + 1 ≤ 512 = omega arith in
-    let h3 : l + 1 + 1 + 1 ≤ 512 = omega arith in
-    let h4 : l + 1 + 1 + 1 + 1 ≤ 512 = omega arith in
-    let h5 : l + 1 + 1 + 1 + 1 + 1 ≤ 512 = omega arith in
+    let h0 : l ≤ most_levels = omega arith in
+    let h1 : l + 1 ≤ most_levels = omega arith in
+    let h2 : l + 1 + 1 ≤ most_levels = omega arith in
+    let h3 : l + 1 + 1 + 1 ≤ most_levels = omega arith in
+    let h4 : l + 1 + 1 + 1 + 1 ≤ most_levels = omega arith in
+    let h5 : l + 1 + 1 + 1 + 1 + 1 ≤ most_levels = omega arith in
     ((refl, refl), h0) ⨾ ((refl, refl), h1) ⨾ (refl, h1) ⨾ ((refl, refl), h2) ⨾ refl ⨾ (refl, h1) ⨾ ((refl, refl), h2) ⨾
     refl ⨾ (refl, h1) ⨾ (refl, h1) ⨾ ((refl, refl), h2) ⨾ ((refl, refl), h3) ⨾ refl ⨾ (refl, h2) ⨾ ((refl, refl), h3) ⨾
     (refl, h3) ⨾ ((refl, refl), h4) ⨾ refl ⨾ (refl, h3) ⨾ ((refl, refl), h4) ⨾ refl ⨾ refl ⨾ (refl, h3) ⨾ (refl, h2) ⨾
@@ -83,7 +84,7 @@ pass_follows b l i j cs items h semicolon otherwise more =
     otherwise ⨾ more
 
 -- all of them, with the `|` before them, and the end of the file
-passes_follow : (n b l i m : ℕ) → l + m + 7 ≤ 512 → Follow b (classes (pass_chunks n i (suc m))) (word l w.Bar ∷ (process (l + 1) (passes_sketch (b + 1) m) ++ (word 0 w.End ∷ [])))
+passes_follow : (n b l i m : ℕ) → l + m + 7 ≤ most_levels → Follow b (classes (pass_chunks n i (suc m))) (word l w.Bar ∷ (process (l + 1) (passes_sketch (b + 1) m) ++ (word 0 w.End ∷ [])))
 passes_follow n b l i zero h =
     ((refl, omega arith), pass_follows (b + 1) (l + 1 + 1) i (successor n i) [] (no w.Bar ∷ word 0 w.End ∷ []) (omega arith) refl refl (refl ⨾ (refl, omega arith) ⨾ tt))
 passes_follow n b l i (suc m) h = (
@@ -93,30 +94,30 @@ passes_follow n b l i (suc m) h = (
 )
 
 -- the query and the main process
-middle_follows : (n b m : ℕ) → m + 8 ≤ 512 → Follow b (classes (middle_chunks (pass_chunks n 1 (suc m)))) (declarations (key_sketches b zero) (main (further 6 b) (main_sketch (further 6 b) m)))
+middle_follows : (n b m : ℕ) → m + 8 ≤ most_levels → Follow b (classes (middle_chunks (pass_chunks n 1 (suc m)))) (declarations (key_sketches b zero) (main (further 6 b) (main_sketch (further 6 b) m)))
 middle_follows n b m h =
-    let h0 : 0 ≤ 512 = omega arith in
-    let h1 : 1 ≤ 512 = omega arith in
-    let h2 : 2 ≤ 512 = omega arith in
-    let h3 : 3 ≤ 512 = omega arith in
-    let h4 : 4 ≤ 512 = omega arith in
+    let h0 : 0 ≤ most_levels = omega arith in
+    let h1 : 1 ≤ most_levels = omega arith in
+    let h2 : 2 ≤ most_levels = omega arith in
+    let h3 : 3 ≤ most_levels = omega arith in
+    let h4 : 4 ≤ most_levels = omega arith in
     ((refl, refl), h0) ⨾ ((refl, refl), h0) ⨾ (refl, h0) ⨾ ((refl, refl), h1) ⨾ refl ⨾ (refl, h0) ⨾ (refl, h0) ⨾
     ((refl, refl), h0) ⨾ ((refl, refl), h2) ⨾ (refl, h2) ⨾ ((refl, refl), h3) ⨾ refl ⨾ (refl, h2) ⨾ ((refl, refl), h3) ⨾
     (refl, h3) ⨾ ((refl, refl), h4) ⨾ refl ⨾ (refl, h3) ⨾ ((refl, refl), h4) ⨾ refl ⨾ refl ⨾ (refl, h3) ⨾ (refl, h2) ⨾
     refl ⨾ passes_follow n (further 18 b) 1 1 m (omega arith)
 
-keys_follow : (n b i k m : ℕ) → m + 8 ≤ 512 → Follow b (classes (key_chunks i k (middle_chunks (pass_chunks n 1 (suc m))))) (declarations (key_sketches b k) (main (further 6 (behind_keys b k)) (main_sketch (further 6 (behind_keys b k)) m)))
+keys_follow : (n b i k m : ℕ) → m + 8 ≤ most_levels → Follow b (classes (key_chunks i k (middle_chunks (pass_chunks n 1 (suc m))))) (declarations (key_sketches b k) (main (further 6 (behind_keys b k)) (main_sketch (further 6 (behind_keys b k)) m)))
 keys_follow n b i zero m h = middle_follows n b m h
 keys_follow n b i (suc k) m h =
-    let h0 : 0 ≤ 512 = omega arith in
+    let h0 : 0 ≤ most_levels = omega arith in
     ((refl, refl), h0) ⨾ (refl, h0) ⨾ ((refl, refl), h0) ⨾ refl ⨾ (refl, h0) ⨾ keys_follow n (further 4 b) (i + 1) k m h
 
 -- the whole file
-ring_follows : (m : ℕ) → m + 8 ≤ 512 → Follow 0 (classes (ring_chunks (suc m))) (file (ring_sketch m))
+ring_follows : (m : ℕ) → m + 8 ≤ most_levels → Follow 0 (classes (ring_chunks (suc m))) (file (ring_sketch m))
 ring_follows m h =
-    let h0 : 0 ≤ 512 = omega arith in
-    let h1 : 1 ≤ 512 = omega arith in
-    let h2 : 2 ≤ 512 = omega arith in
+    let h0 : 0 ≤ most_levels = omega arith in
+    let h1 : 1 ≤ most_levels = omega arith in
+    let h2 : 2 ≤ most_levels = omega arith in
     ((refl, refl), h0) ⨾ ((refl, refl), h0) ⨾ refl ⨾ (refl, h0) ⨾ ((refl, refl), h0) ⨾ (refl, h0) ⨾ ((refl, refl), h0) ⨾
     refl ⨾ (refl, h0) ⨾ ((refl, refl), h0) ⨾ ((refl, refl), h0) ⨾ (refl, h0) ⨾ ((refl, refl), h0) ⨾ (refl, h0) ⨾
     ((refl, refl), h0) ⨾ ((refl, refl), h0) ⨾ (refl, h0) ⨾ ((refl, refl), h1) ⨾ (refl, h1) ⨾ ((refl, refl), h2) ⨾ refl ⨾

@@ -3,6 +3,7 @@ use Rattle.std.proofs.Common.{◌≡◌, ℕ, ◌+◌, ◌≤◌, true, false, L
 use Rattle.std.proofs.Math.Nat.{add-zero}
 use Rattle.std.proofs.lemmas.Bool.{le-leb}
 use Rattle.spec_trees.specs.Tree.{Leaf}
+use Rattle.spec_calculus.specs.Bounds.{most_points, most_points_above}
 use Rattle.spec_calculus.specs.Syntax as calculus
 use Rattle.spec_protocol_grammar.specs.Sketch.{TermSketch, none, more, NamedPattern, no_patterns, UnitSketch, Replicated, Output, Input, Let, omitted, given}
 use Rattle.spec_protocol_scope.specs.Names.{Scope, MeansFree, MeansConstructor, MeansDestructor, look, Bound, bound_as}
@@ -13,8 +14,8 @@ use Rattle.spec_ring_text.specs.Meaning.{encrypted}
 use Rattle.spec_ring_text.proofs.Sketch.{bare, applied}
 
 -- there is room for a point
-pub room : (bound : List Bound) (above point variable : ℕ) → above ≤ 511 → point ≤ 4096 → is_room (record { bound = bound; above = above; used = None }) (record { point = point; variable = variable }) ≡ true
-room bound above point variable few_above few = rw (le-leb point 4096 few, le-leb above 511 few_above) refl
+pub room : (bound : List Bound) (above point variable : ℕ) → above ≤ most_points_above → point ≤ most_points → is_room (record { bound = bound; above = above; used = None }) (record { point = point; variable = variable }) ≡ true
+room bound above point variable few_above few = rw (le-leb point most_points few, le-leb above most_points_above few_above) refl
 
 module _ (s : Scope) (bound : List Bound) where
   -- the term stands for this one
@@ -46,7 +47,7 @@ at_site bound above = record { bound = bound; above = above; used = None }
 abbrev pub at_numbers : ℕ → ℕ → Numbers
 at_numbers point variable = record { point = point; variable = variable }
 
-module _ (s : Scope) (macros : Macros) (bound : List Bound) (a p v : ℕ) (few_above : a + 1 ≤ 511) (few : p + 1 ≤ 4096) where
+module _ (s : Scope) (macros : Macros) (bound : List Bound) (a p v : ℕ) (few_above : a + 1 ≤ most_points_above) (few : p + 1 ≤ most_points) where
   pub output : (n : ℕ) (c m : TermSketch) (x y : calculus.Term) → Denotes s bound c x → Denotes s bound m y
       → unit s macros (at_site bound a) (at_numbers p v) (Output n c m omitted) ≡ Ok (calculus.Output x y calculus.Nil, at_numbers (p + 1 + 1) v)
   output n c m x y h k = rw (room bound a p v (omega arith) (omega arith), h, k, room bound (a + 1) (p + 1) v few_above few) refl
@@ -60,7 +61,7 @@ module _ (s : Scope) (macros : Macros) (bound : List Bound) (a p v : ℕ) (few_a
       → unit s macros (at_site bound a) (at_numbers p v) (Input n c (NamedPattern x no_patterns) (given u)) ≡ Ok (calculus.Input y (Leaf (calculus.Bind v)) P, end)
   input n x c u y P end h k = rw (room bound a p v (omega arith) (omega arith), h, add-zero v, k) refl
 
-  pub let_call : (n x : ℕ) (t : TermSketch) (u : UnitSketch) (e : calculus.Expression) (P : calculus.Process) (q w : ℕ) → q ≤ 4096 → expression s bound t ≡ Ok e
+  pub let_call : (n x : ℕ) (t : TermSketch) (u : UnitSketch) (e : calculus.Expression) (P : calculus.Process) (q w : ℕ) → q ≤ most_points → expression s bound t ≡ Ok e
       → unit s macros (at_site (record { token = x; name = calculus.Variable v } ∷ bound) (a + 1)) (at_numbers (p + 1) (v + 1)) u ≡ Ok (P, at_numbers q w)
       → unit s macros (at_site bound a) (at_numbers p v) (Let n (NamedPattern x no_patterns) t u omitted) ≡ Ok (calculus.Let (Leaf (calculus.Bind v)) e P calculus.Nil, at_numbers (q + 1) w)
   let_call n x t u e P q w few_q h k = rw (room bound a p v (omega arith) (omega arith), add-zero v, h, k, room bound (a + 1) q w few_above few_q) refl

@@ -3,6 +3,7 @@ use Rattle.std.proofs.Common.{◌≡◌, ℕ, ◌+◌, ◌-◌, ◌*◌, ◌<◌
 use Rattle.std.specs.Prelude.{◌≢◌, zero, suc, codes, ◌==◌}
 use Rattle.std.proofs.lemmas.Bool.Decides.{eqb_tells}
 use Rattle.spec_trees.specs.Tree.{Leaf}
+use Rattle.spec_calculus.specs.Bounds.{most_points, most_points_above}
 use Rattle.spec_calculus.specs.Syntax as calculus
 use Rattle.spec_protocol_scope.specs.Names.{Texts, Scope, Bound, bound_as}
 use Rattle.spec_protocol_grammar.specs.Sketch.{UnitSketch, Input, NamedPattern, no_patterns, given}
@@ -21,7 +22,7 @@ use Rattle.spec_ring_text.proofs.Spelled.{Reads}
 abbrev message : ℕ → ℕ → calculus.Term
 message v j = encrypted (Leaf (calculus.Variable (v + 1))) (key_name j)
 
-module _ (T : Texts) (n : ℕ) (small : n < 900) (bound : List Bound) (a p v : ℕ) (few_above : a + 1 ≤ 511) (few : p + 1 ≤ 4096) where
+module _ (T : Texts) (n : ℕ) (small : n < 900) (bound : List Bound) (a p v : ℕ) (few_above : a + 1 ≤ most_points_above) (few : p + 1 ≤ most_points) where
   abbrev s : Scope
   s = ring_scope T n
 
@@ -37,7 +38,7 @@ module _ (T : Texts) (n : ℕ) (small : n < 900) (bound : List Bound) (a p v : �
 -- a process of the ring, by the texts of its tokens
 module _ (T : Texts) (n : ℕ) (small : n < 900) (i j : ℕ) (i_low : 1 ≤ i) (i_high : i ≤ n) (j_low : 1 ≤ j) (j_high : j ≤ n)
     (bang input channel x let_word y dec x_again key_token output channel_again enc y_again next a p v : ℕ)
-    (x_is : T x ≡ codes "x") (y_is : T y ≡ codes "y") (few_above : a + 4 ≤ 511) (few : p + 5 ≤ 4096) where
+    (x_is : T x ≡ codes "x") (y_is : T y ≡ codes "y") (few_above : a + 4 ≤ most_points_above) (few : p + 5 ≤ most_points) where
   abbrev with_x : List Bound
   with_x = record { token = x; name = calculus.Variable v } ∷ []
 
@@ -85,7 +86,7 @@ module _ (T : Texts) (n : ℕ) (small : n < 900) (i j : ℕ) (i_low : 1 ≤ i) (
       ∙ (ap (λ (k : ℕ). Ok (pass i j v, at_numbers k (v + 1 + 1))) points ∙ ap (λ (k : ℕ). Ok (pass i j v, at_numbers (p + 6) k)) variables)
 
 -- a process of the ring, from the `|` before it on
-pass_at : (T : Texts) (n : ℕ) → n < 900 → (i j : ℕ) → 1 ≤ i → i ≤ n → 1 ≤ j → j ≤ n → (b a p v : ℕ) (behind : List Chunk) → Reads T b (words (pass_chunk i j behind)) → a + 4 ≤ 511 → p + 5 ≤ 4096
+pass_at : (T : Texts) (n : ℕ) → n < 900 → (i j : ℕ) → 1 ≤ i → i ≤ n → 1 ≤ j → j ≤ n → (b a p v : ℕ) (behind : List Chunk) → Reads T b (words (pass_chunk i j behind)) → a + 4 ≤ most_points_above → p + 5 ≤ most_points
     → unit (ring_scope T n) no_macros (at_site [] a) (at_numbers p v) (pass_sketch (b + 1)) ≡ Ok (pass i j v, at_numbers (p + 6) (v + 2))
 pass_at T n small i j i_low i_high j_low j_high b a p v behind h few_above few = pass_is T n small i j i_low i_high j_low j_high
     (b + 1) (further 2 b) (further 4 b) (further 6 b) (further 9 b) (further 10 b) (further 12 b) (further 14 b) (further 16 b)
@@ -101,7 +102,7 @@ successor_within n i low high =
     ]
 
 -- the process of key i and those behind it
-passes_are : (T : Texts) (n : ℕ) → n < 900 → (b i m a p v : ℕ) → 1 ≤ i → i + m ≡ n → Reads T b (words (pass_chunks n i (suc m))) → a + m + 4 ≤ 511 → p + 7 * m + 5 ≤ 4096
+passes_are : (T : Texts) (n : ℕ) → n < 900 → (b i m a p v : ℕ) → 1 ≤ i → i + m ≡ n → Reads T b (words (pass_chunks n i (suc m))) → a + m + 4 ≤ most_points_above → p + 7 * m + 5 ≤ most_points
     → (end : Numbers) × (process (ring_scope T n) no_macros (at_site [] a) (at_numbers p v) (passes_sketch (b + 1) m) ≡ Ok (passes n i v m, end))
 passes_are T n small b i zero a p v low high h few_above few =
     let within = successor_within n i low (omega arith) in

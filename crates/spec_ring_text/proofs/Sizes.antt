@@ -4,6 +4,7 @@ use Rattle.std.specs.Prelude.{◌≢◌, zero, suc, ◌==◌, codes}
 use Rattle.std.specs.Fmt.{decimal}
 use Rattle.std.proofs.lemmas.Bool.Decides.{eqb_tells}
 use Rattle.std.proofs.lemmas.Fmt.{decimal_digit, length-decimal-le}
+use Rattle.spec_calculus.specs.Bounds.{most_bytes}
 use Rattle.spec_calculus.specs.Points.{nodes}
 use Rattle.spec_ring_text.specs.Text.{successor, key_line, key_lines, middle_lines, pass_line, pass_lines, ring_text}
 use Rattle.spec_ring_text.specs.Meaning.{passes, ring_protocol}
@@ -74,7 +75,7 @@ few_digits i (suc m) small =
     omega arith
 
 -- they are few
-pub ring_short : (m : ℕ) → m < 500 → length (ring_text (suc m)) ≤ 1048576
+pub ring_short : (m : ℕ) → m < 500 → length (ring_text (suc m)) ≤ most_bytes
 ring_short m small = omega (arith, ring_size m, few_digits 1 (suc m) (omega arith))
 
 passes_points : (n i v m : ℕ) → length (nodes (passes n i v m)) ≡ 7 * m + 6

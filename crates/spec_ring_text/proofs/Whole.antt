@@ -1,6 +1,7 @@
 -- The text of a ring spells its protocol.
 use Rattle.std.proofs.Common.{◌≡◌, ℕ, ◌<◌, ◌≤◌, List, Ok, refl, ap, sym, ◌∙◌, subst, arith}
 use Rattle.std.specs.Prelude.{zero, suc}
+use Rattle.spec_calculus.specs.Bounds.{most_keys}
 use Rattle.spec_protocol_grammar.specs.Classes.{Source}
 use Rattle.spec_protocol_grammar.specs.Spelling.{IsSketch}
 use Rattle.spec_protocol_scope.specs.Names.{Texts}
@@ -54,6 +55,6 @@ rings_spell : (m : ℕ) → m < 500 → Spells (ring_text (suc m)) (ring_protoco
 rings_spell m small = (ring_short m small, subst (λ (bs : List ℕ). IsProtocolOf bs (ring_protocol (suc m))) (ring_bytes (suc m)) (ring_protocol_of m small))
 
 -- the text of a ring spells its protocol
-pub ring_spells : (n : ℕ) → 2 ≤ n → n ≤ 400 → Spells (ring_text n) (ring_protocol n)
+pub ring_spells : (n : ℕ) → 2 ≤ n → n ≤ most_keys → Spells (ring_text n) (ring_protocol n)
 ring_spells zero low high = absurd (omega arith)
 ring_spells (suc m) low high = rings_spell m (omega arith)

@@ -6,6 +6,7 @@
 
 ghost use Rattle.std.specs.Prelude.{◌≡◌, ◌≤◌, ◌+◌, ◌*◌, ℕ, [], ◌∷◌, length};
 ghost use Rattle.spec_trees.specs.Tree.{Leaf};
+ghost use Rattle.spec_calculus.specs.Bounds.{most_keys};
 ghost use Rattle.spec_calculus.specs.Syntax.{Free, Secret};
 ghost use Rattle.spec_calculus.specs.Points.{nodes};
 ghost use Rattle.spec_protocol_scope.specs.Spells.{Spells};
@@ -14,9 +15,9 @@ ghost use Rattle.spec_ring_text.specs.Meaning.{ring_protocol};
 ghost use Rattle.spec_ring_text.specs.Size.{digit_count};
 ghost use Rattle.spec_ring_text.specs.Example.{two_keys};
 
-/// The text of each ring of 2 to 400 keys spells its protocol, and so is never refused.
+/// The text of each ring of 2 keys or more, up to the limit, spells its protocol, and so is never refused.
 pub fn rings_are_protocols()
-    ensures { (n : ℕ) → 2 ≤ n → n ≤ 400 → Spells (ring_text n) (ring_protocol n) }
+    ensures { (n : ℕ) → 2 ≤ n → n ≤ most_keys → Spells (ring_text n) (ring_protocol n) }
 {}
 
 /// The ring of two keys, to the letter.

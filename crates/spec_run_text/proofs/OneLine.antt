@@ -4,6 +4,7 @@ use Rattle.std.specs.Prelude.{nat_lt, ok_or}
 use Rattle.std.specs.List.{AllByRecursion, concat}
 use Rattle.std.specs.Fmt.{decimal}
 use Rattle.std.proofs.lemmas.Bool.Decides.{nat_tests}
+use Rattle.spec_calculus.specs.Bounds.{most_line_bytes}
 use Rattle.spec_calculus.specs.Runs as runs
 use Rattle.spec_calculus.specs.Runs.{Step}
 use Rattle.spec_run_text.specs.Lines.{fields}
@@ -36,7 +37,7 @@ IsRead-from_Spells line s spelled =
       numbers = rw cut (numerals-decimal (numbers_of s) spelled.small);
     }
 
-pub Spells-from_parts : (line : List ℕ) (a : Action) (ns : List ℕ) (s : Step) → length line ≤ 256 → action (first_word line) ≡ Some a → line_numbers line ≡ Some ns → step_with a ns ≡ Some s → Spells line s
+pub Spells-from_parts : (line : List ℕ) (a : Action) (ns : List ℕ) (s : Step) → length line ≤ most_line_bytes → action (first_word line) ≡ Some a → line_numbers line ≡ Some ns → step_with a ns ≡ Some s → Spells line s
 Spells-from_parts line a ns s short named numbered made =
     let parts = cut_line line in
     let comes = step_with-some a ns s made in
@@ -54,7 +55,7 @@ Spells-from_parts line a ns s short named numbered made =
 pub read_line-Spells : (line : List ℕ) (s : Step) → Spells line s → read_line line ≡ Ok s
 read_line-Spells line s spelled =
     let is = IsRead-from_Spells line s spelled in
-    let fits : nat_lt 256 (length line) ≡ false = (let short = spelled.short in grind (arith, nat_tests)) in
+    let fits : nat_lt most_line_bytes (length line) ≡ false = (let short = spelled.short in grind (arith, nat_tests)) in
     rw (fits, is.word, is.numbers, action-word_of s, step_with-numbers_of s)
 
 -- a step with the word of each action
@@ -94,32 +95,32 @@ abbrev pub Tells : List ℕ → Result Step Fault → Type 0
 Tells line (Ok s) = Spells line s
 Tells line (Err fault) = IsFaulty line fault
 
-tells_number : (line : List ℕ) (a : Action) → length line ≤ 256 → action (first_word line) ≡ Some a → read_line line ≡ Err Number → IsFaulty line Number
+tells_number : (line : List ℕ) (a : Action) → length line ≤ most_line_bytes → action (first_word line) ≡ Some a → read_line line ≡ Err Number → IsFaulty line Number
 tells_number line a short named e =
     (short, (with_word a, action-some (first_word line) a named ∙ word_of-with_word a), λ spelled. (let f = sym e ∙ read_line-Spells line spelled.0 spelled.1 in cc f))
 
-tells_step : (line : List ℕ) (a : Action) (ns : List ℕ) (o : Option Step) → length line ≤ 256 → action (first_word line) ≡ Some a → line_numbers line ≡ Some ns → step_with a ns ≡ o → read_line line ≡ ok_or o Number → Tells line (ok_or o Number)
+tells_step : (line : List ℕ) (a : Action) (ns : List ℕ) (o : Option Step) → length line ≤ most_line_bytes → action (first_word line) ≡ Some a → line_numbers line ≡ Some ns → step_with a ns ≡ o → read_line line ≡ ok_or o Number → Tells line (ok_or o Number)
 tells_step line a ns None short named numbered made e = tells_number line a short named e
 tells_step line a ns (Some s) short named numbered made e = Spells-from_parts line a ns s short named numbered made
 
-tells_named : (line : List ℕ) (a : Action) (o : Option (List ℕ)) → length line ≤ 256 → action (first_word line) ≡ Some a → line_numbers line ≡ o → read_line line ≡ line_with (Some a) o → Tells line (line_with (Some a) o)
+tells_named : (line : List ℕ) (a : Action) (o : Option (List ℕ)) → length line ≤ most_line_bytes → action (first_word line) ≡ Some a → line_numbers line ≡ o → read_line line ≡ line_with (Some a) o → Tells line (line_with (Some a) o)
 tells_named line a None short named numbered e = tells_number line a short named e
 tells_named line a (Some ns) short named numbered e = tells_step line a ns (step_with a ns) short named numbered refl e
 
-tells_short : (line : List ℕ) (o : Option Action) → length line ≤ 256 → action (first_word line) ≡ o → read_line line ≡ line_with o (line_numbers line) → Tells line (line_with o (line_numbers line))
+tells_short : (line : List ℕ) (o : Option Action) → length line ≤ most_line_bytes → action (first_word line) ≡ o → read_line line ≡ line_with o (line_numbers line) → Tells line (line_with o (line_numbers line))
 tells_short line None short named e = (short, λ s same. (let f = sym named ∙ ap action same ∙ action-word_of s in cc f))
 tells_short line (Some a) short named e = tells_named line a (line_numbers line) short named refl e
 
 -- what is read of a line holds of it
 pub read_line-tells : (line : List ℕ) → Tells line (read_line line)
-read_line-tells line = by (nat_lt 256 (length line)) refl
+read_line-tells line = by (nat_lt most_line_bytes (length line)) refl
   where
-    by : (long : Bool) → nat_lt 256 (length line) ≡ long → Tells line (read_line line)
+    by : (long : Bool) → nat_lt most_line_bytes (length line) ≡ long → Tells line (read_line line)
     by true h =
-        let over : 256 < length line = grind (arith, nat_tests) in
+        let over : most_line_bytes < length line = grind (arith, nat_tests) in
         rw h over
     by false h =
-        let short : length line ≤ 256 = grind (arith, nat_tests) in
+        let short : length line ≤ most_line_bytes = grind (arith, nat_tests) in
         let e : read_line line ≡ line_with (action (first_word line)) (line_numbers line) = rw h in
         subst (Tells line) (sym e) (tells_short line (action (first_word line)) short refl e)
 

@@ -7,8 +7,8 @@ use Rattle.spec_run_text.specs.Spelling.{word_of, IsSpelled}
 
 pub data Fault : Type 0 where
   Word : Fault  -- the first word is that of no step
-  Number : Fault  -- another count of numbers, or no decimal number of at most 9 digits where one should stand
-  LongLine : Fault  -- the line has more than 256 bytes
+  Number : Fault  -- another count of numbers, or no decimal number within the limit of digits where one should stand
+  LongLine : Fault  -- the line has more bytes than the limit
 
 -- the first word of a line: what stands before its first space, or all of it where it has none
 abbrev pub first_word : List ℕ → List ℕ

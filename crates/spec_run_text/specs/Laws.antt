@@ -2,6 +2,7 @@
 use Rattle.std.specs.Prelude.{◌≡◌, ℕ, ◌≤◌, ◌⊎◌, List, length, slice_index, true}
 use Rattle.std.specs.Str.{all_ascii_digits}
 use Rattle.std.specs.Str.Parse.{digits_value}
+use Rattle.spec_calculus.specs.Bounds.{most_digits}
 use Rattle.spec_calculus.specs.Runs.{Step}
 use Rattle.spec_run_text.specs.Faults.{Fault}
 use Rattle.spec_run_text.specs.Text.{SpellsRun, IsRefused, text_of, unended_text_of}
@@ -14,10 +15,10 @@ HasAnswer bytes = ((steps : List Step) × SpellsRun bytes steps) ⊎ ((fault : F
 abbrev pub IsText : List ℕ → List Step → Type 0
 IsText bytes steps = (bytes ≡ text_of steps) ⊎ (bytes ≡ unended_text_of steps)
 
--- the bytes are the number in decimal digits, 9 at most, and no 0 stands before another digit
+-- the bytes are the number in decimal digits, no more than the limit, and no 0 stands before another digit
 pub record IsNumeral (digits : List ℕ) (number : ℕ) : Type 0 where
   pub all_digits : all_ascii_digits digits ≡ true
   pub some : 1 ≤ length digits
-  pub few : length digits ≤ 9
+  pub few : length digits ≤ most_digits
   pub no_leading_zero : slice_index digits 0 ≡ 48 → length digits ≡ 1
   pub value : digits_value 10 digits ≡ number

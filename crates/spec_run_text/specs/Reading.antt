@@ -52,7 +52,7 @@ step_with Fail (thread ∷ []) = Some (runs.Fail thread)
 step_with Mark (thread ∷ []) = Some (runs.Mark thread)
 step_with other numbers = None
 
--- whether the bytes are 1 to 9 digits, of which a 0 stands first only alone
+-- whether the bytes are digits, one at least and no more than the limit, of which a 0 stands first only alone
 abbrev pub is_numeral : List ℕ → Bool
 is_numeral digits = all_ascii_digits digits && nat_le 1 (length digits) && nat_le (length digits) most_digits && ((length digits == 1) || not (slice_index digits 0 == 48))
 

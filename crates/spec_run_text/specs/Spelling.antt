@@ -45,11 +45,11 @@ spaced n = 32 ∷ decimal n
 abbrev pub line_of : Step → List ℕ
 line_of step = word_of step ++ concat (map spaced (numbers_of step))
 
--- the number has at most 9 digits
+-- the number is within the limit of digits
 abbrev pub IsSmall : ℕ → Type 0
 IsSmall n = n < 10 ^ most_digits
 
--- the line, of at most 256 bytes, is that of the step, each of whose numbers has at most 9 digits
+-- the line, within the limit of bytes, is that of the step, each of whose numbers is within the limit of digits
 pub record Spells (line : List ℕ) (step : Step) : Type 0 where
   pub text : line ≡ line_of step
   pub small : AllByRecursion IsSmall (numbers_of step)

@@ -36,6 +36,6 @@ text_of (step ∷ steps) = line_of step ++ (10 ∷ text_of steps)
 abbrev pub unended_text_of : List Step → List ℕ
 unended_text_of steps = join_with_byte 10 (map line_of steps)
 
--- the step has a line that spells it: its numbers have at most 9 digits, and its line at most 256 bytes
+-- the step has a line that spells it: its numbers are within the limit of digits, and its line within that of bytes
 abbrev pub IsWritable : Step → Type 0
 IsWritable step = Spells (line_of step) step

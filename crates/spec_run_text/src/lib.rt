@@ -1,8 +1,8 @@
 //! The text of a run: which bytes spell which steps, and where bytes are refused.
 //!
 //! A text is lines, each ended by a line feed, which the last may lack. A line is the word of a step and its
-//! numbers, one space before each; a number is decimal, of at most nine digits, without leading zero. A line
-//! has at most 256 bytes, its line feed not counted.
+//! numbers, one space before each; a number is decimal, within the limit of digits, without leading zero. A
+//! line is within the limit of bytes, its line feed not counted.
 //!
 //! The definitions stand in `specs/`. The laws about them that a reader would ask for are the contracts of the
 //! functions below, which do nothing.
@@ -42,13 +42,13 @@ pub fn always_one()
 {}
 
 /// Bytes spell steps exactly where they are the steps' text, of which the last line feed may be lacking, and
-/// each step has a line: its numbers have at most nine digits, and its line at most 256 bytes.
+/// each step has a line: its numbers are within the limit of digits, and its line within that of bytes.
 pub fn texts_are_exact()
     ensures { (bytes : List ℕ) (steps : List Step) →
         SpellsRun bytes steps ↔ (IsText bytes steps × AllByRecursion IsWritable steps) }
 {}
 
-/// The numbers of a line are one to nine decimal digits, and no 0 stands before another digit.
+/// The numbers of a line are decimal digits, one at least and no more than the limit, and no 0 stands before another digit.
 pub fn numerals_are_decimal()
     ensures { (digits : List ℕ) (n : ℕ) → ((digits ≡ decimal n) × IsSmall n) ↔ IsNumeral digits n }
 {}

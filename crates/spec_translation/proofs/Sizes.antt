@@ -6,7 +6,7 @@ use Rattle.std.proofs.lemmas.List.{length-append}
 use Rattle.spec_trees.specs.Tree.{Tree, Trees, Leaf, Node, none, more, trees, node, size, sizes}
 use Rattle.spec_calculus.specs.Syntax.{Name, Made, Variable, Symbol, Process, Nil, Output, Input, Parallel, Replication, New, Let, Event, Rule, Declared, Destructor, EventTerm, Query, Secret, SecretNew, Correspondence, Protocol}
 use Rattle.spec_calculus.specs.Syntax as calculus
-use Rattle.spec_calculus.specs.Bounds.{most_symbols}
+use Rattle.spec_calculus.specs.Bounds.{most_arguments, most_points_above, most_symbols}
 use Rattle.spec_calculus.specs.Points.{numbered, name_arguments}
 use Rattle.spec_well_formed.specs.Processes.{height}
 use Rattle.spec_well_formed.specs.Limits.{IsSmallRule, IsSmallDestructor, IsSmallQuery, IsWithinLimits}
@@ -85,7 +85,7 @@ name_small x raw e = go x.1.public e where
   go true k = let same : made ≡ raw = cc in subst IsSmallRaw same (half_is_small made (omega arith))
   go false k = cc
 
-constructor_small : (number : ℕ) (declared : Declared) → declared.arity ≤ 16 → (raw : Clause Term) → constructor_applied (number, declared) ≡ Some raw → IsSmallRaw raw
+constructor_small : (number : ℕ) (declared : Declared) → declared.arity ≤ most_arguments → (raw : Clause Term) → constructor_applied (number, declared) ≡ Some raw → IsSmallRaw raw
 constructor_small number declared few raw e = go (declared.public && not declared.is_data) e where
   arguments : List Term
   arguments = variables_from 0 declared.arity
@@ -101,7 +101,7 @@ constructor_small number declared few raw e = go (declared.public && not declare
       subst IsSmallRaw same (half_is_small made (omega arith))
   go false k = cc
 
-constructors_small : (items : List Declared) (from : ℕ) → AllByRecursion (λ d. d.arity ≤ 16) items → AllByRecursion IsSmallRaw (filter_map constructor_applied (enumerate_from from items))
+constructors_small : (items : List Declared) (from : ℕ) → AllByRecursion (λ d. d.arity ≤ most_arguments) items → AllByRecursion IsSmallRaw (filter_map constructor_applied (enumerate_from from items))
 constructors_small [] from few = tt
 constructors_small (d ∷ ds) from few = go (constructor_applied (from, d)) refl (constructors_small ds (from + 1) few.1) where
   go : (o : Option (Clause Term)) → constructor_applied (from, d) ≡ o → AllByRecursion IsSmallRaw (filter_map constructor_applied (enumerate_from (from + 1) ds)) → AllByRecursion IsSmallRaw (cons_option o (filter_map constructor_applied (enumerate_from (from + 1) ds)))
@@ -157,8 +157,8 @@ numbered_below : (bound : ℕ) → 0 < bound → (xs : List ℕ) → AllByRecurs
 numbered_below bound some xs all zero = some
 numbered_below bound some xs all (suc i) = got_below bound some xs all i
 
-arguments_few : (P : Protocol) (point : ℕ) → height P.main ≤ 512 → arguments_at P point < 512
-arguments_few P point way = numbered_below 512 (omega arith) (name_arguments 0 P.main) (arguments_below 0 512 P.main (omega arith)) point
+arguments_few : (P : Protocol) (point : ℕ) → height P.main ≤ 1 + most_points_above → arguments_at P point < 1 + most_points_above
+arguments_few P point way = numbered_below (1 + most_points_above) (omega arith) (name_arguments 0 P.main) (arguments_below 0 (1 + most_points_above) P.main (omega arith)) point
 
 -- an event has no more variables than symbols
 filter-length : {X : Type 0} (p : X → Bool) (xs : List X) → length (filter p xs) ≤ length xs

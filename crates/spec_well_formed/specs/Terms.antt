@@ -2,6 +2,7 @@
 use Rattle.std.specs.Prelude.{◌≡◌, ℕ, ◌+◌, ◌<◌, ◌≤◌, true, List, length, Some, Contains, filter_map, Option, None}
 use Rattle.std.specs.List.{AllByRecursion}
 use Rattle.spec_trees.specs.Tree.{Tree, Trees, Leaf, Node, none, more, trees, size, sizes}
+use Rattle.spec_calculus.specs.Bounds.{most_arguments, most_written_symbols}
 use Rattle.spec_calculus.specs.Syntax.{Name, Free, Made, Variable, Symbol, Constructor, Tuple, Term, Hole, Bind, Equal, Pattern, Expression, Plain, Call, EventTerm, Declared, Destructor}
 use Rattle.spec_calculus.specs.Points.{numbered}
 use Rattle.spec_calculus.specs.Matching.{IsLinear}
@@ -29,10 +30,10 @@ pub record HasArity (items : List Declared) (number arity : ℕ) : Type 0 where
   pub stands : numbered items number ≡ Some declared
   pub is : declared.arity ≡ arity
 
--- one of these constructors takes so many arguments; a tuple has from 2 to 16 parts
+-- one of these constructors takes so many arguments; a tuple has two parts at least, and no more than the limit of arguments
 abbrev pub TakesArguments : Signature → Symbol → ℕ → Type 0
 TakesArguments signature (Constructor number) count = HasArity signature.constructors number count
-TakesArguments signature Tuple count = (2 ≤ count) × (count ≤ 16)
+TakesArguments signature Tuple count = (2 ≤ count) × (count ≤ most_arguments)
 
 -- one that is a data constructor
 pub record HasDataArity (items : List Declared) (number arity : ℕ) : Type 0 where
@@ -43,13 +44,13 @@ pub record HasDataArity (items : List Declared) (number arity : ℕ) : Type 0 wh
 
 abbrev pub TakesPatterns : Signature → Symbol → ℕ → Type 0
 TakesPatterns signature (Constructor number) count = HasDataArity signature.constructors number count
-TakesPatterns signature Tuple count = (2 ≤ count) × (count ≤ 16)
+TakesPatterns signature Tuple count = (2 ≤ count) × (count ≤ most_arguments)
 
--- a term over these leaves and constructors, of at most 2,000 symbols
+-- a term over these leaves and constructors, of no more symbols than may be written
 pub record IsTermOver (signature : Signature) (IsLeaf : Name → Type 0) (t : Term) : Type 0 where
   pub known : AllByRecursion IsLeaf (leaves t)
   pub arities : EachSymbol (TakesArguments signature) t
-  pub few : size t ≤ 2000
+  pub few : size t ≤ most_written_symbols
 
 -- what is bound above, or a declared free name
 abbrev pub IsKnown : Signature → List Name → Name → Type 0
@@ -92,7 +93,7 @@ abbrev pub IsExpressionBelow : Signature → List Name → Expression → Type 0
 IsExpressionBelow signature bound (Plain t) = IsTermBelow signature bound t
 IsExpressionBelow signature bound (Call d arguments) =
     HasRulesFor signature d (length arguments) × AllByRecursion (IsTermBelow signature bound) arguments
-    × (1 + sizes (trees arguments) ≤ 2000)
+    × (1 + sizes (trees arguments) ≤ most_written_symbols)
 
 -- an event over these leaves
 pub record IsEventOver (signature : Signature) (IsLeaf : Name → Type 0) (e : EventTerm) : Type 0 where

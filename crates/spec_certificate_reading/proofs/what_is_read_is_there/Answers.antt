@@ -3,7 +3,7 @@ use Rattle.spec_certificate_reading.proofs.Kept.{read_term-kept}
 use Rattle.spec_certificate_reading.proofs.what_is_read_is_there.Goals as goal
 
 pub returns-clause-text : goal.returns-clause-text
-returns-clause-text c = λ P bytes at place b t rest e. read_term-sound P bytes at t place b rest e
+returns-clause-text c = λ P bytes at place t rest e. read_term-sound P bytes at t place rest e
 
 pub returns-clause-is_of : goal.returns-clause-is_of
 returns-clause-is_of c = λ P bytes at place t rest e. read_term-kept P bytes at t place rest e

@@ -1,4 +1,5 @@
 use Rattle.std.proofs.Common.{rules}
+use Rattle.spec_calculus.specs.Bounds.{most_symbols}
 use Rattle.spec_clauses.specs.Variables.{clause_variables}
 use Rattle.clause_form.specs.Seen.{clause_at}
 use Rattle.clause_form.proofs.Occurring.{counted_tells}
@@ -6,7 +7,7 @@ use Rattle.clause_form.proofs.Told.{lonely_are}
 use Rattle.clause_form.proofs.normality.has_none_lonely_counted.Goals as goal
 
 pub none_lonely-requires-clause-table : goal.none_lonely-requires-clause-table
-none_lonely-requires-clause-table g c = counted_tells 4096 (clause_variables (clause_at (g.B.Bank.trees c.args.bank.now) c.args.clause.now)) c.count_in_clause.new.table (search rules)
+none_lonely-requires-clause-table g c = counted_tells most_symbols (clause_variables (clause_at (g.B.Bank.trees c.args.bank.now) c.args.clause.now)) c.count_in_clause.new.table (search rules)
 
 pub returns : goal.returns
 returns g c = lonely_are (clause_at (g.B.Bank.trees c.args.bank.now) c.args.clause.now) c.none_lonely.result (search rules)

@@ -1,8 +1,9 @@
 //! The limits of protocols, of runs, of clauses and of reports. The definitions name each once, and the constants
 //! here are those numbers.
+#![tactic(auto)]
 
 ghost use Rattle.std.specs.Prelude.{◌≡◌};
-ghost use Rattle.spec_calculus.specs.Bounds.{most_bytes, most_report_bytes, most_run_bytes, most_line_bytes, most_digits, most_levels, most_names, most_arguments, most_rules, most_alternatives, most_events, most_queries, most_written_symbols, most_points, most_points_above, most_symbols, most_visits, most_clauses};
+ghost use Rattle.spec_calculus.specs.Bounds.{most_bytes, most_report_bytes, most_run_bytes, most_line_bytes, most_digits, most_levels, most_names, most_arguments, most_rules, most_alternatives, most_events, most_queries, most_written_symbols, most_points, most_points_above, most_symbols, most_term_levels, most_visits, most_clauses, most_budget, most_keys};
 
 /// The most bytes of a protocol's text.
 pub const MOST_BYTES: usize = 1_048_576;
@@ -52,11 +53,20 @@ pub const MOST_POINTS_ABOVE: usize = 511;
 /// The most symbols of a clause or a bound term, and of a value in a replay.
 pub const MOST_SYMBOLS: u64 = 4096;
 
+/// The most levels of a term in the text of a certificate.
+pub const MOST_TERM_LEVELS: usize = 4096;
+
 /// The most visits of one translation.
 pub const MOST_VISITS: u32 = 65_536;
 
 /// The most clauses of a certificate.
 pub const MOST_CLAUSES: usize = 1_000_000;
+
+/// The greatest budget: a log has no more entries.
+pub const MOST_BUDGET: u64 = 1_000_000;
+
+/// The most keys of a ring.
+pub const MOST_KEYS: u64 = 400;
 
 /// Each constant is the number that the definitions name.
 pub fn limits_are_named()
@@ -76,6 +86,9 @@ pub fn limits_are_named()
     ensures points { MOST_POINTS ≡ most_points }
     ensures points_above { MOST_POINTS_ABOVE ≡ most_points_above }
     ensures symbols { MOST_SYMBOLS ≡ most_symbols }
+    ensures term_levels { MOST_TERM_LEVELS ≡ most_term_levels }
     ensures visits { MOST_VISITS ≡ most_visits }
     ensures clauses { MOST_CLAUSES ≡ most_clauses }
+    ensures budget { MOST_BUDGET ≡ most_budget }
+    ensures keys { MOST_KEYS ≡ most_keys }
 {}
