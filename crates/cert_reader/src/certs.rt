@@ -1,112 +1,101 @@
 //! Certificates.
 
-ghost use Rattle.std.specs.Prelude.{◌≤◌, [], drop, length};
+ghost use Rattle.std.specs.Prelude.{◌≡◌, ◌≤◌, [], drop, length};
 ghost use Rattle.pi_tree.specs.Protocols.{protocol_of};
+ghost use Rattle.term_reader.specs.Naming.{protocol_in};
 ghost use Rattle.term_reader.specs.Few.{HasFewNames};
 ghost use Rattle.spec_certificate_reading.specs.Certificates as reading;
 ghost use Rattle.spec_certificate_reading.specs.Outcomes.{lines_from};
 ghost use Rattle.fact_reader.specs.Gives.{Gives, StopsWithin, same};
+ghost use Rattle.fact_reader.specs.Reads.{Reads};
 
 use crate::rows::rows;
 use cert_text::{Cert, PlainClauses};
 use clause_form::PlainClause;
-use fact_reader::{CertError, fixed, front, read_clause};
+use fact_reader::{CertError, Cursor, read_clause};
 use pi_tree::{MOST_CLAUSES, Protocol};
 use std::alloc::Global;
+use term_reader::Names;
 
 /// `c `, a clause and the end of its line.
-fn clause_line(
-    alloc: Global,
-    protocol: &Protocol,
-    bytes: &[u8],
-    at: usize,
-) -> Result<(PlainClause, usize), CertError>
-    requires few { HasFewNames (protocol_of protocol.now) }
-    requires within { at ≤ length bytes.now }
-    ensures read { Gives same bytes.now result
-        (reading.clause_line (protocol_of protocol.now) (drop at bytes.now) at) }
-    ensures within { StopsWithin bytes.now result }
+fn clause_line(names: &Names<'_>, cursor: &mut Cursor<'_>) -> Result<PlainClause, CertError>
+    ensures read { Reads same (reading.clause_line (protocol_in names.now))
+        cursor.old cursor.new result }
+    ensures same { cursor.new.bytes.now ≡ cursor.old.bytes.now }
 {
-    let open = fixed(b"c ", bytes, at)?;
-    let (clause, behind) = read_clause(alloc, protocol, bytes, open)?;
-    let end = fixed(b"\n", bytes, behind)?;
-    Ok((clause, end))
+    cursor.pass(b"c ")?;
+    let clause = read_clause(names, cursor)?;
+    cursor.pass(b"\n")?;
+    Ok(clause)
 }
 
 /// Lines of clauses, at most so many.
 #[tactic(auto, using(crate::proofs::Lines::lines))]
 fn clauses(
-    alloc: Global,
-    protocol: &Protocol,
-    bytes: &[u8],
-    at: usize,
+    names: &Names<'_>,
+    cursor: &mut Cursor<'_>,
     most: usize,
-) -> Result<(PlainClauses, usize), CertError>
-    requires few { HasFewNames (protocol_of protocol.now) }
-    requires within { at ≤ length bytes.now }
-    ensures read { Gives same bytes.now result
-        (lines_from 99 (reading.clause_line (protocol_of protocol.now)) most []
-        (drop at bytes.now) at) }
-    ensures within { StopsWithin bytes.now result }
+) -> Result<PlainClauses, CertError>
+    ensures read { Reads same
+        (lines_from 99 (reading.clause_line (protocol_in names.now)) most [])
+        cursor.old cursor.new result }
+    ensures same { cursor.new.bytes.now ≡ cursor.old.bytes.now }
 {
-    let mut items = Vec::new(alloc);
-    let mut place = at;
+    let mut items = Vec::new(names.alloc);
     for round in 0..most {
-        if front(bytes, place) != b'c' {
-            return Ok((PlainClauses { items }, place));
+        if cursor.front() != b'c' {
+            return Ok(PlainClauses { items });
         }
-        let (next, behind) = clause_line(alloc, protocol, bytes, place)?;
+        let next = clause_line(names, cursor)?;
         items.push(next)?;
-        place = behind;
     }
-    if front(bytes, place) == b'c' {
-        return Err(CertError::Count(place));
+    if cursor.front() == b'c' {
+        return Err(CertError::Count(cursor.at));
     }
-    Ok((PlainClauses { items }, place))
+    Ok(PlainClauses { items })
 }
 
 /// The two kinds of rows, and the last line.
 fn certificate_end(
     alloc: Global,
+    cursor: &mut Cursor<'_>,
     clauses: PlainClauses,
-    bytes: &[u8],
-    at: usize,
-) -> Result<(Cert, usize), CertError>
-    requires { at ≤ length bytes.now }
-    ensures read { Gives same bytes.now result
-        (reading.certificate_end clauses (drop at bytes.now) at) }
-    ensures within { StopsWithin bytes.now result }
+) -> Result<Cert, CertError>
+    ensures read { Reads same (reading.certificate_end clauses) cursor.old cursor.new result }
+    ensures same { cursor.new.bytes.now ≡ cursor.old.bytes.now }
 {
-    let (cover, behind) = rows(alloc, b'r', bytes, at)?;
-    let (goals, last) = rows(alloc, b'g', bytes, behind)?;
-    let end = fixed(b"end\n", bytes, last)?;
-    Ok((
-        Cert {
-            clauses,
-            rows: cover,
-            goals,
-        },
-        end,
-    ))
+    let cover = rows(alloc, cursor, b'r')?;
+    let goals = rows(alloc, cursor, b'g')?;
+    cursor.pass(b"end\n")?;
+    Ok(Cert {
+        clauses,
+        rows: cover,
+        goals,
+    })
 }
 
-/// The certificate that stands at the place, of at most so many clauses.
-fn cert_within(
-    alloc: Global,
-    protocol: &Protocol,
-    bytes: &[u8],
-    at: usize,
+/// The certificate that stands there, of at most so many clauses.
+fn certificate_within(
+    names: &Names<'_>,
+    cursor: &mut Cursor<'_>,
     most: usize,
-) -> Result<(Cert, usize), CertError>
-    requires few { HasFewNames (protocol_of protocol.now) }
-    requires within { at ≤ length bytes.now }
-    ensures read { Gives same bytes.now result
-        (reading.certificate_within most (protocol_of protocol.now) (drop at bytes.now) at) }
-    ensures within { StopsWithin bytes.now result }
+) -> Result<Cert, CertError>
+    ensures read { Reads same (reading.certificate_within most (protocol_in names.now))
+        cursor.old cursor.new result }
+    ensures same { cursor.new.bytes.now ≡ cursor.old.bytes.now }
 {
-    let first = fixed(b"cert 1\n", bytes, at)?;
-    let (clauses, behind) = clauses(alloc, protocol, bytes, first, most)?;
-    certificate_end(alloc, clauses, bytes, behind)
+    cursor.pass(b"cert 1\n")?;
+    let clauses = clauses(names, cursor, most)?;
+    certificate_end(names.alloc, cursor, clauses)
+}
+
+/// The certificate that stands there.
+pub fn certificate(names: &Names<'_>, cursor: &mut Cursor<'_>) -> Result<Cert, CertError>
+    ensures read { Reads same (reading.read_certificate (protocol_in names.now))
+        cursor.old cursor.new result }
+    ensures same { cursor.new.bytes.now ≡ cursor.old.bytes.now }
+{
+    certificate_within(names, cursor, MOST_CLAUSES)
 }
 
 /// The certificate that stands at the place, and the place behind it; or the first fault.
@@ -122,5 +111,7 @@ pub fn read_cert(
         (reading.read_certificate (protocol_of protocol.now) (drop at bytes.now) at) }
     ensures within { StopsWithin bytes.now result }
 {
-    cert_within(alloc, protocol, bytes, at, MOST_CLAUSES)
+    let mut cursor = Cursor { bytes, at };
+    let cert = certificate(&Names { alloc, protocol }, &mut cursor)?;
+    Ok((cert, cursor.at))
 }

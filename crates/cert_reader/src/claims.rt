@@ -1,18 +1,20 @@
 //! Reports: what they claim of each query.
 
-ghost use Rattle.std.specs.Prelude.{◌≡◌, List, ◌+◌, ◌≤◌, ◌<◌, ◌==◌, drop, length};
+ghost use Rattle.std.specs.Prelude.{◌≡◌, ◌≢◌, List, [], ◌+◌, ◌≤◌, ◌==◌, drop, length};
 ghost use Rattle.std.specs.List.{position_or_len};
 ghost use Rattle.pi_tree.specs.Protocols.{protocol_of};
+ghost use Rattle.term_reader.specs.Naming.{protocol_in};
 ghost use Rattle.term_reader.specs.Few.{HasFewNames};
 ghost use Rattle.spec_certificate_reading.specs.Reports as reading;
-ghost use Rattle.fact_reader.specs.Gives.{Gives, GivesPlace, StopsWithin, PlaceWithin};
+ghost use Rattle.fact_reader.specs.Reads.{left_of, Reads, Passes};
 ghost use Rattle.cert_reader.specs.Seen.{claim_of, GivesClaims};
 
-use crate::certs::read_cert;
+use crate::certs::certificate;
 use cert_text::Cert;
-use fact_reader::{CertError, fixed, front, number_at};
+use fact_reader::{CertError, Cursor};
 use pi_tree::Protocol;
 use std::alloc::Global;
+use term_reader::Names;
 
 /// What a report claims of a query.
 #[derive(Drop)]
@@ -32,16 +34,15 @@ pub struct Claims {
 }
 
 /// `query ` and the number of the query, which has to be this one.
-fn query_number(bytes: &[u8], at: usize, number: usize) -> Result<usize, CertError>
-    requires { at ≤ length bytes.now }
-    ensures read { GivesPlace bytes.now result
-        (reading.query_number number (drop at bytes.now) at) }
-    ensures within { PlaceWithin bytes.now result }
+fn query_number(cursor: &mut Cursor<'_>, number: usize) -> Result<(), CertError>
+    ensures read { Passes (reading.query_number number) cursor.old cursor.new result }
+    ensures same { cursor.new.bytes.now ≡ cursor.old.bytes.now }
 {
-    let from = fixed(b"query ", bytes, at)?;
-    let (found, behind) = number_at(bytes, from)?;
+    cursor.pass(b"query ")?;
+    let from = cursor.at;
+    let found = cursor.number()?;
     if found as usize == number {
-        Ok(behind)
+        Ok(())
     } else {
         Err(CertError::Count(from))
     }
@@ -65,113 +66,86 @@ fn line_end(bytes: &[u8], at: usize) -> usize
 }
 
 /// Passes over some bytes, one at least, and the end of their line.
-fn text(bytes: &[u8], at: usize) -> Result<usize, CertError>
-    requires { at ≤ length bytes.now }
-    ensures read { GivesPlace bytes.now result (reading.read_text (drop at bytes.now) at) }
-    ensures within { PlaceWithin bytes.now result }
+fn text(cursor: &mut Cursor<'_>) -> Result<(), CertError>
+    ensures read { Passes reading.read_text cursor.old cursor.new result }
+    ensures same { cursor.new.bytes.now ≡ cursor.old.bytes.now }
 {
-    let end = line_end(bytes, at);
-    if end == at {
-        return Err(CertError::Syntax(at));
+    let end = line_end(cursor.bytes, cursor.at);
+    if end == cursor.at {
+        return Err(CertError::Syntax(cursor.at));
     }
-    fixed(b"\n", bytes, end)
+    cursor.at = end;
+    cursor.pass(b"\n")
 }
 
 /// A certificate, if one begins here.
-fn proof(
-    alloc: Global,
-    protocol: &Protocol,
-    bytes: &[u8],
-    at: usize,
-) -> Result<(Claim, usize), CertError>
-    requires few { HasFewNames (protocol_of protocol.now) }
-    requires within { at ≤ length bytes.now }
-    ensures read { Gives claim_of bytes.now result
-        (reading.read_proof (protocol_of protocol.now) (drop at bytes.now) at) }
-    ensures within { StopsWithin bytes.now result }
+fn proof(names: &Names<'_>, cursor: &mut Cursor<'_>) -> Result<Claim, CertError>
+    ensures read { Reads claim_of (reading.read_proof (protocol_in names.now))
+        cursor.old cursor.new result }
+    ensures same { cursor.new.bytes.now ≡ cursor.old.bytes.now }
 {
-    if front(bytes, at) != b'c' {
-        return Ok((Claim::Bare, at));
+    if cursor.front() != b'c' {
+        return Ok(Claim::Bare);
     }
-    let (cert, behind) = read_cert(alloc, protocol, bytes, at)?;
-    Ok((Claim::Proved(cert), behind))
+    let cert = certificate(names, cursor)?;
+    Ok(Claim::Proved(cert))
 }
 
 /// ` proved` and the end of the line, and a certificate, if one stands behind it.
-fn proved(
-    alloc: Global,
-    protocol: &Protocol,
-    bytes: &[u8],
-    at: usize,
-) -> Result<(Claim, usize), CertError>
-    requires few { HasFewNames (protocol_of protocol.now) }
-    requires within { at ≤ length bytes.now }
-    ensures read { Gives claim_of bytes.now result
-        (reading.read_proved (protocol_of protocol.now) (drop at bytes.now) at) }
-    ensures within { StopsWithin bytes.now result }
+fn proved(names: &Names<'_>, cursor: &mut Cursor<'_>) -> Result<Claim, CertError>
+    ensures read { Reads claim_of (reading.read_proved (protocol_in names.now))
+        cursor.old cursor.new result }
+    ensures same { cursor.new.bytes.now ≡ cursor.old.bytes.now }
 {
-    let behind = fixed(b" proved\n", bytes, at)?;
-    proof(alloc, protocol, bytes, behind)
+    cursor.pass(b" proved\n")?;
+    proof(names, cursor)
 }
 
 /// ` unknown `, a reason, which isn't looked at, and the end of the line.
-fn unknown(bytes: &[u8], at: usize) -> Result<(Claim, usize), CertError>
-    requires { at ≤ length bytes.now }
-    ensures read { Gives claim_of bytes.now result (reading.read_unknown (drop at bytes.now) at) }
-    ensures within { StopsWithin bytes.now result }
+fn unknown(cursor: &mut Cursor<'_>) -> Result<Claim, CertError>
+    ensures read { Reads claim_of reading.read_unknown cursor.old cursor.new result }
+    ensures same { cursor.new.bytes.now ≡ cursor.old.bytes.now }
 {
-    let open = fixed(b" unknown ", bytes, at)?;
-    let end = text(bytes, open)?;
-    Ok((Claim::Unknown, end))
+    cursor.pass(b" unknown ")?;
+    text(cursor)?;
+    Ok(Claim::Unknown)
 }
 
 /// What is claimed: the second byte tells ` unknown ` from ` proved`.
-fn verdict(
-    alloc: Global,
-    protocol: &Protocol,
-    bytes: &[u8],
-    at: usize,
-) -> Result<(Claim, usize), CertError>
-    requires few { HasFewNames (protocol_of protocol.now) }
-    requires within { at ≤ length bytes.now }
-    ensures read { Gives claim_of bytes.now result
-        (reading.read_verdict (protocol_of protocol.now) (drop at bytes.now) at) }
-    ensures within { StopsWithin bytes.now result }
+fn verdict(names: &Names<'_>, cursor: &mut Cursor<'_>) -> Result<Claim, CertError>
+    ensures read { Reads claim_of (reading.read_verdict (protocol_in names.now))
+        cursor.old cursor.new result }
+    ensures same { cursor.new.bytes.now ≡ cursor.old.bytes.now }
 {
-    let rest = &bytes[at..];
-    if front(rest, 1) == b'u' {
-        unknown(bytes, at)
+    if cursor.front_behind(1) == b'u' {
+        unknown(cursor)
     } else {
-        proved(alloc, protocol, bytes, at)
+        proved(names, cursor)
     }
 }
 
 /// The claim of the query of this number.
-fn claim_at(
-    alloc: Global,
-    protocol: &Protocol,
-    bytes: &[u8],
-    at: usize,
+fn query_claim(
+    names: &Names<'_>,
+    cursor: &mut Cursor<'_>,
     number: usize,
-) -> Result<(Claim, usize), CertError>
-    requires few { HasFewNames (protocol_of protocol.now) }
-    requires within { at ≤ length bytes.now }
-    ensures read { Gives claim_of bytes.now result
-        (reading.read_claim (protocol_of protocol.now) number (drop at bytes.now) at) }
-    ensures within { StopsWithin bytes.now result }
+) -> Result<Claim, CertError>
+    ensures read { Reads claim_of (reading.read_claim (protocol_in names.now) number)
+        cursor.old cursor.new result }
+    ensures same { cursor.new.bytes.now ≡ cursor.old.bytes.now }
 {
-    let behind = query_number(bytes, at, number)?;
-    verdict(alloc, protocol, bytes, behind)
+    query_number(cursor, number)?;
+    verdict(names, cursor)
 }
 
 /// The fault of what stands behind the claim of the last query: no number is that of a further query.
-fn further(bytes: &[u8], at: usize) -> Result<Claims, CertError>
-    requires { at ≤ length bytes.now }
-    ensures { (claims : List reading.Claim) → at < length bytes.now →
-        GivesClaims result (reading.behind_claims claims at (drop at bytes.now)) }
+fn further(cursor: &mut Cursor<'_>) -> Result<Claims, CertError>
+    ensures { (claims : List reading.Claim) → left_of cursor.old ≢ [] →
+        GivesClaims result (reading.behind_claims claims cursor.old.at (left_of cursor.old)) }
 {
-    let from = fixed(b"query ", bytes, at)?;
-    number_at(bytes, from)?;
+    cursor.pass(b"query ")?;
+    let from = cursor.at;
+    cursor.number()?;
     Err(CertError::Count(from))
 }
 
@@ -182,24 +156,31 @@ fn query_count(protocol: &Protocol) -> usize
     protocol.queries.items.len()
 }
 
-/// The claims of a report, one for each query of the protocol; or the first fault.
+/// The claims that stand there, one for each query of the protocol, with nothing behind them.
 #[tactic(auto, using(crate::proofs::Claimed::claims))]
+fn all_claims(names: &Names<'_>, cursor: &mut Cursor<'_>) -> Result<Claims, CertError>
+    ensures { GivesClaims result (reading.claims_from (protocol_in names.now)
+        (length (protocol_in names.now).queries) 1 [] (left_of cursor.old) cursor.old.at) }
+{
+    let mut items = Vec::new(names.alloc);
+    for query in 0..query_count(names.protocol) {
+        if cursor.is_at_end() {
+            return Err(CertError::Count(cursor.at));
+        }
+        let next = query_claim(names, cursor, query + 1)?;
+        items.push(next)?;
+    }
+    if cursor.is_at_end() {
+        return Ok(Claims { items });
+    }
+    further(cursor)
+}
+
+/// The claims of a report, one for each query of the protocol; or the first fault.
 pub fn read_report(alloc: Global, protocol: &Protocol, bytes: &[u8]) -> Result<Claims, CertError>
     requires { HasFewNames (protocol_of protocol.now) }
     ensures { GivesClaims result (reading.read_report (protocol_of protocol.now) bytes.now) }
 {
-    let mut items = Vec::new(alloc);
-    let mut place = 0;
-    for query in 0..query_count(protocol) {
-        if place == bytes.len() {
-            return Err(CertError::Count(place));
-        }
-        let (next, behind) = claim_at(alloc, protocol, bytes, place, query + 1)?;
-        items.push(next)?;
-        place = behind;
-    }
-    if place == bytes.len() {
-        return Ok(Claims { items });
-    }
-    further(bytes, place)
+    let mut cursor = Cursor { bytes, at: 0 };
+    all_claims(&Names { alloc, protocol }, &mut cursor)
 }

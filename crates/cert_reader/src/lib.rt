@@ -1,4 +1,4 @@
-//! A reader of certificates and reports: exactly what the definitions of the crate `certificate_reading` read.
+//! A reader of certificates and reports: exactly what the definitions of the crate `spec_certificate_reading` read.
 //!
 //! The crates `term_reader`, `fact_reader` and `cert_reader` belong together: they read terms, facts and clauses, and
 //! certificates and reports. What is written by the crate `cert_text` is read here.

@@ -1,13 +1,14 @@
 //! Rows of numbers.
 
-ghost use Rattle.std.specs.Prelude.{◌≤◌, drop, length};
+ghost use Rattle.std.specs.Prelude.{◌≡◌};
 ghost use Rattle.spec_certificate_reading.specs.Certificates as reading;
 ghost use Rattle.spec_certificate_reading.specs.Outcomes.{things};
-ghost use Rattle.fact_reader.specs.Gives.{Gives, StopsWithin, same};
+ghost use Rattle.fact_reader.specs.Gives.{same};
+ghost use Rattle.fact_reader.specs.Reads.{Reads};
 ghost use Rattle.cert_reader.specs.Seen.{numbers_of};
 
 use cert_text::Rows;
-use fact_reader::{CertError, fixed, front, number_at};
+use fact_reader::{CertError, Cursor};
 use std::alloc::Global;
 
 /// The numbers of a row.
@@ -18,70 +19,61 @@ struct Numbers {
 
 /// A number and what stands behind it: a space where another follows, or the end of the line.
 #[tactic(auto, using(fact_reader::proofs::Places::drop_next))]
-fn one_number(bytes: &[u8], at: usize) -> Result<((u32, bool), usize), CertError>
-    requires { at ≤ length bytes.now }
-    ensures read { Gives same bytes.now result (reading.one_number (drop at bytes.now) at) }
-    ensures within { StopsWithin bytes.now result }
+fn one_number(cursor: &mut Cursor<'_>) -> Result<(u32, bool), CertError>
+    ensures read { Reads same reading.one_number cursor.old cursor.new result }
+    ensures same { cursor.new.bytes.now ≡ cursor.old.bytes.now }
 {
-    let (found, behind) = number_at(bytes, at)?;
-    if front(bytes, behind) == b' ' {
-        return Ok(((found, true), behind + 1));
+    let found = cursor.number()?;
+    if cursor.front() == b' ' {
+        cursor.at += 1;
+        return Ok((found, true));
     }
-    let end = fixed(b"\n", bytes, behind)?;
-    Ok(((found, false), end))
+    cursor.pass(b"\n")?;
+    Ok((found, false))
 }
 
 /// Numbers, a space between each two, and the end of the line.
 #[tactic(auto, using(fact_reader::proofs::Things::going))]
-fn row_numbers(alloc: Global, bytes: &[u8], at: usize) -> Result<(Numbers, usize), CertError>
-    requires { at ≤ length bytes.now }
-    ensures read { Gives numbers_of bytes.now result
-        (things reading.one_number (drop at bytes.now) at) }
-    ensures within { StopsWithin bytes.now result }
+fn row_numbers(alloc: Global, cursor: &mut Cursor<'_>) -> Result<Numbers, CertError>
+    ensures read { Reads numbers_of (things reading.one_number) cursor.old cursor.new result }
+    ensures same { cursor.new.bytes.now ≡ cursor.old.bytes.now }
 {
     let mut items = Vec::new(alloc);
-    let mut place = at;
-    for round in at..bytes.len() {
-        let ((next, more), behind) = one_number(bytes, place)?;
+    for round in cursor.at..cursor.bytes.len() {
+        let (next, more) = one_number(cursor)?;
         items.push(next)?;
-        place = behind;
         if !more {
-            return Ok((Numbers { items }, place));
+            return Ok(Numbers { items });
         }
     }
-    Err(CertError::Syntax(place))
+    Err(CertError::Syntax(cursor.at))
 }
 
 /// The letter, a space, and numbers on a line.
-fn row(alloc: Global, letter: u8, bytes: &[u8], at: usize) -> Result<(Numbers, usize), CertError>
-    requires { at ≤ length bytes.now }
-    ensures read { Gives numbers_of bytes.now result
-        (reading.row_line letter (drop at bytes.now) at) }
-    ensures within { StopsWithin bytes.now result }
+fn row(alloc: Global, cursor: &mut Cursor<'_>, letter: u8) -> Result<Numbers, CertError>
+    ensures read { Reads numbers_of (reading.row_line letter) cursor.old cursor.new result }
+    ensures same { cursor.new.bytes.now ≡ cursor.old.bytes.now }
 {
-    let open = fixed(&[letter, b' '], bytes, at)?;
-    row_numbers(alloc, bytes, open)
+    cursor.pass(&[letter, b' '])?;
+    row_numbers(alloc, cursor)
 }
 
 /// All rows whose lines begin with the letter.
 #[tactic(auto, using(crate::proofs::Lines::lines))]
-pub fn rows(alloc: Global, letter: u8, bytes: &[u8], at: usize) -> Result<(Rows, usize), CertError>
-    requires { at ≤ length bytes.now }
-    ensures read { Gives same bytes.now result (reading.read_rows letter (drop at bytes.now) at) }
-    ensures within { StopsWithin bytes.now result }
+pub fn rows(alloc: Global, cursor: &mut Cursor<'_>, letter: u8) -> Result<Rows, CertError>
+    ensures read { Reads same (reading.read_rows letter) cursor.old cursor.new result }
+    ensures same { cursor.new.bytes.now ≡ cursor.old.bytes.now }
 {
     let mut items = Vec::new(alloc);
-    let mut place = at;
-    for round in at..bytes.len() {
-        if front(bytes, place) != letter {
-            return Ok((Rows { items }, place));
+    for round in cursor.at..cursor.bytes.len() {
+        if cursor.front() != letter {
+            return Ok(Rows { items });
         }
-        let (next, behind) = row(alloc, letter, bytes, place)?;
+        let next = row(alloc, cursor, letter)?;
         items.push(next.items)?;
-        place = behind;
     }
-    if front(bytes, place) == letter {
-        return Err(CertError::Count(place));
+    if cursor.front() == letter {
+        return Err(CertError::Count(cursor.at));
     }
-    Ok((Rows { items }, place))
+    Ok(Rows { items })
 }

@@ -6,6 +6,7 @@ pub mod Fit
 pub mod Comparing
 pub mod Counting
 pub mod Tables
+pub mod Ordering
 pub mod Keying
 pub mod Renumber
 pub mod Norming

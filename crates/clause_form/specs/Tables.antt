@@ -1,5 +1,5 @@
 -- Tables that tell where numbers stand in a list, and how often; and of which facts one stands among others.
-use Rattle.std.specs.Prelude.{◌≡◌, ℕ, false, nat_eq, Option, Some, None, List, map}
+use Rattle.std.specs.Prelude.{◌≡◌, ℕ, ◌<◌, false, nat_eq, Option, Some, None, List, map}
 use Rattle.std.specs.HashMap.{HashMap, get}
 use Rattle.std.specs.declared.hash.BuildHasherDefault.{BuildHasherDefault}
 use Rattle.std.specs.declared.hash.FoldHasher.{FoldHasher}
@@ -14,6 +14,10 @@ use Rattle.clause_form.specs.Seen.{fact_at}
 -- what the table tells is the place of a number
 abbrev pub FindsPlaces : List ℕ → HashMap ℕ ℕ (BuildHasherDefault FoldHasher) → Type 0
 FindsPlaces numbers table = (x p : ℕ) → get nat_eq table x ≡ Some p → p ≡ place_of x numbers
+
+-- the place of each number of 32 bits is one
+abbrev pub HasPlaces : List ℕ → Type 0
+HasPlaces numbers = (x : ℕ) → x < 4294967296 → place_of x numbers < 4294967296
 
 -- a number that the table does not have occurs never
 abbrev pub count_of : Option ℕ → ℕ

@@ -4,7 +4,7 @@ ghost use Rattle.std.specs.Prelude.{◌≡◌, ◌≤◌, ◌++◌, [], ◌∷�
 ghost use Rattle.std.specs.HashMap.{get};
 ghost use Rattle.spec_clauses.specs.Variables.{times};
 ghost use Rattle.spec_clauses.specs.Norm.{distinct, place_of};
-ghost use Rattle.clause_form.specs.Tables.{FindsPlaces, count_of, CountsTimes};
+ghost use Rattle.clause_form.specs.Tables.{FindsPlaces, HasPlaces, count_of, CountsTimes};
 
 use std::alloc::{AllocError, Global};
 use std::collections::HashMap;
@@ -15,7 +15,7 @@ const MANY: usize = 128;
 
 /// Numbers in order, and where they stand first.
 #[derive(Drop)]
-pub(crate) struct Numbering {
+struct Numbering {
     numbers: Vec<u32>,
     places: HashMap<u32, usize>,
 }
@@ -37,7 +37,7 @@ impl Model for Numbering {
 
 impl Numbering {
     /// The numbering by a list.
-    pub(crate) fn new(alloc: Global, numbers: Vec<u32>) -> Result<Numbering, AllocError>
+    fn new(alloc: Global, numbers: Vec<u32>) -> Result<Numbering, AllocError>
         ensures { IfOk result (λ made. made ≡ numbers.items) }
     {
         let places = places_of(alloc, &numbers)?;
@@ -45,7 +45,7 @@ impl Numbering {
     }
 
     /// The place of a number, from 0; the length where it isn't there.
-    pub(crate) fn place(&self, number: u32) -> usize
+    fn place(&self, number: u32) -> usize
         ensures { result ≡ place_of number self.now }
     {
         if self.numbers.len() < MANY {
@@ -110,11 +110,57 @@ fn add_if(passed: bool, number: u32, numbers: &mut Vec<u32>) -> Result<(), Alloc
 }
 
 /// The numbers, each where it stands first.
-pub(crate) fn distinct_of(alloc: Global, numbers: Vec<u32>) -> Result<Vec<u32>, AllocError>
+fn distinct_of(alloc: Global, numbers: Vec<u32>) -> Result<Vec<u32>, AllocError>
     ensures { IfOk result (λ found. found.items ≡ distinct nat_eq numbers.items) }
 {
     let all = Numbering::new(alloc, numbers)?;
     all.firsts(alloc)
+}
+
+/// Of numbers of 32 bits, each has its place without repeats for one of them.
+fn places_fit(numbers: &[u32])
+    ensures { HasPlaces (distinct nat_eq numbers.now) }
+{}
+
+/// Numbers without repeats, and the place of each. There are no more of them than numbers of 32 bits, so each place is
+/// one.
+#[derive(Drop)]
+pub(crate) struct Order {
+    places: Numbering,
+}
+
+impl Model for Order {
+    ghost use Rattle.std.specs.Prelude.{ℕ, List};
+    ghost use Rattle.std.specs.Coded.{coded_ℕ, coded_list};
+
+    ghost Value = { List ℕ };
+
+    ghost coded = { coded_list coded_ℕ };
+
+    ghost use Rattle.clause_form.specs.Tables.{HasPlaces};
+
+    ghost view = { λ o. o.places };
+
+    ghost invariant = { λ o. HasPlaces o.places };
+}
+
+impl Order {
+    /// The numbers in the order of their first occurrence.
+    pub(crate) fn new(alloc: Global, numbers: Vec<u32>) -> Result<Order, AllocError>
+        ensures { IfOk result (λ order. order ≡ distinct nat_eq numbers.items) }
+    {
+        places_fit(&numbers);
+        let firsts = distinct_of(alloc, numbers)?;
+        let places = Numbering::new(alloc, firsts)?;
+        Ok(Order { places })
+    }
+
+    /// The place of a number, from 0; how many there are where it isn't there.
+    pub(crate) fn place(&self, number: u32) -> u32
+        ensures { result ≡ place_of number self.now }
+    {
+        self.places.place(number) as u32
+    }
 }
 
 /// Numbers, and how often they occur.

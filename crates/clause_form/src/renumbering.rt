@@ -1,54 +1,21 @@
 //! Facts and clauses with their variables renumbered.
 
-ghost use Rattle.std.specs.Prelude.{◌≡◌, ◌↔◌, ◌<◌, true, IsTrue, ◌∷◌, nat_eq, length, map, flat_map, slice_index_or, IfOk, OnOk};
+ghost use Rattle.std.specs.Prelude.{◌≡◌, ◌↔◌, ◌<◌, true, IsTrue, ◌∷◌, nat_eq, length, map, flat_map, IfOk, OnOk};
 ghost use Rattle.spec_trees.specs.Tree.{Leaf, bind};
 ghost use Rattle.spec_clauses.specs.Fact.{fact_under};
 ghost use Rattle.spec_clauses.specs.Variables.{fact_variables};
 ghost use Rattle.spec_clauses.specs.Norm.{distinct, numbered_anew};
 ghost use Rattle.term_tree.specs.Bank.{tree_at, AreKnown, Names, Grows};
-ghost use Rattle.unify_match.specs.Substitution.{arguments};
 ghost use Rattle.clause_form.specs.Facts.{fact_of};
 ghost use Rattle.clause_form.specs.Seen.{fact_at, IsFactIn, AreFactsIn, NameTerms, NamesFact, NameFacts, NamesClause};
 ghost use Rattle.clause_form.specs.Numbers.{placed};
 
 use crate::facts::{Clause, Fact, Facts, Ids};
-use crate::numbers::{Numbering, distinct_of};
+use crate::numbers::Order;
 use crate::variables::variables_of;
 use std::alloc::{AllocError, Global};
 use term_tree::{Bank, Id, Node};
-
-/// The number of a place; a place that no number tells is taken for want of memory.
-fn number_of(at: usize) -> Result<u32, AllocError>
-    ensures { IfOk result (λ number. number ≡ at) }
-{
-    match u32::try_from(at) {
-        Ok(number) => Ok(number),
-        Err(_) => Err(AllocError),
-    }
-}
-
-/// The id at a place.
-#[inline(always)]
-fn id_at(ids: &[Id], place: usize) -> Id
-    requires { place < length ids.now }
-    ensures { result ≡ slice_index_or ids.now place (record { index = 0 }) }
-{
-    ids[place]
-}
-
-/// An argument of the root of a term. Takes no memory.
-fn argument<B: Bank>(bank: &B, id: Id, place: usize) -> Id
-    requires known { id.index < length (B.trees bank.now) }
-    requires there { place < length (arguments (tree_at (B.trees bank.now) id)) }
-    ensures known { result.index < length (B.trees bank.now) }
-    ensures is { tree_at (B.trees bank.now) result ≡
-        slice_index_or (arguments (tree_at (B.trees bank.now) id)) place (Leaf 0) }
-{
-    match bank.node(id) {
-        Node::Var(_) => id,
-        Node::App(_, parts) => id_at(parts, place),
-    }
-}
+use unify_match::argument;
 
 /// Whether all arguments so far, and this one, are what they were.
 fn is_kept(so_far: bool, argument: Id, made: Id) -> bool
@@ -60,7 +27,7 @@ fn is_kept(so_far: bool, argument: Id, made: Id) -> bool
 /// The variable that has a variable's place for its number: the id itself where that is its number.
 fn renumbered_variable<B: Bank>(
     bank: &mut B,
-    order: &Numbering,
+    order: &Order,
     id: Id,
     number: u32,
 ) -> Result<Id, AllocError>
@@ -70,19 +37,18 @@ fn renumbered_variable<B: Bank>(
     ensures names { IfOk result (λ made. Names (B.trees bank.new) made
         (bind (placed order.now) (tree_at (B.trees bank.old) id))) }
 {
-    let at = order.place(number);
-    if at == number as usize {
+    let place = order.place(number);
+    if place == number {
         return Ok(id);
     }
-    let new = number_of(at)?;
-    bank.var(new)
+    bank.var(place)
 }
 
 /// The term with each variable's place for its number: the id itself where nothing changes. The arguments
 /// that are made wait on `stack`. On `Err` the bank may have grown.
 fn renumbered<B: Bank>(
     bank: &mut B,
-    order: &Numbering,
+    order: &Order,
     stack: &mut Vec<Id>,
     id: Id,
 ) -> Result<Id, AllocError>
@@ -119,7 +85,7 @@ fn renumbered<B: Bank>(
 fn renumbered_terms<B: Bank>(
     alloc: Global,
     bank: &mut B,
-    order: &Numbering,
+    order: &Order,
     stack: &mut Vec<Id>,
     terms: &[Id],
 ) -> Result<Ids, AllocError>
@@ -140,7 +106,7 @@ fn renumbered_terms<B: Bank>(
 fn renumbered_fact<B: Bank>(
     alloc: Global,
     bank: &mut B,
-    order: &Numbering,
+    order: &Order,
     stack: &mut Vec<Id>,
     fact: &Fact,
 ) -> Result<Fact, AllocError>
@@ -158,7 +124,7 @@ fn renumbered_fact<B: Bank>(
 fn renumbered_facts<B: Bank>(
     alloc: Global,
     bank: &mut B,
-    order: &Numbering,
+    order: &Order,
     stack: &mut Vec<Id>,
     facts: &[Fact],
 ) -> Result<Facts, AllocError>
@@ -182,7 +148,7 @@ fn order_of<B: Bank>(
     bank: &B,
     concl: &Fact,
     hyps: &[Fact],
-) -> Result<Numbering, AllocError>
+) -> Result<Order, AllocError>
     requires concl { IsFactIn (B.trees bank.now) (fact_of concl.now) }
     requires hyps { AreFactsIn (B.trees bank.now) (map fact_of hyps.now) }
     ensures { IfOk result (λ order. order ≡ distinct nat_eq
@@ -190,8 +156,7 @@ fn order_of<B: Bank>(
         (fact_at (B.trees bank.now)) (map fact_of hyps.now)))) }
 {
     let numbers = variables_of(alloc, bank, concl, hyps)?;
-    let firsts = distinct_of(alloc, numbers)?;
-    Numbering::new(alloc, firsts)
+    Order::new(alloc, numbers)
 }
 
 /// The clause with its variables numbered by this order, that of their first occurrence. On `Err` the bank may
@@ -199,7 +164,7 @@ fn order_of<B: Bank>(
 fn clause_in_order<B: Bank>(
     alloc: Global,
     bank: &mut B,
-    order: &Numbering,
+    order: &Order,
     concl: &Fact,
     hyps: &[Fact],
 ) -> Result<Clause, AllocError>

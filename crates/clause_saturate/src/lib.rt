@@ -19,7 +19,7 @@ mod saturating;
 mod walk;
 
 pub use crate::log::{Entry, Log, Origin, PlainEntry, PlainLog, Saturated};
-pub use crate::reading::read_log;
+pub use crate::reading::{read_entry, read_log};
 pub use crate::saturating::saturate;
 
 /// Entries that tell a log name trees, and tell it as the bank grows. Those that no later one is told to subsume have

@@ -11,7 +11,7 @@ use std::alloc::{AllocError, Global};
 use term_tree::Bank;
 
 /// The entry over trees that an entry over ids stands for.
-fn read_entry<B: Bank>(alloc: Global, bank: &B, entry: &Entry) -> Result<PlainEntry, AllocError>
+pub fn read_entry<B: Bank>(alloc: Global, bank: &B, entry: &Entry) -> Result<PlainEntry, AllocError>
     requires { IsClauseIn (B.trees bank.now) entry.now.clause }
     ensures { IfOk result (λ plain. plain ≡ plain_entry (B.trees bank.now) entry.now) }
 {

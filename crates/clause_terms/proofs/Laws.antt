@@ -3,6 +3,7 @@ use Rattle.std.proofs.Common.{◌≡◌, ℕ, ◌+◌, ◌-◌, ◌^◌, ◌≤�
 use Rattle.std.specs.List.{AllByRecursion}
 use Rattle.spec_trees.specs.Tree.{Tree, Trees, Leaf, Node, none, more, trees, size, sizes}
 use Rattle.spec_trees.specs.Leaves.{leaves, row_leaves}
+use Rattle.spec_calculus.specs.Bounds.{most_written_symbols}
 use Rattle.spec_calculus.specs.Syntax.{Name, Free, Made, Variable, Symbol, Constructor, Tuple, Hole, Bind, Equal, Pattern, Rule, EventTerm, Protocol}
 use Rattle.spec_calculus.specs.Syntax as calculus
 use Rattle.spec_well_formed.specs.Signature.{Signature}
@@ -74,16 +75,16 @@ mutual
   few_row_leaves none = omega arith
   few_row_leaves (more t ts) = omega (arith, few_leaves t, few_row_leaves ts, length-append (leaves t) (row_leaves ts))
 
-room_for : (base : ℕ) → base + 2000 ≤ 2 ^ 32 → (x : Name) → IsUpTo 2000 x → IsRoomFor base x
+room_for : (base : ℕ) → base + most_written_symbols ≤ 2 ^ 32 → (x : Name) → IsUpTo most_written_symbols x → IsRoomFor base x
 room_for base room (Free n) h = tt
 room_for base room (Made p) h = tt
 room_for base room (Variable i) h = omega arith
 
-pub rule_room : (base : ℕ) (rule : Rule) → IsProperRule rule → IsSmallRule rule → base + 2000 ≤ 2 ^ 32 → HasRoomForRule base rule
+pub rule_room : (base : ℕ) (rule : Rule) → IsProperRule rule → IsSmallRule rule → base + most_written_symbols ≤ 2 ^ 32 → HasRoomForRule base rule
 rule_room base rule proper small room =
     let symbols = small.symbols in
-    let few : 0 + length (rule_leaves rule) ≤ 2000 = omega (arith, symbols, few_row_leaves (trees rule.left), few_leaves rule.right, length-append (leaves_of rule.left) (leaves rule.right)) in
-    all_weaker (IsUpTo 2000) (IsRoomFor base) (room_for base room) (rule_leaves rule) (numbered_up_to 2000 0 (rule_leaves rule) few proper.numbered)
+    let few : 0 + length (rule_leaves rule) ≤ most_written_symbols = omega (arith, symbols, few_row_leaves (trees rule.left), few_leaves rule.right, length-append (leaves_of rule.left) (leaves rule.right)) in
+    all_weaker (IsUpTo most_written_symbols) (IsRoomFor base) (room_for base room) (rule_leaves rule) (numbered_up_to most_written_symbols 0 (rule_leaves rule) few proper.numbered)
 
 -- a term of a query
 query_leaf-rule : (x : Name) → query_leaf x ≡ rule_leaf 0 x

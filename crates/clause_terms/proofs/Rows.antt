@@ -4,6 +4,7 @@ use Rattle.std.specs.List.{AllByRecursion}
 use Rattle.std.proofs.lemmas.List.Elements.{filter_map-append}
 use Rattle.spec_trees.specs.Tree.{Tree, Node, more, trees, depth, depths}
 use Rattle.spec_trees.specs.Leaves.{leaves, row_leaves}
+use Rattle.spec_calculus.specs.Bounds.{most_arguments}
 use Rattle.spec_calculus.specs.Syntax.{Name, Symbol, Term, Hole, Pattern}
 use Rattle.spec_well_formed.specs.Terms.{EachSymbol, EachSymbolInRow}
 use Rattle.spec_well_formed.specs.Terms as well
@@ -62,7 +63,7 @@ leaves_row Q (t ∷ ts) h = (all_first Q (leaves t) (row_leaves (trees ts)) h, l
 pub short_arguments : (t : Term) (f : Symbol) (ts : List Term) → t ≡ Node f (trees ts) → HasShortTuples t → AllByRecursion HasShortTuples ts
 short_arguments t f ts is short = symbols_row IsShort ts (subst (λ (u : Term). HasShortTuples u) is short).1
 
-pub few_parts : {L : Type 0} (t : Tree L Symbol) (ts : List (Tree L Symbol)) → t ≡ Node calculus.Tuple (trees ts) → HasShortTuples t → length ts ≤ 16
+pub few_parts : {L : Type 0} (t : Tree L Symbol) (ts : List (Tree L Symbol)) → t ≡ Node calculus.Tuple (trees ts) → HasShortTuples t → length ts ≤ most_arguments
 few_parts {L} t ts is short = let few = (subst (λ (u : Tree L Symbol). HasShortTuples u) is short).0 in omega (arith, few, well_row_length-trees ts)
 
 pub room_arguments : (base : ℕ) (t : Term) (f : Symbol) (ts : List Term) → t ≡ Node f (trees ts) → HasRoomFrom base t → AllByRecursion (HasRoomFrom base) ts

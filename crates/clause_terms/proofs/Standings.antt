@@ -5,13 +5,13 @@ use Rattle.spec_calculus.specs.Syntax.{Name}
 use Rattle.spec_calculus.specs.Values.{same_name}
 use Rattle.spec_terms.specs.Term.{Term}
 use Rattle.spec_translation.specs.Conversion.{Scope, found_in, free_term, leaf_term}
+use Rattle.pi_tree.specs.declared.slots.Slot.{Slot}
+use Rattle.pi_tree.specs.declared.slots.Slot.TheVariants.{Var, Made}
+use Rattle.pi_tree.specs.Slots.{name_of}
 use Rattle.term_tree.specs.Bank.{tree_at, AreKnown, Names, Grows}
 use Rattle.term_tree.specs.declared.bank.Id.{Id}
 use Rattle.term_tree.proofs.BankLaws.{tree_at-grows, AreKnown-grows, AreKnown-append}
-use Rattle.clause_terms.specs.declared.scopes.Slot.{Slot}
-use Rattle.clause_terms.specs.declared.scopes.Slot.TheVariants.{Var, Made}
 use Rattle.clause_terms.specs.Scopes.{Held, id_in, standing_at, scope_at, IsScopeIn, NamesScope}
-use Rattle.clause_terms.specs.Slots.{name_of}
 
 -- what is found in a scope over ids names what is found in the scope of terms
 pub id_in-found : (all : List Term) (scope : List Held) (x : Name) → option_map (tree_at all) (id_in scope x) ≡ found_in (scope_at all scope) x

@@ -10,8 +10,8 @@ ghost use Rattle.clause_terms.specs.Fresh.{fresh_of};
 ghost use Rattle.clause_terms.specs.Scopes.{NamesScope};
 
 use crate::patterns::{Fresh, fresh_variable};
-use crate::scopes::{Scope, Slot, Standing};
-use pi_tree::{Pat, Pats};
+use crate::scopes::{Scope, Standing};
+use pi_tree::{Pat, Pats, Slot};
 use std::alloc::{AllocError, Global};
 use term_tree::Bank;
 

@@ -7,14 +7,14 @@ ghost use Rattle.term_tree.specs.Bank.{Names, Grows};
 ghost use Rattle.clause_form.specs.Seen.{NameTerms};
 ghost use Rattle.pi_tree.specs.Terms.{term_of};
 ghost use Rattle.pi_tree.specs.Protocols.{protocol_of};
+ghost use Rattle.pi_tree.specs.Slots.{name_of};
 ghost use Rattle.clause_terms.specs.Conditions.{HasShortTuples};
 ghost use Rattle.clause_terms.specs.Scopes.{scope_at, IsScopeIn};
-ghost use Rattle.clause_terms.specs.Slots.{name_of};
 
-use crate::scopes::{Scope, Slot};
+use crate::scopes::Scope;
 use crate::symbols::constructor_symbol;
 use clause_form::Ids;
-use pi_tree::{Protocol, Term, Terms};
+use pi_tree::{Protocol, Slot, Term, Terms};
 use std::alloc::{AllocError, Global};
 use term_tree::{Bank, Id, Sym};
 

@@ -3,6 +3,7 @@
 
 ghost use Rattle.std.specs.Prelude.{◌≡◌, ◌+◌, ◌^◌, ℕ, ◌<◌, ◌≤◌, List, length, Some, option_map};
 ghost use Rattle.std.specs.List.{AllByRecursion};
+ghost use Rattle.spec_calculus.specs.Bounds.{most_written_symbols};
 ghost use Rattle.spec_calculus.specs.Syntax as calculus;
 ghost use Rattle.spec_calculus.specs.Syntax.{Name, Pattern, Rule, EventTerm, Protocol};
 ghost use Rattle.spec_well_formed.specs.Signature.{Signature};
@@ -31,7 +32,7 @@ pub use crate::bound::pattern_scope;
 pub use crate::in_scope::{term_in, terms_in};
 pub use crate::patterns::{Fresh, Holes, pattern_term};
 pub use crate::rules::{rule_term, rule_terms};
-pub use crate::scopes::{Scope, Slot, Standing};
+pub use crate::scopes::{Scope, Standing};
 pub use crate::sizes::size_in;
 pub use crate::symbols::constructor_symbol;
 
@@ -53,7 +54,7 @@ pub fn what_is_read_is_short()
 
 /// The variables of a proper rule within the limit of symbols are few, and find room behind a base.
 pub fn rules_have_room()
-    ensures { (base : ℕ) (rule : Rule) → IsProperRule rule → IsSmallRule rule → base + 2000 ≤ 2 ^ 32
+    ensures { (base : ℕ) (rule : Rule) → IsProperRule rule → IsSmallRule rule → base + most_written_symbols ≤ 2 ^ 32
         → HasRoomForRule base rule }
 {}
 

@@ -1,38 +1,14 @@
 //! What the names that are bound stand for where a process is visited.
 
 ghost use Rattle.std.specs.Prelude.{◌≡◌, [], ◌∷◌, ◌++◌, IfOk, OnOk, OnErr};
-ghost use Rattle.spec_calculus.specs.Values.{same_name};
+ghost use Rattle.pi_tree.specs.Slots.{name_of};
 ghost use Rattle.clause_terms.specs.Scopes.{id_in};
-ghost use Rattle.clause_terms.specs.Slots.{name_of, held_of};
+ghost use Rattle.clause_terms.specs.Slots.{held_of};
 
+use pi_tree::Slot;
 use std::alloc::{AllocError, Global};
 use std::marker::Model;
 use term_tree::Id;
-
-/// What is bound: a variable by its number, or the name of the restriction at a point.
-#[derive(Clone, Copy)]
-pub enum Slot {
-    Var(u32),
-    Made(u32),
-}
-
-impl Slot {
-    /// Whether two slots are the same.
-    pub fn is(self, other: Slot) -> bool
-        ensures { result ≡ same_name (name_of self) (name_of other) }
-    {
-        match self {
-            Slot::Var(number) => match other {
-                Slot::Var(another) => number == another,
-                Slot::Made(_) => false,
-            },
-            Slot::Made(point) => match other {
-                Slot::Var(_) => false,
-                Slot::Made(another) => point == another,
-            },
-        }
-    }
-}
 
 /// What is bound, and the id of the term that it stands for.
 #[derive(Clone, Copy)]

@@ -7,11 +7,11 @@ ghost use Rattle.spec_clauses.specs.Fact.{total};
 ghost use Rattle.spec_translation.specs.Conversion as translation;
 ghost use Rattle.term_tree.specs.Bank.{capped};
 ghost use Rattle.pi_tree.specs.Terms.{term_of};
+ghost use Rattle.pi_tree.specs.Slots.{name_of};
 ghost use Rattle.clause_terms.specs.Scopes.{scope_at, IsScopeIn};
-ghost use Rattle.clause_terms.specs.Slots.{name_of};
 
-use crate::scopes::{Scope, Slot};
-use pi_tree::{Term, Terms};
+use crate::scopes::Scope;
+use pi_tree::{Slot, Term, Terms};
 use term_tree::{Bank, SIZE_LIMIT};
 
 /// So many symbols more, as they are told.

@@ -13,12 +13,13 @@ use Rattle.spec_clauses.specs.Variables.{IsBelow, AreBelow}
 use Rattle.spec_clauses.proofs.Lists.{all_append, all_first, all_second}
 use Rattle.spec_translation.specs.Conversion.{StandsFor, Scope}
 use Rattle.spec_translation.specs.Visit.{Visit, standing_under, visit_under, is_large_term, is_large_visit}
+use Rattle.pi_tree.specs.Slots.{name_of}
 use Rattle.term_tree.specs.Bank.{tree_at, Names, Grows}
 use Rattle.term_tree.specs.declared.bank.Id.{Id}
 use Rattle.term_tree.proofs.BankLaws.{Grows_refl, Grows_trans}
 use Rattle.clause_terms.specs.declared.scopes.Standing as source
 use Rattle.clause_terms.specs.Scopes.{Held, scope_at, NamesScope}
-use Rattle.clause_terms.specs.Slots.{name_of, held_of}
+use Rattle.clause_terms.specs.Slots.{held_of}
 use Rattle.clause_translate.specs.Sizes.{is_over, some_over, some_over_in, some_fact_over, some_standing_over}
 use Rattle.clause_translate.specs.Solving.{HasBelow}
 use Rattle.clause_translate.proofs.Scopes.{NamesScope-grows}

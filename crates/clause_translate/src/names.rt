@@ -8,8 +8,9 @@ ghost use Rattle.clause_translate.specs.Visits.{visit_at, IsVisitIn, NamesVisit}
 use crate::large::is_large_visit;
 use crate::place::Place;
 use crate::visit::Visit;
-use clause_terms::{Slot, Standing};
+use clause_terms::Standing;
 use name_abstraction::name_of_point;
+use pi_tree::Slot;
 use std::alloc::AllocError;
 use term_tree::Bank;
 

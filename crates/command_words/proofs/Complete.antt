@@ -15,6 +15,7 @@ use Rattle.clap.specs.declared.error.kind.ErrorKind.TheVariants.{DisplayHelp, Va
 use Rattle.clap.specs.declared.parser.matches.ValueSource.TheVariants.{CommandLine}
 use Rattle.std.proofs.lemmas.Slice.Eq.{bytes_eq-Decides}
 use Rattle.clap.proofs.SimpleLemmas.{is_nil}
+use Rattle.spec_calculus.specs.Bounds.{most_queries, most_budget, most_keys}
 use Rattle.command_words.specs.Commands.{budget_rule, name_rule, program_app, query_rule, stages_rule}
 use Rattle.command_words.specs.Request.{Request, Check, ListOf, Replay, RingOf, Verify, asked, check_in, is_taken, list_in, number_of, replay_in, request_of, request_seen, ring_in, verify_in}
 use Rattle.command_words.specs.declared.Request.{Request as Request'}
@@ -55,8 +56,8 @@ accepted false e = cc
 
 budget_passes : (v : Text) → values_fault budget (v ∷ []) ≡ [] → good (row_from budget CommandLine v) ≡ true
 budget_passes v e =
-    let parts = neither (value_kinds false (Unsigned 0 1000000) v) [] e in
-    rw (accepted (is_unsigned_in 0 1000000 v) parts.0) refl
+    let parts = neither (value_kinds false (Unsigned 0 most_budget) v) [] e in
+    rw (accepted (is_unsigned_in 0 most_budget v) parts.0) refl
 
 budget_fits : Fits good budget
 budget_fits = record {
@@ -66,8 +67,8 @@ budget_fits = record {
 
 query_passes : (v : Text) → values_fault query (v ∷ []) ≡ [] → good (row_from query CommandLine v) ≡ true
 query_passes v e =
-    let parts = neither (value_kinds false (Unsigned 1 256) v) [] e in
-    rw (accepted (is_unsigned_in 1 256 v) parts.0) refl
+    let parts = neither (value_kinds false (Unsigned 1 most_queries) v) [] e in
+    rw (accepted (is_unsigned_in 1 most_queries v) parts.0) refl
 
 query_fits : Fits good query
 query_fits = record {
@@ -77,8 +78,8 @@ query_fits = record {
 
 stages_passes : (v : Text) → values_fault stages (v ∷ []) ≡ [] → good (row_from stages CommandLine v) ≡ true
 stages_passes v e =
-    let parts = neither (value_kinds false (Unsigned 2 400) v) [] e in
-    rw (accepted (is_unsigned_in 2 400 v) parts.0) refl
+    let parts = neither (value_kinds false (Unsigned 2 most_keys) v) [] e in
+    rw (accepted (is_unsigned_in 2 most_keys v) parts.0) refl
 
 stages_fits : Fits good stages
 stages_fits = record {
@@ -129,16 +130,16 @@ replay_fits = (name_fits 1 (codes "file") refl, (name_fits 2 (codes "run") refl,
 ring_fits : AllFit good ring.rules
 ring_fits = (stages_fits, (help_fits, tt))
 
--- a budget that is asked for is at most 1,000,000, and a ring has from 2 to 400 keys
+-- a budget that is asked for is within the limit, and a ring has at least 2 keys, and no more than the limit
 abbrev pub WithinBounds : Option Request → Type 0
 WithinBounds None = Unit {0}
-WithinBounds (Some (Verify file n)) = n ≤ 1000000
+WithinBounds (Some (Verify file n)) = n ≤ most_budget
 WithinBounds (Some (Check file report)) = Unit {0}
 WithinBounds (Some (ListOf file n)) = Unit {0}
 WithinBounds (Some (Replay file run)) = Unit {0}
-WithinBounds (Some (RingOf n)) = (2 ≤ n) × (n ≤ 400)
+WithinBounds (Some (RingOf n)) = (2 ≤ n) × (n ≤ most_keys)
 
-verify_bound : (f : Option Text) (n : Option ℕ) → ((m : ℕ) → n ≡ Some m → m ≤ 1000000) → WithinBounds (option_and_then (λ file. option_map (Verify file) n) f)
+verify_bound : (f : Option Text) (n : Option ℕ) → ((m : ℕ) → n ≡ Some m → m ≤ most_budget) → WithinBounds (option_and_then (λ file. option_map (Verify file) n) f)
 verify_bound None n bound = tt
 verify_bound (Some f) None bound = tt
 verify_bound (Some f) (Some m) bound = bound m refl
@@ -158,7 +159,7 @@ replay_bound None r = tt
 replay_bound (Some f) None = tt
 replay_bound (Some f) (Some r) = tt
 
-ring_bound : (n : Option ℕ) → ((m : ℕ) → n ≡ Some m → (2 ≤ m) × (m ≤ 400)) → WithinBounds (option_map RingOf n)
+ring_bound : (n : Option ℕ) → ((m : ℕ) → n ≡ Some m → (2 ≤ m) × (m ≤ most_keys)) → WithinBounds (option_map RingOf n)
 ring_bound None bound = tt
 ring_bound (Some m) bound = bound m refl
 
@@ -192,7 +193,7 @@ verify_within words e =
     let rows = rows_after verify.rules [] words in
     let before = with_default (settled verify.rules (walk verify.rules [] nothing_held words).held).rows (name_at 1 (codes "file")) in
     let number = still_there (has_row (codes "help") (with_default before budget)) (with_default before budget) (λ r. bytes_eq r.id (codes "budget")) (default_there budget (codes "10000") before) in
-    verify_bound (first_of (codes "file") rows) (option_and_then number_of (one_of (codes "budget") rows)) (λ m is. (number_within rows (codes "budget") (0, 1000000) refl (omega arith) level.0 number m is).1)
+    verify_bound (first_of (codes "file") rows) (option_and_then number_of (one_of (codes "budget") rows)) (λ m is. (number_within rows (codes "budget") (0, most_budget) refl (omega arith) level.0 number m is).1)
 
 verify_some : (words : List Text) → level_fault verify [] nothing_held words false [] ≡ [] → is_some (verify_in (rows_after verify.rules [] words)) ≡ true
 verify_some words e =
@@ -202,7 +203,7 @@ verify_some words e =
     let file = given_there _ (one_given (is_given (codes "file") rows) level.1) in
     let number = still_there (has_row (codes "help") (with_default before budget)) (with_default before budget) (λ r. bytes_eq r.id (codes "budget")) (default_there budget (codes "10000") before) in
     some_both Verify (first_of (codes "file") rows) (option_and_then number_of (one_of (codes "budget") rows))
-    (first_there rows (codes "file") level.0 file) (number_there rows (codes "budget") (0, 1000000) refl (omega arith) level.0 number)
+    (first_there rows (codes "file") level.0 file) (number_there rows (codes "budget") (0, most_budget) refl (omega arith) level.0 number)
 
 check_some : (words : List Text) → level_fault check [] nothing_held words false [] ≡ [] → is_some (check_in (rows_after check.rules [] words)) ≡ true
 check_some words e =
@@ -218,7 +219,7 @@ list_some words e =
     let rows = rows_after list.rules [] words in
     let given = both_given (is_given (codes "file") rows) (is_given (codes "query") rows) level.1 in
     some_both ListOf (first_of (codes "file") rows) (option_and_then number_of (one_of (codes "query") rows))
-    (first_there rows (codes "file") level.0 (given_there _ given.0)) (number_there rows (codes "query") (1, 256) refl (omega arith) level.0 (given_there _ given.1))
+    (first_there rows (codes "file") level.0 (given_there _ given.0)) (number_there rows (codes "query") (1, most_queries) refl (omega arith) level.0 (given_there _ given.1))
 
 replay_some : (words : List Text) → level_fault replay [] nothing_held words false [] ≡ [] → is_some (replay_in (rows_after replay.rules [] words)) ≡ true
 replay_some words e =
@@ -233,14 +234,14 @@ ring_within words e =
     let level = level_good good ring refl ring_fits [] words false [] e in
     let rows = rows_after ring.rules [] words in
     let number = given_there _ (one_given (is_given (codes "stages") rows) level.1) in
-    ring_bound (option_and_then number_of (one_of (codes "stages") rows)) (number_within rows (codes "stages") (2, 400) refl (omega arith) level.0 number)
+    ring_bound (option_and_then number_of (one_of (codes "stages") rows)) (number_within rows (codes "stages") (2, most_keys) refl (omega arith) level.0 number)
 
 ring_some : (words : List Text) → level_fault ring [] nothing_held words false [] ≡ [] → is_some (ring_in (rows_after ring.rules [] words)) ≡ true
 ring_some words e =
     let level = level_good good ring refl ring_fits [] words false [] e in
     let rows = rows_after ring.rules [] words in
     let number = given_there _ (one_given (is_given (codes "stages") rows) level.1) in
-    some_mapped RingOf (option_and_then number_of (one_of (codes "stages") rows)) ∙ number_there rows (codes "stages") (2, 400) refl (omega arith) level.0 number
+    some_mapped RingOf (option_and_then number_of (one_of (codes "stages") rows)) ∙ number_there rows (codes "stages") (2, most_keys) refl (omega arith) level.0 number
 
 -- ---- the program
 

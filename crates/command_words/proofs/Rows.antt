@@ -19,13 +19,14 @@ use Rattle.clap.specs.declared.parser.matches.ValueSource.{ValueSource}
 use Rattle.clap.specs.declared.parser.matches.ValueSource.TheVariants.{CommandLine, DefaultValue}
 use Rattle.clap.proofs.ValueTestLemmas.{Accepts-accepts, accepts-Accepts}
 use Rattle.clap.proofs.WalkLemmas.{both}
+use Rattle.spec_calculus.specs.Bounds.{most_queries, most_budget, most_keys}
 use Rattle.command_words.specs.Request.{number_of}
 use Rattle.command_words.proofs.Walking.{neither}
 
 -- the least and the greatest number that the argument takes, where its values are read as numbers
 abbrev pub bounds_of : Text → Option (ℕ × ℕ)
-bounds_of id = cond (bytes_eq id (codes "budget")) (Some (0, 1000000)) (cond (bytes_eq id (codes "query")) (Some (1, 256))
-    (cond (bytes_eq id (codes "stages")) (Some (2, 400)) None))
+bounds_of id = cond (bytes_eq id (codes "budget")) (Some (0, most_budget)) (cond (bytes_eq id (codes "query")) (Some (1, most_queries))
+    (cond (bytes_eq id (codes "stages")) (Some (2, most_keys)) None))
 
 -- a number within these bounds
 abbrev pub is_within : ℕ × ℕ → Option Text → Bool

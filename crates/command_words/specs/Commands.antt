@@ -2,16 +2,17 @@
 use Rattle.std.specs.Prelude.{[], ◌∷◌, Some, true, codes}
 use Rattle.clap.specs.Words.{App, Rule, Shape, Text, new_app, new_rule, with_rule, with_subcommand}
 use Rattle.clap.specs.declared.builder.value_parser.ValueParser.TheVariants.{Unsigned}
+use Rattle.spec_calculus.specs.Bounds.{most_queries, most_budget, most_keys}
 
 -- a file's name, which has to be given: a positional argument, read back by its id
 abbrev pub name_rule : Text → Rule
 name_rule id = record (new_rule id) { required = true }
 
--- `--budget N`: a number from 0 to 1,000,000, and 10,000 where it is left out
+-- `--budget N`: a number from 0 to the limit of budgets, and 10,000 where it is left out
 abbrev pub budget_rule : Rule
 budget_rule = record (new_rule (codes "budget")) {
   long = Some (codes "budget");
-  parser = Some (Unsigned 0 1000000);
+  parser = Some (Unsigned 0 most_budget);
   defaults = codes "10000" ∷ [];
 }
 
@@ -27,11 +28,11 @@ check_shape =
     let named = with_rule (new_app (codes "check")) (name_rule (codes "file")) in
     (with_rule named (name_rule (codes "report"))).top
 
--- a query's number, from 1 to 256
+-- a query's number, from 1 to the limit of queries
 abbrev pub query_rule : Rule
 query_rule = record (new_rule (codes "query")) {
   required = true;
-  parser = Some (Unsigned 1 256);
+  parser = Some (Unsigned 1 most_queries);
 }
 
 -- `list FILE QUERY`
@@ -46,11 +47,11 @@ replay_shape =
     let named = with_rule (new_app (codes "replay")) (name_rule (codes "file")) in
     (with_rule named (name_rule (codes "run"))).top
 
--- how many keys a ring has, from 2 to 400
+-- how many keys a ring has, from 2 to the limit
 abbrev pub stages_rule : Rule
 stages_rule = record (new_rule (codes "stages")) {
   required = true;
-  parser = Some (Unsigned 2 400);
+  parser = Some (Unsigned 2 most_keys);
 }
 
 -- `ring STAGES`

@@ -7,41 +7,51 @@ ghost use Rattle.command_words.specs.Commands.{replay_shape, ring_shape, verdict
 
 use clap::builder::ValueParser;
 use clap::{Arg, Command};
+use limits::{MOST_BUDGET, MOST_KEYS, MOST_QUERIES};
 use std::alloc::{AllocError, Global};
 
+/// The word of the command that verifies a protocol.
 pub const VERIFY: &str = "verify";
 
+/// The word of the command that checks a report.
 pub const CHECK: &str = "check";
 
+/// The word of the command that lists clauses.
 pub const LIST: &str = "list";
 
+/// The word of the command that replays a run.
 pub const REPLAY: &str = "replay";
 
+/// The word of the command that makes a ring and verifies it.
 pub const RING: &str = "ring";
 
+/// The id of the argument with the name of the protocol's file.
 pub const FILE: &str = "file";
 
+/// The id of the argument with the budget, in clauses, and the name of its option.
 pub const BUDGET: &str = "budget";
 
+/// The id of the argument with the name of the report's file.
 pub const REPORT: &str = "report";
 
+/// The id of the argument with the number of a query, from 1.
 pub const QUERY: &str = "query";
 
+/// The id of the argument with the name of the run's file.
 pub const RUN: &str = "run";
 
+/// The id of the argument with the number of keys of a ring.
 pub const STAGES: &str = "stages";
 
-const MOST_BUDGET: u64 = 1_000_000;
-
+/// The budget, in clauses, where none is given, in decimal digits.
 const DEFAULT_BUDGET: &str = "10000";
 
-const MOST_QUERIES: u64 = 256;
+/// The fewest keys of a ring.
+const LEAST_KEYS: u64 = 2;
 
-const LEAST_STAGES: u64 = 2;
-
-const MOST_STAGES: u64 = 400;
-
-/// The program: one of its commands has to be given.
+/// The program as `clap` reads its words: one of its commands has to be given.
+///
+/// `Err` comes only for want of memory.
 pub fn program<'a>(alloc: Global) -> Result<Command<'a>, AllocError>
     ensures { IfOk result (λ c. app_of c ≡ program_app) }
 {
@@ -109,7 +119,7 @@ fn list<'a>(alloc: Global) -> Result<Command<'a>, AllocError>
     let named = Command::new(alloc, LIST).arg(required_name(alloc, FILE))?;
     let query = Arg::new(alloc, QUERY)
         .required(true)
-        .value_parser(ValueParser::unsigned(1, MOST_QUERIES));
+        .value_parser(ValueParser::unsigned(1, MOST_QUERIES as u64));
     named.arg(query)
 }
 
@@ -130,11 +140,11 @@ fn ring<'a>(alloc: Global) -> Result<Command<'a>, AllocError>
 {
     let stages = Arg::new(alloc, STAGES)
         .required(true)
-        .value_parser(ValueParser::unsigned(LEAST_STAGES, MOST_STAGES));
+        .value_parser(ValueParser::unsigned(LEAST_KEYS, MOST_KEYS));
     Command::new(alloc, RING).arg(stages)
 }
 
-// A file's name, which the command wants.
+/// An argument with the name of a file, which the command wants.
 fn required_name<'a>(alloc: Global, id: &'a str) -> Arg<'a>
     ensures rule { rule_of result ≡ name_rule id.entry.now }
     ensures local { result.global ≡ false }

@@ -3,6 +3,7 @@ ghost use Rattle.std.specs.Prelude.{◌≡◌, ◌≢◌, ◌↔◌, ◌≤◌, 
 ghost use Rattle.std.specs.Prelude.{true, false, IsSome, IsTrue, codes, slice_index};
 ghost use Rattle.std.specs.Str.Parse.{digits_value, without_leading_plus};
 ghost use Rattle.clap.specs.ValueTests.{is_unsigned_in};
+ghost use Rattle.spec_calculus.specs.Bounds.{most_queries, most_budget, most_keys};
 ghost use Rattle.command_words.specs.Request.{Check, ListOf, Replay, RingOf, Verify, is_taken};
 ghost use Rattle.command_words.specs.Request.{request_of};
 
@@ -36,50 +37,50 @@ pub fn names_after_dashes()
         ≡ Some (Replay file run) }
 {}
 
-/// `--budget=` takes a number from 0 to 1,000,000, and nothing else.
+/// `--budget=` takes a number from 0 to the limit of budgets, and nothing else.
 pub fn budgets()
     ensures taken { (program file number : List ℕ) → slice_index file 0 ≢ 45
-        → is_unsigned_in 0 1000000 number ≡ true
+        → is_unsigned_in 0 most_budget number ≡ true
         → request_of (program ∷ codes "verify" ∷ file ∷ (codes "--budget=" ++ number) ∷ [])
         ≡ Some (Verify file (digits_value 10 (without_leading_plus number))) }
     ensures refused { (program file number : List ℕ) → slice_index file 0 ≢ 45
-        → is_unsigned_in 0 1000000 number ≡ false
+        → is_unsigned_in 0 most_budget number ≡ false
         → request_of (program ∷ codes "verify" ∷ file ∷ (codes "--budget=" ++ number) ∷ [])
         ≡ None }
 {}
 
-/// A budget that is asked for is at most 1,000,000.
+/// A budget that is asked for is within the limit.
 pub fn asked_budgets()
     ensures { (words : List (List ℕ)) (file : List ℕ) (budget : ℕ) →
-        request_of words ≡ Some (Verify file budget) → budget ≤ 1000000 }
+        request_of words ≡ Some (Verify file budget) → budget ≤ most_budget }
 {}
 
-/// `list` takes a query's number from 1 to 256, and nothing else.
+/// `list` takes a query's number from 1 to the limit of queries, and nothing else.
 pub fn query_numbers()
     ensures taken { (program file number : List ℕ) → slice_index file 0 ≢ 45
-        → slice_index number 0 ≢ 45 → is_unsigned_in 1 256 number ≡ true
+        → slice_index number 0 ≢ 45 → is_unsigned_in 1 most_queries number ≡ true
         → request_of (program ∷ codes "list" ∷ file ∷ number ∷ [])
         ≡ Some (ListOf file (digits_value 10 (without_leading_plus number))) }
     ensures refused { (program file number : List ℕ) → slice_index file 0 ≢ 45
-        → slice_index number 0 ≢ 45 → is_unsigned_in 1 256 number ≡ false
+        → slice_index number 0 ≢ 45 → is_unsigned_in 1 most_queries number ≡ false
         → request_of (program ∷ codes "list" ∷ file ∷ number ∷ []) ≡ None }
 {}
 
-/// `ring` takes a number of keys from 2 to 400, and nothing else.
+/// `ring` takes a number of keys from 2 to the limit, and nothing else.
 pub fn stage_numbers()
     ensures taken { (program number : List ℕ) → slice_index number 0 ≢ 45
-        → is_unsigned_in 2 400 number ≡ true
+        → is_unsigned_in 2 most_keys number ≡ true
         → request_of (program ∷ codes "ring" ∷ number ∷ [])
         ≡ Some (RingOf (digits_value 10 (without_leading_plus number))) }
     ensures refused { (program number : List ℕ) → slice_index number 0 ≢ 45
-        → is_unsigned_in 2 400 number ≡ false
+        → is_unsigned_in 2 most_keys number ≡ false
         → request_of (program ∷ codes "ring" ∷ number ∷ []) ≡ None }
 {}
 
-/// A ring that is asked for has from 2 to 400 keys.
+/// A ring that is asked for has at least 2 keys, and no more than the limit.
 pub fn asked_stages()
     ensures { (words : List (List ℕ)) (stages : ℕ) →
-        request_of words ≡ Some (RingOf stages) → (2 ≤ stages) × (stages ≤ 400) }
+        request_of words ≡ Some (RingOf stages) → (2 ≤ stages) × (stages ≤ most_keys) }
 {}
 
 /// A request for help or for the version is refused, whatever follows it.

@@ -26,7 +26,7 @@ pub enum Request<'a> {
     Verify {
         /// The name of the protocol's file.
         file: &'a str,
-        /// How many clauses the saturation may keep for each query, from 0 to 1,000,000.
+        /// How many clauses the saturation may keep for each query, from 0 to the limit of budgets.
         budget: u64,
     },
     /// `check FILE REPORT`: check each certificate of a report on the protocol in `file`.
@@ -40,7 +40,7 @@ pub enum Request<'a> {
     List {
         /// The name of the protocol's file.
         file: &'a str,
-        /// The number of the query, from 1 to 256.
+        /// The number of the query, from 1 to the limit of queries.
         query: u64,
     },
     /// `replay FILE RUN`: replay a run of the protocol in `file`.
@@ -52,13 +52,13 @@ pub enum Request<'a> {
     },
     /// `ring STAGES`: make the ring of so many keys, and verify its query.
     Ring {
-        /// How many keys it has, from 2 to 400.
+        /// How many keys it has, from 2 to the limit.
         stages: u64,
     },
 }
 
 /// Reads the words of a command line, of which the first is the program's name, as `clap` does.
-/// `None` is for words that `clap` refuses, requests for help among them.
+/// `None` is for words that `clap` refuses, requests for help among them. `Err` comes only for want of memory.
 pub fn read_words<'a>(alloc: Global, words: &'a [String]) -> Result<Option<Request<'a>>, AllocError>
     ensures request { IfOk result (λ r. option_map request_seen r
         ≡ request_of (map string_bytes words.now)) }
@@ -75,7 +75,7 @@ pub fn read_words<'a>(alloc: Global, words: &'a [String]) -> Result<Option<Reque
     }
 }
 
-// The request in the matches of the program's words.
+/// The request in the matches of the program's words.
 fn requested<'a>(matches: &ArgMatches<'a>) -> Option<Request<'a>>
     ensures { option_map request_seen result ≡ asked (subcommand_rows_of matches.now) }
 {
@@ -89,6 +89,7 @@ fn requested<'a>(matches: &ArgMatches<'a>) -> Option<Request<'a>>
     }
 }
 
+/// The request in the matches of the words behind `verify`.
 fn verify_requested<'a>(given: &ArgMatches<'a>) -> Option<Request<'a>>
     ensures { option_map request_seen result ≡ verify_in (rows_of (found_of given.now)) }
 {
@@ -98,6 +99,7 @@ fn verify_requested<'a>(given: &ArgMatches<'a>) -> Option<Request<'a>>
     })
 }
 
+/// The request in the matches of the words behind `check`.
 fn check_requested<'a>(given: &ArgMatches<'a>) -> Option<Request<'a>>
     ensures { option_map request_seen result ≡ check_in (rows_of (found_of given.now)) }
 {
@@ -107,6 +109,7 @@ fn check_requested<'a>(given: &ArgMatches<'a>) -> Option<Request<'a>>
     })
 }
 
+/// The request in the matches of the words behind `list`.
 fn list_requested<'a>(given: &ArgMatches<'a>) -> Option<Request<'a>>
     ensures { option_map request_seen result ≡ list_in (rows_of (found_of given.now)) }
 {
@@ -116,6 +119,7 @@ fn list_requested<'a>(given: &ArgMatches<'a>) -> Option<Request<'a>>
     })
 }
 
+/// The request in the matches of the words behind `replay`.
 fn replay_requested<'a>(given: &ArgMatches<'a>) -> Option<Request<'a>>
     ensures { option_map request_seen result ≡ replay_in (rows_of (found_of given.now)) }
 {
@@ -125,6 +129,7 @@ fn replay_requested<'a>(given: &ArgMatches<'a>) -> Option<Request<'a>>
     })
 }
 
+/// The request in the matches of the words behind `ring`.
 fn ring_requested<'a>(given: &ArgMatches<'a>) -> Option<Request<'a>>
     ensures { option_map request_seen result ≡ ring_in (rows_of (found_of given.now)) }
 {

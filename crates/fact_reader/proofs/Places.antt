@@ -16,11 +16,18 @@ all_dropped [] (suc place) past = refl
 all_dropped (b ∷ bytes) zero past = absurd (omega (arith, past))
 all_dropped (b ∷ bytes) (suc place) past = all_dropped bytes place (omega (arith, past))
 
+pub some_left : (bytes : List ℕ) (place : ℕ) → place < length bytes → drop place bytes ≢ []
+some_left [] place below e = absurd (omega (arith, below))
+some_left (b ∷ bytes) zero below e = absurd (cc)
+some_left (b ∷ bytes) (suc place) below e = some_left bytes place (omega (arith, below)) e
+
 pub front_there : (bytes : List ℕ) (at : ℕ) → at < length bytes → get_or bytes at 0 ≡ front (drop at bytes)
 front_there bytes at below = sym (ap front (next_byte bytes at below))
 
 pub front_end : (bytes : List ℕ) (at : ℕ) → length bytes ≤ at → 0 ≡ front (drop at bytes)
 front_end bytes at past = sym (ap front (all_dropped bytes at past))
+
+pub ruleset ends = (all_dropped, some_left)
 
 -- behind the first byte
 pub drop_next : (bytes : List ℕ) (at : ℕ) → drop 1 (drop at bytes) ≡ drop (at + 1) bytes

@@ -16,67 +16,66 @@ next_fault (Arity p) o f h = ap (λ x. next x f) h
 next_fault (Count p) o f h = ap (λ x. next x f) h
 next_fault (Memory m) o f h = tt
 
--- these things are read, and reading goes on from here
-pub record IsGoing {A : Type 0} (one : Reader (A × Bool)) (bytes : List ℕ) (at round place : ℕ) (xs : List A) : Type 0 where
-  pub read : things_from one (length bytes - round) xs (drop place bytes) place ≡ things one (drop at bytes) at
-  pub within : place ≤ length bytes
+-- these things are read, and reading of so many more goes on with the rest
+pub record IsGoing {A : Type 0} (one : Reader (A × Bool)) (whole : Outcome (List A)) (most : ℕ) (rest : List ℕ) (place : ℕ) (xs : List A) : Type 0 where
+  pub read : things_from one most xs rest place ≡ whole
 
-pub things_start : {A : Type 0} (one : Reader (A × Bool)) (bytes : List ℕ) (at : ℕ) (xs : List A) → xs ≡ [] → at ≤ length bytes → IsGoing one bytes at at at xs
-things_start {A} one bytes at xs none within =
-    subst (λ (ys : List A). IsGoing one bytes at at at ys) (sym none)
-    record { read = ap (λ n. things_from one n [] (drop at bytes) at) (sym (length-drop at bytes)); within = within }
+abbrev behind_thing : {A : Type 0} → Reader (A × Bool) → ℕ → List A → A × Bool → ℕ → List ℕ → Outcome (List A)
+behind_thing one most xs x place rest = if x.1 then things_from one most (xs ++ x.0 ∷ []) rest place else Found (xs ++ x.0 ∷ []) place rest
 
-one_more : {A : Type 0} (one : Reader (A × Bool)) (m : ℕ) (xs : List A) (bytes : List ℕ) (at : ℕ)
-    → things_from one (suc m) xs bytes at ≡ next (one bytes at) (λ x place rest. if x.1 then things_from one m (xs ++ x.0 ∷ []) rest place else Found (xs ++ x.0 ∷ []) place rest)
+pub things_start : {A : Type 0} (one : Reader (A × Bool)) (bytes : List ℕ) (at : ℕ) (xs : List A) → xs ≡ [] → IsGoing one (things one (drop at bytes) at) (length bytes - at) (drop at bytes) at xs
+things_start {A} one bytes at xs none =
+    subst (λ (ys : List A). IsGoing one (things one (drop at bytes) at) (length bytes - at) (drop at bytes) at ys) (sym none)
+    record { read = ap (λ n. things_from one n [] (drop at bytes) at) (sym (length-drop at bytes)) }
+
+one_more : {A : Type 0} (one : Reader (A × Bool)) (m : ℕ) (xs : List A) (bytes : List ℕ) (at : ℕ) → things_from one (suc m) xs bytes at ≡ next (one bytes at) (behind_thing one m xs)
 unfolding things_from
 one_more one m xs bytes at = refl
 
-more : {A : Type 0} (one : Reader (A × Bool)) (bytes : List ℕ) (at round place : ℕ) (xs : List A) → IsGoing one bytes at round place xs → round < length bytes
-    → things one (drop at bytes) at ≡ next (one (drop place bytes) place) (λ x p r. if x.1 then things_from one (length bytes - (round + 1)) (xs ++ x.0 ∷ []) r p else Found (xs ++ x.0 ∷ []) p r)
-more one bytes at round place xs going below =
-    let left : suc (length bytes - (round + 1)) ≡ length bytes - round = omega arith in
-    sym going.read ∙ (ap (λ n. things_from one n xs (drop place bytes) place) (sym left) ∙ one_more one (length bytes - (round + 1)) xs (drop place bytes) place)
+more : {A : Type 0} (one : Reader (A × Bool)) (whole : Outcome (List A)) (most round : ℕ) (rest : List ℕ) (place : ℕ) (xs : List A) → IsGoing one whole (most - round) rest place xs → round < most
+    → whole ≡ next (one rest place) (behind_thing one (most - (round + 1)) xs)
+more one whole most round rest place xs going below =
+    let left : suc (most - (round + 1)) ≡ most - round = omega arith in
+    sym going.read ∙ (ap (λ n. things_from one n xs rest place) (sym left) ∙ one_more one (most - (round + 1)) xs rest place)
 
-pub things_on : {A : Type 0} (one : Reader (A × Bool)) (bytes : List ℕ) (at round place behind : ℕ) (xs ys : List A) (x : A) → ys ≡ xs ++ x ∷ [] → IsGoing one bytes at round place xs → round < length bytes
-    → one (drop place bytes) place ≡ Found (x, true) behind (drop behind bytes) → behind ≤ length bytes → IsGoing one bytes at (round + 1) behind ys
-things_on {A} one bytes at round place behind xs ys x is going below found within =
-    subst (λ (zs : List A). IsGoing one bytes at (round + 1) behind zs) (sym is) record {
-      read = sym (more one bytes at round place xs going below ∙ ap (λ o. next o (λ y p r. if y.1 then things_from one (length bytes - (round + 1)) (xs ++ y.0 ∷ []) r p else Found (xs ++ y.0 ∷ []) p r)) found);
-      within = within;
-    }
+pub things_on : {A : Type 0} (one : Reader (A × Bool)) (whole : Outcome (List A)) (most round : ℕ) (rest : List ℕ) (place : ℕ) (xs : List A) (behind : List ℕ) (at : ℕ) (ys : List A) (x : A) (goes : Bool)
+    → ys ≡ xs ++ x ∷ [] → goes ≡ true → IsGoing one whole (most - round) rest place xs → round < most → one rest place ≡ Found (x, goes) at behind → IsGoing one whole (most - (round + 1)) behind at ys
+things_on {A} one whole most round rest place xs behind at ys x goes is on going below found =
+    subst (λ (zs : List A). IsGoing one whole (most - (round + 1)) behind at zs) (sym is)
+    record { read = sym (more one whole most round rest place xs going below ∙ ap (λ o. next o (behind_thing one (most - (round + 1)) xs)) (found ∙ ap (λ b. Found (x, b) at behind) on)) }
 
-pub things_end : {A : Type 0} (one : Reader (A × Bool)) (bytes : List ℕ) (at round place behind : ℕ) (xs ys : List A) (x : A) → ys ≡ xs ++ x ∷ [] → IsGoing one bytes at round place xs → round < length bytes
-    → one (drop place bytes) place ≡ Found (x, false) behind (drop behind bytes) → things one (drop at bytes) at ≡ Found ys behind (drop behind bytes)
-things_end one bytes at round place behind xs ys x is going below found =
-    more one bytes at round place xs going below
-    ∙ (ap (λ o. next o (λ y p r. if y.1 then things_from one (length bytes - (round + 1)) (xs ++ y.0 ∷ []) r p else Found (xs ++ y.0 ∷ []) p r)) found
-    ∙ ap (λ zs. Found zs behind (drop behind bytes)) (sym is))
+pub things_end : {A : Type 0} (one : Reader (A × Bool)) (whole : Outcome (List A)) (most round : ℕ) (rest : List ℕ) (place : ℕ) (xs : List A) (behind : List ℕ) (at : ℕ) (ys : List A) (x : A) (goes : Bool)
+    → ys ≡ xs ++ x ∷ [] → goes ≡ false → IsGoing one whole (most - round) rest place xs → round < most → one rest place ≡ Found (x, goes) at behind → whole ≡ Found ys at behind
+things_end one whole most round rest place xs behind at ys x goes is ends going below found =
+    more one whole most round rest place xs going below
+    ∙ (ap (λ o. next o (behind_thing one (most - (round + 1)) xs)) (found ∙ ap (λ b. Found (x, b) at behind) ends)
+    ∙ ap (λ zs. Found zs at behind) (sym is))
 
-pub things_fault : {A : Type 0} (one : Reader (A × Bool)) (bytes : List ℕ) (at round place : ℕ) (xs : List A) (e : CertError) → IsGoing one bytes at round place xs → round < length bytes
-    → HasFault e (one (drop place bytes) place) → HasFault e (things one (drop at bytes) at)
-things_fault {A} one bytes at round place xs e going below fault =
-    subst (λ o. HasFault e o) (sym (more one bytes at round place xs going below))
-    (next_fault {B = List A} e (one (drop place bytes) place) (λ x p r. if x.1 then things_from one (length bytes - (round + 1)) (xs ++ x.0 ∷ []) r p else Found (xs ++ x.0 ∷ []) p r) fault)
+pub things_fault : {A : Type 0} (one : Reader (A × Bool)) (whole : Outcome (List A)) (most round : ℕ) (rest : List ℕ) (place : ℕ) (xs : List A) (e : CertError) → IsGoing one whole (most - round) rest place xs → round < most
+    → HasFault e (one rest place) → HasFault e whole
+things_fault {A} one whole most round rest place xs e going below fault =
+    subst (λ (o : Outcome (List A)). HasFault e o) (sym (more one whole most round rest place xs going below))
+    (next_fault {B = List A} e (one rest place) (behind_thing one (most - (round + 1)) xs) fault)
 
 -- the same of things that are seen as others
 
-pub viewed_on : {T A : Type 0} (f : T → A) (one : Reader (A × Bool)) (bytes : List ℕ) (at round place behind : ℕ) (ts us : List T) (t : T) (more : Bool) → us ≡ ts ++ t ∷ [] → more ≡ true → IsGoing one bytes at round place (map f ts) → round < length bytes
-    → one (drop place bytes) place ≡ Found (f t, more) behind (drop behind bytes) → behind ≤ length bytes → IsGoing one bytes at (round + 1) behind (map f us)
-viewed_on f one bytes at round place behind ts us t more is goes going below found within =
-    things_on one bytes at round place behind (map f ts) (map f us) (f t) (ap (map f) is ∙ map-append f ts (t ∷ [])) going below (found ∙ ap (λ b. Found (f t, b) behind (drop behind bytes)) goes) within
+pub viewed_on : {T A : Type 0} (f : T → A) (one : Reader (A × Bool)) (whole : Outcome (List A)) (most round : ℕ) (rest : List ℕ) (place : ℕ) (ts : List T) (behind : List ℕ) (at : ℕ) (us : List T) (t : T) (goes : Bool)
+    → us ≡ ts ++ t ∷ [] → goes ≡ true → IsGoing one whole (most - round) rest place (map f ts) → round < most → one rest place ≡ Found (f t, goes) at behind → IsGoing one whole (most - (round + 1)) behind at (map f us)
+viewed_on f one whole most round rest place ts behind at us t goes is on going below found =
+    things_on one whole most round rest place (map f ts) behind at (map f us) (f t) goes (ap (map f) is ∙ map-append f ts (t ∷ [])) on going below found
 
-pub viewed_end : {T A : Type 0} (f : T → A) (one : Reader (A × Bool)) (bytes : List ℕ) (at round place behind : ℕ) (ts us : List T) (t : T) (more : Bool) → us ≡ ts ++ t ∷ [] → more ≡ false → IsGoing one bytes at round place (map f ts) → round < length bytes
-    → one (drop place bytes) place ≡ Found (f t, more) behind (drop behind bytes) → things one (drop at bytes) at ≡ Found (map f us) behind (drop behind bytes)
-viewed_end f one bytes at round place behind ts us t more is ends going below found =
-    things_end one bytes at round place behind (map f ts) (map f us) (f t) (ap (map f) is ∙ map-append f ts (t ∷ [])) going below (found ∙ ap (λ b. Found (f t, b) behind (drop behind bytes)) ends)
+pub viewed_end : {T A : Type 0} (f : T → A) (one : Reader (A × Bool)) (whole : Outcome (List A)) (most round : ℕ) (rest : List ℕ) (place : ℕ) (ts : List T) (behind : List ℕ) (at : ℕ) (us : List T) (t : T) (goes : Bool)
+    → us ≡ ts ++ t ∷ [] → goes ≡ false → IsGoing one whole (most - round) rest place (map f ts) → round < most → one rest place ≡ Found (f t, goes) at behind → whole ≡ Found (map f us) at behind
+viewed_end f one whole most round rest place ts behind at us t goes is ends going below found =
+    things_end one whole most round rest place (map f ts) behind at (map f us) (f t) goes (ap (map f) is ∙ map-append f ts (t ∷ [])) ends going below found
 
 none_left : {A : Type 0} (one : Reader (A × Bool)) (xs : List A) (bytes : List ℕ) (at : ℕ) → things_from one 0 xs bytes at ≡ Faulty at terms.Syntax
 unfolding things_from
 none_left one xs bytes at = refl
 
-pub things_out : {A : Type 0} (one : Reader (A × Bool)) (bytes : List ℕ) (at round place : ℕ) (xs : List A) → IsGoing one bytes at round place xs → length bytes ≤ round → things one (drop at bytes) at ≡ Faulty place terms.Syntax
-things_out one bytes at round place xs going past =
-    let left : length bytes - round ≡ 0 = omega arith in
-    sym going.read ∙ (ap (λ n. things_from one n xs (drop place bytes) place) left ∙ none_left one xs (drop place bytes) place)
+pub things_out : {A : Type 0} (one : Reader (A × Bool)) (whole : Outcome (List A)) (most round : ℕ) (rest : List ℕ) (place : ℕ) (xs : List A) → IsGoing one whole (most - round) rest place xs → most ≤ round → whole ≡ Faulty place terms.Syntax
+things_out one whole most round rest place xs going past =
+    let left : most - round ≡ 0 = omega arith in
+    sym going.read ∙ (ap (λ n. things_from one n xs rest place) left ∙ none_left one xs rest place)
 
-pub ruleset going = (things_start, things_fault, things_out)
+pub ruleset going = (things_start, things_fault)

@@ -1,3 +1,4 @@
 pub mod Errors
 pub mod Gives
+pub mod Reads
 pub mod Seen

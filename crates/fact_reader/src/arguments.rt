@@ -1,87 +1,67 @@
 //! Terms, and rows of them.
 
-ghost use Rattle.std.specs.Prelude.{◌≡◌, ◌≤◌, drop, length};
+ghost use Rattle.std.specs.Prelude.{◌≡◌};
 ghost use Rattle.clause_form.specs.Plain.{term_of};
-ghost use Rattle.pi_tree.specs.Protocols.{protocol_of};
-ghost use Rattle.term_reader.specs.Few.{HasFewNames};
+ghost use Rattle.term_reader.specs.Naming.{protocol_in};
 ghost use Rattle.spec_certificate_reading.specs.Facts as reading;
-ghost use Rattle.fact_reader.specs.Gives.{Gives, StopsWithin, same};
+ghost use Rattle.fact_reader.specs.Gives.{same};
+ghost use Rattle.fact_reader.specs.Reads.{Reads};
 ghost use Rattle.fact_reader.specs.Seen.{argument_of};
 
-use crate::bytes::front;
+use crate::cursor::Cursor;
 use crate::error::{CertError, error_at};
 use clause_form::{Tree, Trees};
-use pi_tree::Protocol;
-use std::alloc::Global;
-use term_reader::{Read, read_term};
+use term_reader::{Names, Read, term_at};
 
 /// A term.
-pub fn term(
-    alloc: Global,
-    protocol: &Protocol,
-    bytes: &[u8],
-    at: usize,
-) -> Result<(Tree, usize), CertError>
-    requires few { HasFewNames (protocol_of protocol.now) }
-    requires within { at ≤ length bytes.now }
-    ensures read { Gives term_of bytes.now result
-        (reading.one_term (protocol_of protocol.now) (drop at bytes.now) at) }
-    ensures within { StopsWithin bytes.now result }
+pub fn term(names: &Names<'_>, cursor: &mut Cursor<'_>) -> Result<Tree, CertError>
+    ensures read { Reads term_of (reading.one_term (protocol_in names.now))
+        cursor.old cursor.new result }
+    ensures same { cursor.new.bytes.now ≡ cursor.old.bytes.now }
 {
-    match read_term(alloc, protocol, bytes, at)? {
-        Read::Done(term, place) => Ok((term, place)),
+    match term_at(names, cursor.bytes, cursor.at)? {
+        Read::Done(term, place) => {
+            cursor.at = place;
+            Ok(term)
+        }
         Read::Refused(place, code) => Err(error_at(place, code)),
     }
 }
 
 /// A term and what stands behind it: `,` where another follows, or `)`.
 #[tactic(auto, using(crate::proofs::Places::drop_next))]
-fn argument(
-    alloc: Global,
-    protocol: &Protocol,
-    bytes: &[u8],
-    at: usize,
-) -> Result<((Tree, bool), usize), CertError>
-    requires few { HasFewNames (protocol_of protocol.now) }
-    requires within { at ≤ length bytes.now }
-    ensures read { Gives argument_of bytes.now result
-        (reading.argument (protocol_of protocol.now) (drop at bytes.now) at) }
-    ensures within { StopsWithin bytes.now result }
+fn argument(names: &Names<'_>, cursor: &mut Cursor<'_>) -> Result<(Tree, bool), CertError>
+    ensures read { Reads argument_of (reading.argument (protocol_in names.now))
+        cursor.old cursor.new result }
+    ensures same { cursor.new.bytes.now ≡ cursor.old.bytes.now }
 {
-    let (found, behind) = term(alloc, protocol, bytes, at)?;
-    let byte = front(bytes, behind);
+    let found = term(names, cursor)?;
+    let byte = cursor.front();
     if byte == b',' {
-        return Ok(((found, true), behind + 1));
+        cursor.at += 1;
+        return Ok((found, true));
     }
     if byte == b')' {
-        return Ok(((found, false), behind + 1));
+        cursor.at += 1;
+        return Ok((found, false));
     }
-    Err(CertError::Syntax(behind))
+    Err(CertError::Syntax(cursor.at))
 }
 
 /// Terms, a comma between each two, and `)` behind the last.
 #[tactic(auto, using(crate::proofs::Things::going))]
-pub fn terms(
-    alloc: Global,
-    protocol: &Protocol,
-    bytes: &[u8],
-    at: usize,
-) -> Result<(Trees, usize), CertError>
-    requires few { HasFewNames (protocol_of protocol.now) }
-    requires within { at ≤ length bytes.now }
-    ensures read { Gives same bytes.now result
-        (reading.read_terms (protocol_of protocol.now) (drop at bytes.now) at) }
-    ensures within { StopsWithin bytes.now result }
+pub fn terms(names: &Names<'_>, cursor: &mut Cursor<'_>) -> Result<Trees, CertError>
+    ensures read { Reads same (reading.read_terms (protocol_in names.now))
+        cursor.old cursor.new result }
+    ensures same { cursor.new.bytes.now ≡ cursor.old.bytes.now }
 {
-    let mut items = Vec::new(alloc);
-    let mut place = at;
-    for round in at..bytes.len() {
-        let ((next, more), behind) = argument(alloc, protocol, bytes, place)?;
+    let mut items = Vec::new(names.alloc);
+    for round in cursor.at..cursor.bytes.len() {
+        let (next, more) = argument(names, cursor)?;
         items.push(next)?;
-        place = behind;
         if !more {
-            return Ok((Trees { items }, place));
+            return Ok(Trees { items });
         }
     }
-    Err(CertError::Syntax(place))
+    Err(CertError::Syntax(cursor.at))
 }

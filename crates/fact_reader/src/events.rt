@@ -2,22 +2,19 @@
 
 ghost use Rattle.std.specs.Prelude.{◌≡◌, ℕ, List, ◌+◌, ◌≤◌, drop, length, Some};
 ghost use Rattle.std.specs.List.{prefix_len};
-ghost use Rattle.pi_tree.specs.Protocols.{protocol_of};
+ghost use Rattle.term_reader.specs.Naming.{protocol_in};
 ghost use Rattle.spec_protocol_tokens.specs.Bytes.{is_in_word};
-ghost use Rattle.term_reader.specs.Few.{HasFewNames};
 ghost use Rattle.term_reader.specs.Seen.{called_of, event_of};
 ghost use Rattle.spec_certificate_reading.specs.Facts as facts;
 ghost use Rattle.spec_certificate_reading.specs.Facts.{event_named, read_event};
-ghost use Rattle.fact_reader.specs.Gives.{Gives, StopsWithin};
+ghost use Rattle.fact_reader.specs.Reads.{Finds, Reads};
 ghost use Rattle.fact_reader.specs.Seen.{performed_of};
 
 use crate::arguments::terms;
-use crate::bytes::front;
+use crate::cursor::Cursor;
 use crate::error::CertError;
 use clause_form::Trees;
-use pi_tree::Protocol;
-use std::alloc::Global;
-use term_reader::{CalledEvent, begins_word, event_called, is_in_word};
+use term_reader::{CalledEvent, Names, begins_word, is_in_word};
 
 /// An event over terms.
 #[derive(Drop)]
@@ -43,95 +40,74 @@ fn behind_word(bytes: &[u8], at: usize) -> usize
     at + word_len(&bytes[at..])
 }
 
-/// The event over these arguments, which end at the place, if it takes as many.
+/// The event over these arguments, which begins at the place, if it takes as many.
 fn with_arguments(
     called: CalledEvent,
     from: usize,
     arguments: Trees,
-    place: usize,
-) -> Result<(Performed, usize), CertError>
-    ensures read { (bytes : List ℕ) → Gives performed_of bytes result
-        (facts.performed from (called_of called) arguments place (drop place bytes)) }
-    ensures within { (bytes : List ℕ) → place ≤ length bytes → StopsWithin bytes result }
+) -> Result<Performed, CertError>
+    ensures { (place : ℕ) (rest : List ℕ) → Finds performed_of result place rest
+        (facts.performed from (called_of called) arguments place rest) }
 {
     if arguments.items.len() == called.arity as usize {
         let event = called.number;
-        Ok((Performed { event, arguments }, place))
+        Ok(Performed { event, arguments })
     } else {
         Err(CertError::Arity(from))
     }
 }
 
-/// A place where a word begins, and the place behind it.
-#[derive(Clone, Copy)]
-struct Word {
-    from: usize,
-    behind: usize,
-}
-
-/// The arguments of an event behind its word.
+/// The arguments of an event behind its word, which begins at the place.
 #[tactic(auto, using(crate::proofs::Places::drop_next))]
 fn arguments(
-    alloc: Global,
-    protocol: &Protocol,
-    bytes: &[u8],
-    word: Word,
+    names: &Names<'_>,
+    cursor: &mut Cursor<'_>,
+    from: usize,
     called: CalledEvent,
-) -> Result<(Performed, usize), CertError>
-    requires few { HasFewNames (protocol_of protocol.now) }
-    requires within { word.behind ≤ length bytes.now }
-    ensures read { Gives performed_of bytes.now result
-        (event_named (protocol_of protocol.now) (Some (called_of called)) word.from word.behind
-        (drop word.behind bytes.now)) }
-    ensures within { StopsWithin bytes.now result }
+) -> Result<Performed, CertError>
+    ensures read { Reads performed_of (λ rest place. event_named (protocol_in names.now)
+        (Some (called_of called)) from place rest) cursor.old cursor.new result }
+    ensures same { cursor.new.bytes.now ≡ cursor.old.bytes.now }
 {
-    if front(bytes, word.behind) == b'(' {
-        let (arguments, place) = terms(alloc, protocol, bytes, word.behind + 1)?;
-        with_arguments(called, word.from, arguments, place)
+    if cursor.front() == b'(' {
+        cursor.at += 1;
+        let arguments = terms(names, cursor)?;
+        with_arguments(called, from, arguments)
     } else {
-        let items = Vec::new(alloc);
-        with_arguments(called, word.from, Trees { items }, word.behind)
+        let items = Vec::new(names.alloc);
+        with_arguments(called, from, Trees { items })
     }
 }
 
-/// The event of a word that names this, if anything.
+/// The event of a word, which begins at the place and names this, if anything.
 fn named(
-    alloc: Global,
-    protocol: &Protocol,
-    bytes: &[u8],
-    word: Word,
+    names: &Names<'_>,
+    cursor: &mut Cursor<'_>,
+    from: usize,
     called: Option<CalledEvent>,
-) -> Result<(Performed, usize), CertError>
-    requires few { HasFewNames (protocol_of protocol.now) }
-    requires within { word.behind ≤ length bytes.now }
-    ensures read { Gives performed_of bytes.now result
-        (event_named (protocol_of protocol.now) (event_of called) word.from word.behind
-        (drop word.behind bytes.now)) }
-    ensures within { StopsWithin bytes.now result }
+) -> Result<Performed, CertError>
+    ensures read { Reads performed_of (λ rest place. event_named (protocol_in names.now)
+        (event_of called) from place rest) cursor.old cursor.new result }
+    ensures same { cursor.new.bytes.now ≡ cursor.old.bytes.now }
 {
     match called {
-        None => Err(CertError::Symbol(word.from)),
-        Some(event) => arguments(alloc, protocol, bytes, word, event),
+        None => Err(CertError::Symbol(from)),
+        Some(event) => arguments(names, cursor, from, event),
     }
 }
 
 /// An event.
-pub fn event(
-    alloc: Global,
-    protocol: &Protocol,
-    bytes: &[u8],
-    at: usize,
-) -> Result<(Performed, usize), CertError>
-    requires few { HasFewNames (protocol_of protocol.now) }
-    requires within { at ≤ length bytes.now }
-    ensures read { Gives performed_of bytes.now result
-        (read_event (protocol_of protocol.now) (drop at bytes.now) at) }
-    ensures within { StopsWithin bytes.now result }
+pub fn event(names: &Names<'_>, cursor: &mut Cursor<'_>) -> Result<Performed, CertError>
+    ensures read { Reads performed_of (read_event (protocol_in names.now))
+        cursor.old cursor.new result }
+    ensures same { cursor.new.bytes.now ≡ cursor.old.bytes.now }
 {
-    if !begins_word(front(bytes, at)) {
-        return Err(CertError::Syntax(at));
+    if !begins_word(cursor.front()) {
+        return Err(CertError::Syntax(cursor.at));
     }
-    let behind = behind_word(bytes, at);
-    let called = event_called(protocol, &bytes[at..behind]);
-    named(alloc, protocol, bytes, Word { from: at, behind }, called)
+    let from = cursor.at;
+    let behind = behind_word(cursor.bytes, from);
+    let called = names.event_called(&cursor.bytes[from..behind]);
+    cursor.at = behind;
+    named(names, cursor, from, called)
 }

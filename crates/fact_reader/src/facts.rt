@@ -1,202 +1,138 @@
 //! Facts.
 
-ghost use Rattle.std.specs.Prelude.{◌<◌, ◌≤◌, drop, length};
-ghost use Rattle.pi_tree.specs.Protocols.{protocol_of};
+ghost use Rattle.std.specs.Prelude.{◌≡◌};
+ghost use Rattle.term_reader.specs.Naming.{protocol_in};
 ghost use Rattle.clause_form.specs.PlainFacts.{plain_fact_of};
-ghost use Rattle.term_reader.specs.Few.{HasFewNames};
 ghost use Rattle.spec_certificate_reading.specs.Facts as reading;
-ghost use Rattle.fact_reader.specs.Gives.{Gives, StopsWithin, same};
+ghost use Rattle.fact_reader.specs.Gives.{same};
+ghost use Rattle.fact_reader.specs.Reads.{Reads};
 
 use crate::arguments::{term, terms};
-use crate::bytes::{fixed, front};
+use crate::cursor::Cursor;
 use crate::error::CertError;
 use crate::events::event;
 use clause_form::{PlainFact, Trees};
-use pi_tree::Protocol;
-use std::alloc::Global;
+use term_reader::Names;
 
 /// `att(`, a term and `)`.
-fn att(
-    alloc: Global,
-    protocol: &Protocol,
-    bytes: &[u8],
-    at: usize,
-) -> Result<(PlainFact, usize), CertError>
-    requires few { HasFewNames (protocol_of protocol.now) }
-    requires within { at ≤ length bytes.now }
-    ensures read { Gives plain_fact_of bytes.now result
-        (reading.read_att (protocol_of protocol.now) (drop at bytes.now) at) }
-    ensures within { StopsWithin bytes.now result }
+fn att(names: &Names<'_>, cursor: &mut Cursor<'_>) -> Result<PlainFact, CertError>
+    ensures read { Reads plain_fact_of (reading.read_att (protocol_in names.now))
+        cursor.old cursor.new result }
+    ensures same { cursor.new.bytes.now ≡ cursor.old.bytes.now }
 {
-    let open = fixed(b"att(", bytes, at)?;
-    let (known, behind) = term(alloc, protocol, bytes, open)?;
-    let close = fixed(b")", bytes, behind)?;
-    Ok((PlainFact::Att(known), close))
+    cursor.pass(b"att(")?;
+    let known = term(names, cursor)?;
+    cursor.pass(b")")?;
+    Ok(PlainFact::Att(known))
 }
 
 /// `mess(`, two terms with a comma between, and `)`.
-fn mess(
-    alloc: Global,
-    protocol: &Protocol,
-    bytes: &[u8],
-    at: usize,
-) -> Result<(PlainFact, usize), CertError>
-    requires few { HasFewNames (protocol_of protocol.now) }
-    requires within { at ≤ length bytes.now }
-    ensures read { Gives plain_fact_of bytes.now result
-        (reading.read_mess (protocol_of protocol.now) (drop at bytes.now) at) }
-    ensures within { StopsWithin bytes.now result }
+fn mess(names: &Names<'_>, cursor: &mut Cursor<'_>) -> Result<PlainFact, CertError>
+    ensures read { Reads plain_fact_of (reading.read_mess (protocol_in names.now))
+        cursor.old cursor.new result }
+    ensures same { cursor.new.bytes.now ≡ cursor.old.bytes.now }
 {
-    let open = fixed(b"mess(", bytes, at)?;
-    let (channel, behind) = term(alloc, protocol, bytes, open)?;
-    let comma = fixed(b",", bytes, behind)?;
-    let (message, end) = term(alloc, protocol, bytes, comma)?;
-    let close = fixed(b")", bytes, end)?;
-    Ok((PlainFact::Mess(channel, message), close))
+    cursor.pass(b"mess(")?;
+    let channel = term(names, cursor)?;
+    cursor.pass(b",")?;
+    let message = term(names, cursor)?;
+    cursor.pass(b")")?;
+    Ok(PlainFact::Mess(channel, message))
 }
 
 /// `ev(`, an event and `)`.
-fn ev(
-    alloc: Global,
-    protocol: &Protocol,
-    bytes: &[u8],
-    at: usize,
-) -> Result<(PlainFact, usize), CertError>
-    requires few { HasFewNames (protocol_of protocol.now) }
-    requires within { at ≤ length bytes.now }
-    ensures read { Gives plain_fact_of bytes.now result
-        (reading.read_ev (protocol_of protocol.now) (drop at bytes.now) at) }
-    ensures within { StopsWithin bytes.now result }
+fn ev(names: &Names<'_>, cursor: &mut Cursor<'_>) -> Result<PlainFact, CertError>
+    ensures read { Reads plain_fact_of (reading.read_ev (protocol_in names.now))
+        cursor.old cursor.new result }
+    ensures same { cursor.new.bytes.now ≡ cursor.old.bytes.now }
 {
-    let open = fixed(b"ev(", bytes, at)?;
-    let (performed, behind) = event(alloc, protocol, bytes, open)?;
-    let close = fixed(b")", bytes, behind)?;
-    Ok((PlainFact::Ev(performed.event, performed.arguments), close))
+    cursor.pass(b"ev(")?;
+    let performed = event(names, cursor)?;
+    cursor.pass(b")")?;
+    Ok(PlainFact::Ev(performed.event, performed.arguments))
 }
 
 /// `mev(`, an event and `)`.
-fn mev(
-    alloc: Global,
-    protocol: &Protocol,
-    bytes: &[u8],
-    at: usize,
-) -> Result<(PlainFact, usize), CertError>
-    requires few { HasFewNames (protocol_of protocol.now) }
-    requires within { at ≤ length bytes.now }
-    ensures read { Gives plain_fact_of bytes.now result
-        (reading.read_mev (protocol_of protocol.now) (drop at bytes.now) at) }
-    ensures within { StopsWithin bytes.now result }
+fn mev(names: &Names<'_>, cursor: &mut Cursor<'_>) -> Result<PlainFact, CertError>
+    ensures read { Reads plain_fact_of (reading.read_mev (protocol_in names.now))
+        cursor.old cursor.new result }
+    ensures same { cursor.new.bytes.now ≡ cursor.old.bytes.now }
 {
-    let open = fixed(b"mev(", bytes, at)?;
-    let (performed, behind) = event(alloc, protocol, bytes, open)?;
-    let close = fixed(b")", bytes, behind)?;
-    Ok((PlainFact::Mev(performed.event, performed.arguments), close))
+    cursor.pass(b"mev(")?;
+    let performed = event(names, cursor)?;
+    cursor.pass(b")")?;
+    Ok(PlainFact::Mev(performed.event, performed.arguments))
 }
 
 /// The arguments of `bad` and `)`; there may be none.
 #[tactic(auto, using(crate::proofs::Places::drop_next))]
-fn bad_arguments(
-    alloc: Global,
-    protocol: &Protocol,
-    bytes: &[u8],
-    at: usize,
-) -> Result<(Trees, usize), CertError>
-    requires few { HasFewNames (protocol_of protocol.now) }
-    requires within { at ≤ length bytes.now }
-    ensures read { Gives same bytes.now result
-        (reading.bad_arguments (protocol_of protocol.now) (drop at bytes.now) at) }
-    ensures within { StopsWithin bytes.now result }
+fn bad_arguments(names: &Names<'_>, cursor: &mut Cursor<'_>) -> Result<Trees, CertError>
+    ensures read { Reads same (reading.bad_arguments (protocol_in names.now))
+        cursor.old cursor.new result }
+    ensures same { cursor.new.bytes.now ≡ cursor.old.bytes.now }
 {
-    if front(bytes, at) == b')' {
-        let items = Vec::new(alloc);
-        return Ok((Trees { items }, at + 1));
+    if cursor.front() == b')' {
+        cursor.at += 1;
+        let items = Vec::new(names.alloc);
+        return Ok(Trees { items });
     }
-    terms(alloc, protocol, bytes, at)
+    terms(names, cursor)
 }
 
 /// `bad(`, terms and `)`.
-fn bad(
-    alloc: Global,
-    protocol: &Protocol,
-    bytes: &[u8],
-    at: usize,
-) -> Result<(PlainFact, usize), CertError>
-    requires few { HasFewNames (protocol_of protocol.now) }
-    requires within { at ≤ length bytes.now }
-    ensures read { Gives plain_fact_of bytes.now result
-        (reading.read_bad (protocol_of protocol.now) (drop at bytes.now) at) }
-    ensures within { StopsWithin bytes.now result }
+fn bad(names: &Names<'_>, cursor: &mut Cursor<'_>) -> Result<PlainFact, CertError>
+    ensures read { Reads plain_fact_of (reading.read_bad (protocol_in names.now))
+        cursor.old cursor.new result }
+    ensures same { cursor.new.bytes.now ≡ cursor.old.bytes.now }
 {
-    let open = fixed(b"bad(", bytes, at)?;
-    let (arguments, behind) = bad_arguments(alloc, protocol, bytes, open)?;
-    Ok((PlainFact::Bad(arguments), behind))
+    cursor.pass(b"bad(")?;
+    let arguments = bad_arguments(names, cursor)?;
+    Ok(PlainFact::Bad(arguments))
 }
 
 /// A fact that begins with `m`: its third byte tells `mev` from `mess`.
-fn mev_or_mess(
-    alloc: Global,
-    protocol: &Protocol,
-    bytes: &[u8],
-    at: usize,
-) -> Result<(PlainFact, usize), CertError>
-    requires few { HasFewNames (protocol_of protocol.now) }
-    requires within { at < length bytes.now }
-    ensures read { Gives plain_fact_of bytes.now result
-        (reading.read_mev_or_mess (protocol_of protocol.now) (drop at bytes.now) at) }
-    ensures within { StopsWithin bytes.now result }
+fn mev_or_mess(names: &Names<'_>, cursor: &mut Cursor<'_>) -> Result<PlainFact, CertError>
+    ensures read { Reads plain_fact_of (reading.read_mev_or_mess (protocol_in names.now))
+        cursor.old cursor.new result }
+    ensures same { cursor.new.bytes.now ≡ cursor.old.bytes.now }
 {
-    let rest = &bytes[at..];
-    if front(rest, 2) == b'v' {
-        mev(alloc, protocol, bytes, at)
+    if cursor.front_behind(2) == b'v' {
+        mev(names, cursor)
     } else {
-        mess(alloc, protocol, bytes, at)
+        mess(names, cursor)
     }
 }
 
 /// A fact that may be a hypothesis: any but `bad`.
-pub fn read_hypothesis(
-    alloc: Global,
-    protocol: &Protocol,
-    bytes: &[u8],
-    at: usize,
-) -> Result<(PlainFact, usize), CertError>
-    requires few { HasFewNames (protocol_of protocol.now) }
-    requires within { at ≤ length bytes.now }
-    ensures read { Gives plain_fact_of bytes.now result
-        (reading.read_hypothesis (protocol_of protocol.now) (drop at bytes.now) at) }
-    ensures within { StopsWithin bytes.now result }
+pub fn read_hypothesis(names: &Names<'_>, cursor: &mut Cursor<'_>) -> Result<PlainFact, CertError>
+    ensures read { Reads plain_fact_of (reading.read_hypothesis (protocol_in names.now))
+        cursor.old cursor.new result }
+    ensures same { cursor.new.bytes.now ≡ cursor.old.bytes.now }
 {
-    let first = front(bytes, at);
+    let first = cursor.front();
     if first == b'm' {
-        mev_or_mess(alloc, protocol, bytes, at)
+        mev_or_mess(names, cursor)
     } else if first == b'e' {
-        ev(alloc, protocol, bytes, at)
+        ev(names, cursor)
     } else {
-        att(alloc, protocol, bytes, at)
+        att(names, cursor)
     }
 }
 
 /// A fact that may be a conclusion: any but `mev`.
-pub fn read_conclusion(
-    alloc: Global,
-    protocol: &Protocol,
-    bytes: &[u8],
-    at: usize,
-) -> Result<(PlainFact, usize), CertError>
-    requires few { HasFewNames (protocol_of protocol.now) }
-    requires within { at ≤ length bytes.now }
-    ensures read { Gives plain_fact_of bytes.now result
-        (reading.read_conclusion (protocol_of protocol.now) (drop at bytes.now) at) }
-    ensures within { StopsWithin bytes.now result }
+pub fn read_conclusion(names: &Names<'_>, cursor: &mut Cursor<'_>) -> Result<PlainFact, CertError>
+    ensures read { Reads plain_fact_of (reading.read_conclusion (protocol_in names.now))
+        cursor.old cursor.new result }
+    ensures same { cursor.new.bytes.now ≡ cursor.old.bytes.now }
 {
-    let first = front(bytes, at);
+    let first = cursor.front();
     if first == b'm' {
-        mess(alloc, protocol, bytes, at)
+        mess(names, cursor)
     } else if first == b'e' {
-        ev(alloc, protocol, bytes, at)
+        ev(names, cursor)
     } else if first == b'b' {
-        bad(alloc, protocol, bytes, at)
+        bad(names, cursor)
     } else {
-        att(alloc, protocol, bytes, at)
+        att(names, cursor)
     }
 }

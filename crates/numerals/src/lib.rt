@@ -18,7 +18,7 @@ pub fn all_digits(digits: &[u8]) -> bool
     digits.iter().all(|b| b.is_ascii_digit())
 }
 
-/// Whether these are 1 to 9 digits, of which a 0 stands first only alone.
+/// Whether these are digits, one at least and no more than the limit, of which a 0 stands first only alone.
 #[tactic(auto, using(crate::proofs::Digits::all_digits_is))]
 fn is_numeral(digits: &[u8]) -> bool
     ensures { result ≡ is_numeral digits.now }
@@ -42,7 +42,8 @@ fn value(digits: &[u8]) -> u32
     value
 }
 
-/// The number that the digits are, if they are one: 1 to 9 digits, of which a 0 stands first only alone.
+/// The number that the digits are, if they are one: one at least and no more than the limit, of which a 0 stands
+/// first only alone.
 pub fn number(digits: &[u8]) -> Option<u32>
     ensures { result ≡ numeral digits.now }
 {

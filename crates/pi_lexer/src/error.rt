@@ -15,7 +15,7 @@ pub enum LexError {
     /// The comment that begins at this place has no end.
     #[error("the comment at byte {0} has no end")]
     OpenComment(usize),
-    /// The number that begins at this place has more than nine digits.
+    /// The number that begins at this place has more digits than the limit.
     #[error("the number at byte {0} is too long")]
     LongNumber(usize),
     /// There is no memory for the tokens.

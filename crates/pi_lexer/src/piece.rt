@@ -11,6 +11,7 @@ ghost use Rattle.pi_lexer.specs.Piece.{piece_of};
 use crate::reserved::is_reserved;
 use crate::scan::{begins_word, closed_after, digits_len, is_blank, symbol_len, word_len};
 use crate::token::TokenKind;
+use limits::MOST_DIGITS;
 
 /// What stands at the front of some bytes, each with its number of bytes.
 #[derive(Clone, Copy)]
@@ -25,7 +26,7 @@ pub enum Piece {
     BadByte,
     /// A comment without an end.
     OpenComment,
-    /// A number of more than nine digits.
+    /// A number of more digits than the limit.
     LongNumber,
 }
 
@@ -52,7 +53,7 @@ fn word(bytes: &[u8]) -> Piece
 fn number(digits: usize) -> Piece
     ensures { piece_of result ≡ number_of digits }
 {
-    if digits <= 9 {
+    if digits <= MOST_DIGITS {
         Piece::Lexeme(TokenKind::Number, digits)
     } else {
         Piece::LongNumber

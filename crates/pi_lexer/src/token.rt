@@ -9,7 +9,7 @@ pub enum TokenKind {
     Ident,
     /// A reserved word.
     Reserved,
-    /// One to nine decimal digits.
+    /// Decimal digits: one at least, and no more than the limit.
     Number,
     /// One of `( ) , ; . / = ==> | || && ! ->`.
     Symbol,

@@ -1,8 +1,9 @@
 -- The decision of queries is right.
-use Rattle.std.proofs.Common.{◌≡◌, ℕ, zero, suc, Bool, true, false, not, ◌&&◌, ◌||◌, nat_eq, cond, List, [], ◌∷◌, ◌++◌, length, take, slice_get, Option, Some, is_some, unwrap_or, IsTrue, Contains, ◌↔◌, inl, inr, refl, sym, ap, ◌∙◌, subst, append_assoc}
+use Rattle.std.proofs.Common.{◌≡◌, ℕ, zero, suc, Bool, true, false, not, ◌&&◌, nat_eq, cond, List, [], ◌∷◌, ◌++◌, length, take, slice_get, Option, Some, is_some, unwrap_or, IsTrue, Contains, ◌↔◌, inl, inr, refl, sym, ap, ◌∙◌, subst, append_assoc}
 use Rattle.std.proofs.lemmas.Bool.{eq-eqb, eqb-true, or_left, or_right}
 use Rattle.std.specs.List.{AllByRecursion, list_any}
 use Rattle.spec_trees.specs.Tree.{Trees, Leaf, Node, binds, trees, some_leaves}
+use Rattle.spec_trees.proofs.Equality.{and_true}
 use Rattle.spec_trees.proofs.Occurrence.{or_true}
 use Rattle.spec_trees.proofs.Rows.{trees-injective, binds-trees}
 use Rattle.spec_trees.proofs.Substitution.{binds-agree}
@@ -16,10 +17,6 @@ use Rattle.spec_calculus.proofs.Equality.{same_value-sound, same_value-refl}
 use Rattle.spec_calculus.proofs.Rules.{same_values-sound, same_values-refl, places_row_follow, places_row_bind, bound_right, bound_value, no_other, not_false, Follows}
 use Rattle.pi_model.proofs.Members.{any-contains, any-of}
 use Rattle.pi_model.specs.Correspondences.{bound_by, fits, all_found, unpreceded, is_made_at, some_unpreceded, is_violated}
-
-pub and_true : (a b : Bool) → (a && b) ≡ true → (a ≡ true) × (b ≡ true)
-and_true true b h = (refl, h)
-and_true false b h = cc
 
 pub both_true : (a b : Bool) → a ≡ true → b ≡ true → (a && b) ≡ true
 both_true true b h k = k

@@ -2,6 +2,7 @@
 use Rattle.std.proofs.Common.{◌≡◌, Bool, true, false, cond, ◌&&◌, nat_eq, List, [], ◌∷◌, ◌++◌, Some, is_some, Contains, refl, sym, ap, ◌∙◌, subst, append_assoc}
 use Rattle.std.specs.List.{AllByRecursion, list_any}
 use Rattle.spec_trees.specs.Tree.{trees}
+use Rattle.spec_trees.proofs.Equality.{and_true}
 use Rattle.spec_calculus.specs.Syntax.{Name, Free, Made, Variable, EventTerm}
 use Rattle.spec_calculus.specs.Values.{Value, Binding, Environment, same_values, bound_to, value_of_name, values_of}
 use Rattle.spec_calculus.specs.Matching.{places_row}
@@ -10,7 +11,7 @@ use Rattle.spec_calculus.specs.Secrecy.{instance}
 use Rattle.spec_calculus.proofs.Items.{each-weaker}
 use Rattle.spec_calculus.proofs.Rules.{same_values-sound, same_name-refl, bound_right}
 use Rattle.pi_model.proofs.Members.{any-contains, any-of}
-use Rattle.pi_model.proofs.Deciding.{Within, and_true, both_true, within-places, fits-instance, fits-stays, value-stays, found-sound, found-complete}
+use Rattle.pi_model.proofs.Deciding.{Within, both_true, within-places, fits-instance, fits-stays, value-stays, found-sound, found-complete}
 use Rattle.pi_model.specs.Correspondences.{bound_by, fits, all_found, IsConsistent}
 
 -- each name that an environment mentions is bound in it

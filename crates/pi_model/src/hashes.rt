@@ -1,10 +1,9 @@
 //! Hashes of values, and of the values of terms, which aren't made for it. They only tell where to look first, so no
 //! contract speaks of them: equal values have equal hashes, and where they had not, a look-up would be slow and right.
 
-use pi_tree::{Term, Terms, Value, Values};
+use pi_tree::{Slot, Term, Terms, Value, Values};
 use term_values::Bound;
 use term_values::bindings::look_up;
-use term_values::environments::Slot;
 
 /// What the hash of a free name begins with.
 const FREE: u64 = 1;

@@ -58,7 +58,7 @@ pub fn known_values(
 ) -> Result<Option<Values>, AllocError>
     ensures { IfOk result (λ o. o ≡ known_values (configuration_of conf.now) numbers.now) }
 {
-    let mut items = Vec::new(alloc);
+    let mut items = Vec::with_capacity(alloc, numbers.items.len())?;
     for number in &numbers.items {
         match known_value(conf, *number) {
             None => return Ok(None),

@@ -34,4 +34,5 @@ pub use crate::laws::{
 pub use crate::steps::{Numbers, Step};
 pub use crate::threads::{Thread, Threads};
 pub use crate::violations::violated;
-pub use term_values::{Environment, Slot};
+pub use pi_tree::Slot;
+pub use term_values::Environment;

@@ -11,8 +11,8 @@ use crate::knowledge::knows;
 use crate::running::Run;
 use crate::standing::{point_after, standing_of};
 use crate::threads::Thread;
-use pi_tree::{Process, Value};
-use term_values::{Bound, Slot, evaluate, evaluate_all, some_large_at};
+use pi_tree::{Process, Slot, Value};
+use term_values::{Bound, evaluate, evaluate_all, some_large_at};
 
 /// The thread at a parallel composition becomes two.
 #[tactic(auto, using(crate::proofs::ThreadSteps::of_split, crate::proofs::Points::of_points))]

@@ -6,13 +6,13 @@ ghost use Rattle.spec_protocol_grammar.specs.Reading.{built, list_at, rule_at, s
 ghost use Rattle.pi_parser.specs.Gives.{Gives, IsBehind, most_of};
 ghost use Rattle.pi_parser.specs.Files.{names_of, sized_of, rule_of, rules_of, declaration_of, main_of, file_of};
 
-use crate::MOST_LEVELS;
 use crate::error::Fault;
 use crate::processes::process;
 use crate::queries::question;
 use crate::sketch::{DeclarationSketch, ProcessSketch, RuleSketch, Sketch};
 use crate::terms::{term, terms};
 use crate::words::{class_at, fits_at, is_at, mark};
+use limits::MOST_LEVELS;
 use spec_protocol_grammar::Class;
 use std::alloc::Global;
 

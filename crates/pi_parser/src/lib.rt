@@ -34,9 +34,6 @@ use crate::words::class_of;
 use pi_lexer::Tokens;
 use spec_protocol_grammar::Class;
 
-/// The most levels of the grammar that are open at a place of a file.
-const MOST_LEVELS: usize = 512;
-
 /// The classes of tokens.
 fn classes_of(alloc: Global, source: &[u8], tokens: &Tokens) -> Result<Vec<Class>, AllocError>
     requires { AreWithin (length source.now) tokens.now }

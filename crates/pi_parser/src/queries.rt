@@ -7,11 +7,11 @@ ghost use Rattle.pi_parser.specs.Gives.{Gives, IsBehind, most_of};
 ghost use Rattle.pi_parser.specs.Terms.{atom_of};
 ghost use Rattle.pi_parser.specs.Files.{alternative_of, alternatives_of, question_of};
 
-use crate::MOST_LEVELS;
 use crate::error::Fault;
 use crate::sketch::{AlternativeSketch, AtomSketch, QuerySketch};
 use crate::terms::{atom, term};
 use crate::words::{class_at, is_at, mark};
+use limits::MOST_LEVELS;
 use spec_protocol_grammar::Class;
 use std::alloc::Global;
 

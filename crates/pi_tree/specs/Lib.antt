@@ -12,3 +12,4 @@ pub mod Values
 pub mod ValueDepths
 pub mod Accessors
 pub mod Walks
+pub mod Slots

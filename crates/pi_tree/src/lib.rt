@@ -7,6 +7,7 @@ pub mod destructors;
 pub mod names;
 pub mod points;
 pub mod protocols;
+pub mod slots;
 pub mod syntax;
 pub mod value_trees;
 
@@ -14,6 +15,7 @@ pub use crate::accessors::Kind;
 pub use crate::destructors::{Dtor, Dtors, Rule, Rules};
 pub use crate::names::{Declarations, Declared, Word};
 pub use crate::protocols::{Alternatives, Protocol, Queries, Query, is_absent};
+pub use crate::slots::Slot;
 pub use crate::syntax::{Atom, Atoms, Expr, Pat, Pats, Process, Term, Terms};
 pub use crate::value_trees::{Value, Values};
 pub use limits::{

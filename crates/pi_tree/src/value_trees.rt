@@ -71,7 +71,7 @@ impl Values {
     pub fn copy(&self, alloc: Global) -> Result<Values, AllocError>
         ensures { IfOk result (λ copied. copied ≡ self.now) }
     {
-        let mut items = Vec::new(alloc);
+        let mut items = Vec::with_capacity(alloc, self.items.len())?;
         for value in &self.items {
             items.push(value.copy(alloc)?)?;
         }

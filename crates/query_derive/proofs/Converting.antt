@@ -1,9 +1,8 @@
 -- Terms and events of a query as owned trees: symbols, rows, and variables in order.
-use Rattle.std.proofs.Common.{◌≡◌, ℕ, zero, suc, ◌+◌, ◌<◌, ◌≤◌, Bool, false, Option, Some, None, List, [], ◌∷◌, ◌++◌, length, map, flat_map, get_or, add-one, slice_get, option_map, refl, ap, sym, ◌∙◌, arith, append_assoc, drop, take, nat_eq, subst}
+use Rattle.std.proofs.Common.{◌≡◌, ℕ, zero, suc, ◌+◌, ◌<◌, ◌≤◌, Some, List, [], ◌∷◌, ◌++◌, length, map, flat_map, get_or, add-one, slice_get, option_map, refl, ap, sym, ◌∙◌, arith, append_assoc, drop, take, nat_eq, subst}
 use Rattle.std.specs.Prelude.{filter_map}
-use Rattle.std.specs.Option.{option_map_or}
 use Rattle.std.specs.List.{AllByRecursion}
-use Rattle.std.proofs.lemmas.Option.{slice_get_past, slice_get-map, slice_get_read}
+use Rattle.std.proofs.lemmas.Option.{slice_get-map, slice_get_read}
 use Rattle.std.proofs.lemmas.List.{take_all}
 use Rattle.std.proofs.lemmas.List.Elements.{filter_map-append}
 use Rattle.std.proofs.lemmas.Simd.{map-map}
@@ -19,19 +18,6 @@ use Rattle.spec_abstraction.proofs.Values.{row_length-trees, converted_row-trees
 use Rattle.pi_tree.specs.declared.syntax.Term as syntax
 use Rattle.pi_tree.specs.Terms.{term_of}
 use Rattle.clause_form.proofs.Comparing.{map_drop}
-
--- whether a declared constructor is one of data
-pub is_data-there : (items : List calculus.Declared) (number : ℕ) (answer : Bool) → option_map (λ d. d.is_data) (numbered items number) ≡ Some answer → answer ≡ option_map_or (λ d. d.is_data) (numbered items number) false
-is_data-there items number answer e = go (numbered items number) e where
-  go : (o : Option calculus.Declared) → option_map (λ d. d.is_data) o ≡ Some answer → answer ≡ option_map_or (λ d. d.is_data) o false
-  go None e = cc
-  go (Some d) e = cc
-
-pub is_data-past : (items : List calculus.Declared) (number : ℕ) → length items < number → false ≡ option_map_or (λ d. d.is_data) (numbered items number) false
-is_data-past items zero past = refl
-is_data-past items (suc index) past = ap (λ o. option_map_or (λ d. d.is_data) o false) (sym (slice_get_past items index (omega arith)))
-
-pub ruleset data_told = (is_data-there, is_data-past)
 
 -- a term whose root is a symbol over a list
 pub query_node : (P : Protocol) (f : Symbol) (ts : List calculus.Term) → node (symbol_over P (length ts) f) (map (query_term P) ts) ≡ query_term P (Node f (trees ts))

@@ -6,6 +6,7 @@ use Rattle.std.proofs.lemmas.Bool.{cases_order, cases_lt}
 use Rattle.std.proofs.lemmas.List.{length-map}
 use Rattle.std.proofs.lemmas.Option.{slice_get_past, slice_get-map}
 use Rattle.std.proofs.lemmas.Simd.{map-map}
+use Rattle.spec_calculus.specs.Bounds.{most_alternatives, most_symbols}
 use Rattle.spec_calculus.specs.Syntax.{EventTerm, Query, Secret, SecretNew, Correspondence, Protocol}
 use Rattle.spec_calculus.specs.Points.{numbered}
 use Rattle.spec_well_formed.specs.Limits.{IsSmallQuery, IsWithinLimits}
@@ -195,7 +196,7 @@ small_query P number q limits there = all_numbered IsSmallQuery P.queries number
 pub query_has : (Q : Query → Type 0) (P : Protocol) (number : ℕ) (q : Query) → AllByRecursion Q P.queries → numbered P.queries number ≡ Some q → Q q
 query_has Q P number q each there = all_numbered Q P.queries number q each there
 
-pub few_sought : (P : Protocol) (q : Query) → IsSmallQuery q → length (all_sought P q) ≤ 16
+pub few_sought : (P : Protocol) (q : Query) → IsSmallQuery q → length (all_sought P q) ≤ most_alternatives
 few_sought P (Secret message) small = omega arith
 few_sought P (SecretNew point) small = omega arith
 few_sought P (Correspondence left alternatives) small = omega (arith, length-map alternatives (sought_for P left), small.1)
@@ -211,7 +212,7 @@ few_facts : (hs : List (Fact Term)) → length hs ≤ total fact_size hs
 few_facts [] = omega arith
 few_facts (h ∷ hs) = omega (arith, some_size h, few_facts hs)
 
-pub few_hypotheses : (c : Clause Term) → IsWithinLimit c → length c.hypotheses ≤ 4096
+pub few_hypotheses : (c : Clause Term) → IsWithinLimit c → length c.hypotheses ≤ most_symbols
 few_hypotheses c small = omega (arith, few_facts c.hypotheses, small)
 
 -- from the lists that a search goes along to what is sought and the clause

@@ -104,8 +104,8 @@ fn first_row<B: Bank>(
 /// their first positions. `None` exactly where the clause doesn't satisfy the query; no clause
 /// satisfies a secrecy query.
 ///
-/// The time can grow with the number of hypotheses to the power of the number of events, at most 16,
-/// where many hypotheses are of one event.
+/// The time can grow with the number of hypotheses to the power of the number of events of an
+/// alternative, where many hypotheses are of one event.
 pub fn satisfies<B: Bank>(
     alloc: Global,
     bank: &B,

@@ -4,15 +4,15 @@
 ghost use Rattle.std.specs.Prelude.{◌≡◌, ℕ, ◌+◌, ◌-◌, ◌≤◌, [], ◌∷◌, ◌++◌, nat_eq, cond, length, map, filter_map, option_map, IfOk, OnOk};
 ghost use Rattle.std.specs.List.{list_any, AllByRecursion};
 ghost use Rattle.spec_trees.specs.Tree.{Leaf, size, sizes, trees};
-ghost use Rattle.spec_calculus.specs.Syntax.{Variable, Constructor};
+ghost use Rattle.spec_calculus.specs.Bounds.{most_written_symbols};
+ghost use Rattle.spec_calculus.specs.Syntax.{Variable};
 ghost use Rattle.spec_calculus.specs.Points.{numbered};
-ghost use Rattle.spec_calculus.specs.Runs.{is_data as is_data_symbol};
 ghost use Rattle.spec_well_formed.specs.Limits.{IsSmallEvent, IsSmallQuery};
 ghost use Rattle.spec_clauses.specs.Variables.{leaves, row_leaves};
 ghost use Rattle.spec_clauses.specs.Norm.{distinct};
 ghost use Rattle.spec_terms.specs.Term.{Tuple as parts_tuple};
 ghost use Rattle.term_tree.specs.Bank.{symbol_of};
-ghost use Rattle.spec_translation.specs.Conversion.{free_term, symbol_over};
+ghost use Rattle.spec_translation.specs.Conversion.{free_term};
 ghost use Rattle.spec_translation.specs.Goal.{query_leaf, query_term, variable_at, event_variables, required};
 ghost use Rattle.pi_tree.specs.Terms.{term_of};
 ghost use Rattle.pi_tree.specs.Events.{event_of};
@@ -23,6 +23,7 @@ ghost use Rattle.query_derive.specs.Sought.{sought_for, all_sought};
 ghost use Rattle.query_derive.specs.Wanted.{event_fact, sought_of};
 
 use clause_form::{Tree, Trees};
+use clause_terms::constructor_symbol;
 use pi_tree::{Atom, Atoms, Protocol, Query, Term, Terms};
 use std::alloc::{AllocError, Global};
 use term_tree::Sym;
@@ -41,35 +42,9 @@ pub struct Wanted {
     pub events: Vec<Event>,
 }
 
-/// Whether a constructor is a data constructor; one that isn't declared is none.
-#[tactic(auto, using(crate::proofs::Converting::data_told))]
-fn is_data(protocol: &Protocol, constructor: u32) -> bool
-    ensures { result ≡ is_data_symbol (protocol_of protocol.now) (Constructor constructor) }
-{
-    if constructor == 0 {
-        return false;
-    }
-    if constructor as usize > protocol.ctors.items.len() {
-        return false;
-    }
-    protocol.is_data(constructor)
-}
-
-/// The symbol of a constructor.
-fn constructor_symbol(protocol: &Protocol, constructor: u32) -> Sym
-    ensures { (count : ℕ) →
-        symbol_of result ≡ symbol_over (protocol_of protocol.now) count (Constructor constructor) }
-{
-    if is_data(protocol, constructor) {
-        Sym::Data(constructor)
-    } else {
-        Sym::Ctor(constructor)
-    }
-}
-
 /// The symbol of a tuple of the parts.
 fn tuple_symbol(parts: &Terms) -> Sym
-    requires { sizes (trees parts.now) ≤ 2000 }
+    requires { sizes (trees parts.now) ≤ most_written_symbols }
     ensures { symbol_of result ≡ parts_tuple (length parts.now) }
 {
     Sym::Tuple(parts.items.len() as u32)
@@ -90,7 +65,7 @@ fn free_tree(alloc: Global, name: u32) -> Tree
 /// The tree of a query's term: its variables, numbered from 1, are those of clauses from 0.
 #[cycle(query_trees)]
 pub fn tree_of(alloc: Global, protocol: &Protocol, term: &Term) -> Result<Tree, AllocError>
-    requires { size (term_of term.now) ≤ 2000 }
+    requires { size (term_of term.now) ≤ most_written_symbols }
     ensures { IfOk result (λ tree. tree_term tree ≡
         query_term (protocol_of protocol.now) (term_of term.now)) }
 {
@@ -112,7 +87,7 @@ pub fn tree_of(alloc: Global, protocol: &Protocol, term: &Term) -> Result<Tree, 
 /// The trees of a query's terms.
 #[cycle(query_trees)]
 pub fn trees_of(alloc: Global, protocol: &Protocol, terms: &Terms) -> Result<Trees, AllocError>
-    requires { sizes (trees terms.now) ≤ 2000 }
+    requires { sizes (trees terms.now) ≤ most_written_symbols }
     ensures { IfOk result (λ made. made ≡ map (query_term (protocol_of protocol.now)) terms.now) }
 {
     let mut items = Vec::with_capacity(alloc, terms.items.len())?;

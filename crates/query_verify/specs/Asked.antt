@@ -1,5 +1,6 @@
 -- What is asked: a query of a protocol, with a budget; and when an answer is the right one.
 use Rattle.std.specs.Prelude.{◌≤◌, List}
+use Rattle.spec_calculus.specs.Bounds.{most_budget}
 use Rattle.spec_calculus.specs.Syntax.{Protocol}
 use Rattle.spec_terms.specs.Term.{Term}
 use Rattle.spec_clauses.specs.Fact.{Clause}
@@ -22,7 +23,7 @@ protocol_at question = protocol_of question.protocol.now
 pub record CanBeAsked (question : Question) : Type 0 where
   pub limits : IsWithinLimits (protocol_at question)
   pub there : IsThere (protocol_at question) kinds.Query question.query
-  pub budget : question.budget ≤ 1000000
+  pub budget : question.budget ≤ most_budget
 
 -- the clauses are those that the protocol and the query are translated into
 abbrev pub AreAskedOf : Question → List Term → List (Clause Id) → Type 0

@@ -15,13 +15,12 @@ ghost use Rattle.query_verify.specs.Asked.{CanBeAsked, AreAskedOf, Answers};
 ghost use Rattle.query_verify.specs.Told.{IsAnswer, AnswerQueries};
 
 use crate::answers::{Verdict, Verdicts};
-use crate::due::read_entry;
-use crate::question::{MOST_BUDGET, Question};
+use crate::question::Question;
 use cert_writer::{Certified, certify};
 use clause_form::Clause;
-use clause_saturate::{Log, Saturated, entries_tell_logs, read_log, saturate};
+use clause_saturate::{Log, Saturated, entries_tell_logs, read_entry, read_log, saturate};
 use clause_translate::{Translated, translate};
-use pi_tree::{Kind, Protocol};
+use pi_tree::{Kind, MOST_BUDGET, Protocol};
 use spec_translation::{
     translations_are_normal, translations_are_within_the_limit, translations_have_one_goal,
 };

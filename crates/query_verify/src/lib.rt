@@ -4,9 +4,8 @@
 
 pub mod answers;
 mod deciding;
-mod due;
 mod question;
 
 pub use crate::answers::{Verdict, Verdicts};
 pub use crate::deciding::{verdict, verdicts};
-pub use crate::question::MOST_BUDGET;
+pub use pi_tree::MOST_BUDGET;

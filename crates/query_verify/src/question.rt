@@ -3,9 +3,6 @@
 use pi_tree::Protocol;
 use std::alloc::Global;
 
-/// The greatest budget: a log has no more entries.
-pub const MOST_BUDGET: u64 = 1_000_000;
-
 /// A query of a protocol, and how many entries its log may have.
 #[derive(Clone, Copy)]
 pub struct Question<'a> {

@@ -2,6 +2,7 @@
 #![tactic(auto)]
 
 ghost use Rattle.std.specs.Prelude.{◌≡◌, ◌≤◌, ◌++◌, [], IfOk, OnOk};
+ghost use Rattle.spec_calculus.specs.Bounds.{most_keys};
 ghost use Rattle.spec_protocol_scope.specs.Spells.{Spells};
 ghost use Rattle.spec_ring_text.specs.Meaning.{ring_protocol};
 ghost use Rattle.spec_ring_text.specs.Text.{key, key_line, key_lines, middle_lines, pass_line, pass_lines, ring_text, successor};
@@ -37,7 +38,7 @@ fn put_key_line(alloc: Global, out: &mut Vec<u8>, number: u64) -> Result<(), All
 
 /// Puts the lines that declare so many keys.
 fn put_key_lines(alloc: Global, out: &mut Vec<u8>, keys: u64) -> Result<(), AllocError>
-    requires { keys ≤ 400 }
+    requires { keys ≤ most_keys }
     ensures { OnOk result (out.new.items ≡ out.old.items ++ key_lines 1 keys []) }
 {
     'each: for number in 1..keys + 1 {
@@ -76,7 +77,7 @@ fn successor(keys: u64, number: u64) -> u64
 
 /// Puts the lines of so many processes, one for each key.
 fn put_pass_lines(alloc: Global, out: &mut Vec<u8>, keys: u64) -> Result<(), AllocError>
-    requires { keys ≤ 400 }
+    requires { keys ≤ most_keys }
     ensures { OnOk result (out.new.items ≡ out.old.items ++ pass_lines keys 1 keys []) }
 {
     'each: for number in 1..keys + 1 {
@@ -90,7 +91,7 @@ fn put_pass_lines(alloc: Global, out: &mut Vec<u8>, keys: u64) -> Result<(), All
 /// `Err` comes only for want of memory.
 pub fn make_ring(alloc: Global, n: u64) -> Result<Vec<u8>, AllocError>
     requires least { 2 ≤ n }
-    requires most { n ≤ 400 }
+    requires most { n ≤ most_keys }
     ensures text { IfOk result (λ text. text.items ≡ ring_text n) }
     ensures spells { IfOk result (λ text. Spells text.items (ring_protocol n)) }
 {

@@ -13,10 +13,10 @@ pub enum RunError {
     #[error("line {0} begins with the word of no step")]
     Word(u64),
     /// The line has another count of numbers than the step of its word, or something that is no
-    /// decimal number of at most nine digits, without leading zero, where a number should stand.
+    /// decimal number within the limit of digits, without leading zero, where a number should stand.
     #[error("line {0} has not the numbers of its step")]
     Number(u64),
-    /// The line has more than 256 bytes.
+    /// The line has more bytes than the limit.
     #[error("line {0} has more than 256 bytes")]
     LongLine(u64),
     /// There is no memory for the steps.

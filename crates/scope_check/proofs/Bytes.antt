@@ -9,7 +9,7 @@ use Rattle.spec_protocol_grammar.specs.Sketch.{FileSketch}
 use Rattle.spec_protocol_grammar.specs.Spelling.{IsSketch}
 use Rattle.spec_protocol_scope.specs.Answers as own
 use Rattle.spec_protocol_scope.specs.Scope.{scope}
-use Rattle.spec_protocol_scope.specs.Spells.{texts, IsSketchOf, IsFaultAt, Spells, Refusal, Lexical, Unexpected, TooDeep, Scoped, LongFile, Refuses}
+use Rattle.spec_protocol_scope.specs.Spells.{texts, IsFaultAt, Spells, Refusal, Lexical, Unexpected, TooDeep, Scoped, LongFile, Refuses}
 use Rattle.pi_tree.specs.declared.protocols.Protocol.{Protocol}
 use Rattle.pi_tree.specs.Protocols.{protocol_of}
 use Rattle.scope_check.specs.declared.error.ScopeError.{ScopeError}
@@ -25,17 +25,6 @@ pub record IsAnswered (bytes : List ℕ) (result : Result Protocol ScopeError) :
   pub sketch : FileSketch
   pub read : IsSketch (source bytes tokens) sketch
   pub answers : AnswersScope bytes tokens (scope (texts bytes tokens) sketch) result
-
--- the tokens that are read once more are those of the sketch
-pub answered : (bytes : List ℕ) (tokens : List Token) (f : FileSketch) (result : Result Protocol ScopeError) (s : IsSketchOf bytes f)
-    → tokens ≡ s.tokens → AnswersScope bytes tokens (scope (texts bytes tokens) f) result → IsAnswered bytes result
-answered bytes tokens f result s is answers = record {
-  tokens = tokens;
-  lexed = subst (Lexed bytes) (sym is) s.lexed;
-  sketch = f;
-  read = subst (λ (ts : List Token). IsSketch (source bytes ts) f) (sym is) s.read;
-  answers = answers;
-}
 
 pub is_read : (bytes : List ℕ) (result : Result Protocol ScopeError) → length bytes ≤ most_bytes → IsAnswered bytes result → IfOk result (λ p. Spells bytes (protocol_of p))
 is_read bytes (Ok p) short a = (short, record { tokens = a.tokens; lexed = a.lexed; sketch = a.sketch; read = a.read; scoped = a.answers })

@@ -11,6 +11,7 @@ ghost use Rattle.pi_lexer.specs.Answer.{IsMemory};
 ghost use Rattle.spec_protocol_scope.specs.Names as naming;
 ghost use Rattle.spec_protocol_scope.specs.Scope.{scope};
 ghost use Rattle.spec_protocol_scope.specs.Spells.{texts, IsSketchOf, Spells, Refusal, Refuses};
+ghost use Rattle.pi_parser.specs.Answers.{IsSpelled};
 ghost use Rattle.pi_parser.specs.Files.{file_of};
 ghost use Rattle.pi_tree.specs.Processes.{process_of};
 ghost use Rattle.pi_tree.specs.Protocols.{protocol_of};
@@ -92,7 +93,7 @@ fn protocol(alloc: Global, whole: &Text, sketch: &Sketch) -> Result<Protocol, St
 
 /// The protocol of a sketch of these tokens, or its first fault with the place of its token.
 #[tactic(auto, using(crate::proofs::Spans::lexed_ascend))]
-fn check_tokens(
+fn placed_protocol(
     alloc: Global,
     source: &[u8],
     tokens: &Tokens,
@@ -110,6 +111,33 @@ fn check_tokens(
     }
 }
 
+/// The protocol that the sketch of a file's tokens stands for, or its first refusal by the rules of scope, in the order of
+/// the declarations other than queries, the main process with its macros expanded, and the queries.
+///
+/// Memory is taken for the protocol alone.
+pub fn check_tokens(
+    alloc: Global,
+    source: &[u8],
+    tokens: &Tokens,
+    sketch: &Sketch,
+) -> Result<Protocol, ScopeError>
+    requires short { length source.now ≤ most_bytes }
+    requires lexed { Lexed source.now tokens.now }
+    requires spelled { IsSpelled source.now tokens.now (file_of sketch.now) }
+    ensures read { IfOk result (λ protocol. Spells source.now (protocol_of protocol)) }
+    ensures refused { IfErr result (λ error. IsRefusalOf source.now error) }
+
+    // Bytes that spell a protocol give it, and bytes that are refused give that refusal.
+    ensures accepts { (p : own.Protocol) → Spells source.now p → GivesProtocol p result }
+    ensures refuses { (refusal : Refusal) (place : ℕ) → Refuses source.now refusal place →
+        GivesRefusal refusal place result }
+{
+    one_protocol();
+    one_refusal();
+    never_both();
+    placed_protocol(alloc, source, tokens, sketch)
+}
+
 /// The want of memory that an error of the lexer is.
 fn memory_error(error: LexError) -> AllocError
     requires { IsMemory error }
@@ -124,7 +152,8 @@ fn memory_error(error: LexError) -> AllocError
 /// have is looked at before all else; then the rules of scope, in the order of the declarations other than queries,
 /// the main process with its macros expanded, and the queries.
 ///
-/// The sketch is that of these bytes, whose tokens are read once more. Memory is taken for them and for the protocol.
+/// The sketch is that of these bytes, whose tokens are read once more. Memory is taken for them and for the protocol. Where
+/// the tokens are at hand, [`check_tokens`] takes them.
 pub fn check_scope(alloc: Global, source: &[u8], sketch: &Sketch) -> Result<Protocol, ScopeError>
     requires { IsSketchOf source.now (file_of sketch.now) }
     ensures read { IfOk result (λ protocol. Spells source.now (protocol_of protocol)) }
@@ -135,7 +164,6 @@ pub fn check_scope(alloc: Global, source: &[u8], sketch: &Sketch) -> Result<Prot
     ensures refuses { (refusal : Refusal) (place : ℕ) → Refuses source.now refusal place →
         GivesRefusal refusal place result }
 {
-    one_protocol();
     one_refusal();
     never_both();
     if source.len() > MOST_BYTES {

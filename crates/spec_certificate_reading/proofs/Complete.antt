@@ -7,6 +7,7 @@ use Rattle.std.specs.Fmt.{decimal}
 use Rattle.std.specs.List.{list_all}
 use Rattle.spec_trees.specs.Tree.{Leaf, node}
 use Rattle.spec_trees.proofs.Occurrence.{or_false}
+use Rattle.spec_calculus.specs.Bounds.{most_term_levels}
 use Rattle.spec_calculus.specs.Syntax.{Protocol}
 use Rattle.spec_protocol_tokens.specs.Bytes.{begins_word, is_in_word}
 use Rattle.spec_terms.specs.Term.{Term}
@@ -70,14 +71,14 @@ digits_read P (b ∷ ds) es rest at heads from word all =
     ∙ (digits_read P ds (es ++ b ∷ []) rest (at + 1) heads from word (both_right (is_ascii_digit b) (list_all is_ascii_digit ds) all)
     ∙ (ap (λ a. read_on P rest a (reading heads (InDigits word ((es ++ b ∷ []) ++ ds)) from)) place ∙ ap (λ u. read_on P rest (at + suc (length ds)) (reading heads (InDigits word u) from)) (append_assoc es (b ∷ []) ds)))
 
-not_deep : (heads : List Open) (n : ℕ) → length heads + suc n ≤ 4096 → is_deep heads ≡ false
+not_deep : (heads : List Open) (n : ℕ) → length heads + suc n ≤ most_term_levels → is_deep heads ≡ false
 not_deep heads n room = grind (arith, nat_tests)
 
-pub shallow : (heads : List Open) (n : ℕ) (from : ℕ) (s r : Step) → length heads + suc n ≤ 4096 → s ≡ r → unless_deep heads from s ≡ r
+pub shallow : (heads : List Open) (n : ℕ) (from : ℕ) (s r : Step) → length heads + suc n ≤ most_term_levels → s ≡ r → unless_deep heads from s ≡ r
 shallow heads n from s r room e = passed (is_deep heads) (Fault from _) s r (not_deep heads n room) e
 
 -- where a term may begin, a byte other than `]` begins it
-pub begins_at : (P : Protocol) (at : ℕ) (heads : List Open) (n : ℕ) (b : ℕ) (s : Step) → length heads + suc n ≤ 4096 → (b == 93) ≡ false → begin_term at heads b ≡ s → at_begin at heads b ≡ s
+pub begins_at : (P : Protocol) (at : ℕ) (heads : List Open) (n : ℕ) (b : ℕ) (s : Step) → length heads + suc n ≤ most_term_levels → (b == 93) ≡ false → begin_term at heads b ≡ s → at_begin at heads b ≡ s
 begins_at P at [] n b s room no_bracket e = e
 begins_at P at (o ∷ heads) n b s room no_bracket e =
     let stays : ((b == 93) && may_be_empty o.symbol o.arguments) ≡ false = ap (λ c. c && may_be_empty o.symbol o.arguments) no_bracket in
@@ -92,7 +93,7 @@ no_close b begins = by (b == 93) refl
     by false is = is
 
 -- a word is read
-pub word_start : (P : Protocol) (w k : List ℕ) (at : ℕ) (heads : List Open) (n from : ℕ) → IsWord w → length heads + suc n ≤ 4096 → read_on P (w ++ k) at (reading heads Begins from) ≡ read_on P k (at + length w) (reading heads (InWord w) at)
+pub word_start : (P : Protocol) (w k : List ℕ) (at : ℕ) (heads : List Open) (n from : ℕ) → IsWord w → length heads + suc n ≤ most_term_levels → read_on P (w ++ k) at (reading heads Begins from) ≡ read_on P k (at + length w) (reading heads (InWord w) at)
 word_start P [] k at heads n from word room = absurd (no_word word)
 word_start P (c ∷ w) k at heads n from word room =
     let begun : begin_term at heads c ≡ goes heads (InWord (c ∷ [])) at = taken (begins_word c) (goes heads (InWord (c ∷ [])) at) _ _ word.begins refl in
@@ -120,19 +121,19 @@ pub record Reaches (P : Protocol) (bytes : List ℕ) (at : ℕ) (r : Reading) (r
   pub from : ℕ
   pub is : read_on P bytes at r ≡ read_on P rest place (reading heads (Ended t) from)
 
-alone_read : (P : Protocol) (w : List ℕ) (t : Term) (b : ℕ) (k : List ℕ) (at : ℕ) (heads : List Open) (n from : ℕ) → IsWord w → length heads + suc n ≤ 4096 → goes_on b ≡ false → ((a f : ℕ) → after_word P a heads f w b ≡ after_term a t heads f b) → Reaches P (w ++ (b ∷ k)) at (reading heads Begins from) (b ∷ k) heads t
+alone_read : (P : Protocol) (w : List ℕ) (t : Term) (b : ℕ) (k : List ℕ) (at : ℕ) (heads : List Open) (n from : ℕ) → IsWord w → length heads + suc n ≤ most_term_levels → goes_on b ≡ false → ((a f : ℕ) → after_word P a heads f w b ≡ after_term a t heads f b) → Reaches P (w ++ (b ∷ k)) at (reading heads Begins from) (b ∷ k) heads t
 alone_read P w t b k at heads n from word room ends e = record {
   place = at + length w;
   from = at;
   is = word_start P w (b ∷ k) at heads n from word room ∙ same_step P b k (at + length w) (reading heads (InWord w) at) (reading heads (Ended t) at) (word_alone P w t b (at + length w) heads at ends (e (at + length w) at));
 }
 
-pub variable_read : (P : Protocol) (x : ℕ) (b : ℕ) (k : List ℕ) (at : ℕ) (heads : List Open) (n from : ℕ) → IsShort x → length heads + suc n ≤ 4096 → goes_on b ≡ false → Reaches P (term_text P (Leaf x) (b ∷ k)) at (reading heads Begins from) (b ∷ k) heads (Leaf x)
+pub variable_read : (P : Protocol) (x : ℕ) (b : ℕ) (k : List ℕ) (at : ℕ) (heads : List Open) (n from : ℕ) → IsShort x → length heads + suc n ≤ most_term_levels → goes_on b ≡ false → Reaches P (term_text P (Leaf x) (b ∷ k)) at (reading heads Begins from) (b ∷ k) heads (Leaf x)
 variable_read P x b k at heads n from short room ends = alone_read P (118 ∷ decimal x) (Leaf x) b k at heads n from (variable_is_word x short) room ends
     (λ a f. taken (is_variable (118 ∷ decimal x)) (unless_deep heads f (after_variable a heads f (decimal x) (numeral (decimal x)) b)) (after_name a heads f (symbol_called P (118 ∷ decimal x)) b) _ (variable_is_variable x short)
     (shallow heads n f (after_variable a heads f (decimal x) (numeral (decimal x)) b) _ room (ap (λ o. after_variable a heads f (decimal x) o b) (numeral-decimal x short))))
 
-pub constant_read : (P : Protocol) (w : List ℕ) (named : Named) (b : ℕ) (k : List ℕ) (at : ℕ) (heads : List Open) (n from : ℕ) → IsSymbolWord w → symbol_called P w ≡ Some named → named.arity ≡ 0 → length heads + suc n ≤ 4096 → goes_on b ≡ false → Reaches P (w ++ (b ∷ k)) at (reading heads Begins from) (b ∷ k) heads (node named.symbol [])
+pub constant_read : (P : Protocol) (w : List ℕ) (named : Named) (b : ℕ) (k : List ℕ) (at : ℕ) (heads : List Open) (n from : ℕ) → IsSymbolWord w → symbol_called P w ≡ Some named → named.arity ≡ 0 → length heads + suc n ≤ most_term_levels → goes_on b ≡ false → Reaches P (w ++ (b ∷ k)) at (reading heads Begins from) (b ∷ k) heads (node named.symbol [])
 constant_read P w named b k at heads n from word called none room ends = alone_read P w (node named.symbol []) b k at heads n from (symbol_word_is_word w word) room ends
     (λ a f. passed (is_variable w) (unless_deep heads f (after_variable a heads f (drop 1 w) (numeral (drop 1 w)) b)) (after_name a heads f (symbol_called P w) b) _ word.1
     (ap (λ o. after_name a heads f o b) called
@@ -143,13 +144,13 @@ constant_read P w named b k at heads n from word called none room ends = alone_r
 abbrev pub head_over : Named → ℕ → List Term → Open
 head_over named from ts = record { symbol = named.symbol; arity = named.arity; place = from; arguments = ts }
 
-pub applied_read : (P : Protocol) (w : List ℕ) (named : Named) (k : List ℕ) (at : ℕ) (heads : List Open) (n from : ℕ) → IsWord w → symbol_called P w ≡ Some named → length heads + suc n ≤ 4096 → read_on P (w ++ (40 ∷ k)) at (reading heads Begins from) ≡ read_on P k (at + length w + 1) (reading (head_over named at [] ∷ heads) Begins at)
+pub applied_read : (P : Protocol) (w : List ℕ) (named : Named) (k : List ℕ) (at : ℕ) (heads : List Open) (n from : ℕ) → IsWord w → symbol_called P w ≡ Some named → length heads + suc n ≤ most_term_levels → read_on P (w ++ (40 ∷ k)) at (reading heads Begins from) ≡ read_on P k (at + length w + 1) (reading (head_over named at [] ∷ heads) Begins at)
 applied_read P w named k at heads n from word called room =
     word_start P w (40 ∷ k) at heads n from word room
     ∙ goes_to P 40 k (at + length w) (reading heads (InWord w) at) (reading (head_over named at [] ∷ heads) Begins at)
     (ap (apply heads at) called ∙ shallow heads n at (opened heads named at) _ room refl)
 
-pub digits_start : (P : Protocol) (w ds : List ℕ) (point : ℕ) (named : Named) (k : List ℕ) (at : ℕ) (heads : List Open) (n from : ℕ) → IsWord w → list_all is_ascii_digit ds ≡ true → numeral ds ≡ Some point → name_called P w point ≡ Some named → length heads + suc n ≤ 4096
+pub digits_start : (P : Protocol) (w ds : List ℕ) (point : ℕ) (named : Named) (k : List ℕ) (at : ℕ) (heads : List Open) (n from : ℕ) → IsWord w → list_all is_ascii_digit ds ≡ true → numeral ds ≡ Some point → name_called P w point ≡ Some named → length heads + suc n ≤ most_term_levels
     → (at' : ℕ) × (read_on P (w ++ (64 ∷ (ds ++ (91 ∷ k)))) at (reading heads Begins from) ≡ read_on P k at' (reading (head_over named at [] ∷ heads) Begins at))
 digits_start P w [] point named k at heads n from word digits number called room = absurd (cc)
 digits_start P w (d ∷ ds) point named k at heads n from word digits number called room =

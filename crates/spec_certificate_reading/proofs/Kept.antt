@@ -5,6 +5,7 @@ use Rattle.std.proofs.lemmas.List.{length-append}
 use Rattle.std.specs.Char.{is_ascii_digit}
 use Rattle.spec_trees.specs.Tree.{Leaf, node, trees, depth, depths}
 use Rattle.spec_trees.proofs.Rows.{items_of-trees}
+use Rattle.spec_calculus.specs.Bounds.{most_arguments, most_term_levels}
 use Rattle.spec_calculus.specs.Syntax.{Protocol}
 use Rattle.spec_protocol_tokens.specs.Bytes.{begins_word, is_in_word}
 use Rattle.spec_protocol_scope.specs.Names.{is_variable}
@@ -23,7 +24,7 @@ use Rattle.spec_certificate_reading.proofs.Runs.{none_at_end}
 -- so many heads above it, the term is of the protocol and not too deep
 pub record IsHeld (P : Protocol) (above : ℕ) (t : Term) : Type 0 where
   pub is_of : IsTermOf P t
-  pub shallow : above + depth t ≤ 4096
+  pub shallow : above + depth t ≤ most_term_levels
 
 unfoldable pub AreHeld : Protocol → ℕ → List Term → Type 0
 AreHeld P above [] = Unit {0}
@@ -62,14 +63,14 @@ choose : (Q : Step → Type 0) (test : Bool) (x y : Step) → (test ≡ true →
 choose Q true x y first second = first refl
 choose Q false x y first second = second refl
 
-pub not_deep : (heads : List Open) → is_deep heads ≡ false → length heads + 1 ≤ 4096
+pub not_deep : (heads : List Open) → is_deep heads ≡ false → length heads + 1 ≤ most_term_levels
 not_deep heads e = grind (arith, nat_tests)
 
 fault_kept : (P : Protocol) (place : ℕ) (code : _) → StepOf P (Fault place code)
 unfolding StepOf
 fault_kept P place code = tt
 
-unless_deep-kept : (P : Protocol) (heads : List Open) (from : ℕ) (s : Step) → (length heads + 1 ≤ 4096 → StepOf P s) → StepOf P (unless_deep heads from s)
+unless_deep-kept : (P : Protocol) (heads : List Open) (from : ℕ) (s : Step) → (length heads + 1 ≤ most_term_levels → StepOf P s) → StepOf P (unless_deep heads from s)
 unless_deep-kept P heads from s kept = choose (StepOf P) (is_deep heads) (Fault from Count) s (λ deep. fault_kept P from Count) (λ room. kept (not_deep heads room))
 
 opened-kept : (P : Protocol) (heads : List Open) (named : Named) (from : ℕ) → HeadsOf P heads → IsHeadOf P named.symbol named.arity → StepOf P (opened heads named from)
@@ -81,7 +82,7 @@ unfolding AreHeld
 held_terms P above [] held = tt
 held_terms P above (t ∷ ts) held = (held.0.is_of, held_terms P above ts held.1)
 
-held_depths : (P : Protocol) (above : ℕ) (ts : List Term) → AreHeld P above ts → above ≤ 4096 → above + depths (trees ts) ≤ 4096
+held_depths : (P : Protocol) (above : ℕ) (ts : List Term) → AreHeld P above ts → above ≤ most_term_levels → above + depths (trees ts) ≤ most_term_levels
 unfolding AreHeld
 held_depths P above [] held room = omega (arith, room)
 held_depths P above (t ∷ ts) held room = omega (arith, held.0.shallow, held_depths P above ts held.1 room)
@@ -106,7 +107,7 @@ counted : (P : Protocol) (s : Sym) (arity parts : ℕ) → IsHeadOf P s arity �
 unfolding IsHeadOf MayClose
 counted P (Ctor f) arity parts is may fits = subst (IsSymbolOf P (Ctor f)) (sym (same_count parts arity fits)) is
 counted P (Data f) arity parts is may fits = subst (IsSymbolOf P (Data f)) (sym (same_count parts arity fits)) is
-counted P (Tuple n) arity parts is may fits = (refl, may, few_parts parts 16 fits)
+counted P (Tuple n) arity parts is may fits = (refl, may, few_parts parts most_arguments fits)
 counted P (Free a) arity parts is may fits = subst (IsSymbolOf P (Free a)) (sym (same_count parts arity fits)) is
 counted P (Point p) arity parts is may fits = subst (IsSymbolOf P (Point p)) (sym (same_count parts arity fits)) is
 counted P Attacker arity parts is may fits = subst (IsSymbolOf P Attacker) (sym (same_count parts arity fits)) is
@@ -188,7 +189,7 @@ head_of_symbol P (Free a) arity is = is
 head_of_symbol P (Point p) arity is = is
 head_of_symbol P Attacker arity is = is
 
-after_variable-kept : (P : Protocol) (at : ℕ) (heads : List Open) (from : ℕ) (digits : List ℕ) (number : Option ℕ) (b : ℕ) → numeral digits ≡ number → HeadsOf P heads → length heads + 1 ≤ 4096 → StepOf P (after_variable at heads from digits number b)
+after_variable-kept : (P : Protocol) (at : ℕ) (heads : List Open) (from : ℕ) (digits : List ℕ) (number : Option ℕ) (b : ℕ) → numeral digits ≡ number → HeadsOf P heads → length heads + 1 ≤ most_term_levels → StepOf P (after_variable at heads from digits number b)
 after_variable-kept P at heads from digits None b is of_heads room = fault_kept P (at - length digits) Number
 after_variable-kept P at heads from digits (Some x) b is of_heads room = after_term-kept P at (Leaf x) heads from b of_heads record { is_of = (numeral_some digits x is).1; shallow = room }
 
@@ -283,7 +284,7 @@ read_on-kept P (c ∷ bytes) at r t place rest is e = by (step P at r c) (step-k
     by (Fault p code) kept read later = absurd (cc)
 
 -- a term that was read is of the protocol, and not too deep
-pub read_term-kept : (P : Protocol) (bytes : List ℕ) (at : ℕ) (t : Term) (place : ℕ) (rest : List ℕ) → read_term P bytes at ≡ Done t place rest → IsTermOf P t × (depth t ≤ 4096)
+pub read_term-kept : (P : Protocol) (bytes : List ℕ) (at : ℕ) (t : Term) (place : ℕ) (rest : List ℕ) → read_term P bytes at ≡ Done t place rest → IsTermOf P t × (depth t ≤ most_term_levels)
 unfolding HeadsOf ModeOf
 read_term-kept P bytes at t place rest e =
     let held = read_on-kept P bytes at record { heads = []; mode = Begins; from = at } t place rest record { heads = tt; mode = tt } e in

@@ -5,6 +5,7 @@ use Rattle.std.proofs.lemmas.List.{length-append}
 use Rattle.std.specs.Fmt.{decimal}
 use Rattle.spec_trees.specs.Tree.{Trees, Leaf, Node, none, more, node, items_of, depth, depths}
 use Rattle.spec_trees.proofs.Rows.{trees-items_of}
+use Rattle.spec_calculus.specs.Bounds.{most_arguments, most_term_levels}
 use Rattle.spec_calculus.specs.Syntax.{Protocol}
 use Rattle.spec_terms.specs.Term.{Sym, Ctor, Data, Tuple, Free, Point, Attacker, Term}
 use Rattle.spec_run_text.proofs.Numbers.{numeral-decimal}
@@ -66,7 +67,7 @@ some_arguments (Data f) n = 0 < n
 some_arguments (Free a) n = 0 < n
 some_arguments other n = Unit {0}
 
-opens : (P : Protocol) → HasNames P → (f : Sym) (n : ℕ) → IsSymbolOf P f n → some_arguments f n → (inside : List ℕ) (at : ℕ) (heads : List Open) (m from : ℕ) → length heads + suc m ≤ 4096 → Opens P f n inside at heads from
+opens : (P : Protocol) → HasNames P → (f : Sym) (n : ℕ) → IsSymbolOf P f n → some_arguments f n → (inside : List ℕ) (at : ℕ) (heads : List Open) (m from : ℕ) → length heads + suc m ≤ most_term_levels → Opens P f n inside at heads from
 unfolding some_arguments
 opens P names (Ctor f) n is some inside at heads m from room = record {
   named = record { symbol = Ctor f; arity = n };
@@ -86,7 +87,7 @@ opens P names (Tuple parts) n is some inside at heads m from room = record {
   named = record { symbol = Tuple 0; arity = 0 };
   place = at + 1;
   since = at;
-  fits = record { symbol = ap Tuple (sym is.0); arity = at_most n 16 is.2; closes = at_most 2 n is.1; goes_on = λ two. refl; closing = refl };
+  fits = record { symbol = ap Tuple (sym is.0); arity = at_most n most_arguments is.2; closes = at_most 2 n is.1; goes_on = λ two. refl; closing = refl };
   is = goes_to P 40 inside at (reading heads Begins from) (reading (head_over record { symbol = Tuple 0; arity = 0 } at [] ∷ heads) Begins at)
       (begins_at P at heads m 40 (goes (head_over record { symbol = Tuple 0; arity = 0 } at [] ∷ heads) Begins at) room refl
       (shallow heads m at (opened heads record { symbol = Tuple 0; arity = 0 } at) (goes (head_over record { symbol = Tuple 0; arity = 0 } at [] ∷ heads) Begins at) room refl));
@@ -113,7 +114,7 @@ opens P names Attacker n is some inside at heads m from room = record {
 }
 
 -- the last argument ends, and then the symbol
-closes_at : (P : Protocol) (heads : List Open) (named : Named) (f : Sym) (n : ℕ) (since : ℕ) (done : List Term) (t : Term) (k : List ℕ) (place from m : ℕ) → Fits named f n → length done + 1 ≡ n → length heads + suc m ≤ 4096
+closes_at : (P : Protocol) (heads : List Open) (named : Named) (f : Sym) (n : ℕ) (since : ℕ) (done : List Term) (t : Term) (k : List ℕ) (place from m : ℕ) → Fits named f n → length done + 1 ≡ n → length heads + suc m ≤ most_term_levels
     → read_on P (closing_byte named.symbol ∷ k) place (reading (head_over named since done ∷ heads) (Ended t) from) ≡ read_on P k (place + 1) (reading heads (Ended (node f (done ++ t ∷ []))) since)
 closes_at P heads named f n since done t k place from m fits count room =
     let o = head_over named since done in
@@ -155,7 +156,7 @@ has_some (Point p) n = tt
 has_some Attacker n = tt
 
 -- a symbol without arguments
-bare_read : (P : Protocol) → HasNames P → (f : Sym) → IsSymbolOf P f 0 → (heads : List Open) (m : ℕ) → length heads + suc m ≤ 4096 → (at from b : ℕ) (k : List ℕ) → goes_on b ≡ false → Reaches P (term_text P (Node f none) (b ∷ k)) at (reading heads Begins from) (b ∷ k) heads (Node f none)
+bare_read : (P : Protocol) → HasNames P → (f : Sym) → IsSymbolOf P f 0 → (heads : List Open) (m : ℕ) → length heads + suc m ≤ most_term_levels → (at from b : ℕ) (k : List ℕ) → goes_on b ≡ false → Reaches P (term_text P (Node f none) (b ∷ k)) at (reading heads Begins from) (b ∷ k) heads (Node f none)
 bare_read P names (Ctor f) is heads m room at from b k ends = constant_read P (declared_word P.constructors f) record { symbol = Ctor f; arity = 0 } b k at heads m from (constructor_word P false f 0 names is) (constructor_called P names false f 0 is) refl room ends
 bare_read P names (Data f) is heads m room at from b k ends = constant_read P (declared_word P.constructors f) record { symbol = Data f; arity = 0 } b k at heads m from (constructor_word P true f 0 names is) (constructor_called P names true f 0 is) refl room ends
 bare_read P names (Free a) is heads m room at from b k ends = constant_read P (declared_word P.frees a) record { symbol = Free a; arity = 0 } b k at heads m from (free_word P a names is.0) (free_called P names a is.0) refl room ends
@@ -178,11 +179,11 @@ HasSome (more t ts) = Unit {0}
 
 -- a term is read wherever there is room for it
 abbrev pub IsRead : Protocol → Term → Type 0
-IsRead P t = (heads : List Open) → length heads + depth t ≤ 4096 → (at from b : ℕ) (k : List ℕ) → goes_on b ≡ false → Reaches P (term_text P t (b ∷ k)) at (reading heads Begins from) (b ∷ k) heads t
+IsRead P t = (heads : List Open) → length heads + depth t ≤ most_term_levels → (at from b : ℕ) (k : List ℕ) → goes_on b ≡ false → Reaches P (term_text P t (b ∷ k)) at (reading heads Begins from) (b ∷ k) heads t
 
 -- so are arguments, the last of a symbol, behind those that were read
 abbrev AreRead : Protocol → Named → Sym → ℕ → ℕ → Trees ℕ Sym → Type 0
-AreRead P named f n since ts = HasSome ts → (done : List Term) → length done + length (items_of ts) ≡ n → (heads : List Open) → length heads + 1 + depths ts ≤ 4096 → (at from : ℕ) (k : List ℕ)
+AreRead P named f n since ts = HasSome ts → (done : List Term) → length done + length (items_of ts) ≡ n → (heads : List Open) → length heads + 1 + depths ts ≤ most_term_levels → (at from : ℕ) (k : List ℕ)
     → Reaches P (row (written_row P ts) (closing_byte named.symbol ∷ k)) at (reading (head_over named since done ∷ heads) Begins from) k heads (node f (done ++ items_of ts))
 
 one_argument : (P : Protocol) (named : Named) (f : Sym) (n since : ℕ) → Fits named f n → (t : Term) (ts : Trees ℕ Sym) → IsRead P t → AreRead P named f n since ts → AreRead P named f n since (more t ts)
@@ -240,7 +241,7 @@ mutual
   arguments_read P names f (more t ts) are named n since fits = one_argument P named f n since fits t ts (term_read P names t are.0) (arguments_read P names f ts are.1 named n since fits)
 
 -- a term of the protocol is read of its text, where what follows begins with nothing that a word alone could go on with
-pub term_text-read : (P : Protocol) → HasNames P → (t : Term) → IsTermOf P t → depth t ≤ 4096 → (at b : ℕ) (k : List ℕ) → goes_on b ≡ false → (place : ℕ) × (read_term P (term_text P t (b ∷ k)) at ≡ Done t place (b ∷ k))
+pub term_text-read : (P : Protocol) → HasNames P → (t : Term) → IsTermOf P t → depth t ≤ most_term_levels → (at b : ℕ) (k : List ℕ) → goes_on b ≡ false → (place : ℕ) × (read_term P (term_text P t (b ∷ k)) at ≡ Done t place (b ∷ k))
 term_text-read P names t is shallow_enough at b k ends =
     let reached = term_read P names t is [] (omega (arith, shallow_enough)) at at b k ends in
     (reached.place, reached.is)

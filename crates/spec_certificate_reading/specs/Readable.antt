@@ -1,9 +1,9 @@
--- What may stand in a certificate's text: terms at most 4,096 levels deep, `bad` as a conclusion and `mev` as a hypothesis alone, rows
--- with a number, and at most 1,000,000 clauses.
+-- What may stand in a certificate's text: terms within the limit of levels, `bad` as a conclusion and `mev` as a hypothesis alone, rows
+-- with a number, and no more clauses than the limit.
 use Rattle.std.specs.Prelude.{ℕ, ◌≤◌, List, [], ◌∷◌, length}
 use Rattle.std.specs.List.{AllByRecursion}
 use Rattle.spec_trees.specs.Tree.{depth}
-use Rattle.spec_calculus.specs.Bounds.{most_clauses}
+use Rattle.spec_calculus.specs.Bounds.{most_term_levels, most_clauses}
 use Rattle.spec_calculus.specs.Syntax.{Protocol}
 use Rattle.spec_terms.specs.Term.{Term}
 use Rattle.spec_clauses.specs.Fact.{Fact, Att, Mess, Ev, Mev, Bad, Clause}
@@ -12,7 +12,7 @@ use Rattle.spec_certificate_text.specs.OfProtocol.{IsShort, IsEvent, IsTermOf}
 
 -- a term of the protocol that isn't too deep
 abbrev pub MayStand : Protocol → Term → Type 0
-MayStand P t = IsTermOf P t × (depth t ≤ 4096)
+MayStand P t = IsTermOf P t × (depth t ≤ most_term_levels)
 
 abbrev pub IsHypothesisOf : Protocol → Fact Term → Type 0
 IsHypothesisOf P (Att t) = MayStand P t
@@ -33,7 +33,7 @@ pub record IsReadable (P : Protocol) (c : Clause Term) : Type 0 where
   pub hypotheses : AllByRecursion (IsHypothesisOf P) c.hypotheses
   pub conclusion : IsConclusionOf P c.conclusion
 
--- a row of numbers, of which there is one at least, of at most 9 digits
+-- a row of numbers, of which there is one at least, within the limit of digits
 abbrev pub IsRow : List ℕ → Type 0
 IsRow [] = ⊥
 IsRow (n ∷ ns) = IsShort n × AllByRecursion IsShort ns

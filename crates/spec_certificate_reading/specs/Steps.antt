@@ -2,7 +2,7 @@
 use Rattle.std.specs.Prelude.{ℕ, ◌+◌, ◌-◌, ◌==◌, ◌&&◌, nat_le, if◌then◌else◌, Bool, true, false, List, [], ◌∷◌, ◌++◌, length, drop, Option, Some, None}
 use Rattle.std.specs.Char.{is_ascii_digit}
 use Rattle.spec_trees.specs.Tree.{Leaf, node}
-use Rattle.spec_calculus.specs.Bounds.{most_symbols, most_arguments}
+use Rattle.spec_calculus.specs.Bounds.{most_arguments, most_term_levels}
 use Rattle.spec_calculus.specs.Syntax.{Protocol}
 use Rattle.spec_protocol_tokens.specs.Bytes.{begins_word, is_in_word}
 use Rattle.spec_protocol_scope.specs.Names.{is_variable}
@@ -13,7 +13,7 @@ use Rattle.spec_certificate_reading.specs.Terms.{Syntax, Number, Symbol, Arity, 
 
 -- whether a term that begins here would be too deep: so many are open
 abbrev pub is_deep : List Open → Bool
-is_deep heads = nat_le most_symbols (length heads)
+is_deep heads = nat_le most_term_levels (length heads)
 
 -- reading goes on in this way
 abbrev pub goes : List Open → Mode → ℕ → Step

@@ -9,7 +9,7 @@ use Rattle.spec_certificate_text.specs.Text.{term_text}
 -- why a text is refused
 pub data Code : Type 0 where
   Syntax : Code  -- the text can't go on with this byte
-  Number : Code  -- no decimal number of at most 9 digits without leading zero
+  Number : Code  -- no decimal number within the limit of digits without leading zero
   Symbol : Code  -- a word that names nothing that may stand there
   Arity : Code  -- a wrong number of arguments
   Count : Code  -- too deep

@@ -14,6 +14,7 @@
 
 ghost use Rattle.std.specs.Prelude.{◌≡◌, ℕ, ◌+◌, ◌≤◌, false, List, ◌∷◌, length, codes};
 ghost use Rattle.spec_trees.specs.Tree.{depth};
+ghost use Rattle.spec_calculus.specs.Bounds.{most_term_levels};
 ghost use Rattle.spec_calculus.specs.Syntax.{Protocol};
 ghost use Rattle.spec_terms.specs.Term.{Term};
 ghost use Rattle.spec_clauses.specs.Fact.{Fact, Clause};
@@ -54,21 +55,21 @@ pub fn worked_readings()
 {}
 
 /// A term that was read is what the bytes begin with: its text, and then the rest. It is a term of the protocol, at most
-/// 4,096 levels deep, and the place is the one behind it.
+/// within the limit of levels, and the place is the one behind it.
 pub fn what_is_read_is_there()
     ensures text { (P : Protocol) (bytes : List ℕ) (at place : ℕ) (t : Term) (rest : List ℕ) →
         read_term P bytes at ≡ Done t place rest → bytes ≡ term_text P t rest }
     ensures is_of { (P : Protocol) (bytes : List ℕ) (at place : ℕ) (t : Term) (rest : List ℕ) →
-        read_term P bytes at ≡ Done t place rest → IsTermOf P t × (depth t ≤ 4096) }
+        read_term P bytes at ≡ Done t place rest → IsTermOf P t × (depth t ≤ most_term_levels) }
     ensures place { (P : Protocol) (bytes : List ℕ) (at place : ℕ) (t : Term) (rest : List ℕ) →
         read_term P bytes at ≡ Done t place rest → place + length rest ≡ at + length bytes }
 {}
 
-/// The text of a term of the protocol that is at most 4,096 levels deep is read as that term, where a byte follows with which
+/// The text of a term of the protocol that is within the limit of levels is read as that term, where a byte follows with which
 /// no word alone could go on.
 pub fn term_texts_are_read()
     ensures { (P : Protocol) (t : Term) (at b : ℕ) (rest : List ℕ) → HasNames P → IsTermOf P t →
-        depth t ≤ 4096 → goes_on b ≡ false →
+        depth t ≤ most_term_levels → goes_on b ≡ false →
         (place : ℕ) × (read_term P (term_text P t (b ∷ rest)) at ≡ Done t place (b ∷ rest)) }
 {}
 

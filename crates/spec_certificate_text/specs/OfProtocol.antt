@@ -35,7 +35,7 @@ pub record IsRestriction (P : Protocol) (point arguments : ℕ) : Type 0 where
   pub there : numbered (nodes P.main) point ≡ Some (New word next)
   pub arity : numbered (name_arguments 0 P.main) point ≡ Some arguments
 
--- a number of at most 9 digits
+-- a number within the limit of digits
 abbrev pub IsShort : ℕ → Type 0
 IsShort n = n < 10 ^ most_digits
 
@@ -68,7 +68,7 @@ pub record IsClauseOf (P : Protocol) (c : Clause Term) : Type 0 where
   pub hypotheses : AllByRecursion (IsFactOf P) c.hypotheses
   pub conclusion : IsFactOf P c.conclusion
 
--- its clauses are of the protocol, and its numbers have at most 9 digits
+-- its clauses are of the protocol, and its numbers are within the limit of digits
 pub record IsCertificateOf (P : Protocol) (cert : Certificate) : Type 0 where
   pub clauses : AllByRecursion (IsClauseOf P) cert.clauses
   pub rows : AllByRecursion (AllByRecursion IsShort) cert.rows

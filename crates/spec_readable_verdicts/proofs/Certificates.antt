@@ -6,6 +6,7 @@ use Rattle.spec_trees.specs.Tree.{Trees, Leaf, Node, none, more, size, items_of}
 use Rattle.spec_trees.specs.Leaves.{leaves, row_leaves}
 use Rattle.spec_trees.proofs.Measures.{depth-le-size}
 use Rattle.spec_trees.proofs.Equality.{and_true}
+use Rattle.spec_calculus.specs.Bounds.{most_symbols, most_clauses}
 use Rattle.spec_calculus.specs.Syntax.{Query, Secret, SecretNew, Correspondence, Protocol}
 use Rattle.spec_well_formed.specs.Terms.{row_length, EachSymbolInRow}
 use Rattle.spec_well_formed.specs.Limits.{IsSmallQuery}
@@ -41,7 +42,7 @@ row_items none = refl
 row_items (more t ts) = omega (arith, row_items ts)
 
 -- where the variables' numbers are small, a term over the protocol is one of it
-module _ (P : Protocol) (n : ℕ) (small : n ≤ 4096) where
+module _ (P : Protocol) (n : ℕ) (small : n ≤ most_symbols) where
   mutual
     term_of : (t : Term) → IsTermOver P t → AllByRecursion (λ x. x < n) (leaves t) → text.IsTermOf P t
     term_of (Leaf x) h b = omega (arith, small, b.0)
@@ -54,28 +55,28 @@ module _ (P : Protocol) (n : ℕ) (small : n ≤ 4096) where
       terms_of_row ts h.1 (all_second (λ x. x < n) (leaves t) (row_leaves ts) b),
     )
 
-  may_stand : (t : Term) → IsTermOver P t → IsBelow n t → size t ≤ 4096 → MayStand P t
+  may_stand : (t : Term) → IsTermOver P t → IsBelow n t → size t ≤ most_symbols → MayStand P t
   may_stand t h b s = (term_of t h b, omega (arith, depth-le-size t, s))
 
-  all_may_stand : (ts : List Term) → AreTermsOver P ts → AreBelow n ts → total size ts ≤ 4096 → AllByRecursion (MayStand P) ts
+  all_may_stand : (ts : List Term) → AreTermsOver P ts → AreBelow n ts → total size ts ≤ most_symbols → AllByRecursion (MayStand P) ts
   all_may_stand [] h b s = tt
   all_may_stand (t ∷ ts) h b s = (may_stand t h.0 b.0 (omega (arith, s)), all_may_stand ts h.1 b.1 (omega (arith, s)))
 
-  hypothesis_of : (f : Fact Term) → IsFactOver P f → AreBelow n (terms_of f) → fact_size f ≤ 4096 → may_be_supposed f ≡ true → IsHypothesisOf P f
+  hypothesis_of : (f : Fact Term) → IsFactOver P f → AreBelow n (terms_of f) → fact_size f ≤ most_symbols → may_be_supposed f ≡ true → IsHypothesisOf P f
   hypothesis_of (Att t) h b s e = may_stand t h.terms.0 b.0 (omega (arith, s))
   hypothesis_of (Mess t u) h b s e = (may_stand t h.terms.0 b.0 (omega (arith, s)), may_stand u h.terms.1.0 b.1.0 (omega (arith, s)))
   hypothesis_of (Ev event ts) h b s e = (h.event, all_may_stand ts h.terms b (omega (arith, s)))
   hypothesis_of (Mev event ts) h b s e = (h.event, all_may_stand ts h.terms b (omega (arith, s)))
   hypothesis_of (Bad ts) h b s e = cc
 
-  conclusion_of : (f : Fact Term) → IsFactOver P f → AreBelow n (terms_of f) → fact_size f ≤ 4096 → may_be_concluded f ≡ true → IsConclusionOf P f
+  conclusion_of : (f : Fact Term) → IsFactOver P f → AreBelow n (terms_of f) → fact_size f ≤ most_symbols → may_be_concluded f ≡ true → IsConclusionOf P f
   conclusion_of (Att t) h b s e = may_stand t h.terms.0 b.0 (omega (arith, s))
   conclusion_of (Mess t u) h b s e = (may_stand t h.terms.0 b.0 (omega (arith, s)), may_stand u h.terms.1.0 b.1.0 (omega (arith, s)))
   conclusion_of (Ev event ts) h b s e = (h.event, all_may_stand ts h.terms b (omega (arith, s)))
   conclusion_of (Mev event ts) h b s e = cc
   conclusion_of (Bad ts) h b s e = all_may_stand ts h.terms b (omega (arith, s))
 
-  hypotheses_of : (fs : List (Fact Term)) → AllByRecursion (IsFactOver P) fs → AllByRecursion (λ f. AreBelow n (terms_of f)) fs → total fact_size fs ≤ 4096 → list_all may_be_supposed fs ≡ true → AllByRecursion (IsHypothesisOf P) fs
+  hypotheses_of : (fs : List (Fact Term)) → AllByRecursion (IsFactOver P) fs → AllByRecursion (λ f. AreBelow n (terms_of f)) fs → total fact_size fs ≤ most_symbols → list_all may_be_supposed fs ≡ true → AllByRecursion (IsHypothesisOf P) fs
   hypotheses_of [] h b s e = tt
   hypotheses_of (f ∷ fs) h b s e =
       let both = and_true (may_be_supposed f) (list_all may_be_supposed fs) e in
@@ -121,13 +122,13 @@ all_short : (c : Clause Term) → IsWithinLimit c → (row : List ℕ) → AllBy
 all_short c small row within = all_weaker (λ p. p ≤ length c.hypotheses) IsShort (λ p h. omega (arith, h, small, length-le-size c.hypotheses)) row within
 
 -- a cover row
-cover_row : (clauses : List (Clause Term)) → length clauses ≤ 1000000 → (c : Clause Term) → IsWithinLimit c → (row : List ℕ) → CoverRowHolds clauses row c → IsRow row
+cover_row : (clauses : List (Clause Term)) → length clauses ≤ most_clauses → (c : Clause Term) → IsWithinLimit c → (row : List ℕ) → CoverRowHolds clauses row c → IsRow row
 cover_row clauses few c small [] h = absurd h
 cover_row clauses few c small (n ∷ positions) (general, at, holds) =
     let within = numbered_within clauses n general at in
     (omega (arith, few, within.1), all_short c small positions (positions_within (fact_under holds.by) (firm general.hypotheses) c.hypotheses positions holds.firmly))
 
-pub cover_rows : (clauses : List (Clause Term)) → length clauses ≤ 1000000 → (cs : List (Clause Term)) → AllByRecursion IsWithinLimit cs → (rows : List (List ℕ)) → AreFirstCovers clauses cs rows → AllByRecursion IsRow rows
+pub cover_rows : (clauses : List (Clause Term)) → length clauses ≤ most_clauses → (cs : List (Clause Term)) → AllByRecursion IsWithinLimit cs → (rows : List (List ℕ)) → AreFirstCovers clauses cs rows → AllByRecursion IsRow rows
 cover_rows clauses few [] small [] h = tt
 cover_rows clauses few [] small (row ∷ rows) h = absurd h
 cover_rows clauses few (c ∷ cs) small [] h = absurd h

@@ -1,5 +1,6 @@
 -- The certificate of a query that is proved may stand in a text.
 use Rattle.std.proofs.Common.{ℕ, ◌≤◌, ◌&&◌, List, ◌++◌, length, inl, inr, arith}
+use Rattle.spec_calculus.specs.Bounds.{most_clauses, most_budget}
 use Rattle.spec_calculus.specs.Syntax.{Query, Protocol}
 use Rattle.spec_well_formed.specs.Signature.{signature_of}
 use Rattle.spec_well_formed.specs.Limits.{IsSmallQuery, IsWithinLimits}
@@ -35,7 +36,7 @@ pub record IsAsked (P : Protocol) (q : Query) : Type 0 where
   pub over : IsQueryOver (signature_of P) q
   pub leaves : HasQueryLeaves P q
 
-module _ (P : Protocol) (q : Query) (asked : IsAsked P q) (budget : ℕ) (most : budget ≤ 1000000) (cert : Certificate) where
+module _ (P : Protocol) (q : Query) (asked : IsAsked P q) (budget : ℕ) (most : budget ≤ most_budget) (cert : Certificate) where
   module _ (given : List (Clause Term)) (translated : IsTranslation P q (Clauses given)) (p : IsProved P q given budget cert) where
     given_kept : (c : Clause Term) → Has given c → IsKept P c
     given_kept c h =
@@ -48,7 +49,7 @@ module _ (P : Protocol) (q : Query) (asked : IsAsked P q) (budget : ℕ) (most :
     clause_readable : (c : Clause Term) → Has cert.clauses c → IsReadable P c
     clause_readable c h = let s = shape c h in readable P c (live_kept P given given_kept budget p.log cert.clauses p.is_log p.live c h) s.normal s.small
 
-    few_clauses : length cert.clauses ≤ 1000000
+    few_clauses : length cert.clauses ≤ most_clauses
     few_clauses = omega (arith, few_live p.log cert.clauses p.live, p.is_log.within, most)
 
     bad_within : (c : Clause Term) → Has (bad_clauses cert.clauses) c → IsWithinLimit c

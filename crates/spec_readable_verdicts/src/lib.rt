@@ -5,6 +5,7 @@
 #![tactic(auto)]
 
 ghost use Rattle.std.specs.Prelude.{ℕ, ◌≤◌, List, Contains};
+ghost use Rattle.spec_calculus.specs.Bounds.{most_budget};
 ghost use Rattle.spec_calculus.specs.Syntax.{Query, Protocol};
 ghost use Rattle.spec_protocol_scope.specs.Spells.{Spells};
 ghost use Rattle.spec_certificates.specs.Certificate.{Certificate};
@@ -14,11 +15,11 @@ ghost use Rattle.spec_certificate_reading.specs.Readable.{IsReadableCertificate}
 use spec_protocol_scope::{query_leaves, well_scoped, within_limits};
 
 /// The certificate of a query that is proved, with a budget that may be asked for, may stand in a text: its terms are of the
-/// protocol and at most 4,096 levels deep, its facts stand where they may, its rows are numbers of at most 9 digits, and there
-/// are at most 1,000,000 clauses.
+/// protocol and within the limit of levels, its facts stand where they may, its rows are numbers within the limit of digits,
+/// and there are no more clauses than the limit.
 pub fn proved_certificates_may_stand()
     ensures { (bytes : List ℕ) (P : Protocol) (q : Query) (budget : ℕ) (cert : Certificate) →
-        Spells bytes P → Contains P.queries q → budget ≤ 1000000 →
+        Spells bytes P → Contains P.queries q → budget ≤ most_budget →
         IsVerdict P q budget (Proved cert) → IsReadableCertificate P cert }
 {
     query_leaves();

@@ -9,3 +9,4 @@ pub mod Declared
 pub mod Running
 pub mod Sizes
 pub mod Whole
+pub mod Translated

@@ -33,7 +33,7 @@ pass_line_size i j rest =
     omega arith
 
 -- the last key is handed on under the first
-last_successor : (n i : ℕ) → i ≡ n → successor n i ≡ 1
+pub last_successor : (n i : ℕ) → i ≡ n → successor n i ≡ 1
 last_successor n i e =
     elim (eqb_tells i n) [
       | inl h ↦ (let same : (i == n) ≡ true = h.0 in rw same refl)
@@ -41,7 +41,7 @@ last_successor n i e =
     ]
 
 -- any other under the one behind it
-next_successor : (n i : ℕ) → i < n → successor n i ≡ i + 1
+pub next_successor : (n i : ℕ) → i < n → successor n i ≡ i + 1
 next_successor n i low =
     elim (eqb_tells i n) [
       | inl h ↦ (let same : i ≡ n = h.1 in absurd (omega arith))

@@ -4,12 +4,15 @@
 //! functions below, which do nothing.
 #![tactic(auto)]
 
-ghost use Rattle.std.specs.Prelude.{◌≡◌, ◌≤◌, ◌+◌, ◌*◌, ℕ, [], ◌∷◌, length};
+ghost use Rattle.std.specs.Prelude.{◌≡◌, ◌≤◌, ◌+◌, ◌*◌, ℕ, List, [], ◌∷◌, length};
 ghost use Rattle.spec_trees.specs.Tree.{Leaf};
-ghost use Rattle.spec_calculus.specs.Bounds.{most_keys};
+ghost use Rattle.spec_calculus.specs.Bounds.{most_keys, most_visits};
 ghost use Rattle.spec_calculus.specs.Syntax.{Free, Secret};
 ghost use Rattle.spec_calculus.specs.Points.{nodes};
 ghost use Rattle.spec_protocol_scope.specs.Spells.{Spells};
+ghost use Rattle.spec_terms.specs.Term.{Term};
+ghost use Rattle.spec_clauses.specs.Fact.{Clause};
+ghost use Rattle.spec_translation.specs.Translation.{Clauses, IsTranslation};
 ghost use Rattle.spec_ring_text.specs.Text.{ring_text};
 ghost use Rattle.spec_ring_text.specs.Meaning.{ring_protocol};
 ghost use Rattle.spec_ring_text.specs.Size.{digit_count};
@@ -34,4 +37,12 @@ pub fn ring_sizes()
 pub fn ring_shapes()
     ensures asked { (n : ℕ) → (ring_protocol n).queries ≡ Secret (Leaf (Free 2)) ∷ [] }
     ensures points { (n : ℕ) → 1 ≤ n → length (nodes (ring_protocol n).main) ≡ 7 * n + 2 }
+{}
+
+/// A ring of two keys or more, which has no more points than may be visited, is translated into eight clauses and one for
+/// each key.
+pub fn ring_translations()
+    ensures { (n : ℕ) → 2 ≤ n → 7 * n + 2 ≤ most_visits → (all : List (Clause Term))
+        × IsTranslation (ring_protocol n) (Secret (Leaf (Free 2))) (Clauses all)
+        × (length all ≡ n + 8) }
 {}

@@ -28,7 +28,7 @@ pub fn end(alloc: Global, protocol: &Protocol, run: &[u8]) -> Result<String, All
 
 /// The same of these steps, if neither they nor the protocol are too much.
 fn end_of_steps(alloc: Global, protocol: &Protocol, steps: &[Step]) -> Result<String, AllocError> {
-    if !is_limited(protocol) || steps.len() > 1_000_000 {
+    if !is_limited(protocol) || steps.len() >= u32::MAX as usize {
         return String::from_str(alloc, "too much");
     }
     let replayed = Box::new(alloc, replay(alloc, protocol, steps)?)?;

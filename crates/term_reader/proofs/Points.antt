@@ -1,5 +1,5 @@
 -- Names of restrictions by their points.
-use Rattle.std.proofs.Common.{◌≡◌, ℕ, zero, suc, ◌<◌, true, false, List, [], ◌∷◌, length, Some, None, option_and_then, refl, sym, ◌∙◌, ap, arith}
+use Rattle.std.proofs.Common.{◌≡◌, ℕ, zero, suc, ◌<◌, true, false, List, length, Some, None, option_and_then, refl, sym, ◌∙◌, ap, arith}
 use Rattle.spec_calculus.specs.Syntax as calculus
 use Rattle.spec_calculus.specs.Points.{numbered, nodes, name_arguments}
 use Rattle.spec_calculus.proofs.Items.{numbered-past}

@@ -1,9 +1,10 @@
 -- How many names a protocol may declare for its texts to be read.
 use Rattle.std.specs.Prelude.{◌≤◌, length}
+use Rattle.spec_calculus.specs.Bounds.{most_names}
 use Rattle.spec_calculus.specs.Syntax.{Protocol}
 
--- at most 1,024 free names, and as many constructors and events
+-- free names, constructors and events, each at most as many as all names may be
 pub record HasFewNames (P : Protocol) : Type 0 where
-  pub frees : length P.frees ≤ 1024
-  pub constructors : length P.constructors ≤ 1024
-  pub events : length P.events ≤ 1024
+  pub frees : length P.frees ≤ most_names
+  pub constructors : length P.constructors ≤ most_names
+  pub events : length P.events ≤ most_names

@@ -1,3 +1,4 @@
 pub mod Few
+pub mod Naming
 pub mod Seen
 pub mod SeenSteps

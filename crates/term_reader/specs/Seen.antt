@@ -4,8 +4,8 @@ use Rattle.term_tree.specs.Bank.{symbol_of}
 use Rattle.clause_form.specs.Plain.{term_of}
 use Rattle.spec_certificate_reading.specs.Names as names
 use Rattle.spec_certificate_reading.specs.Terms as terms
-use Rattle.term_reader.specs.declared.names.Named.{Named}
-use Rattle.term_reader.specs.declared.names.CalledEvent.{CalledEvent}
+use Rattle.term_reader.specs.declared.words.Named.{Named}
+use Rattle.term_reader.specs.declared.words.CalledEvent.{CalledEvent}
 use Rattle.term_reader.specs.declared.state.Open.{Open}
 use Rattle.term_reader.specs.declared.state.Heads.{Heads}
 use Rattle.term_reader.specs.declared.state.Mode.{Mode}

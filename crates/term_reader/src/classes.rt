@@ -8,6 +8,7 @@ ghost use Rattle.spec_certificate_reading.specs.Steps.{with_parts, has_arity, cl
 
 use clause_form::Trees;
 use numerals::all_digits;
+use pi_tree::MOST_ARGUMENTS;
 use term_tree::Sym;
 
 /// Whether a word may begin with the byte.
@@ -56,7 +57,7 @@ pub fn has_arity(symbol: Sym, arity: u32, parts: usize) -> bool
     ensures { result ≡ has_arity (symbol_of symbol) arity parts }
 {
     match symbol {
-        Sym::Tuple(_) => parts <= 16,
+        Sym::Tuple(_) => parts <= MOST_ARGUMENTS,
         _ => parts == arity as usize,
     }
 }

@@ -2,12 +2,12 @@
 #![tactic(auto)]
 
 mod classes;
-mod names;
 mod reading;
 mod state;
 mod steps;
+mod words;
 
 pub use crate::classes::{begins_word, is_in_word};
-pub use crate::names::{CalledEvent, event_called, has_few_names};
-pub use crate::reading::{Read, read_term};
+pub use crate::reading::{Read, read_term, term_at};
 pub use crate::state::Code;
+pub use crate::words::{CalledEvent, Names, has_few_names};

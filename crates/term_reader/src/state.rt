@@ -6,6 +6,7 @@ ghost use Rattle.term_reader.specs.Seen.{open_of, heads_of};
 ghost use Rattle.term_reader.specs.SeenSteps.{IsPopped};
 
 use clause_form::{Tree, Trees};
+use pi_tree::MOST_TERM_LEVELS;
 use std::alloc::{AllocError, Global};
 use term_tree::Sym;
 
@@ -113,5 +114,5 @@ pub fn pop_head(mut heads: Heads) -> Popped
 pub fn is_deep(heads: &Heads) -> bool
     ensures { result ≡ is_deep (heads_of heads.now) }
 {
-    heads.items.len() >= 4096
+    heads.items.len() >= MOST_TERM_LEVELS
 }

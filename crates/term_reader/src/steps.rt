@@ -3,12 +3,11 @@
 ghost use Rattle.std.specs.Prelude.{◌≡◌, ◌∷◌, ◌++◌, [], IfOk, Some};
 ghost use Rattle.term_tree.specs.Bank.{symbol_of};
 ghost use Rattle.clause_form.specs.Plain.{term_of};
-ghost use Rattle.pi_tree.specs.Protocols.{protocol_of};
+ghost use Rattle.term_reader.specs.Naming.{protocol_in};
 ghost use Rattle.spec_run_text.specs.Reading.{numeral};
 ghost use Rattle.spec_certificate_reading.specs.Names as called;
 ghost use Rattle.spec_certificate_reading.specs.Steps as steps;
 ghost use Rattle.spec_certificate_reading.specs.Terms as terms;
-ghost use Rattle.term_reader.specs.Few.{HasFewNames};
 ghost use Rattle.term_reader.specs.Seen.{named_of, found_of, open_of, heads_of, mode_of, reading_of};
 ghost use Rattle.term_reader.specs.SeenSteps.{code_of, step_of};
 
@@ -16,13 +15,12 @@ use crate::classes::{
     begins_word, behind_first, closing_byte, has_arity, is_in_word, is_variable, may_be_empty,
     may_close, may_go_on, with_parts,
 };
-use crate::names::{Named, name_called, symbol_called};
 use crate::state::{
     Code, Heads, Mode, Open, Pointed, Popped, Reading, Step, is_deep, pop_head, push_head,
 };
+use crate::words::{Named, Names};
 use clause_form::{Tree, Trees};
 use numerals::number;
-use pi_tree::Protocol;
 use std::alloc::{AllocError, Global};
 use term_tree::Sym;
 
@@ -244,19 +242,12 @@ fn after_name(
 }
 
 /// A word alone ended.
-fn after_word(
-    alloc: Global,
-    here: Here,
-    protocol: &Protocol,
-    heads: Heads,
-    word: &[u8],
-) -> Result<Step, AllocError>
-    requires { HasFewNames (protocol_of protocol.now) }
-    ensures { IfOk result (λ s. step_of s ≡ steps.after_word (protocol_of protocol.now) here.at
+fn after_word(names: &Names<'_>, here: Here, heads: Heads, word: &[u8]) -> Result<Step, AllocError>
+    ensures { IfOk result (λ s. step_of s ≡ steps.after_word (protocol_in names.now) here.at
         (heads_of heads) here.from word.now here.byte) }
 {
     if !is_variable(word) {
-        return after_name(alloc, here, heads, symbol_called(protocol, word));
+        return after_name(names.alloc, here, heads, names.symbol_called(word));
     }
     if is_deep(&heads) {
         return Ok(Step::Fault(here.from, Code::Count));
@@ -285,28 +276,21 @@ fn longer_word(here: Here, heads: Heads, mut word: Vec<u8>) -> Result<Step, Allo
 }
 
 /// Within a word.
-fn in_word(
-    alloc: Global,
-    here: Here,
-    protocol: &Protocol,
-    heads: Heads,
-    word: Vec<u8>,
-) -> Result<Step, AllocError>
-    requires { HasFewNames (protocol_of protocol.now) }
-    ensures { IfOk result (λ s. step_of s ≡ steps.in_word (protocol_of protocol.now) here.at
+fn in_word(names: &Names<'_>, here: Here, heads: Heads, word: Vec<u8>) -> Result<Step, AllocError>
+    ensures { IfOk result (λ s. step_of s ≡ steps.in_word (protocol_in names.now) here.at
         (heads_of heads) here.from word.items here.byte) }
 {
     if is_in_word(here.byte) {
         return longer_word(here, heads, word);
     }
     if here.byte == b'(' {
-        return apply(alloc, here, heads, symbol_called(protocol, &word));
+        return apply(names.alloc, here, heads, names.symbol_called(&word));
     }
     if here.byte == b'@' {
-        let digits = Vec::new(alloc);
+        let digits = Vec::new(names.alloc);
         return Ok(goes(heads, Mode::InDigits(Pointed { word, digits }), here.from));
     }
-    after_word(alloc, here, protocol, heads, &word)
+    after_word(names, here, heads, &word)
 }
 
 /// The text can't go on here, unless the term is too deep.
@@ -345,13 +329,12 @@ fn after_point(
 
 /// A word, `@` and digits ended.
 fn after_digits(
-    alloc: Global,
+    names: &Names<'_>,
     here: Here,
-    protocol: &Protocol,
     heads: Heads,
     name: &Pointed,
 ) -> Result<Step, AllocError>
-    ensures { IfOk result (λ s. step_of s ≡ steps.after_digits (protocol_of protocol.now) here.at
+    ensures { IfOk result (λ s. step_of s ≡ steps.after_digits (protocol_in names.now) here.at
         (heads_of heads) here.from name.now.word.items name.now.digits.items here.byte) }
 {
     if name.digits.is_empty() {
@@ -362,7 +345,10 @@ fn after_digits(
             let place = here.at.saturating_sub(name.digits.len());
             Ok(no_further(here, &heads, place, Code::Number))
         }
-        Some(point) => after_point(alloc, here, heads, name_called(protocol, &name.word, point)),
+        Some(point) => {
+            let named = names.name_called(&name.word, point);
+            after_point(names.alloc, here, heads, named)
+        }
     }
 }
 
@@ -376,20 +362,14 @@ fn more_digits(here: Here, heads: Heads, mut name: Pointed) -> Result<Step, Allo
 }
 
 /// Within digits.
-fn in_digits(
-    alloc: Global,
-    here: Here,
-    protocol: &Protocol,
-    heads: Heads,
-    name: Pointed,
-) -> Result<Step, AllocError>
-    ensures { IfOk result (λ s. step_of s ≡ steps.in_digits (protocol_of protocol.now) here.at
+fn in_digits(names: &Names<'_>, here: Here, heads: Heads, name: Pointed) -> Result<Step, AllocError>
+    ensures { IfOk result (λ s. step_of s ≡ steps.in_digits (protocol_in names.now) here.at
         (heads_of heads) here.from name.word.items name.digits.items here.byte) }
 {
     if here.byte.is_ascii_digit() {
         more_digits(here, heads, name)
     } else {
-        after_digits(alloc, here, protocol, heads, &name)
+        after_digits(names, here, heads, &name)
     }
 }
 
@@ -409,24 +389,17 @@ fn at_bracket(alloc: Global, here: Here, heads: Heads) -> Result<Step, AllocErro
 }
 
 /// What the byte does that stands at the place.
-pub fn step(
-    alloc: Global,
-    protocol: &Protocol,
-    at: usize,
-    reading: Reading,
-    byte: u8,
-) -> Result<Step, AllocError>
-    requires { HasFewNames (protocol_of protocol.now) }
-    ensures { IfOk result (λ s. step_of s ≡ steps.step (protocol_of protocol.now) at
+pub fn step(names: &Names<'_>, at: usize, reading: Reading, byte: u8) -> Result<Step, AllocError>
+    ensures { IfOk result (λ s. step_of s ≡ steps.step (protocol_in names.now) at
         (reading_of reading) byte) }
 {
     let Reading { heads, mode, from } = reading;
     let here = Here { at, byte, from };
     match mode {
-        Mode::Begins => at_begin(alloc, here, heads),
-        Mode::InWord(word) => in_word(alloc, here, protocol, heads, word),
-        Mode::InDigits(name) => in_digits(alloc, here, protocol, heads, name),
-        Mode::AtBracket => at_bracket(alloc, here, heads),
+        Mode::Begins => at_begin(names.alloc, here, heads),
+        Mode::InWord(word) => in_word(names, here, heads, word),
+        Mode::InDigits(name) => in_digits(names, here, heads, name),
+        Mode::AtBracket => at_bracket(names.alloc, here, heads),
         Mode::Ended(term) => after_term(here, term, heads),
     }
 }

@@ -1,13 +1,14 @@
 -- What stands at places, first in one part and then in another.
-use Rattle.std.proofs.Common.{◌≡◌, ℕ, zero, suc, ◌+◌, ◌<◌, ◌≤◌, Bool, true, false, cond, List, [], ◌∷◌, ◌++◌, length, map, drop, get_or, drop-cons, Option, None, Some, refl, sym, ap, ◌∙◌, arith}
-use Rattle.spec_trees.specs.Tree.{Trees, none, more, trees}
-use Rattle.spec_calculus.specs.Syntax.{Name, Symbol}
+use Rattle.std.proofs.Common.{◌≡◌, ℕ, suc, ◌+◌, ◌<◌, Bool, true, false, cond, List, [], ◌∷◌, ◌++◌, length, map, drop, get_or, drop-cons, Option, None, Some, refl, sym, ap, ◌∙◌, arith}
+use Rattle.spec_trees.specs.Tree.{trees}
+use Rattle.spec_calculus.specs.Syntax.{Name}
 use Rattle.spec_calculus.specs.Values.{Environment, Value, same_name, bound_to}
 use Rattle.spec_calculus.specs.Matching.{places, places_row}
 use Rattle.pi_tree.specs.declared.syntax.Term as source_term
 use Rattle.pi_tree.specs.declared.value_trees.Value as source
 use Rattle.pi_tree.specs.Terms.{term_of}
 use Rattle.pi_tree.specs.Values.{value_of}
+use Rattle.destructor_rules.proofs.Rows.{places_past}
 
 first_choice : (same : Bool) (u v : Value) (o p : Option Value) → (p ≡ Some v → o ≡ Some v) → cond same (Some u) p ≡ Some v → cond same (Some u) o ≡ Some v
 first_choice true u v o p k h = h
@@ -24,17 +25,6 @@ later_choice false u o p q k h = k h
 pub bound-later : (xs ys : Environment) (x : Name) → bound_to xs x ≡ None → bound_to (xs ++ ys) x ≡ bound_to ys x
 bound-later [] ys x h = refl
 bound-later (b ∷ xs) ys x h = later_choice (same_name b.name x) b.value (bound_to (xs ++ ys) x) (bound_to xs x) (bound_to ys x) (λ k. bound-later xs ys x k) h
-
--- where no values are left nothing stands at the places
-nothing_at : (ts : Trees Name Symbol) → places_row ts none ≡ []
-nothing_at none = refl
-nothing_at (more t ts) = refl
-
-pub places-past : (ts : Trees Name Symbol) (values : List source.Value) (i : ℕ) → length values ≤ i → places_row ts (trees (map value_of (drop i values))) ≡ []
-places-past ts [] zero h = nothing_at ts
-places-past ts [] (suc i) h = nothing_at ts
-places-past ts (v ∷ values) zero h = absurd (omega arith)
-places-past ts (v ∷ values) (suc i) h = places-past ts values i (omega arith)
 
 -- what stands at the places from an index on
 abbrev pub row_from : List source_term.Term → List source.Value → ℕ → Environment
@@ -62,4 +52,4 @@ pub row-passed : (ts : List source_term.Term) (vs : List source.Value) (i : ℕ)
 row-passed ts vs i t v x term_within term_is value_within value_is passed =
     ap (λ b. bound_to b x) (row-next ts vs i t v term_within term_is value_within value_is) ∙ bound-later (places (term_of t) (value_of v)) (row_from ts vs (i + 1)) x passed
 
-pub ruleset of_places = (bound-first, bound-later, places-past)
+pub ruleset of_places = (bound-first, bound-later, places_past)

@@ -1,4 +1,3 @@
-pub mod Slots
 pub mod Bindings
 pub mod Room
 pub mod ByRules

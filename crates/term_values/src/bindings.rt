@@ -6,11 +6,11 @@ ghost use Rattle.spec_calculus.specs.Values.{bound_to};
 ghost use Rattle.spec_calculus.specs.Matching.{places, places_row};
 ghost use Rattle.pi_tree.specs.Terms.{term_of};
 ghost use Rattle.pi_tree.specs.Values.{value_of};
-ghost use Rattle.term_values.specs.Slots.{name_of};
+ghost use Rattle.pi_tree.specs.Slots.{name_of};
 ghost use Rattle.term_values.specs.Bound.{bound_of, places_below};
 
-use crate::environments::{Environment, Slot};
-use pi_tree::{Term, Terms, Value};
+use crate::environments::Environment;
+use pi_tree::{Slot, Term, Terms, Value};
 
 /// What is bound; of two of one slot the earlier counts.
 #[derive(Clone, Copy)]

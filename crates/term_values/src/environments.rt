@@ -1,38 +1,13 @@
 //! What a thread has bound: its variables, and the names that its restrictions made.
 
-ghost use Rattle.std.specs.Prelude.{◌≡◌, [], ◌∷◌, ◌++◌, option_map, IfOk, OnOk};
-ghost use Rattle.spec_calculus.specs.Values.{same_name, bound_to};
+ghost use Rattle.std.specs.Prelude.{◌≡◌, [], ◌∷◌, ◌++◌, option_map, IfOk, OnOk, OnErr};
+ghost use Rattle.spec_calculus.specs.Values.{bound_to};
 ghost use Rattle.pi_tree.specs.Values.{value_of};
-ghost use Rattle.term_values.specs.Slots.{name_of};
+ghost use Rattle.pi_tree.specs.Slots.{name_of};
 
-use pi_tree::Value;
+use pi_tree::{Slot, Value};
 use std::alloc::{AllocError, Global};
 use std::marker::Model;
-
-/// What is bound: a variable by its number, or the name of the restriction at a point.
-#[derive(Clone, Copy, Debug)]
-pub enum Slot {
-    Var(u32),
-    Made(u32),
-}
-
-impl Slot {
-    /// Whether two slots are the same.
-    pub fn is(self, other: Slot) -> bool
-        ensures { result ≡ same_name (name_of self) (name_of other) }
-    {
-        match self {
-            Slot::Var(number) => match other {
-                Slot::Var(another) => number == another,
-                Slot::Made(_) => false,
-            },
-            Slot::Made(point) => match other {
-                Slot::Var(_) => false,
-                Slot::Made(another) => point == another,
-            },
-        }
-    }
-}
 
 /// Slots with what they are bound to, in the order in which they were bound; of two of one slot the
 /// earlier counts.
@@ -77,10 +52,11 @@ impl Environment {
         None
     }
 
-    /// One more binding, at the end.
+    /// One more binding, at the end. On `Err` there is none more.
     pub fn bind(&mut self, slot: Slot, value: Value) -> Result<(), AllocError>
-        ensures { OnOk result (self.new ≡ self.old ++ record
+        ensures ok { OnOk result (self.new ≡ self.old ++ record
             { name = name_of slot; value = value_of value } ∷ []) }
+        ensures err { OnErr result (self.new ≡ self.old) }
     {
         self.items.push((slot, value))?;
         Ok(())
@@ -90,7 +66,7 @@ impl Environment {
     pub fn copy(&self, alloc: Global) -> Result<Environment, AllocError>
         ensures { IfOk result (λ copied. copied ≡ self.now) }
     {
-        let mut items = Vec::new(alloc);
+        let mut items = Vec::with_capacity(alloc, self.items.len())?;
         for binding in &self.items {
             items.push((binding.0, binding.1.copy(alloc)?))?;
         }

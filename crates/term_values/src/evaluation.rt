@@ -5,13 +5,13 @@ ghost use Rattle.spec_calculus.specs.Values as calculus;
 ghost use Rattle.spec_calculus.specs.Values.{same_value, same_values};
 ghost use Rattle.pi_tree.specs.Terms.{term_of};
 ghost use Rattle.pi_tree.specs.Values.{value_of};
+ghost use Rattle.pi_tree.specs.Slots.{name_of};
 ghost use Rattle.term_values.specs.Bound.{bound_of};
-ghost use Rattle.term_values.specs.Slots.{name_of};
 
 use crate::bindings::{Bound, look_up};
-use crate::environments::{Environment, Slot};
+use crate::environments::Environment;
 use destructor_rules::is_same;
-use pi_tree::{Term, Terms, Value, Values};
+use pi_tree::{Slot, Term, Terms, Value, Values};
 use std::alloc::{AllocError, Global};
 
 /// What the slot is bound to; a slot that is not bound is the free name 0, which nothing declares.
@@ -53,7 +53,7 @@ pub fn evaluate_all(
 ) -> Result<Values, AllocError>
     ensures { IfOk result (λ vs. vs ≡ calculus.values_of environment.now terms.now) }
 {
-    let mut items = Vec::new(alloc);
+    let mut items = Vec::with_capacity(alloc, terms.items.len())?;
     for term in &terms.items {
         items.push(evaluate(term, alloc, environment)?)?;
     }

@@ -10,7 +10,7 @@ pub mod matching;
 pub mod sizes;
 
 pub use crate::bindings::Bound;
-pub use crate::environments::{Environment, Slot};
+pub use crate::environments::Environment;
 pub use crate::evaluation::{are_values_of, evaluate, evaluate_all, is_value_of};
 pub use crate::expressions::{rules_of, value_at, value_by_rule, values_at};
 pub use crate::matching::matched;

@@ -7,9 +7,9 @@ ghost use Rattle.pi_tree.specs.Patterns.{pattern_of};
 ghost use Rattle.pi_tree.specs.Values.{value_of};
 
 use crate::bindings::Bound;
-use crate::environments::{Environment, Slot};
+use crate::environments::Environment;
 use crate::evaluation::is_value_of;
-use pi_tree::{Pat, Pats, Value};
+use pi_tree::{Pat, Pats, Slot, Value};
 use std::alloc::{AllocError, Global};
 
 /// Whether the value matches the pattern; what the pattern binds then stands at the end of the bindings.

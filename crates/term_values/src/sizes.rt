@@ -10,11 +10,11 @@ ghost use Rattle.pi_tree.specs.Terms.{term_of};
 ghost use Rattle.pi_tree.specs.Patterns.{pattern_of, expression_of};
 ghost use Rattle.pi_tree.specs.Processes.{process_of};
 ghost use Rattle.pi_tree.specs.Values.{value_of};
+ghost use Rattle.pi_tree.specs.Slots.{name_of};
 ghost use Rattle.term_values.specs.Room.{room_after};
-ghost use Rattle.term_values.specs.Slots.{name_of};
 
-use crate::environments::{Environment, Slot};
-use pi_tree::{Expr, MOST_SYMBOLS, Pat, Pats, Process, Term, Terms, Value};
+use crate::environments::Environment;
+use pi_tree::{Expr, MOST_SYMBOLS, Pat, Pats, Process, Slot, Term, Terms, Value};
 
 /// How many of `room` symbols are left beside the value; `None` where it has more.
 #[cycle(room)]

@@ -71,3 +71,17 @@ pub fn apply_bound<B: Bank>(
     let made = substituted(binds.allocator(), bank, Substitution::Bindings(binds), id)?;
     Ok(Some(made))
 }
+
+/// The term that a term stands for under the bindings, whatever its size. `Err` comes only for want of memory, and leaves
+/// the bank as before.
+pub fn apply_unlimited<B: Bank>(bank: &mut B, id: Id, binds: &Binds) -> Result<Id, AllocError>
+    requires known { id.index < length (B.trees bank.old) }
+    requires ready { IsReady (B.trees bank.old) binds.now.pairs }
+    ensures grows { Grows (B.trees bank.old) (B.trees bank.new) }
+    ensures names { IfOk result (λ made. Names (B.trees bank.new) made
+        (bind (resolved (seen (B.trees bank.old) binds.now.pairs))
+        (tree_at (B.trees bank.old) id))) }
+    ensures err { OnErr result (B.trees bank.new ≡ B.trees bank.old) }
+{
+    substituted(binds.allocator(), bank, Substitution::Bindings(binds), id)
+}

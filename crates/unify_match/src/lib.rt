@@ -23,11 +23,12 @@ mod symbol;
 mod unification;
 mod walk;
 
-pub use apply::apply_bound;
+pub use apply::{apply_bound, apply_unlimited};
 pub use binds::Binds;
 pub use bound::Bound;
 pub use matching::{match_all_onto, match_onto, same_term};
 pub use rename::{renumbered, shifted};
+pub use substitute::argument;
 pub use unification::{unify, unify_all};
 
 /// Bindings over the trees of a bank stay what they are as it grows.

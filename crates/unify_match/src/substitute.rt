@@ -83,7 +83,7 @@ fn id_at(ids: &[Id], place: usize) -> Id
 
 /// An argument of the root of a term. Takes no memory.
 #[inline(never)]
-fn argument<B: Bank>(bank: &B, id: Id, place: usize) -> Id
+pub fn argument<B: Bank>(bank: &B, id: Id, place: usize) -> Id
     requires known { id.index < length (B.trees bank.now) }
     requires there { place < length (arguments (tree_at (B.trees bank.now) id)) }
     ensures known { result.index < length (B.trees bank.now) }

@@ -5,7 +5,7 @@ use Rattle.std.specs.Fmt.{decimal}
 use Rattle.std.specs.List.{AllByRecursion}
 use Rattle.std.proofs.lemmas.Bool.Decides.{nat_tests}
 use Rattle.std.proofs.lemmas.List.{length-map}
-use Rattle.spec_calculus.specs.Bounds.{most_report_bytes}
+use Rattle.spec_calculus.specs.Bounds.{most_report_bytes, most_budget}
 use Rattle.spec_calculus.specs.Syntax.{Query, Protocol}
 use Rattle.spec_calculus.specs.Points.{numbered}
 use Rattle.spec_calculus.proofs.Items.{each-contains}
@@ -188,11 +188,11 @@ check_found P budget vs _ laws are found = absurd found
 pub record WayBack : Type 0 where
   pub names : (bytes : List ℕ) (P : Protocol) → Spells bytes P → HasNames P
   pub limits : (bytes : List ℕ) (P : Protocol) → Spells bytes P → IsWithinLimits P
-  pub stand : (bytes : List ℕ) (P : Protocol) (q : Query) (budget : ℕ) (cert : Certificate) → Spells bytes P → Contains P.queries q → budget ≤ 1000000 → IsVerdict P q budget (defined.Proved cert) → IsReadableCertificate P cert
+  pub stand : (bytes : List ℕ) (P : Protocol) (q : Query) (budget : ℕ) (cert : Certificate) → Spells bytes P → Contains P.queries q → budget ≤ most_budget → IsVerdict P q budget (defined.Proved cert) → IsReadableCertificate P cert
   pub accepted : (P : Protocol) (q : Query) (budget : ℕ) (cert : Certificate) → IsWithinLimits P → IsSmallQuery q → IsVerdict P q budget (defined.Proved cert) → IsRuled P q cert certificates.Accepted
   pub one_ruling : (P : Protocol) (q : Query) (cert : Certificate) (a b : certificates.Ruling) → IsRuled P q cert a → IsRuled P q cert b → a ≡ b
 
-pub read_back : WayBack → (bytes : List ℕ) (budget : ℕ) (outcome : Outcome) → budget ≤ 1000000 → Verifies bytes budget outcome → IsReadBack bytes outcome
+pub read_back : WayBack → (bytes : List ℕ) (budget : ℕ) (outcome : Outcome) → budget ≤ most_budget → Verifies bytes budget outcome → IsReadBack bytes outcome
 read_back laws bytes budget (Verified vs) within verified = λ text answer report checks.
     let P = report.protocol in
     let are : AnswerQueries P budget P.queries vs = verified.accepts P report.spelled in

@@ -1,6 +1,7 @@
 -- What the steps of the reading come to.
 use Rattle.std.proofs.Common.{◌≡◌, ℕ, zero, suc, ◌≤◌, List, [], ◌∷◌, length, drop, Option, None, Some, refl, sym, subst, ◌∙◌, arith, slice_get}
 use Rattle.std.specs.Option.{option_map_or}
+use Rattle.spec_calculus.specs.Bounds.{most_bytes}
 use Rattle.spec_protocol_tokens.specs.Token as token
 use Rattle.spec_protocol_tokens.specs.Piece.{Refusal, Refused, Nothing, piece}
 use Rattle.spec_protocol_tokens.specs.Piece as piece
@@ -29,11 +30,11 @@ refused_within bytes zero why e = omega arith
 refused_within [] (suc place) why e = let bad : Nothing ≡ Refused why = e in cc
 refused_within (b ∷ bytes) (suc place) why e = let h = refused_within bytes place why e in omega arith
 
-lexical : (bytes : List ℕ) (why : Refusal) (place : ℕ) → length bytes ≤ 1048576 → Stops bytes why place → Refuses bytes (Lexical why) place × (place ≤ length bytes)
+lexical : (bytes : List ℕ) (why : Refusal) (place : ℕ) → length bytes ≤ most_bytes → Stops bytes why place → Refuses bytes (Lexical why) place × (place ≤ length bytes)
 lexical bytes why place fits stops = ((fits, stops), refused_within bytes place why stops.refused)
 
 -- bytes that the lexer refuses
-pub lex_refused : (bytes : List ℕ) (e : LexError) → length bytes ≤ 1048576 → lexing.IsRefusalOf bytes e → IsStopOf bytes (lex_stop e)
+pub lex_refused : (bytes : List ℕ) (e : LexError) → length bytes ≤ most_bytes → lexing.IsRefusalOf bytes e → IsStopOf bytes (lex_stop e)
 lex_refused bytes (lex.BadByte place) fits h = lexical bytes piece.BadByte place fits h
 lex_refused bytes (lex.OpenComment place) fits h = lexical bytes piece.OpenComment place fits h
 lex_refused bytes (lex.LongNumber place) fits h = lexical bytes piece.LongNumber place fits h
@@ -60,7 +61,7 @@ same_place bytes tokens n = by_option (slice_get tokens n)
     by_option (Some t) = refl
 
 -- tokens that the parser refuses
-pub parse_refused : SpansAscend → (bytes : List ℕ) (tokens : List token.Token) (e : ParseError) → length bytes ≤ 1048576 → Lexed bytes tokens → parsing.IsRefusalOf bytes tokens e → IsStopOf bytes (parse_stop e)
+pub parse_refused : SpansAscend → (bytes : List ℕ) (tokens : List token.Token) (e : ParseError) → length bytes ≤ most_bytes → Lexed bytes tokens → parsing.IsRefusalOf bytes tokens e → IsStopOf bytes (parse_stop e)
 parse_refused law bytes tokens (parse.Unexpected place) fits lexed (n, refused, e) =
     let stands : place_of bytes tokens n ≡ place = same_place bytes tokens n ∙ sym e in
     ((fits, record { tokens = tokens; lexed = lexed; token = n; refused = refused; stands = stands }), place_within law bytes tokens n place lexed stands)

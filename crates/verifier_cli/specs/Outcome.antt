@@ -15,14 +15,14 @@ use Rattle.verifier_cli.specs.declared.outcome.Ring.{Ring as Summary}
 pub data RunRefusal : Type 0 where
   -- a line of it spells no step
   Faulty : (fault : Fault) → RunRefusal
-  -- it has more than 16,777,216 bytes
+  -- it has more bytes than a run's text may have
   LongRun : RunRefusal
 
 -- why a report is refused
 pub data ReportRefusal : Type 0 where
   -- it can't be read as a report on the protocol
   Misspelled : (code : Code) → ReportRefusal
-  -- it has more than 67,108,864 bytes
+  -- it has more bytes than a report may have
   LongReport : ReportRefusal
 
 -- a text that is refused, why and where: line and column are counted from 1, in bytes

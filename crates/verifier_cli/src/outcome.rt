@@ -14,11 +14,11 @@ pub enum ProtocolCode {
     BadByte,
     /// The comment that begins here has no end.
     OpenComment,
-    /// The number that begins here has more than nine digits.
+    /// The number that begins here has more digits than the limit.
     LongNumber,
     /// No file of the grammar goes on with the token that begins here, or ends here.
     Unexpected,
-    /// What begins here would stand below level 512.
+    /// What begins here would stand below the limit of levels.
     TooDeep,
     /// The name is not declared, or not yet.
     Unknown,
@@ -34,7 +34,7 @@ pub enum ProtocolCode {
     TooMany,
     /// The query asks for the name of one of several restrictions.
     AmbiguousNew,
-    /// The file has more than 1,048,576 bytes. This is looked at before all else; its place is 1:1.
+    /// The file has more bytes than a protocol's text may have. This is looked at before all else; its place is 1:1.
     LongFile,
 }
 
@@ -44,7 +44,7 @@ pub enum ProtocolCode {
 pub enum ReportCode {
     /// No report goes on with the byte that stands there, or ends there.
     Syntax,
-    /// What stands there is no decimal number of at most nine digits, without leading zero.
+    /// What stands there is no decimal number within the limit of digits, without leading zero.
     Number,
     /// The word names nothing of the protocol that may stand there.
     Symbol,
@@ -52,7 +52,7 @@ pub enum ReportCode {
     Arity,
     /// What begins there is too deep, one too many, or not the query that comes next; or the report ends before its last.
     Count,
-    /// The file has more than 67,108,864 bytes. This is looked at before all else; its line is 1.
+    /// The file has more bytes than a report may have. This is looked at before all else; its line is 1.
     LongFile,
 }
 
@@ -61,12 +61,12 @@ pub enum ReportCode {
 pub enum RunCode {
     /// The line's first word is that of no step.
     Word,
-    /// The line has another count of numbers than the step of its word, or something that is no decimal number of at
-    /// most nine digits, without leading zero, where a number should stand.
+    /// The line has another count of numbers than the step of its word, or something that is no decimal number
+    /// within the limit of digits, without leading zero, where a number should stand.
     Number,
-    /// The line has more than 256 bytes.
+    /// The line has more bytes than the limit.
     LongLine,
-    /// The file has more than 16,777,216 bytes. This is looked at before all else; its line is 1.
+    /// The file has more bytes than a run's text may have. This is looked at before all else; its line is 1.
     LongFile,
 }
 

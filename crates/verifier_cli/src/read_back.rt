@@ -1,7 +1,7 @@
 //! What `check` comes to on a report that `verify` wrote: a law of what the two calls are said to come to.
 
 ghost use Rattle.std.specs.Prelude.{◌≡◌, ◌≤◌, ℕ, List, Option, Some, length};
-ghost use Rattle.spec_calculus.specs.Bounds.{most_report_bytes};
+ghost use Rattle.spec_calculus.specs.Bounds.{most_report_bytes, most_budget};
 ghost use Rattle.command_words.specs.Request as request;
 ghost use Rattle.query_verify.specs.declared.answers.Verdict as told;
 ghost use Rattle.verifier_cli.specs.Command.{Verifies};
@@ -18,7 +18,7 @@ use spec_verdicts::first_certificates_are_accepted;
 /// The text of verdicts is a report, and its certificates are accepted: of each query that is proved one, and of each other
 /// nothing is claimed.
 pub(crate) fn verdicts_are_read_back()
-    ensures { (bytes : List ℕ) (budget : ℕ) (outcome : own.Outcome) → budget ≤ 1000000 →
+    ensures { (bytes : List ℕ) (budget : ℕ) (outcome : own.Outcome) → budget ≤ most_budget →
         Verifies bytes budget outcome → IsReadBack bytes outcome }
 {
     spelled_protocols_have_names();

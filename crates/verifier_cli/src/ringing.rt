@@ -1,6 +1,7 @@
 //! The command `ring`: the summary of a ring, which is made, read and verified like the text of a file.
 
 ghost use Rattle.std.specs.Prelude.{◌≡◌, ◌≢◌, ◌≤◌, [], ◌∷◌, Some, length, option_map, IfOk};
+ghost use Rattle.spec_calculus.specs.Bounds.{most_keys};
 ghost use Rattle.spec_calculus.specs.Syntax.{Query};
 ghost use Rattle.pi_tree.specs.Protocols.{protocol_of};
 ghost use Rattle.spec_protocol_scope.specs.Spells.{Spells};
@@ -115,7 +116,7 @@ fn verify_ring(alloc: Global, stages: u64, text: &[u8]) -> Decision
 /// Makes the ring of so many keys, and verifies its query.
 pub(crate) fn ring(alloc: Global, stages: u64) -> Decision
     requires least { 2 ≤ stages }
-    requires most { stages ≤ 400 }
+    requires most { stages ≤ most_keys }
     ensures used { outcome_of result.outcome ≢ own.Usage }
     ensures read { outcome_of result.outcome ≢ own.ReadFault }
     ensures source { IsSpelledAt (Some (ring_text stages))

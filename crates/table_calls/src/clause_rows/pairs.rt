@@ -10,11 +10,9 @@ use clause_form::{Clause, is_normal, size_of};
 use clause_resolve::{Resolved, normal_clauses_have_low_variables, resolvents};
 use literal_selection::{is_solved, selected};
 use multiset_subsume::{Row, cover_row, row_holds};
+use pi_tree::MOST_SYMBOLS;
 use std::alloc::{AllocError, Global};
 use term_tree::TreeBank;
-
-/// The most symbols that a clause of a pair has.
-const MOST_SYMBOLS: u64 = 4096;
 
 /// A table of pairs of clauses.
 #[derive(Clone, Copy)]

@@ -10,11 +10,9 @@ ghost use Rattle.clause_saturate.specs.Beating.{clauses_of};
 use crate::log_rows::texts::{add_due, add_entries, add_large};
 use clause_form::{Clause, Clauses, PlainClause, copy_into, is_normal, read_out, size_of};
 use clause_saturate::{Entry, Log, PlainEntry, Saturated, entries_tell_logs, read_log, saturate};
+use pi_tree::MOST_SYMBOLS;
 use std::alloc::{AllocError, Global};
 use term_tree::TreeBank;
-
-/// The most symbols that a given clause has.
-const MOST_SYMBOLS: u64 = 4096;
 
 /// Whether a clause has no more symbols than the limit.
 fn is_small(bank: &TreeBank, clause: &Clause) -> bool

@@ -1,7 +1,7 @@
 use Rattle.std.proofs.Common.{sym, ap, ◌∙◌}
 use Rattle.spec_trees.specs.Tree.{size}
 use Rattle.term_tree.specs.Bank.{capped}
-use Rattle.clause_terms.specs.Slots.{name_of}
+use Rattle.pi_tree.specs.Slots.{name_of}
 use Rattle.clause_terms.proofs.Standings.{id_in-known, bound_named, unbound}
 use Rattle.clause_terms.proofs.sizes.bound_size.Goals as goal
 

@@ -6,6 +6,7 @@ use Rattle.clap.specs.ValueTests.{is_unsigned_in}
 use Rattle.clap.specs.Walk.{Text, Walk, finished, nothing_held, walk, walk_from, walked}
 use Rattle.clap.specs.Faults.{walk_fault}
 use Rattle.clap.specs.declared.error.kind.ErrorKind.TheVariants.{ValueValidation}
+use Rattle.spec_calculus.specs.Bounds.{most_budget}
 use Rattle.command_words.specs.Request.{Verify, asked, request_of}
 use Rattle.command_words.proofs.Complete as built
 use Rattle.command_words.proofs.Plain.{IsPlain, after_plain, asked_by, end_fault, placed, plain_text, refused_by, turn_plain}
@@ -20,7 +21,7 @@ named file flag plain =
     ap (λ k. or_else k (walk_fault built.verify [] (walked built.verify.rules [] (walk_from nothing_held) file) (flag ∷ []))) (turn_plain built.verify 1 nothing_held file plain refl)
     ∙ ap (λ (w : Walk). walk_fault built.verify [] w (flag ∷ [])) (after_plain built.verify 1 nothing_held file plain)
 
-taken : (program file number : List ℕ) → (slice_index file 0 ≡ 45 → ⊥) → is_unsigned_in 0 1000000 number ≡ true
+taken : (program file number : List ℕ) → (slice_index file 0 ≡ 45 → ⊥) → is_unsigned_in 0 most_budget number ≡ true
     → request_of (program ∷ codes "verify" ∷ file ∷ (codes "--budget=" ++ number) ∷ []) ≡ Some (Verify file (digits_value 10 (without_leading_plus number)))
 unfolding clap_on_literals
 taken program file number no_dash within =
@@ -28,13 +29,13 @@ taken program file number no_dash within =
     let flag = codes "--budget=" ++ number in
     let given = placed built.verify 1 nothing_held file in
     let w = walked built.verify.rules [] given flag in
-    let all = small_number 0 1000000 (omega arith) number within in
+    let all = small_number 0 most_budget (omega arith) number within in
     let passes : walk_fault built.verify [] given (flag ∷ []) ≡ [] = rw within refl in
     let read : asked (Some (built.verify.name, finished built.verify.rules w.held)) ≡ Some (Verify file (digits_value 10 (without_leading_plus number))) = rw all refl in
     asked_by built.verify (program ∷ codes "verify" ∷ file ∷ flag ∷ []) (file ∷ flag ∷ []) w refl refl
     (named file flag plain ∙ passes) (ap (λ (v : Walk). walked built.verify.rules [] v flag) (after_plain built.verify 1 nothing_held file plain)) refl ∙ read
 
-refused : (program file number : List ℕ) → (slice_index file 0 ≡ 45 → ⊥) → is_unsigned_in 0 1000000 number ≡ false
+refused : (program file number : List ℕ) → (slice_index file 0 ≡ 45 → ⊥) → is_unsigned_in 0 most_budget number ≡ false
     → request_of (program ∷ codes "verify" ∷ file ∷ (codes "--budget=" ++ number) ∷ []) ≡ None
 unfolding clap_on_literals
 refused program file number no_dash without =

@@ -1,10 +1,16 @@
 -- the terms so far are read, and reading goes on
-use Rattle.std.proofs.Common.{map}
+use Rattle.std.proofs.Common.{◌≡◌, ◌-◌, length, map}
 use Rattle.clause_form.specs.Plain.{term_of}
 use Rattle.pi_tree.specs.Protocols.{protocol_of}
+use Rattle.spec_certificate_reading.specs.Outcomes.{things}
 use Rattle.spec_certificate_reading.specs.Facts.{argument}
+use Rattle.fact_reader.specs.Reads.{left_of}
 use Rattle.fact_reader.proofs.Things.{IsGoing}
 use Rattle.fact_reader.proofs.arguments.terms.Given as goal
 
 abbrev pub invariant-loop-round : goal.invariant-loop-round
-invariant-loop-round l = IsGoing (argument (protocol_of l.protocol)) l.bytes l.fn.at l.round l.place (map term_of l.items.items)
+invariant-loop-round l = record {
+  read : IsGoing (argument (protocol_of l.names.protocol.now)) (things (argument (protocol_of l.names.protocol.now)) (left_of l.fn.cursor) l.fn.cursor.at)
+      (length l.fn.cursor.bytes.now - l.round) (left_of l.cursor) l.cursor.at (map term_of l.items.items);
+  same : l.cursor.bytes.now ≡ l.fn.cursor.bytes.now;
+}

@@ -4,7 +4,7 @@ use Rattle.spec_calculus.specs.Values.{bound_to}
 use Rattle.spec_calculus.specs.Matching.{places_row}
 use Rattle.pi_tree.specs.Terms.{term_of}
 use Rattle.pi_tree.specs.Values.{value_of}
-use Rattle.term_values.specs.Slots.{name_of}
+use Rattle.pi_tree.specs.Slots.{name_of}
 use Rattle.term_values.proofs.Places.{row-found, row-passed, of_places}
 use Rattle.std.proofs.lemmas.Grind.{common_steps}
 use Rattle.term_values.proofs.bindings.+place.Goals as goal

@@ -4,7 +4,7 @@ use Rattle.spec_calculus.specs.Values.{bound_to}
 use Rattle.spec_calculus.specs.Matching.{places_row}
 use Rattle.pi_tree.specs.Terms.{term_of}
 use Rattle.pi_tree.specs.Values.{value_of}
-use Rattle.term_values.specs.Slots.{name_of}
+use Rattle.pi_tree.specs.Slots.{name_of}
 use Rattle.term_values.proofs.bindings.+place.Given as goal
 
 abbrev pub invariant-place_in-loop-index : goal.invariant-place_in-loop-index

@@ -1,6 +1,7 @@
 use Rattle.std.proofs.Common.{◌≡◌, map, drop}
+use Rattle.pi_tree.specs.Slots.{name_of}
 use Rattle.clause_terms.specs.Scopes.{id_in}
-use Rattle.clause_terms.specs.Slots.{name_of, held_of}
+use Rattle.clause_terms.specs.Slots.{held_of}
 use Rattle.clause_terms.proofs.scopes.Scope.find.Given as goal
 
 abbrev pub invariant-loop-standing : goal.invariant-loop-standing

@@ -1,6 +1,6 @@
 use Rattle.std.proofs.Common.{◌≡◌, map, drop}
 use Rattle.spec_calculus.specs.Values.{bound_to}
-use Rattle.term_values.specs.Slots.{name_of}
+use Rattle.pi_tree.specs.Slots.{name_of}
 use Rattle.term_values.specs.Bindings.{binding_of}
 use Rattle.term_values.proofs.environments.Environment.look_up.Given as goal
 

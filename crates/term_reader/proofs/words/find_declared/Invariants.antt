@@ -2,7 +2,7 @@
 use Rattle.std.proofs.Common.{◌≡◌, ◌+◌, map, drop}
 use Rattle.pi_tree.specs.Names.{declared_of}
 use Rattle.spec_certificate_reading.specs.Names.{find_from}
-use Rattle.term_reader.proofs.names.find_declared.Given as goal
+use Rattle.term_reader.proofs.words.find_declared.Given as goal
 
 abbrev pub invariant-loop-declared : goal.invariant-loop-declared
 invariant-loop-declared l = record {
