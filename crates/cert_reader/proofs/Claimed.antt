@@ -8,7 +8,7 @@ use Rattle.spec_certificate_reading.specs.Reports.{Claim, read_claim, behind_cla
 use Rattle.fact_reader.specs.declared.error.CertError.{CertError}
 use Rattle.fact_reader.specs.Gives.{HasFault}
 use Rattle.cert_reader.specs.Seen.{GivesClaims}
-use Rattle.cert_reader.specs.declared.claims.Claims.{Claims}
+use Rattle.cert_reader.specs.declared.claims.Claim.{Claim as Claim'}
 use Rattle.fact_reader.proofs.Things.{next_fault}
 
 -- these claims are read, and reading of so many more, from that of the query of this number on, goes on with the rest
@@ -89,7 +89,7 @@ claims_done P whole most query number rest place claims going past none =
     (place, claims_all P whole most query number rest place claims going past ∙ ap (λ bs. behind_claims claims place bs) none)
 
 -- all claims are read, and something stands behind them
-pub claims_further : (P : Protocol) (whole : Outcome (List Claim)) (most query number : ℕ) (rest : List ℕ) (place : ℕ) (claims : List Claim) (r : Result Claims CertError) → AreClaimed P whole (most - query) number rest place claims → most ≤ query → rest ≢ []
+pub claims_further : (P : Protocol) (whole : Outcome (List Claim)) (most query number : ℕ) (rest : List ℕ) (place : ℕ) (claims : List Claim) (r : Result (List Claim') CertError) → AreClaimed P whole (most - query) number rest place claims → most ≤ query → rest ≢ []
     → ((claims : List Claim) → rest ≢ [] → GivesClaims r (behind_claims claims place rest)) → GivesClaims r whole
 claims_further P whole most query number rest place claims r going past some gives =
     subst (λ (o : Outcome (List Claim)). GivesClaims r o) (sym (claims_all P whole most query number rest place claims going past)) (gives claims some)

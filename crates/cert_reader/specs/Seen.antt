@@ -4,7 +4,6 @@ use Rattle.spec_certificate_reading.specs.Outcomes.{Outcome, Found}
 use Rattle.spec_certificate_reading.specs.Reports as reports
 use Rattle.fact_reader.specs.declared.error.CertError.{CertError}
 use Rattle.fact_reader.specs.Gives.{HasFault}
-use Rattle.cert_reader.specs.declared.claims.Claims.{Claims}
 use Rattle.cert_reader.specs.declared.rows.Numbers.{Numbers}
 use Rattle.cert_reader.specs.declared.claims.Claim.{Claim}
 use Rattle.cert_reader.specs.declared.claims.Claim.TheVariants.{Proved, Bare, Unknown}
@@ -18,6 +17,6 @@ abbrev pub numbers_of : Numbers → List ℕ
 numbers_of n = n.items.items
 
 -- these claims were read, of all bytes; or reading has the fault
-abbrev pub GivesClaims : Result Claims CertError → Outcome (List reports.Claim) → Type 0
-GivesClaims (Ok claims) o = (place : ℕ) × (o ≡ Found (map claim_of claims.items.items) place [])
+abbrev pub GivesClaims : Result (List Claim) CertError → Outcome (List reports.Claim) → Type 0
+GivesClaims (Ok claims) o = (place : ℕ) × (o ≡ Found (map claim_of claims) place [])
 GivesClaims (Err e) o = HasFault e o

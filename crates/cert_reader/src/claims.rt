@@ -14,6 +14,7 @@ use cert_text::Cert;
 use fact_reader::{CertError, Cursor};
 use pi_tree::Protocol;
 use std::alloc::Global;
+use std::marker::Model;
 use term_reader::Names;
 
 /// What a report claims of a query.
@@ -31,6 +32,18 @@ pub enum Claim {
 #[derive(Drop)]
 pub struct Claims {
     pub items: Vec<Claim>,
+}
+
+impl Model for Claims {
+    ghost use Rattle.std.specs.Prelude.{List};
+    ghost use Rattle.cert_reader.specs.declared.claims.Claim.{Claim};
+    ghost use Rattle.cert_reader.specs.Codes.{coded_claims};
+
+    ghost Value = { List Claim };
+
+    ghost coded = { coded_claims };
+
+    ghost view = { λ a. a.items.items };
 }
 
 /// `query ` and the number of the query, which has to be this one.

@@ -128,7 +128,7 @@ fn put_cert(
 
 /// The text of a certificate, each line ended by LF.
 ///
-/// `Err` comes only for want of memory.
+/// `Err` is want of memory.
 pub fn write_cert(alloc: Global, protocol: &Protocol, cert: &Cert) -> Result<Vec<u8>, AllocError>
     ensures { IfOk result (λ text. text.items ≡
         certificate_text (protocol_of protocol.now) cert.now []) }

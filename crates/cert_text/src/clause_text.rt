@@ -109,7 +109,7 @@ pub fn put_clause(
 
 /// The text of a clause, without a line feed.
 ///
-/// `Err` comes only for want of memory.
+/// `Err` is want of memory.
 pub fn write_clause(
     alloc: Global,
     protocol: &Protocol,

@@ -84,7 +84,7 @@ fn cert_of<B: Bank>(
 ///
 /// The time is that of the search of rows, which is hard; see `multiset_subsume`.
 ///
-/// `Err` comes only for want of memory. The bank is as before.
+/// `Err` is want of memory. The bank is as before.
 pub fn certify<B: Bank>(
     alloc: Global,
     bank: &mut B,

@@ -59,7 +59,7 @@ fn behind_digits(bytes: &[u8], at: usize) -> usize
     at + digits_len(&bytes[at..])
 }
 
-/// The number at the place: all digits that stand there.
+/// The number at the place: all digits that stand there, before another byte.
 pub fn number_at(bytes: &[u8], at: usize) -> Result<(u32, usize), CertError>
     requires { at ≤ length bytes.now }
     ensures read { Gives same bytes.now result (read_number (drop at bytes.now) at) }
@@ -68,6 +68,9 @@ pub fn number_at(bytes: &[u8], at: usize) -> Result<(u32, usize), CertError>
     let behind = behind_digits(bytes, at);
     if behind == at {
         return Err(CertError::Syntax(at));
+    }
+    if behind == bytes.len() {
+        return Err(CertError::Syntax(behind));
     }
     match number(&bytes[at..behind]) {
         Some(found) => Ok((found, behind)),

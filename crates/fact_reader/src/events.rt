@@ -96,7 +96,7 @@ fn named(
     }
 }
 
-/// An event.
+/// An event, of which the word stands before another byte.
 pub fn event(names: &Names<'_>, cursor: &mut Cursor<'_>) -> Result<Performed, CertError>
     ensures read { Reads performed_of (read_event (protocol_in names.now))
         cursor.old cursor.new result }
@@ -107,6 +107,9 @@ pub fn event(names: &Names<'_>, cursor: &mut Cursor<'_>) -> Result<Performed, Ce
     }
     let from = cursor.at;
     let behind = behind_word(cursor.bytes, from);
+    if behind == cursor.bytes.len() {
+        return Err(CertError::Syntax(behind));
+    }
     let called = names.event_called(&cursor.bytes[from..behind]);
     cursor.at = behind;
     named(names, cursor, from, called)

@@ -1,71 +1,29 @@
 //! Files of the disk.
-ghost use Rattle.std.specs.Prelude.{◌≡◌, ◌≤◌, IfOk, vec_len};
 
-use hv_io::{Files, LoadError};
-use std::fs;
-use std::io::Read;
+use hv_io::{OpenedFiles, Opener};
+use std::fs::File;
+use std::io;
 
-/// How many bytes are asked for at once, at most.
-const PIECE: usize = 4096;
+/// The disk. It tells nothing of what its files hold.
+#[derive(Clone, Copy)]
+pub struct Disk(HostRuntime);
 
-/// The files of the disk. They tell nothing of what they hold.
-///
-/// One counter, which stays at its last value, is the count of faults of every name. A file that isn't there is a
-/// fault.
-#[derive(Drop)]
-pub struct DiskFiles {
-    rt: HostRuntime,
-    faults: u64,
-}
-
-impl DiskFiles {
-    /// The files, with no fault yet.
-    pub fn new(rt: HostRuntime) -> Self
-        ensures { result.faults ≡ 0 }
-    {
-        DiskFiles { rt, faults: 0 }
-    }
-
-    /// How many loads have failed.
-    pub fn faults(&self) -> u64
-        ensures { result ≡ self.now.faults }
-    {
-        self.faults
-    }
-}
-
-impl Files for DiskFiles {
+impl Opener for Disk {
     ghost use Rattle.std.specs.Prelude.{None};
+
+    type File = File;
 
     ghost held = { λ _ _. None };
 
-    ghost faults = { λ files _. files.faults };
-
-    fn load(&mut self, name: &str, most: usize) -> Result<Vec<u8>, LoadError> {
-        let result = read_first(self.rt, name, most);
-        if let Err(LoadError::Failed) = &result {
-            self.faults = self.faults.saturating_add(1);
-        }
-        result
+    fn open(&self, name: &str) -> io::Result<File> {
+        File::open(&self.0, name)
     }
 }
 
-/// The first `most` bytes of a file, or all where there are fewer. No more are asked for.
-fn read_first(rt: HostRuntime, name: &str, most: usize) -> Result<Vec<u8>, LoadError>
-    ensures { IfOk result (λ bytes. vec_len bytes ≤ most) }
-{
-    let mut file = fs::open(&rt, name).map_err(|_| LoadError::Failed)?;
-    let mut bytes = Vec::new(rt.alloc());
-    let mut piece = [0; PIECE];
-    while bytes.len() < most {
-        let room = (most - bytes.len()).min(PIECE);
-        let read = file
-            .read(&mut piece[..room])
-            .map_err(|_| LoadError::Failed)?;
-        if read == 0 {
-            break;
-        }
-        bytes.extend_from_slice(&piece[..read])?;
-    }
-    Ok(bytes)
+/// The files of the disk. A file that isn't there is a fault.
+pub type DiskFiles = OpenedFiles<Disk>;
+
+/// The files of the disk, with no fault yet.
+pub fn disk_files(rt: HostRuntime) -> DiskFiles {
+    OpenedFiles::new(rt.alloc(), Disk(rt))
 }

@@ -2,33 +2,30 @@
 #![tactic(auto)]
 
 mod disk_files;
+mod ending;
 mod std_sink;
 #[cfg(test)]
 mod tests;
+mod told_files;
 
-use disk_files::DiskFiles;
+use disk_files::disk_files;
+use ending::Ending;
 use std::io::ErrorKind;
-use std::process::ExitCode;
 use std::{env, io};
-use std_sink::StdSink;
+use std_sink::std_sink;
+use told_files::ToldFiles;
 use verifier_cli::top;
 
-/// The status that a call ends with where it finds no memory.
-const NO_MEMORY: u8 = 7;
-
-fn main(rt: HostRuntime) -> ExitCode {
+fn main(rt: HostRuntime) -> Ending {
     let words = match words(&rt) {
         Ok(words) => words,
-        Err(error) if error.kind() == ErrorKind::OutOfMemory => return ExitCode::from(NO_MEMORY),
+        Err(error) if error.kind() == ErrorKind::OutOfMemory => return Ending::without_words(),
         // A word that is no text is no word of a command, so none is passed on.
         Err(_) => Vec::new(rt.alloc()),
     };
-    let mut files = DiskFiles::new(rt);
-    let mut out = StdSink::new(rt);
-    let answer = top(rt.alloc(), &words, &mut files, &mut out);
-    let status = answer.status;
-    drop(answer);
-    ExitCode::from(status)
+    let mut files = ToldFiles::new(rt.alloc(), disk_files(rt));
+    let mut out = std_sink(rt);
+    Ending::answered(top(rt.alloc(), &words, &mut files, &mut out))
 }
 
 /// The words of the command, of which the first is the program's name.

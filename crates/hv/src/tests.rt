@@ -1,4 +1,5 @@
 use super::*;
+use disk_files::DiskFiles;
 use hv_io::{Files, LoadError, put_all};
 
 /// Whether a load gives these bytes, which are five at most.
@@ -15,7 +16,7 @@ fn fails(files: &mut DiskFiles, name: &str) -> bool {
 
 #[test]
 fn loads_from_the_disk(rt: HostRuntime) {
-    let mut files = DiskFiles::new(rt);
+    let mut files = disk_files(rt);
     assert!(rt; gives(&mut files, "/dev/zero", &[0; 5]));
     assert!(rt; gives(&mut files, "/dev/null", b""));
     assert!(rt; files.faults() == 0);
@@ -25,6 +26,6 @@ fn loads_from_the_disk(rt: HostRuntime) {
 
 #[test]
 fn writes_to_standard_output(rt: HostRuntime) {
-    let mut out = StdSink::new(rt);
+    let mut out = std_sink(rt);
     assert!(rt; put_all(&mut out, b"query 1 proved\n").is_ok());
 }

@@ -47,12 +47,14 @@ impl CalmFiles {
 }
 
 impl Files for CalmFiles {
-    ghost use Rattle.std.specs.Prelude.{Some};
+    ghost use Rattle.std.specs.Prelude.{Some, None};
     ghost use Rattle.hv_io.specs.InMemory.{bytes_of};
 
     ghost held = { λ files name. Some (bytes_of files name) };
 
     ghost faults = { λ _ _. 0 };
+
+    ghost loads = { λ _. None };
 
     fn load(&mut self, name: &str, most: usize) -> Result<Vec<u8>, LoadError>
         ensures loaded { IfOk result (λ bytes.

@@ -9,9 +9,10 @@ mod entries;
 mod loading;
 mod mem_files;
 mod mem_sink;
-#[cfg(test)]
-mod tests;
+mod opened_files;
+mod reading;
 mod text;
+mod writer_sink;
 mod writing;
 
 pub use calm_files::CalmFiles;
@@ -19,5 +20,7 @@ pub use calm_sink::CalmSink;
 pub use loading::{Files, LoadError};
 pub use mem_files::MemFiles;
 pub use mem_sink::MemSink;
+pub use opened_files::{OpenedFiles, Opener};
 pub use text::{decimal, place};
+pub use writer_sink::{Output, WriterSink};
 pub use writing::{Failed, Sink, put_all};

@@ -69,12 +69,14 @@ impl MemFiles {
 }
 
 impl Files for MemFiles {
-    ghost use Rattle.std.specs.Prelude.{Some};
+    ghost use Rattle.std.specs.Prelude.{Some, None};
     ghost use Rattle.hv_io.specs.InMemory.{bytes_of};
 
     ghost held = { λ files name. Some (bytes_of files.entries name) };
 
     ghost faults = { λ files _. files.calls.faults };
+
+    ghost loads = { λ _. None };
 
     fn load(&mut self, name: &str, most: usize) -> Result<Vec<u8>, LoadError>
         ensures faults_rise { self.old.calls.faults ≤ self.new.calls.faults }

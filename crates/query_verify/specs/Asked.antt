@@ -1,6 +1,5 @@
 -- What is asked: a query of a protocol, with a budget; and when an answer is the right one.
-use Rattle.std.specs.Prelude.{◌≤◌, List}
-use Rattle.spec_calculus.specs.Bounds.{most_budget}
+use Rattle.std.specs.Prelude.{◌<◌, ◌^◌, List}
 use Rattle.spec_calculus.specs.Syntax.{Protocol}
 use Rattle.spec_terms.specs.Term.{Term}
 use Rattle.spec_clauses.specs.Fact.{Clause}
@@ -19,11 +18,11 @@ use Rattle.query_verify.specs.Told.{IsAnswer}
 abbrev pub protocol_at : Question → Protocol
 protocol_at question = protocol_of question.protocol.now
 
--- the protocol is within the limits, the query is there, and the budget is no greater than it may be
+-- the protocol is within the limits, the query is there, and the numbers of a log's entries fit 32 bits
 pub record CanBeAsked (question : Question) : Type 0 where
   pub limits : IsWithinLimits (protocol_at question)
   pub there : IsThere (protocol_at question) kinds.Query question.query
-  pub budget : question.budget ≤ most_budget
+  pub budget : question.budget < 2 ^ 32
 
 -- the clauses are those that the protocol and the query are translated into
 abbrev pub AreAskedOf : Question → List Term → List (Clause Id) → Type 0

@@ -1,6 +1,6 @@
 //! Queries decided: the translation, the log of its clauses, and what that comes to.
 
-ghost use Rattle.std.specs.Prelude.{◌≤◌, IfOk, map};
+ghost use Rattle.std.specs.Prelude.{◌≡◌, ◌<◌, ◌^◌, IfOk, map};
 ghost use Rattle.spec_well_formed.specs.Limits.{IsWithinLimits};
 ghost use Rattle.spec_well_formed.specs.Rules.{HasProperRules};
 ghost use Rattle.spec_well_formed.specs.Queries.{HasProperQueries};
@@ -8,6 +8,7 @@ ghost use Rattle.spec_well_formed.specs.WellFormed.{IsWellScoped};
 ghost use Rattle.pi_tree.specs.Protocols.{protocol_of};
 ghost use Rattle.pi_tree.specs.Accessors.{IsThere};
 ghost use Rattle.pi_tree.specs.declared.accessors.Kind.TheVariants.{Query as OfQueries};
+ghost use Rattle.term_tree.specs.Bank.{Grows};
 ghost use Rattle.clause_form.specs.Seen.{clause_at};
 ghost use Rattle.query_derive.specs.GoalRows.{OfQuery};
 ghost use Rattle.clause_saturate.specs.Logs.{IsLogOf, IsClosedLog};
@@ -20,12 +21,12 @@ use cert_writer::{Certified, certify};
 use clause_form::Clause;
 use clause_saturate::{Log, Saturated, entries_tell_logs, read_entry, read_log, saturate};
 use clause_translate::{Translated, translate};
-use pi_tree::{Kind, MOST_BUDGET, Protocol};
+use pi_tree::{Kind, Protocol};
 use spec_translation::{
     translations_are_normal, translations_are_within_the_limit, translations_have_one_goal,
 };
 use std::alloc::{AllocError, Global};
-use term_tree::{Bank, TreeBank};
+use term_tree::Bank;
 
 /// The verdict where the log is closed.
 fn closed<B: Bank>(
@@ -38,7 +39,8 @@ fn closed<B: Bank>(
     requires given { AreAskedOf question.now (B.trees bank.old) given.now }
     requires log { let all = B.trees bank.old in
         IsClosedLog all (map (clause_at all) given.now) question.now.budget log.now }
-    ensures { IfOk result (λ answer. Answers question.now answer) }
+    ensures answers { IfOk result (λ answer. Answers question.now answer) }
+    ensures bank { B.trees bank.new ≡ B.trees bank.old }
 {
     entries_tell_logs();
     match certify(
@@ -68,7 +70,8 @@ fn ended<B: Bank>(
     requires given { AreAskedOf question.now (B.trees bank.old) given.now }
     requires log { let all = B.trees bank.old in
         IsLogOf all (map (clause_at all) given.now) question.now.budget saturated.now }
-    ensures { IfOk result (λ answer. Answers question.now answer) }
+    ensures answers { IfOk result (λ answer. Answers question.now answer) }
+    ensures bank { B.trees bank.new ≡ B.trees bank.old }
 {
     entries_tell_logs();
     match saturated {
@@ -93,7 +96,8 @@ fn decided<B: Bank>(
 ) -> Result<Verdict, AllocError>
     requires question { CanBeAsked question.now }
     requires given { AreAskedOf question.now (B.trees bank.old) given.now }
-    ensures { IfOk result (λ answer. Answers question.now answer) }
+    ensures answers { IfOk result (λ answer. Answers question.now answer) }
+    ensures grows { Grows (B.trees bank.old) (B.trees bank.new) }
 {
     translations_are_normal();
     translations_are_within_the_limit();
@@ -104,13 +108,10 @@ fn decided<B: Bank>(
     answer
 }
 
-/// The verdict of the query of that number with the budget: exactly the one that the definitions give. A new bank is made
-/// for it.
-///
-/// The conditions hold of each protocol that is read, and of each budget that a command may name. `Err` comes for want of
-/// memory, and where `translate` answers it since a number doesn't fit.
-pub fn verdict(
+/// The verdict of the query of that number with the budget, over the bank and what is added to it.
+fn asked<B: Bank>(
     alloc: Global,
+    bank: &mut B,
     protocol: &Protocol,
     query: u32,
     budget: u64,
@@ -120,12 +121,12 @@ pub fn verdict(
     requires scoped { IsWellScoped (protocol_of protocol.now) }
     requires queries { HasProperQueries (protocol_of protocol.now) }
     requires there { IsThere (protocol_of protocol.now) OfQueries query }
-    requires budget { budget ≤ MOST_BUDGET }
-    ensures { let P = protocol_of protocol.now in
+    requires budget { budget < 2 ^ 32 }
+    ensures answers { let P = protocol_of protocol.now in
         IfOk result (λ answer. OfQuery P query (λ q. IsAnswer P q budget answer)) }
+    ensures grows { Grows (B.trees bank.old) (B.trees bank.new) }
 {
-    let mut bank = TreeBank::new(alloc)?;
-    match translate(alloc, &mut bank, protocol, query)? {
+    match translate(alloc, bank, protocol, query)? {
         Translated::Large(point) => Ok(Verdict::SizePoint(point)),
         Translated::Clauses(given) => {
             let question = Question {
@@ -134,27 +135,60 @@ pub fn verdict(
                 query,
                 budget,
             };
-            decided(&question, &mut bank, &given.items)
+            decided(&question, bank, &given.items)
         }
     }
 }
 
-/// The verdicts of all queries with the budget, one for each, in order.
+/// The verdict of the query of that number with the budget: exactly the one that the definitions give. The bank is as before.
 ///
 /// The conditions hold of each protocol that is read, and of each budget that a command may name. `Err` comes for want of
 /// memory, and where `translate` answers it since a number doesn't fit.
-pub fn verdicts(alloc: Global, protocol: &Protocol, budget: u64) -> Result<Verdicts, AllocError>
+pub fn verdict<B: Bank>(
+    alloc: Global,
+    bank: &mut B,
+    protocol: &Protocol,
+    query: u32,
+    budget: u64,
+) -> Result<Verdict, AllocError>
     requires limits { IsWithinLimits (protocol_of protocol.now) }
     requires rules { HasProperRules (protocol_of protocol.now) }
     requires scoped { IsWellScoped (protocol_of protocol.now) }
     requires queries { HasProperQueries (protocol_of protocol.now) }
-    requires budget { budget ≤ MOST_BUDGET }
-    ensures { let P = protocol_of protocol.now in
+    requires there { IsThere (protocol_of protocol.now) OfQueries query }
+    requires budget { budget < 2 ^ 32 }
+    ensures answers { let P = protocol_of protocol.now in
+        IfOk result (λ answer. OfQuery P query (λ q. IsAnswer P q budget answer)) }
+    ensures bank { B.trees bank.new ≡ B.trees bank.old }
+{
+    let mark = bank.mark();
+    let answer = asked(alloc, bank, protocol, query, budget);
+    bank.back(mark);
+    answer
+}
+
+/// The verdicts of all queries with the budget, one for each, in order. The bank is as before.
+///
+/// The conditions hold of each protocol that is read, and of each budget that a command may name. `Err` comes for want of
+/// memory, and where `translate` answers it since a number doesn't fit.
+pub fn verdicts<B: Bank>(
+    alloc: Global,
+    bank: &mut B,
+    protocol: &Protocol,
+    budget: u64,
+) -> Result<Verdicts, AllocError>
+    requires limits { IsWithinLimits (protocol_of protocol.now) }
+    requires rules { HasProperRules (protocol_of protocol.now) }
+    requires scoped { IsWellScoped (protocol_of protocol.now) }
+    requires queries { HasProperQueries (protocol_of protocol.now) }
+    requires budget { budget < 2 ^ 32 }
+    ensures answers { let P = protocol_of protocol.now in
         IfOk result (λ answers. AnswerQueries P budget P.queries answers) }
+    ensures bank { B.trees bank.new ≡ B.trees bank.old }
 {
     let mut items = Vec::new(alloc);
     'each: for index in 0..protocol.count(Kind::Query) {
-        let answer = verdict(alloc, protocol, index + 1, budget)?;
+        let answer = verdict(alloc, bank, protocol, index + 1, budget)?;
         items.push(answer)?;
     }
     Ok(Verdicts { items })

@@ -8,4 +8,3 @@ mod question;
 
 pub use crate::answers::{Verdict, Verdicts};
 pub use crate::deciding::{verdict, verdicts};
-pub use pi_tree::MOST_BUDGET;

@@ -31,7 +31,7 @@ ended P bytes place r t x so_far below is = ap (followed (read_on P (drop (place
 pub refused : (P : calculus.Protocol) (bytes : List ℕ) (place : ℕ) (r : Reading) (at : ℕ) (code : Code) (x : Read) → read_on P (drop place bytes) place r ≡ x → place < length bytes → Fault at code ≡ step P place r (get_or bytes place 0) → Refused at code ≡ x
 refused P bytes place r at code x so_far below is = ap (followed (read_on P (drop (place + 1) bytes) (place + 1)) place (drop place bytes)) is ∙ (sym (one_step P bytes place r below) ∙ so_far)
 
-pub at_last : (P : calculus.Protocol) (bytes : List ℕ) (place : ℕ) (r : Reading) (x : Read) → read_on P (drop place bytes) place r ≡ x → length bytes ≤ place → at_end place (step P place r 10) ≡ x
+pub at_last : (P : calculus.Protocol) (bytes : List ℕ) (place : ℕ) (r : Reading) (x : Read) → read_on P (drop place bytes) place r ≡ x → length bytes ≤ place → at_end place r.heads r.from r.mode ≡ x
 at_last P bytes place r x so_far past = sym (ap (λ bs. read_on P bs place r) (all_dropped bytes place past)) ∙ so_far
 
 pub ruleset walk = (all_dropped, went_on, ended, refused, at_last)

@@ -1,13 +1,14 @@
 //! Reading a term.
 
-ghost use Rattle.std.specs.Prelude.{◌≡◌, ℕ, List, ◌≤◌, length, drop, IfOk};
+ghost use Rattle.std.specs.Prelude.{◌≡◌, ◌≤◌, length, drop, IfOk};
 ghost use Rattle.pi_tree.specs.Protocols.{protocol_of};
 ghost use Rattle.term_reader.specs.Naming.{protocol_in};
-ghost use Rattle.spec_certificate_reading.specs.Runs.{at_end, read_term};
+ghost use Rattle.spec_certificate_reading.specs.Runs.{Refused, cut_off, cut_before, at_end, read_term};
 ghost use Rattle.term_reader.specs.Few.{HasFewNames};
-ghost use Rattle.term_reader.specs.SeenSteps.{step_of, read_of, EndsWithin};
+ghost use Rattle.term_reader.specs.Seen.{heads_of, mode_of};
+ghost use Rattle.term_reader.specs.SeenSteps.{code_of, read_of, EndsWithin};
 
-use crate::state::{Code, Mode, Reading, Step, no_heads};
+use crate::state::{Code, Heads, Mode, Popped, Reading, Step, is_deep, no_heads, pop_head};
 use crate::steps::step;
 use crate::words::Names;
 use clause_form::Tree;
@@ -21,17 +22,35 @@ pub enum Read {
     Refused(usize, Code),
 }
 
-/// What comes of the end of the bytes: they go on as with a line feed, with which no term goes on.
-#[tactic(auto, using(crate::proofs::Walk::walk))]
-fn at_end(place: usize, step: Step) -> Read
-    ensures read { (bytes : List ℕ) → place ≡ length bytes →
-        read_of bytes result ≡ at_end place (step_of step) }
-    ensures within { EndsWithin place result }
+/// The fault of bytes that end at the place, within a term that began at the other: whether it is too deep is told first.
+fn cut_off(place: usize, heads: &Heads, from: usize) -> (usize, Code)
+    ensures { Refused result.0 (code_of result.1) ≡ cut_off place (heads_of heads.now) from }
 {
-    match step {
-        Step::Goes(_) => Read::Refused(place, Code::Syntax),
-        Step::Ends(term) => Read::Done(term, place),
-        Step::Fault(at, code) => Read::Refused(at, code),
+    if is_deep(heads) {
+        (from, Code::Count)
+    } else {
+        (place, Code::Syntax)
+    }
+}
+
+/// The fault of bytes that end at the place before a term begins.
+fn cut_before(place: usize, heads: Heads) -> (usize, Code)
+    ensures { Refused result.0 (code_of result.1) ≡ cut_before place (heads_of heads) }
+{
+    match pop_head(heads) {
+        Popped::Empty(_) => (place, Code::Syntax),
+        Popped::Top(head, others) => cut_off(place, &others, head.place),
+    }
+}
+
+/// The fault of bytes that end at the place, where this was read: no word and no number ended there, and none is looked up.
+fn at_end(place: usize, reading: Reading) -> (usize, Code)
+    ensures { Refused result.0 (code_of result.1) ≡
+        at_end place (heads_of reading.heads) reading.from (mode_of reading.mode) }
+{
+    match reading.mode {
+        Mode::Begins => cut_before(place, reading.heads),
+        _ => cut_off(place, &reading.heads, reading.from),
     }
 }
 
@@ -55,8 +74,8 @@ pub fn term_at(names: &Names<'_>, bytes: &[u8], at: usize) -> Result<Read, Alloc
             Step::Fault(at, code) => return Ok(Read::Refused(at, code)),
         };
     }
-    let last = step(names, bytes.len(), reading, b'\n')?;
-    Ok(at_end(bytes.len(), last))
+    let (place, code) = at_end(bytes.len(), reading);
+    Ok(Read::Refused(place, code))
 }
 
 /// The term that stands at the place.

@@ -1,5 +1,5 @@
 -- From the text of a report to what is said of the check of its certificates.
-use Rattle.std.proofs.Common.{◌≡◌, ◌≢◌, false, ℕ, zero, suc, ◌+◌, ◌==◌, ◌≤◌, min, List, [], ◌∷◌, length, Option, Some, IfSome, slice_get, inl, inr, refl, sym, ap, subst, ◌∙◌, arith}
+use Rattle.std.proofs.Common.{◌≡◌, false, ℕ, zero, suc, ◌+◌, ◌==◌, ◌≤◌, min, List, [], ◌∷◌, length, Some, IfSome, slice_get, inl, inr, refl, sym, ap, subst, ◌∙◌, arith}
 use Rattle.std.specs.Prelude.{Contains, count_by}
 use Rattle.std.proofs.lemmas.List.{take_min}
 use Rattle.spec_calculus.specs.Bounds.{most_report_bytes}
@@ -23,12 +23,11 @@ use Rattle.cert_checker.specs.declared.ruling.Ruling.TheVariants.{Accepted}
 use Rattle.verifier_cli.specs.declared.outcome.Finding.{Finding}
 use Rattle.verifier_cli.specs.declared.outcome.Finding.TheVariants.{Ruled}
 use Rattle.verifier_cli.specs.Outcome.{ReportRefusal, Misspelled, LongReport, Refusal, Protocol, Report, Run, Outcome, Checked, Refused, ReadFault, Memory}
-use Rattle.verifier_cli.specs.Command.{OfFile, IsRefusalOf, NoneViolated}
+use Rattle.verifier_cli.specs.Command.{IsRefusalOf, NoneViolated}
 use Rattle.verifier_cli.specs.Checking.{MakesClaims, RefusesReport, IsFindingOf, AreFindingsOf, IsCheckOf, IsOutcomeOfReport, ChecksReport, IsCheckOutcome, Checks}
-use Rattle.verifier_cli.specs.Reading.{IsUnread}
-use Rattle.verifier_cli.specs.ReportReading.{report_not_read, IsUnreadReport, IsOfReport}
+use Rattle.verifier_cli.specs.Outside.{Outside, IfRead}
+use Rattle.verifier_cli.specs.ReportReading.{report_not_read, IsNoReport}
 use Rattle.verifier_cli.specs.Text.{prints_clauses}
-use Rattle.verifier_cli.proofs.Held.{of_any, of_file}
 use Rattle.verifier_cli.proofs.Verifying.{Laws, same_refusal}
 
 -- the laws of the texts of reports on a protocol
@@ -60,15 +59,12 @@ check_answers P bytes claims (Checked findings) found made = (claims, made, foun
 check_answers P bytes claims Memory found made = tt
 check_answers P bytes claims _ found made = absurd found
 
-claims_check : (P : syntax.Protocol) → ReportLaws P → (bytes : List ℕ) (claims : List Claim) (outcome : Outcome) → IsCheckOf P claims outcome → MakesClaims P bytes claims → ChecksReport P bytes outcome
+pub claims_check : (P : syntax.Protocol) → ReportLaws P → (bytes : List ℕ) (claims : List Claim) (outcome : Outcome) → IsCheckOf P claims outcome → MakesClaims P bytes claims → ChecksReport P bytes outcome
 claims_check P laws bytes claims outcome found made = record {
   answers = check_answers P bytes claims outcome found made;
   accepts = λ others s. subst (λ (cs : List Claim). IsCheckOf P cs outcome) (laws.one bytes claims others made.1 s.1) found;
   refuses = λ why line r. absurd (not_both P laws bytes claims why line made r);
 }
-
-pub claims_said : (P : syntax.Protocol) → ReportLaws P → (held : Option (List ℕ)) (claims : List Claim) (outcome : Outcome) → IsCheckOf P claims outcome → OfFile held (λ bytes. MakesClaims P bytes claims) → OfFile held (λ bytes. ChecksReport P bytes outcome)
-claims_said P laws held claims outcome found made = of_file held (λ bytes. MakesClaims P bytes claims) (λ bytes. ChecksReport P bytes outcome) (λ bytes s. claims_check P laws bytes claims outcome found s) made
 
 -- of a refused report
 refusal_checks : (P : syntax.Protocol) → ReportLaws P → (bytes : List ℕ) (why : ReportRefusal) (line : ℕ) → RefusesReport P bytes why line → ChecksReport P bytes (Refused (Report line why))
@@ -83,14 +79,12 @@ memory_checks : (P : syntax.Protocol) (bytes : List ℕ) → ChecksReport P byte
 memory_checks P bytes = record { answers = tt; accepts = λ claims s. tt; refuses = λ why line r. inr refl }
 
 -- a call without a report
-pub unread_report_said : (P : syntax.Protocol) → ReportLaws P → (Counted : Type 0) (held : Option (List ℕ)) (outcome : Outcome) → IsUnreadReport P Counted held outcome → outcome ≢ ReadFault → OfFile held (λ bytes. ChecksReport P bytes outcome)
-unread_report_said P laws Counted held (Refused (Report line why)) is other =
-    of_file held (λ bytes. RefusesReport P bytes why line) (λ bytes. ChecksReport P bytes (Refused (Report line why))) (λ bytes r. refusal_checks P laws bytes why line r) is
-unread_report_said P laws Counted held (Refused (Protocol line column why)) is other = absurd is
-unread_report_said P laws Counted held (Refused (Run line why)) is other = absurd is
-unread_report_said P laws Counted held Memory is other = of_any held (λ bytes. ChecksReport P bytes Memory) (memory_checks P)
-unread_report_said P laws Counted held ReadFault is other = absurd (other refl)
-unread_report_said P laws Counted held _ is other = absurd is
+pub no_report_checks : (P : syntax.Protocol) → ReportLaws P → (bytes : List ℕ) (outcome : Outcome) → IsNoReport P bytes outcome → ChecksReport P bytes outcome
+no_report_checks P laws bytes (Refused (Report line why)) is = refusal_checks P laws bytes why line is
+no_report_checks P laws bytes (Refused (Protocol line column why)) is = absurd is
+no_report_checks P laws bytes (Refused (Run line why)) is = absurd is
+no_report_checks P laws bytes Memory is = memory_checks P bytes
+no_report_checks P laws bytes _ is = absurd is
 
 -- what is said of a protocol's file where it is refused
 refusal_outcome : (bytes : List ℕ) (refusal : Refusal) → IsRefusalOf bytes refusal → IsCheckOutcome bytes (Refused refusal)
@@ -98,30 +92,21 @@ refusal_outcome bytes (Protocol line column why) is = is
 refusal_outcome bytes (Report line why) is = let e = is.shown in cc
 refusal_outcome bytes (Run line why) is = let e = is.shown in cc
 
-refusal_checked : Laws → (bytes : List ℕ) (held : Option (List ℕ)) (refusal : Refusal) → IsRefusalOf bytes refusal → Checks bytes held (Refused refusal)
-refusal_checked laws bytes held refusal is = record {
+pub refusal_checked : Laws → (bytes text : List ℕ) (refusal : Refusal) → IsRefusalOf bytes refusal → Checks bytes text (Refused refusal)
+refusal_checked laws bytes text refusal is = record {
   answers = refusal_outcome bytes refusal is;
   accepts = λ P spells. absurd (laws.never_both bytes P is.why is.place spells is.refused);
   refuses = λ why place refused. inl (ap Refused (is.shown ∙ same_refusal bytes is.why why is.place place (laws.one_refusal bytes is.why why is.place place is.refused refused)));
   none_violated = λ P spells k shown. absurd shown;
 }
 
-memory_of_checks : (held : Option (List ℕ)) (bytes : List ℕ) → Checks bytes held Memory
-memory_of_checks held bytes = record {
+pub memory_checked : (bytes text : List ℕ) → Checks bytes text Memory
+memory_checked bytes text = record {
   answers = tt;
-  accepts = λ P spells. of_any held (λ text. ChecksReport P text Memory) (memory_checks P);
+  accepts = λ P spells. memory_checks P text;
   refuses = λ why place refused. inr refl;
   none_violated = λ P spells k shown. absurd shown;
 }
-
-pub memory_checked : (held other : Option (List ℕ)) → OfFile held (λ bytes. Checks bytes other Memory)
-memory_checked held other = of_any held (λ bytes. Checks bytes other Memory) (memory_of_checks other)
-
-pub unread_checked : Laws → (Counted : Type 0) (held other : Option (List ℕ)) (outcome : Outcome) → IsUnread Counted held outcome → outcome ≢ ReadFault → OfFile held (λ bytes. Checks bytes other outcome)
-unread_checked laws Counted held other (Refused refusal) is read = of_file held (λ bytes. IsRefusalOf bytes refusal) (λ bytes. Checks bytes other (Refused refusal)) (λ bytes r. refusal_checked laws bytes other refusal r) is
-unread_checked laws Counted held other Memory is read = memory_checked held other
-unread_checked laws Counted held other ReadFault is read = absurd (read refl)
-unread_checked laws Counted held other _ is read = absurd is
 
 -- the laws that the headline rests on: queries of protocols that were read are proper, and those hold whose certificates are accepted
 pub record Acceptance : Type 0 where
@@ -148,68 +133,49 @@ hold_where_found P (q ∷ qs) (c ∷ cs) (f ∷ fs) sound are (suc k) e =
     hold_where_found P qs cs fs (λ x cert has is. sound x cert (suc has.0, omega (arith, has.1), has.2) is) are.1 k e
 
 -- what is found of a protocol's queries violates nothing
-found_violates_none : Acceptance → Laws → (bytes : List ℕ) (held : Option (List ℕ)) (Q : syntax.Protocol) (outcome : Outcome) → Spells bytes Q → IsOfReport outcome → OfFile held (λ text. ChecksReport Q text outcome) → NoneViolated bytes outcome
-found_violates_none sound laws bytes held Q (Checked findings) spelled is said = λ P spells k accepted.
+found_violates_none : Acceptance → Laws → (bytes text : List ℕ) (Q : syntax.Protocol) (outcome : Outcome) → Spells bytes Q → IsOutcomeOfReport Q text outcome → NoneViolated bytes outcome
+found_violates_none sound laws bytes text Q (Checked findings) spelled found = λ P spells k accepted.
     let F : syntax.Protocol → Type 0 = λ X. IfSome (slice_get X.queries k) (λ q. Holds X q) in
-    let found = said.fact.answers in
     subst F (sym (laws.one_protocol bytes P Q spells spelled))
     (hold_where_found Q Q.queries found.0 findings (λ q cert has ruled. sound.hold Q q cert (sound.proper bytes Q q spelled has) ruled) found.2 k accepted)
-found_violates_none sound laws bytes held Q (Refused refusal) spelled is said = λ P spells k shown. absurd shown
-found_violates_none sound laws bytes held Q Memory spelled is said = λ P spells k shown. absurd shown
-found_violates_none sound laws bytes held Q ReadFault spelled is said = λ P spells k shown. absurd shown
-found_violates_none sound laws bytes held Q _ spelled is said = absurd is
+found_violates_none sound laws bytes text Q (Refused refusal) spelled found = λ P spells k shown. absurd shown
+found_violates_none sound laws bytes text Q Memory spelled found = λ P spells k shown. absurd shown
+found_violates_none sound laws bytes text Q _ spelled found = absurd found
 
 -- and where the protocol's file is accepted
-report_outcome : (bytes : List ℕ) (P : syntax.Protocol) (outcome : Outcome) → Spells bytes P → IsOfReport outcome → outcome ≢ ReadFault → IsCheckOutcome bytes outcome
-report_outcome bytes P (Checked findings) spelled is read = (P, spelled)
-report_outcome bytes P (Refused (Report line why)) spelled is read = (P, spelled)
-report_outcome bytes P (Refused (Protocol line column why)) spelled is read = absurd is
-report_outcome bytes P (Refused (Run line why)) spelled is read = absurd is
-report_outcome bytes P Memory spelled is read = tt
-report_outcome bytes P ReadFault spelled is read = absurd (read refl)
-report_outcome bytes P _ spelled is read = absurd is
+report_outcome : (bytes text : List ℕ) (P : syntax.Protocol) (outcome : Outcome) → Spells bytes P → IsOutcomeOfReport P text outcome → IsCheckOutcome bytes outcome
+report_outcome bytes text P (Checked findings) spelled is = (P, spelled)
+report_outcome bytes text P (Refused (Report line why)) spelled is = (P, spelled)
+report_outcome bytes text P (Refused (Protocol line column why)) spelled is = absurd is
+report_outcome bytes text P (Refused (Run line why)) spelled is = absurd is
+report_outcome bytes text P Memory spelled is = tt
+report_outcome bytes text P _ spelled is = absurd is
 
-report_checks : Acceptance → Laws → (bytes : List ℕ) (held : Option (List ℕ)) (P : syntax.Protocol) (outcome : Outcome) → IsOfReport outcome → outcome ≢ ReadFault → OfFile held (λ text. ChecksReport P text outcome) → Spells bytes P → Checks bytes held outcome
-report_checks sound laws bytes held P outcome is read said spelled = record {
-  answers = report_outcome bytes P outcome spelled is read;
-  accepts = λ Q spells. subst (λ (X : syntax.Protocol). OfFile held (λ text. ChecksReport X text outcome)) (laws.one_protocol bytes P Q spelled spells) said;
+pub report_checks : Acceptance → Laws → (bytes text : List ℕ) (P : syntax.Protocol) (outcome : Outcome) → ChecksReport P text outcome → Spells bytes P → Checks bytes text outcome
+report_checks sound laws bytes text P outcome said spelled = record {
+  answers = report_outcome bytes text P outcome spelled said.answers;
+  accepts = λ Q spells. subst (λ (X : syntax.Protocol). ChecksReport X text outcome) (laws.one_protocol bytes P Q spelled spells) said;
   refuses = λ why place refused. absurd (laws.never_both bytes P why place spelled refused);
-  none_violated = found_violates_none sound laws bytes held P outcome spelled is said;
+  none_violated = found_violates_none sound laws bytes text P outcome spelled said.answers;
 }
 
-pub report_checked : Acceptance → Laws → (held other : Option (List ℕ)) (P : syntax.Protocol) (outcome : Outcome) → IsOfReport outcome → outcome ≢ ReadFault → OfFile other (λ text. ChecksReport P text outcome) → OfFile held (λ bytes. Spells bytes P) → OfFile held (λ bytes. Checks bytes other outcome)
-report_checked sound laws held other P outcome is read said spelled =
-    of_file held (λ bytes. Spells bytes P) (λ bytes. Checks bytes other outcome) (λ bytes s. report_checks sound laws bytes other P outcome is read said s) spelled
-
 -- what is about a report prints no clause
-pub report_words : (outcome : Outcome) → IsOfReport outcome → prints_clauses outcome ≡ false
-report_words (Checked findings) is = refl
-report_words (Refused refusal) is = refl
-report_words Memory is = refl
-report_words ReadFault is = refl
-report_words _ is = absurd is
-
--- a call without a report is about a report
-pub unread_is_of_report : (P : syntax.Protocol) (Counted : Type 0) (held : Option (List ℕ)) (outcome : Outcome) → IsUnreadReport P Counted held outcome → IsOfReport outcome
-unread_is_of_report P Counted held (Refused (Report line why)) is = tt
-unread_is_of_report P Counted held (Refused (Protocol line column why)) is = absurd is
-unread_is_of_report P Counted held (Refused (Run line why)) is = absurd is
-unread_is_of_report P Counted held Memory is = tt
-unread_is_of_report P Counted held ReadFault is = tt
-unread_is_of_report P Counted held _ is = absurd is
+pub report_words : (files : Outside) (name : List ℕ) (most : ℕ) (P : syntax.Protocol) (outcome : Outcome) → IfRead files name most outcome (λ text. ChecksReport P text outcome) → prints_clauses outcome ≡ false
+report_words files name most P (Checked findings) is = refl
+report_words files name most P (Refused refusal) is = refl
+report_words files name most P Memory is = refl
+report_words files name most P ReadFault is = refl
+report_words files name most P _ (inl x) = absurd x.fact.answers
+report_words files name most P _ (inr why) = absurd why.1
 
 -- a report with a fault is refused, at the line of its place
-pub fault_unread : (P : syntax.Protocol) (Counted : Type 0) (held : Option (List ℕ)) (bytes : List ℕ) (e : CertError) → IfSome held (λ all. bytes ≡ all) → length bytes ≤ most_report_bytes → HasFault e (read_report P bytes) → IsUnreadReport P Counted held (report_not_read bytes e)
-fault_unread P Counted held bytes (error.Syntax place) as_held fits h = record { bytes = bytes; as_held = as_held; fact = (fits, (place, h, refl)) }
-fault_unread P Counted held bytes (error.Number place) as_held fits h = record { bytes = bytes; as_held = as_held; fact = (fits, (place, h, refl)) }
-fault_unread P Counted held bytes (error.Symbol place) as_held fits h = record { bytes = bytes; as_held = as_held; fact = (fits, (place, h, refl)) }
-fault_unread P Counted held bytes (error.Arity place) as_held fits h = record { bytes = bytes; as_held = as_held; fact = (fits, (place, h, refl)) }
-fault_unread P Counted held bytes (error.Count place) as_held fits h = record { bytes = bytes; as_held = as_held; fact = (fits, (place, h, refl)) }
-fault_unread P Counted held bytes (error.Memory m) as_held fits h = tt
-
--- and claims that were read are made
-pub claims_made : (P : syntax.Protocol) (held : Option (List ℕ)) (bytes : List ℕ) (claims : List Claim) → IfSome held (λ all. bytes ≡ all) → length bytes ≤ most_report_bytes → SpellsReport P bytes claims → OfFile held (λ text. MakesClaims P text claims)
-claims_made P held bytes claims as_held fits spelled = record { bytes = bytes; as_held = as_held; fact = (fits, spelled) }
+pub fault_unread : (P : syntax.Protocol) (bytes : List ℕ) (e : CertError) → length bytes ≤ most_report_bytes → HasFault e (read_report P bytes) → IsNoReport P bytes (report_not_read bytes e)
+fault_unread P bytes (error.Syntax place) fits h = (fits, (place, h, refl))
+fault_unread P bytes (error.Number place) fits h = (fits, (place, h, refl))
+fault_unread P bytes (error.Symbol place) fits h = (fits, (place, h, refl))
+fault_unread P bytes (error.Arity place) fits h = (fits, (place, h, refl))
+fault_unread P bytes (error.Count place) fits h = (fits, (place, h, refl))
+fault_unread P bytes (error.Memory m) fits h = tt
 
 -- the line of a place behind the bytes is that of their end
 pub line_within : (bytes : List ℕ) (at : ℕ) → line_at bytes (min at (length bytes)) ≡ line_at bytes at

@@ -1,20 +1,20 @@
 -- From what a request comes to: the headline, and that accepted files come to an outcome of the command's own.
-use Rattle.std.proofs.Common.{◌≡◌, ◌≢◌, ℕ, List, Option, Some, Bool, true, false, if◌then◌else◌, inl, inr, refl, sym, subst}
+use Rattle.std.proofs.Common.{◌≡◌, ◌≢◌, ◌⊎◌, ℕ, List, Option, Bool, true, false, if◌then◌else◌, inl, inr, refl, sym, subst}
 use Rattle.std.specs.List.{list_all}
 use Rattle.spec_calculus.specs.Syntax.{Protocol}
 use Rattle.spec_certificate_reading.specs.Reports.{Claim}
 use Rattle.spec_calculus.specs.Runs.{Step}
-use Rattle.command_words.specs.Request.{Request, Verify, Check, ListOf, Replay, RingOf, request_of}
-use Rattle.verifier_cli.specs.Outcome.{Outcome, Verified, Checked, Listed, ListLarge, NoQuery, Replayed, Ring, ReadFault, Memory}
-use Rattle.verifier_cli.specs.Command.{OfFile, IsDecidedBy, IsUnreadable, NoneViolated, Verifies}
-use Rattle.verifier_cli.specs.Checking.{IsCheckOf, Checks, ChecksReport}
-use Rattle.verifier_cli.specs.Complete.{IsComeTo, AreAccepted, IsOwnOutcome, IsOfAnswer}
-use Rattle.verifier_cli.specs.Listing.{IsListOf, IsListOutcome, Lists, source_of}
-use Rattle.verifier_cli.specs.Replaying.{IsOutcomeOfReplay, IsReplayOutcome, Replays, RunsOn}
+use Rattle.command_words.specs.Request.{Request, Verify, Check, ListOf, Replay, RingOf}
+use Rattle.verifier_cli.specs.Outside.{Outside, IsFaulty}
+use Rattle.verifier_cli.specs.Outcome.{Outcome, Usage, Verified, Checked, Listed, ListLarge, NoQuery, Replayed, Ring, Refused, ReadFault, Memory}
+use Rattle.verifier_cli.specs.Command.{IsDecidedBy, NoneViolated}
+use Rattle.verifier_cli.specs.Checking.{IsCheckOf}
+use Rattle.verifier_cli.specs.Complete.{AreAccepted, IsOwnOutcome, IsOfAnswer}
+use Rattle.verifier_cli.specs.Listing.{IsListOf, IsListOutcome}
+use Rattle.verifier_cli.specs.Replaying.{IsOutcomeOfReplay, IsReplayOutcome}
 use Rattle.verifier_cli.specs.Ringing.{IsRingOutcome}
 use Rattle.verifier_cli.specs.Text.{is_proved, is_accepted, is_without_violation, status_of}
-use Rattle.verifier_cli.proofs.Held.{of_file, of_held}
-use Rattle.spec_ring_text.specs.Text.{ring_text}
+use Rattle.verifier_cli.specs.World.{IsOutcomeFor, IsUnreadable, ComesTo}
 
 -- a list or a replay shows no query
 listed_violates_none : (bytes : List ℕ) (outcome : Outcome) → IsListOutcome bytes outcome → NoneViolated bytes outcome
@@ -29,23 +29,44 @@ replayed_violates_none bytes (Verified verdicts) is = absurd is
 replayed_violates_none bytes (Checked findings) is = absurd is
 replayed_violates_none bytes _ is = λ P spells k shown. absurd shown
 
+-- an outcome is a fault of reading or it is none
+read_or_not : (outcome : Outcome) → (outcome ≡ ReadFault) ⊎ (outcome ≢ ReadFault)
+read_or_not ReadFault = inl refl
+read_or_not Usage = inr (λ e. cc)
+read_or_not (Verified verdicts) = inr (λ e. cc)
+read_or_not (Checked findings) = inr (λ e. cc)
+read_or_not (Listed clauses) = inr (λ e. cc)
+read_or_not (ListLarge point) = inr (λ e. cc)
+read_or_not (NoQuery query) = inr (λ e. cc)
+read_or_not (Replayed replay) = inr (λ e. cc)
+read_or_not (Ring ring) = inr (λ e. cc)
+read_or_not (Refused refusal) = inr (λ e. cc)
+read_or_not Memory = inr (λ e. cc)
+
 -- the headline, whatever the command
-pub violates_none : (held : List ℕ → Option (List ℕ)) (request : Request) (outcome : Outcome) → IsComeTo request held outcome → OfFile (source_of request held) (λ bytes. NoneViolated bytes outcome)
-violates_none held (Verify file budget) outcome is = of_file (held file) (λ bytes. Verifies bytes budget outcome) (λ bytes. NoneViolated bytes outcome) (λ bytes x. x.none_violated) is
-violates_none held (Check file report) outcome is = of_file (held file) (λ bytes. Checks bytes (held report) outcome) (λ bytes. NoneViolated bytes outcome) (λ bytes x. x.none_violated) is
-violates_none held (ListOf file query) outcome is = of_file (held file) (λ bytes. Lists bytes query outcome) (λ bytes. NoneViolated bytes outcome) (λ bytes x. listed_violates_none bytes outcome x.answers) is
-violates_none held (Replay file run) outcome is = of_file (held file) (λ bytes. Replays bytes (held run) outcome) (λ bytes. NoneViolated bytes outcome) (λ bytes x. replayed_violates_none bytes outcome x.answers) is
-violates_none held (RingOf stages) outcome is = record { bytes = ring_text stages; as_held = refl; fact = is.none_violated }
+defined_violates_none : (asked : Request) (files : Outside) (words : Option Protocol) (outcome : Outcome) (c : ComesTo asked files words outcome) → IsOutcomeFor asked c.protocol c.other outcome → NoneViolated c.protocol outcome
+defined_violates_none (Verify file budget) files words outcome c is = is.none_violated
+defined_violates_none (Check file report) files words outcome c is = is.none_violated
+defined_violates_none (ListOf file query) files words outcome c is = listed_violates_none c.protocol outcome is.answers
+defined_violates_none (Replay file run) files words outcome c is = replayed_violates_none c.protocol outcome is.answers
+defined_violates_none (RingOf stages) files words outcome c is = subst (λ (bytes : List ℕ). NoneViolated bytes outcome) (sym c.protocol_held) is.none_violated
+
+pub violates_none : (asked : Request) (files : Outside) (words : Option Protocol) (outcome : Outcome) (c : ComesTo asked files words outcome) → NoneViolated c.protocol outcome
+violates_none asked files words outcome c = by_read (read_or_not outcome)
+  where
+    by_read : (outcome ≡ ReadFault) ⊎ (outcome ≢ ReadFault) → NoneViolated c.protocol outcome
+    by_read (inl e) = subst (λ (o : Outcome). NoneViolated c.protocol o) (sym e) (λ P spells k shown. absurd shown)
+    by_read (inr read) = defined_violates_none asked files words outcome c (c.defined read)
 
 -- with no fault that is counted, each file that is asked for can be read
-readable : (held : List ℕ → Option (List ℕ)) (Counted : List ℕ → Type 0) → ((name : List ℕ) → Counted name → ⊥) → (request : Request) → IsUnreadable (Some request) held Counted → ⊥
-readable held Counted none (Verify file budget) c = none file c
-readable held Counted none (Check file report) (inl c) = none file c
-readable held Counted none (Check file report) (inr c) = none report c.1
-readable held Counted none (ListOf file query) c = none file c
-readable held Counted none (Replay file run) (inl c) = none file c
-readable held Counted none (Replay file run) (inr c) = none run c.1
-readable held Counted none (RingOf stages) c = c
+readable : (asked : Request) (bytes : List ℕ) (files : Outside) → ((name : List ℕ) → IsFaulty files name → ⊥) → IsUnreadable asked bytes files → ⊥
+readable (Verify file budget) bytes files none c = none file c
+readable (Check file report) bytes files none (inl c) = none file c
+readable (Check file report) bytes files none (inr c) = none report c.1
+readable (ListOf file query) bytes files none c = none file c
+readable (Replay file run) bytes files none (inl c) = none file c
+readable (Replay file run) bytes files none (inr c) = none run c.1
+readable (RingOf stages) bytes files none c = c
 
 -- Of each command: what it comes to is of its own.
 
@@ -77,25 +98,17 @@ own_summary n Memory is = tt
 own_summary n _ is = absurd is
 
 -- where the files are accepted
-own_come : (held : List ℕ → Option (List ℕ)) (request : Request) (outcome : Outcome) → AreAccepted request held → IsComeTo request held outcome → IsOwnOutcome request outcome
-own_come held (Verify file budget) outcome a is =
-    own_verdicts a.0 file budget outcome ((of_held (held file) (λ bytes. Verifies bytes budget outcome) a.1.0 a.1.1 is).accepts a.0 a.1.2)
-own_come held (ListOf file query) outcome a is =
-    own_list a.0 file query outcome ((of_held (held file) (λ bytes. Lists bytes query outcome) a.1.0 a.1.1 is).accepts a.0 a.1.2)
-own_come held (Check file report) outcome a is =
-    let said : OfFile (held report) (λ text. ChecksReport a.0 text outcome) = (of_held (held file) (λ bytes. Checks bytes (held report) outcome) a.1.0 a.1.1 is).accepts a.0 a.1.2 in
-    own_findings a.0 file report a.2.2.0 outcome ((of_held (held report) (λ text. ChecksReport a.0 text outcome) a.2.0 a.2.1 said).accepts a.2.2.0 a.2.2.1)
-own_come held (Replay file run) outcome a is =
-    let said : OfFile (held run) (λ text. RunsOn a.0 text outcome) = (of_held (held file) (λ bytes. Replays bytes (held run) outcome) a.1.0 a.1.1 is).accepts a.0 a.1.2 in
-    own_replay a.0 file run a.2.2.0 outcome ((of_held (held run) (λ text. RunsOn a.0 text outcome) a.2.0 a.2.1 said).accepts a.2.2.0 a.2.2.1)
-own_come held (RingOf stages) outcome a is = own_summary stages outcome is.answers
+own_defined : (asked : Request) (bytes other : List ℕ) (outcome : Outcome) → AreAccepted asked bytes other → IsOutcomeFor asked bytes other outcome → IsOwnOutcome asked outcome
+own_defined (Verify file budget) bytes other outcome a is = own_verdicts a.0 file budget outcome (is.accepts a.0 a.1)
+own_defined (ListOf file query) bytes other outcome a is = own_list a.0 file query outcome (is.accepts a.0 a.1)
+own_defined (Check file report) bytes other outcome a is = own_findings a.0 file report a.2.0 outcome ((is.accepts a.0 a.1).accepts a.2.0 a.2.1)
+own_defined (Replay file run) bytes other outcome a is = own_replay a.0 file run a.2.0 outcome ((is.accepts a.0 a.1).accepts a.2.0 a.2.1)
+own_defined (RingOf stages) bytes other outcome a is = own_summary stages outcome is.answers
 
-pub own_outcome : (words : List (List ℕ)) (held : List ℕ → Option (List ℕ)) (Counted : List ℕ → Type 0) (outcome : Outcome) (request : Request)
-    → (outcome ≡ ReadFault → IsUnreadable (request_of words) held Counted) → (outcome ≢ ReadFault → IsComeTo request held outcome)
-    → request_of words ≡ Some request → AreAccepted request held → ((name : List ℕ) → Counted name → ⊥) → IsOwnOutcome request outcome
-own_outcome words held Counted outcome request fault comes asked accepted none =
-    own_come held request outcome accepted
-    (comes (λ e. readable held Counted none request (subst (λ (r : Option Request). IsUnreadable r held Counted) asked (fault e))))
+own_outcome : (asked : Request) (files : Outside) (words : Option Protocol) (outcome : Outcome) (c : ComesTo asked files words outcome)
+    → AreAccepted asked c.protocol c.other → ((name : List ℕ) → IsFaulty files name → ⊥) → IsOwnOutcome asked outcome
+own_outcome asked files words outcome c accepted none =
+    own_defined asked c.protocol c.other outcome accepted (c.defined (λ e. readable asked c.protocol files none (c.unreadable e)))
 
 -- and its status is that of an answer
 zero_or_one : (b : Bool) → IsOfAnswer (if b then 0 else 1)
@@ -121,5 +134,8 @@ own_status (ListOf file query) _ is = absurd is
 own_status (Replay file run) _ is = absurd is
 own_status (RingOf stages) _ is = absurd is
 
-pub answer_status : (request : Request) (outcome : Outcome) (status : ℕ) → IsOwnOutcome request outcome → status ≡ status_of outcome → IsOfAnswer status
-answer_status request outcome status own is = subst IsOfAnswer (sym is) (own_status request outcome own)
+pub is_complete : (asked : Request) (files : Outside) (words : Option Protocol) (outcome : Outcome) (c : ComesTo asked files words outcome)
+    → AreAccepted asked c.protocol c.other → ((name : List ℕ) → IsFaulty files name → ⊥) → IsOwnOutcome asked outcome × IsOfAnswer (status_of outcome)
+is_complete asked files words outcome c accepted none =
+    let own = own_outcome asked files words outcome c accepted none in
+    (own, own_status asked outcome own)

@@ -5,12 +5,11 @@ use Rattle.std.specs.Fmt.{decimal}
 use Rattle.std.specs.List.{AllByRecursion}
 use Rattle.std.proofs.lemmas.Bool.Decides.{nat_tests}
 use Rattle.std.proofs.lemmas.List.{length-map}
-use Rattle.spec_calculus.specs.Bounds.{most_report_bytes, most_budget}
+use Rattle.spec_calculus.specs.Bounds.{most_budget}
 use Rattle.spec_calculus.specs.Syntax.{Query, Protocol}
 use Rattle.spec_calculus.specs.Points.{numbered}
 use Rattle.spec_calculus.proofs.Items.{each-contains}
 use Rattle.spec_well_formed.specs.Limits.{IsSmallQuery, IsWithinLimits}
-use Rattle.command_words.specs.Request.{Verify}
 use Rattle.spec_protocol_scope.specs.Spells.{Spells}
 use Rattle.spec_protocol_scope.specs.Words.{HasWords}
 use Rattle.spec_certificates.specs.Certificate.{Certificate}
@@ -34,12 +33,10 @@ use Rattle.verifier_cli.specs.declared.outcome.Finding.{Finding}
 use Rattle.verifier_cli.specs.declared.outcome.Finding.TheVariants.{Ruled, Missing, NotClaimed}
 use Rattle.verifier_cli.specs.Outcome.{Outcome, Verified, Checked, Memory}
 use Rattle.verifier_cli.specs.Command.{Becomes, Verifies}
-use Rattle.verifier_cli.specs.Checking.{MakesClaims, IsFindingOf, AreFindingsOf, IsCheckOf, ChecksReport}
-use Rattle.verifier_cli.specs.Listing.{IsSource, IsTextOf}
-use Rattle.verifier_cli.specs.Text.{HasText as IsWorded, line, entry_text, verdict_text, verdict_lines, outcome_bytes}
-use Rattle.verifier_cli.specs.ReadBack.{finding_of, IsReportOf, IsReadBack}
+use Rattle.verifier_cli.specs.Checking.{IsFindingOf, AreFindingsOf, IsCheckOf}
+use Rattle.verifier_cli.specs.Text.{line, entry_text, verdict_text, verdict_lines, outcome_bytes}
+use Rattle.verifier_cli.specs.ReadBack.{finding_of, IsReadBack}
 use Rattle.verifier_cli.proofs.Followed.{certificate_followed}
-use Rattle.verifier_cli.proofs.Held.{of_held}
 use Rattle.verifier_cli.proofs.OneLine.{IsOneLine, joined, decimal_in_line, clause_in_line}
 use Rattle.verifier_cli.proofs.Verifying.{verdict_where_proved}
 
@@ -192,25 +189,14 @@ pub record WayBack : Type 0 where
   pub accepted : (P : Protocol) (q : Query) (budget : ℕ) (cert : Certificate) → IsWithinLimits P → IsSmallQuery q → IsVerdict P q budget (defined.Proved cert) → IsRuled P q cert certificates.Accepted
   pub one_ruling : (P : Protocol) (q : Query) (cert : Certificate) (a b : certificates.Ruling) → IsRuled P q cert a → IsRuled P q cert b → a ≡ b
 
-pub read_back : WayBack → (bytes : List ℕ) (budget : ℕ) (outcome : Outcome) → budget ≤ most_budget → Verifies bytes budget outcome → IsReadBack bytes outcome
-read_back laws bytes budget (Verified vs) within verified = λ text answer report checks.
-    let P = report.protocol in
-    let are : AnswerQueries P budget P.queries vs = verified.accepts P report.spelled in
-    let small = (laws.limits bytes P report.spelled).asked in
+pub read_back : WayBack → (bytes : List ℕ) (P : Protocol) (budget : ℕ) (outcome : Outcome) → budget ≤ most_budget → Spells bytes P → Verifies bytes budget outcome → IsReadBack bytes (outcome_bytes (Some P) outcome) outcome
+read_back laws bytes P budget (Verified vs) within spelled verified = λ fits answer checks.
+    let are : AnswerQueries P budget P.queries vs = verified.accepts P spelled in
+    let small = (laws.limits bytes P spelled).asked in
     let accepted : AreAccepted P budget P.queries = record {
       one = laws.one_ruling P;
-      accepted = λ q cert has is. laws.accepted P q budget cert (laws.limits bytes P report.spelled) (each-contains IsSmallQuery P.queries q small has) is;
+      accepted = λ q cert has is. laws.accepted P q budget cert (laws.limits bytes P spelled) (each-contains IsSmallQuery P.queries q small has) is;
     } in
-    let spells : SpellsReport P (verdict_lines 1 vs P) (map claim_of vs) = text_is_report P (laws.names bytes P report.spelled).words budget vs (λ q cert has is. laws.stand bytes P q budget cert report.spelled has within is) are in
-    let makes : MakesClaims P text (map claim_of vs) = (report.fits, subst (λ t. SpellsReport P t (map claim_of vs)) (sym report.is) spells) in
-    let said : ChecksReport P text answer = of_held (Some text) (λ t. ChecksReport P t answer) text refl (checks.accepts P report.spelled) in
-    check_found P budget vs answer accepted are (said.accepts (map claim_of vs) makes)
-read_back laws bytes budget _ within verified = tt
-
--- the text that is written of verdicts is the one that is read back
-report_of : (file bytes text : List ℕ) (budget : ℕ) (held : List ℕ → Option (List ℕ)) (vs : List Verdict) (protocol : Option Protocol) → IsSource (Some (Verify file budget)) held protocol → IsWorded protocol (Verified vs) → text ≡ outcome_bytes protocol (Verified vs) → held file ≡ Some bytes → length text ≤ most_report_bytes → IsReportOf bytes vs text
-report_of file bytes text budget held vs None source words is told fits = let never : true ≡ false = words in absurd (cc)
-report_of file bytes text budget held vs (Some P) source words is told fits = record { protocol = P; spelled = of_held (held file) (λ b. Spells b P) bytes told source; is = is; fits = fits }
-
-pub written_is_report : (file bytes text : List ℕ) (budget : ℕ) (held : List ℕ → Option (List ℕ)) (vs : List Verdict) → IsTextOf (Some (Verify file budget)) held (Verified vs) text → held file ≡ Some bytes → length text ≤ most_report_bytes → IsReportOf bytes vs text
-written_is_report file bytes text budget held vs written told fits = report_of file bytes text budget held vs written.protocol written.source written.words written.is told fits
+    let spells : SpellsReport P (verdict_lines 1 vs P) (map claim_of vs) = text_is_report P (laws.names bytes P spelled).words budget vs (λ q cert has is. laws.stand bytes P q budget cert spelled has within is) are in
+    check_found P budget vs answer accepted are ((checks.accepts P spelled).accepts (map claim_of vs) (fits, spells))
+read_back laws bytes P budget _ within spelled verified = tt

@@ -1,60 +1,50 @@
 -- From the summary of a ring to what is said of the command `ring`.
-use Rattle.std.proofs.Common.{◌≡◌, ◌≢◌, ◌∙◌, ℕ, ◌<◌, ◌≤◌, List, [], ◌∷◌, length, Option, Some, IfSome, slice_get, refl, sym, ap, subst, arith}
-use Rattle.std.proofs.lemmas.List.{length-map}
+use Rattle.std.proofs.Common.{◌≡◌, ◌≢◌, ◌∙◌, ℕ, ◌+◌, ◌<◌, ◌≤◌, List, [], ◌∷◌, length, Some, IfSome, slice_get, refl, sym, ap, subst, arith}
+use Rattle.spec_trees.specs.Tree.{Leaf}
 use Rattle.spec_calculus.specs.Syntax as syntax
-use Rattle.spec_calculus.specs.Syntax.{Query}
+use Rattle.spec_calculus.specs.Syntax.{Free, Query, Secret}
 use Rattle.spec_calculus.specs.Points.{numbered}
 use Rattle.spec_calculus.specs.Secrecy.{Holds}
 use Rattle.spec_terms.specs.Term.{Term}
-use Rattle.spec_translation.specs.Translation.{Clauses, LargeAt}
-use Rattle.term_tree.specs.declared.bank.Id.{Id}
 use Rattle.spec_clauses.specs.Fact.{Clause}
-use Rattle.clause_form.specs.Seen.{clause_at}
-use Rattle.clause_translate.specs.Whole.{Translates, TranslatesTo, EndsAt}
-use Rattle.clause_translate.specs.declared.whole.Translated.{Translated}
-use Rattle.clause_translate.specs.declared.whole.Translated.TheVariants as made
+use Rattle.spec_translation.specs.Translation.{Clauses, IsTranslation}
+use Rattle.query_derive.specs.GoalRows.{OfQuery}
 use Rattle.query_verify.specs.declared.answers.Verdict.{Verdict}
-use Rattle.query_verify.specs.Told.{AnswerQueries}
+use Rattle.query_verify.specs.Told.{IsAnswer, AnswerQueries}
 use Rattle.spec_protocol_scope.specs.Spells.{Spells, Refusal, Refuses}
 use Rattle.spec_ring_text.specs.Text.{ring_text}
+use Rattle.spec_ring_text.specs.Meaning.{ring_protocol}
 use Rattle.verifier_cli.specs.declared.outcome.Ring.{Ring as Summary}
-use Rattle.verifier_cli.specs.Outcome.{Outcome, Usage, Ring, Refused, ReadFault, Memory}
+use Rattle.verifier_cli.specs.Outcome.{Outcome, Ring, Refused, ReadFault, Memory}
 use Rattle.verifier_cli.specs.Command.{NoneViolated}
 use Rattle.verifier_cli.specs.Reading.{IsNoReading}
 use Rattle.verifier_cli.specs.Ringing.{HasCount, IsSummaryOf, IsRingOf, IsRingOutcome, Rings}
 use Rattle.verifier_cli.proofs.Verifying.{Soundness, Laws, none_violated}
 
--- the protocol has this query alone
-abbrev pub OnlyQuery : syntax.Protocol → Type 0
-OnlyQuery P = (q : Query) × (P.queries ≡ q ∷ [])
+-- what a ring asks
+abbrev secret : Query
+secret = Secret (Leaf (Free 2))
 
--- which has the number 1
-pub only_there : (P : syntax.Protocol) → OnlyQuery P → (0 < 1) × (1 ≤ length P.queries)
-only_there P only = let one : length P.queries ≡ 1 = ap (λ (qs : List Query). length qs) only.1 in (omega arith, omega (arith, one))
+-- how many clauses the law says that it is translated into
+abbrev pub Translates : ℕ → Type 0
+Translates n = (all : List (Clause Term)) × IsTranslation (ring_protocol n) secret (Clauses all) × (length all ≡ n + 8)
 
-pub only_numbered : (P : syntax.Protocol) (only : OnlyQuery P) → numbered P.queries 1 ≡ Some only.0
-only_numbered P only = ap (λ (qs : List Query). numbered qs 1) only.1
+-- what is said of the summary of a protocol that is the ring's
+pub summary_said : (P : syntax.Protocol) (n : ℕ) (ring : Summary) → P ≡ ring_protocol n → Translates n → ring.stages ≡ n → ring.bytes ≡ length (ring_text n) → ring.clauses ≡ n + 8
+    → OfQuery P 1 (λ q. IsAnswer P q 10000 ring.verdict) → IsSummaryOf P n ring
+summary_said P n ring same translates stages bytes clauses answer =
+    let only : P.queries ≡ secret ∷ [] = ap (λ (X : syntax.Protocol). X.queries) same in record {
+      stages = stages;
+      bytes = bytes;
+      query = secret;
+      only = only;
+      clauses = subst (λ (X : syntax.Protocol). HasCount X secret ring.clauses) (sym same) (Clauses translates.0, translates.1, clauses ∙ sym translates.2);
+      verdict = answer secret (ap (λ (qs : List Query). numbered qs 1) only);
+    }
 
--- a protocol that has the queries of another with one alone has one
-pub only_of : (P Q : syntax.Protocol) (q : Query) → P ≡ Q → Q.queries ≡ q ∷ [] → OnlyQuery P
-only_of P Q q same is = (q, ap (λ (X : syntax.Protocol). X.queries) same ∙ is)
-
--- how many clauses there are
-same_query : (o : Option Query) (p q : Query) → o ≡ Some p → o ≡ Some q → p ≡ q
-same_query o p q e h = let both : Some p ≡ Some q = sym e ∙ h in cc
-
-pub clauses_counted : (P : syntax.Protocol) (number : ℕ) (all : List Term) (found : Translated) (clauses : List (Clause Id)) (count : ℕ) → Translates P number all found
-    → found ≡ made.Clauses clauses → count ≡ length clauses → (q : Query) → numbered P.queries number ≡ Some q → HasCount P q count
-clauses_counted P number all found clauses count translates is many q asked =
-    let t : TranslatesTo P number all clauses = subst (λ (x : Translated). Translates P number all x) is translates in
-    let same : length clauses ≡ length t.list = sym (length-map clauses (clause_at all)) ∙ ap (λ (cs : List (Clause Term)). length cs) t.names.are in
-    subst (λ (x : Query). HasCount P x count) (same_query (numbered P.queries number) t.query q t.is asked) (Clauses t.list, t.translates, many ∙ same)
-
-pub large_counted : (P : syntax.Protocol) (number : ℕ) (all : List Term) (found : Translated) (point : ℕ) → Translates P number all found
-    → found ≡ made.Large point → (q : Query) → numbered P.queries number ≡ Some q → HasCount P q 0
-large_counted P number all found point translates is q asked =
-    let t : EndsAt P number point = subst (λ (x : Translated). Translates P number all x) is translates in
-    subst (λ (x : Query). HasCount P x 0) (same_query (numbered P.queries number) t.query q t.is asked) (LargeAt point, t.translates, refl)
+-- its query is there
+pub only_there : (P : syntax.Protocol) (n : ℕ) → P ≡ ring_protocol n → (0 < 1) × (1 ≤ length P.queries)
+only_there P n same = let one : length P.queries ≡ 1 = ap (λ (X : syntax.Protocol). length X.queries) same in (omega arith, omega (arith, one))
 
 -- of want of memory
 pub memory_rings : (n : ℕ) → Rings n Memory
@@ -66,11 +56,11 @@ unread_is_memory bytes never (Refused refusal) is = absurd (never is.why is.plac
 unread_is_memory bytes never Memory is = refl
 unread_is_memory bytes never _ is = absurd is
 
--- a ring comes neither to a call for nothing nor to a fault of reading
-pub rings_used : (n : ℕ) (outcome : Outcome) → Rings n outcome → (outcome ≢ Usage) × (outcome ≢ ReadFault)
-rings_used n Memory is = (λ e. cc, λ e. cc)
-rings_used n (Ring ring) is = (λ e. cc, λ e. cc)
-rings_used n _ is = absurd is.answers
+-- a ring comes to no fault of reading
+pub rings_read : (n : ℕ) (outcome : Outcome) → Rings n outcome → outcome ≢ ReadFault
+rings_read n Memory is = λ e. cc
+rings_read n (Ring ring) is = λ e. cc
+rings_read n _ is = absurd is.answers
 
 -- a query that is proved is not violated
 summary_violates_none : Soundness → Laws → (n : ℕ) (P : syntax.Protocol) (ring : Summary) → Spells (ring_text n) P → IsSummaryOf P n ring → NoneViolated (ring_text n) (Ring ring)

@@ -1,5 +1,5 @@
 -- From what was read to what is said of the outcome, and the headline.
-use Rattle.std.proofs.Common.{◌≡◌, ◌≢◌, arith, ℕ, zero, suc, List, [], ◌∷◌, false, Option, Some, IfSome, slice_get, inl, inr, refl, sym, ap, subst, ◌∙◌}
+use Rattle.std.proofs.Common.{◌≡◌, ◌≢◌, arith, ℕ, zero, suc, List, [], ◌∷◌, false, Some, IfSome, slice_get, inl, inr, refl, sym, ap, subst, ◌∙◌}
 use Rattle.std.specs.Prelude.{Contains}
 use Rattle.spec_calculus.specs.Syntax as syntax
 use Rattle.spec_calculus.specs.Secrecy.{Holds}
@@ -12,11 +12,11 @@ use Rattle.query_verify.specs.declared.answers.Verdict.TheVariants.{Proved}
 use Rattle.query_verify.specs.Told.{Tells, IsAnswer, AnswerQueries}
 use Rattle.spec_protocol_scope.specs.Spells as spells
 use Rattle.spec_protocol_scope.specs.Spells.{Spells, Refuses}
-use Rattle.verifier_cli.specs.Outcome.{Refusal, Outcome, Usage, Verified, Refused, ReadFault, Memory}
-use Rattle.verifier_cli.specs.Command.{OfFile, IsRefusalOf, Verifies, NoneViolated, IsDecidedBy, IsOutcomeOf, refusal_at}
+use Rattle.verifier_cli.specs.Outcome.{Refusal, Outcome, Verified, Refused, ReadFault, Memory}
+use Rattle.verifier_cli.specs.Command.{IsRefusalOf, Verifies, NoneViolated, IsDecidedBy, IsOutcomeOf, refusal_at}
+use Rattle.verifier_cli.specs.Outside.{Outside}
 use Rattle.verifier_cli.specs.Reading.{IsUnread}
 use Rattle.verifier_cli.specs.Text.{prints_clauses}
-use Rattle.verifier_cli.proofs.Held.{of_any, of_file}
 
 -- the laws that the headline rests on: queries of protocols that were read are proper, and what is proved of those holds
 pub record Soundness : Type 0 where
@@ -70,7 +70,7 @@ decided_violates_none sound laws bytes P budget (Verified verdicts) spelled is =
 decided_violates_none sound laws bytes P budget Memory spelled is = λ Q spells k proved. absurd proved
 decided_violates_none sound laws bytes P budget _ spelled is = absurd is
 
-decided_verifies : Soundness → Laws → (bytes : List ℕ) (P : syntax.Protocol) (budget : ℕ) (outcome : Outcome) → IsDecidedBy P budget outcome → Spells bytes P → Verifies bytes budget outcome
+pub decided_verifies : Soundness → Laws → (bytes : List ℕ) (P : syntax.Protocol) (budget : ℕ) (outcome : Outcome) → IsDecidedBy P budget outcome → Spells bytes P → Verifies bytes budget outcome
 decided_verifies sound laws bytes P budget outcome is spelled = record {
   answers = decided_outcome bytes P budget outcome spelled is;
   accepts = λ Q spells. subst (λ (X : syntax.Protocol). IsDecidedBy X budget outcome) (laws.one_protocol bytes P Q spelled spells) is;
@@ -78,20 +78,17 @@ decided_verifies sound laws bytes P budget outcome is spelled = record {
   none_violated = decided_violates_none sound laws bytes P budget outcome spelled is;
 }
 
-pub decided_said : Soundness → Laws → (held : Option (List ℕ)) (P : syntax.Protocol) (budget : ℕ) (outcome : Outcome) → IsDecidedBy P budget outcome → OfFile held (λ bytes. Spells bytes P) → OfFile held (λ bytes. Verifies bytes budget outcome)
-decided_said sound laws held P budget outcome is spelled = of_file held (λ bytes. Spells bytes P) (λ bytes. Verifies bytes budget outcome) (λ bytes s. decided_verifies sound laws bytes P budget outcome is s) spelled
-
--- what the queries come to is neither a call for nothing nor a fault of reading
-pub decided_used : (P : syntax.Protocol) (budget : ℕ) (outcome : Outcome) → IsDecidedBy P budget outcome → (outcome ≢ Usage) × (outcome ≢ ReadFault)
-decided_used P budget (Verified verdicts) is = (λ e. cc, λ e. cc)
-decided_used P budget Memory is = (λ e. cc, λ e. cc)
-decided_used P budget _ is = absurd is
+-- what the queries come to is no fault of reading
+pub decided_read : (P : syntax.Protocol) (budget : ℕ) (outcome : Outcome) → IsDecidedBy P budget outcome → outcome ≢ ReadFault
+decided_read P budget (Verified verdicts) is = λ e. cc
+decided_read P budget Memory is = λ e. cc
+decided_read P budget _ is = absurd is
 
 -- of a refusal
 pub same_refusal : (bytes : List ℕ) (r s : spells.Refusal) (i j : ℕ) → (r ≡ s) × (i ≡ j) → refusal_at bytes r i ≡ refusal_at bytes s j
 same_refusal bytes r s i j (e, h) = ap (λ (why : spells.Refusal). refusal_at bytes why i) e ∙ ap (λ (place : ℕ). refusal_at bytes s place) h
 
-refusal_verifies : Laws → (bytes : List ℕ) (budget : ℕ) (refusal : Refusal) → IsRefusalOf bytes refusal → Verifies bytes budget (Refused refusal)
+pub refusal_verifies : Laws → (bytes : List ℕ) (budget : ℕ) (refusal : Refusal) → IsRefusalOf bytes refusal → Verifies bytes budget (Refused refusal)
 refusal_verifies laws bytes budget refusal is = record {
   answers = is;
   accepts = λ P spells. absurd (laws.never_both bytes P is.why is.place spells is.refused);
@@ -100,7 +97,7 @@ refusal_verifies laws bytes budget refusal is = record {
 }
 
 -- and of want of memory, which claims nothing
-memory_verifies : (budget : ℕ) (bytes : List ℕ) → Verifies bytes budget Memory
+pub memory_verifies : (budget : ℕ) (bytes : List ℕ) → Verifies bytes budget Memory
 memory_verifies budget bytes = record {
   answers = tt;
   accepts = λ P spells. tt;
@@ -108,19 +105,10 @@ memory_verifies budget bytes = record {
   none_violated = λ P spells k proved. absurd proved;
 }
 
-pub memory_verified : (held : Option (List ℕ)) (budget : ℕ) → OfFile held (λ bytes. Verifies bytes budget Memory)
-memory_verified held budget = of_any held (λ bytes. Verifies bytes budget Memory) (memory_verifies budget)
-
--- a call without a protocol
-pub unread_verified : Laws → (Counted : Type 0) (held : Option (List ℕ)) (budget : ℕ) (outcome : Outcome) → IsUnread Counted held outcome → outcome ≢ ReadFault → OfFile held (λ bytes. Verifies bytes budget outcome)
-unread_verified laws Counted held budget (Refused refusal) is other = of_file held (λ bytes. IsRefusalOf bytes refusal) (λ bytes. Verifies bytes budget (Refused refusal)) (λ bytes r. refusal_verifies laws bytes budget refusal r) is
-unread_verified laws Counted held budget Memory is other = memory_verified held budget
-unread_verified laws Counted held budget ReadFault is other = absurd (other refl)
-unread_verified laws Counted held budget _ is other = absurd is
-
--- it prints no clause
-pub unread_words : (Counted : Type 0) (held : Option (List ℕ)) (outcome : Outcome) → IsUnread Counted held outcome → prints_clauses outcome ≡ false
-unread_words Counted held (Refused refusal) is = refl
-unread_words Counted held Memory is = refl
-unread_words Counted held ReadFault is = refl
-unread_words Counted held _ is = absurd is
+-- a call without a protocol prints no clause
+pub unread_words : (files : Outside) (file : List ℕ) (outcome : Outcome) → IsUnread files file outcome → prints_clauses outcome ≡ false
+unread_words files file (Refused refusal) is = refl
+unread_words files file Memory is = refl
+unread_words files file ReadFault is = refl
+unread_words files file _ (inl x) = absurd x.fact
+unread_words files file _ (inr why) = absurd why.1

@@ -1,5 +1,5 @@
 -- What a report and the check of its certificates have to do with the outcome.
-use Rattle.std.specs.Prelude.{◌≡◌, ℕ, ◌<◌, ◌≤◌, List, [], ◌∷◌, length, Option}
+use Rattle.std.specs.Prelude.{◌≡◌, ℕ, ◌<◌, ◌≤◌, List, [], ◌∷◌, length}
 use Rattle.spec_calculus.specs.Bounds.{most_report_bytes}
 use Rattle.spec_calculus.specs.Syntax.{Query, Protocol}
 use Rattle.hv_io.specs.Place.{line_at}
@@ -14,7 +14,7 @@ use Rattle.verifier_cli.specs.declared.outcome.Finding.{Finding}
 use Rattle.verifier_cli.specs.declared.outcome.Finding.TheVariants.{Ruled, Missing, NotClaimed}
 use Rattle.verifier_cli.specs.Outcome as own
 use Rattle.verifier_cli.specs.Outcome.{ReportRefusal, Misspelled, LongReport, Outcome, Checked, Refused, Report, Memory}
-use Rattle.verifier_cli.specs.Command.{OfFile, Becomes, IsRefusalOf, refusal_at, NoneViolated}
+use Rattle.verifier_cli.specs.Command.{Becomes, IsRefusalOf, refusal_at, NoneViolated}
 
 -- the bytes, which are not too many, are a report that claims this of the protocol's queries, in order
 abbrev pub MakesClaims : Protocol → List ℕ → List Claim → Type 0
@@ -71,12 +71,12 @@ IsCheckOutcome bytes (Checked findings) = (P : Protocol) × Spells bytes P
 IsCheckOutcome bytes Memory = Unit {0}
 IsCheckOutcome bytes _ = ⊥
 
--- what `check` comes to where the protocol's file has these bytes, and the report's file those that are held, where that is told
-pub record Checks (bytes : List ℕ) (held : Option (List ℕ)) (outcome : Outcome) : Type 0 where
+-- what `check` comes to where the protocol's file has these bytes, and the report's file this text
+pub record Checks (bytes text : List ℕ) (outcome : Outcome) : Type 0 where
   -- the outcome is a refusal or what is found, or want of memory, and nothing else
   pub answers : IsCheckOutcome bytes outcome
   -- where the bytes spell a protocol, the outcome is about the report
-  pub accepts : (P : Protocol) → Spells bytes P → OfFile held (λ text. ChecksReport P text outcome)
+  pub accepts : (P : Protocol) → Spells bytes P → ChecksReport P text outcome
   -- and where they are refused, it is this refusal, at this place
   pub refuses : (why : spells.Refusal) (place : ℕ) → Refuses bytes why place → Becomes (Refused (refusal_at bytes why place)) outcome
   -- the headline

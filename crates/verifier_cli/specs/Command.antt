@@ -1,8 +1,8 @@
--- What the words, the file and the protocol that it spells have to do with the outcome.
-use Rattle.std.specs.Prelude.{◌≡◌, ℕ, ◌⊎◌, List, Option, Some, None, IfSome, slice_get}
+-- What the words, the bytes of a file and the protocol that they spell have to do with the outcome.
+use Rattle.std.specs.Prelude.{◌≡◌, ℕ, ◌⊎◌, List, Some, None, IfSome, slice_get}
 use Rattle.spec_calculus.specs.Syntax as syntax
 use Rattle.spec_calculus.specs.Secrecy.{Holds}
-use Rattle.command_words.specs.Request.{Request, Verify, Check, ListOf, Replay, RingOf, request_of}
+use Rattle.command_words.specs.Request.{Request, request_of}
 use Rattle.hv_io.specs.Place.{line_at, column_at}
 use Rattle.spec_protocol_scope.specs.Spells as spells
 use Rattle.spec_protocol_scope.specs.Spells.{Spells, Refuses}
@@ -17,35 +17,9 @@ use Rattle.verifier_cli.specs.Outcome.{Refusal, Protocol, Outcome, Usage, Verifi
 abbrev pub Asks : List (List ℕ) → Request → Type 0
 Asks words request = request_of words ≡ Some request
 
--- the words ask for the verdicts of this file's protocol with that budget
-abbrev pub IsVerify : List (List ℕ) → List ℕ → ℕ → Type 0
-IsVerify words file budget = request_of words ≡ Some (Verify file budget)
-
--- the words ask that this report on the file's protocol be checked
-abbrev pub IsCheck : List (List ℕ) → List ℕ → List ℕ → Type 0
-IsCheck words file report = request_of words ≡ Some (Check file report)
-
--- the words ask that a run of this file's protocol be replayed
-abbrev pub IsReplay : List (List ℕ) → List ℕ → List ℕ → Type 0
-IsReplay words file run = request_of words ≡ Some (Replay file run)
-
--- the words ask for the clauses of this query of the file's protocol
-abbrev pub IsList : List (List ℕ) → List ℕ → ℕ → Type 0
-IsList words file query = request_of words ≡ Some (ListOf file query)
-
--- the words ask for the ring of so many keys
-abbrev pub IsRing : List (List ℕ) → ℕ → Type 0
-IsRing words stages = request_of words ≡ Some (RingOf stages)
-
 -- the words ask for nothing
 abbrev pub IsNoCommand : List (List ℕ) → Type 0
 IsNoCommand words = request_of words ≡ None
-
--- what is said of the bytes of a file that was read; where those that it holds are told, they are these
-pub record OfFile (held : Option (List ℕ)) (Fact : List ℕ → Type 0) : Type 0 where
-  pub bytes : List ℕ
-  pub as_held : IfSome held (λ all. bytes ≡ all)
-  pub fact : Fact bytes
 
 -- the refusal of bytes at one of them, by its line and column
 abbrev pub refusal_at : List ℕ → spells.Refusal → ℕ → Refusal
@@ -57,20 +31,6 @@ pub record IsRefusalOf (bytes : List ℕ) (refusal : Refusal) : Type 0 where
   pub place : ℕ
   pub refused : Refuses bytes why place
   pub shown : refusal ≡ refusal_at bytes why place
-
--- one of two files cannot be read: the first, or where that spells a protocol, the second
-abbrev pub IsEitherUnreadable : List ℕ → List ℕ → (List ℕ → Option (List ℕ)) → (List ℕ → Type 0) → Type 0
-IsEitherUnreadable file other held Counted =
-    Counted file ⊎ (OfFile (held file) (λ bytes. (P : syntax.Protocol) × Spells bytes P) × Counted other)
-
--- a file that is asked for cannot be read; the last argument tells of which a fault was counted
-abbrev pub IsUnreadable : Option Request → (List ℕ → Option (List ℕ)) → (List ℕ → Type 0) → Type 0
-IsUnreadable None held Counted = ⊥
-IsUnreadable (Some (Verify file budget)) held Counted = Counted file
-IsUnreadable (Some (Check file report)) held Counted = IsEitherUnreadable file report held Counted
-IsUnreadable (Some (ListOf file query)) held Counted = Counted file
-IsUnreadable (Some (Replay file run)) held Counted = IsEitherUnreadable file run held Counted
-IsUnreadable (Some (RingOf stages)) held Counted = ⊥
 
 -- what the queries of the protocol come to: the verdict of each with the budget, in order, or want of memory in their place
 abbrev pub IsDecidedBy : syntax.Protocol → ℕ → Outcome → Type 0

@@ -2,6 +2,7 @@ pub mod Command
 pub mod Checking
 pub mod Complete
 pub mod Outcome
+pub mod Outside
 pub mod ReadBack
 pub mod Reading
 pub mod Replaying
@@ -13,3 +14,4 @@ pub mod ReportReading
 pub mod Seen
 pub mod SeenOutcome
 pub mod Text
+pub mod World

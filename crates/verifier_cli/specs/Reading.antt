@@ -1,5 +1,6 @@
 -- What the reading of a protocol answers.
-use Rattle.std.specs.Prelude.{ℕ, ◌≤◌, List, length, Option}
+use Rattle.std.specs.Prelude.{ℕ, ◌<◌, ◌≤◌, List, length}
+use Rattle.spec_calculus.specs.Bounds.{most_bytes}
 use Rattle.pi_lexer.specs.declared.error.LexError.{LexError}
 use Rattle.pi_lexer.specs.declared.error.LexError.TheVariants as lex
 use Rattle.pi_parser.specs.declared.error.ParseError.{ParseError}
@@ -14,7 +15,8 @@ use Rattle.verifier_cli.specs.declared.reading.Stop.TheVariants as stop
 use Rattle.verifier_cli.specs.declared.loading.Unloaded.{Unloaded}
 use Rattle.verifier_cli.specs.declared.loading.Unloaded.TheVariants as unloaded
 use Rattle.verifier_cli.specs.Outcome.{Protocol, Outcome, Refused, ReadFault, Memory}
-use Rattle.verifier_cli.specs.Command.{OfFile, IsRefusalOf}
+use Rattle.verifier_cli.specs.Command.{IsRefusalOf}
+use Rattle.verifier_cli.specs.Outside.{Outside, IsFaulty, IsNothingLoaded, OfFile, IfRead}
 use Rattle.verifier_cli.specs.Seen.{refusal_by}
 
 -- the errors of the lexer, the parser and the rules of scope, with their places
@@ -57,9 +59,12 @@ not_loaded unloaded.Failed = ReadFault
 not_loaded unloaded.TooLong = Refused (Protocol 1 1 spells.LongFile)
 not_loaded unloaded.Memory = Memory
 
--- a call that has no protocol, for want of a file that can be read only where a fault was counted
-abbrev pub IsUnread : Type 0 → Option (List ℕ) → Outcome → Type 0
-IsUnread Counted held ReadFault = Counted
-IsUnread Counted held (Refused refusal) = OfFile held (λ bytes. IsRefusalOf bytes refusal)
-IsUnread Counted held Memory = Unit {0}
-IsUnread Counted held _ = ⊥
+-- no text was loaded of a file that may have so many bytes, for this reason
+abbrev pub IsNoText : Outside → List ℕ → ℕ → Unloaded → Type 0
+IsNoText files name most unloaded.Failed = IsNothingLoaded files × IsFaulty files name
+IsNoText files name most unloaded.TooLong = OfFile files name most (λ bytes. most < length bytes)
+IsNoText files name most unloaded.Memory = IsNothingLoaded files
+
+-- a call that has no protocol
+abbrev pub IsUnread : Outside → List ℕ → Outcome → Type 0
+IsUnread files file outcome = IfRead files file most_bytes outcome (λ bytes. IsNoReading bytes outcome)

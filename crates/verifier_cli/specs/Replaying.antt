@@ -1,5 +1,5 @@
 -- What the text of a run and its replay have to do with the outcome.
-use Rattle.std.specs.Prelude.{◌≡◌, ℕ, ◌<◌, ◌≤◌, List, length, Option}
+use Rattle.std.specs.Prelude.{◌≡◌, ℕ, ◌<◌, ◌≤◌, List, length}
 use Rattle.spec_calculus.specs.Bounds.{most_run_bytes}
 use Rattle.spec_calculus.specs.Syntax.{Protocol}
 use Rattle.spec_calculus.specs.Runs.{Step}
@@ -9,7 +9,7 @@ use Rattle.spec_run_text.specs.Text.{SpellsRun, IsRefused}
 use Rattle.run_replay.specs.Replay.{IsDone, IsFirstRefused, AreFirstViolations}
 use Rattle.verifier_cli.specs.Outcome as own
 use Rattle.verifier_cli.specs.Outcome.{RunRefusal, Faulty, LongRun, Replay, Done, Stuck, Outcome, Replayed, Refused, Run, Memory}
-use Rattle.verifier_cli.specs.Command.{OfFile, Becomes, IsRefusalOf, refusal_at}
+use Rattle.verifier_cli.specs.Command.{Becomes, IsRefusalOf, refusal_at}
 
 -- the bytes, which are not too many, spell the steps of a run
 abbrev pub SpellsSteps : List ℕ → List Step → Type 0
@@ -56,11 +56,11 @@ IsReplayOutcome bytes (Replayed replay) = (P : Protocol) × Spells bytes P
 IsReplayOutcome bytes Memory = Unit {0}
 IsReplayOutcome bytes _ = ⊥
 
--- what `replay` comes to where the protocol's file has these bytes, and the run's file those that are held, where that is told
-pub record Replays (bytes : List ℕ) (held : Option (List ℕ)) (outcome : Outcome) : Type 0 where
+-- what `replay` comes to where the protocol's file has these bytes, and the run's file this text
+pub record Replays (bytes text : List ℕ) (outcome : Outcome) : Type 0 where
   -- the outcome is a refusal or a replay, or want of memory, and nothing else
   pub answers : IsReplayOutcome bytes outcome
   -- where the bytes spell a protocol, the outcome is about the run
-  pub accepts : (P : Protocol) → Spells bytes P → OfFile held (λ text. RunsOn P text outcome)
+  pub accepts : (P : Protocol) → Spells bytes P → RunsOn P text outcome
   -- and where they are refused, it is this refusal, at this place
   pub refuses : (why : spells.Refusal) (place : ℕ) → Refuses bytes why place → Becomes (Refused (refusal_at bytes why place)) outcome

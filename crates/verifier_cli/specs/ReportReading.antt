@@ -1,5 +1,6 @@
 -- What the reading of a report answers.
-use Rattle.std.specs.Prelude.{ℕ, List, Option}
+use Rattle.std.specs.Prelude.{ℕ, List}
+use Rattle.spec_calculus.specs.Bounds.{most_report_bytes}
 use Rattle.spec_calculus.specs.Syntax as syntax
 use Rattle.hv_io.specs.Place.{line_at}
 use Rattle.spec_certificate_reading.specs.Terms as report
@@ -7,8 +8,8 @@ use Rattle.fact_reader.specs.declared.error.CertError.{CertError}
 use Rattle.fact_reader.specs.declared.error.CertError.TheVariants as error
 use Rattle.verifier_cli.specs.declared.loading.Unloaded.{Unloaded}
 use Rattle.verifier_cli.specs.declared.loading.Unloaded.TheVariants as unloaded
-use Rattle.verifier_cli.specs.Outcome.{Misspelled, LongReport, Protocol, Report, Outcome, Checked, Refused, ReadFault, Memory}
-use Rattle.verifier_cli.specs.Command.{OfFile}
+use Rattle.verifier_cli.specs.Outcome.{Misspelled, LongReport, Report, Outcome, Refused, ReadFault, Memory}
+use Rattle.verifier_cli.specs.Outside.{Outside, IfRead}
 use Rattle.verifier_cli.specs.Checking.{RefusesReport}
 
 -- a call whose report could not be loaded
@@ -26,17 +27,12 @@ report_not_read bytes (error.Arity place) = Refused (Report (line_at bytes place
 report_not_read bytes (error.Count place) = Refused (Report (line_at bytes place) (Misspelled report.Count))
 report_not_read bytes (error.Memory e) = Memory
 
--- a call that has no claims, for want of a file that can be read only where a fault was counted
-abbrev pub IsUnreadReport : syntax.Protocol → Type 0 → Option (List ℕ) → Outcome → Type 0
-IsUnreadReport P Counted held ReadFault = Counted
-IsUnreadReport P Counted held (Refused (Report line why)) = OfFile held (λ bytes. RefusesReport P bytes why line)
-IsUnreadReport P Counted held Memory = Unit {0}
-IsUnreadReport P Counted held _ = ⊥
+-- a call that read no claims in these bytes
+abbrev pub IsNoReport : syntax.Protocol → List ℕ → Outcome → Type 0
+IsNoReport P bytes (Refused (Report line why)) = RefusesReport P bytes why line
+IsNoReport P bytes Memory = Unit {0}
+IsNoReport P bytes _ = ⊥
 
--- the outcome is about a report
-abbrev pub IsOfReport : Outcome → Type 0
-IsOfReport ReadFault = Unit {0}
-IsOfReport (Refused (Report line why)) = Unit {0}
-IsOfReport Memory = Unit {0}
-IsOfReport (Checked findings) = Unit {0}
-IsOfReport _ = ⊥
+-- a call that has no claims
+abbrev pub IsUnreadReport : syntax.Protocol → Outside → List ℕ → Outcome → Type 0
+IsUnreadReport P files report outcome = IfRead files report most_report_bytes outcome (λ bytes. IsNoReport P bytes outcome)

@@ -1,12 +1,13 @@
 -- What the reading of a run answers.
-use Rattle.std.specs.Prelude.{ℕ, List, Option}
+use Rattle.std.specs.Prelude.{ℕ, List}
+use Rattle.spec_calculus.specs.Bounds.{most_run_bytes}
 use Rattle.spec_run_text.specs.Faults as run
 use Rattle.run_replay.specs.declared.error.RunError.{RunError}
 use Rattle.run_replay.specs.declared.error.RunError.TheVariants as error
 use Rattle.verifier_cli.specs.declared.loading.Unloaded.{Unloaded}
 use Rattle.verifier_cli.specs.declared.loading.Unloaded.TheVariants as unloaded
-use Rattle.verifier_cli.specs.Outcome.{Faulty, LongRun, Run, Outcome, Replayed, Refused, ReadFault, Memory}
-use Rattle.verifier_cli.specs.Command.{OfFile}
+use Rattle.verifier_cli.specs.Outcome.{Faulty, LongRun, Run, Outcome, Refused, ReadFault, Memory}
+use Rattle.verifier_cli.specs.Outside.{Outside, IfRead}
 use Rattle.verifier_cli.specs.Replaying.{RefusesRun}
 
 -- a call whose run could not be loaded
@@ -22,17 +23,12 @@ run_not_read (error.Number line) = Refused (Run line (Faulty run.Number))
 run_not_read (error.LongLine line) = Refused (Run line (Faulty run.LongLine))
 run_not_read (error.Memory e) = Memory
 
--- a call that has no run, for want of a file that can be read only where a fault was counted
-abbrev pub IsUnreadRun : Type 0 → Option (List ℕ) → Outcome → Type 0
-IsUnreadRun Counted held ReadFault = Counted
-IsUnreadRun Counted held (Refused (Run line why)) = OfFile held (λ bytes. RefusesRun bytes why line)
-IsUnreadRun Counted held Memory = Unit {0}
-IsUnreadRun Counted held _ = ⊥
+-- a call that read no run in these bytes
+abbrev pub IsNoRun : List ℕ → Outcome → Type 0
+IsNoRun bytes (Refused (Run line why)) = RefusesRun bytes why line
+IsNoRun bytes Memory = Unit {0}
+IsNoRun bytes _ = ⊥
 
--- the outcome is about a run
-abbrev pub IsOfRun : Outcome → Type 0
-IsOfRun ReadFault = Unit {0}
-IsOfRun (Refused (Run line why)) = Unit {0}
-IsOfRun Memory = Unit {0}
-IsOfRun (Replayed replay) = Unit {0}
-IsOfRun _ = ⊥
+-- a call that has no run
+abbrev pub IsUnreadRun : Outside → List ℕ → Outcome → Type 0
+IsUnreadRun files run outcome = IfRead files run most_run_bytes outcome (λ bytes. IsNoRun bytes outcome)

@@ -5,20 +5,14 @@ ghost use Rattle.pi_tree.specs.Protocols.{protocol_of};
 ghost use Rattle.std.specs.String.{string_bytes};
 ghost use Rattle.hv_io.specs.Faults.{IsFaultCounted};
 ghost use Rattle.hv_io.specs.Sink.{appended, AppendsPart};
-ghost use Rattle.verifier_cli.specs.Command.{Asks, IsVerify, IsCheck, IsList, IsReplay, IsRing};
-ghost use Rattle.verifier_cli.specs.Command.{IsNoCommand, IsUnreadable, OfFile, Verifies, Becomes};
-ghost use Rattle.verifier_cli.specs.Command.{NoneViolated};
-ghost use Rattle.verifier_cli.specs.Checking.{Checks};
-ghost use Rattle.verifier_cli.specs.Complete.{IsComeTo, AreAccepted, IsOwnOutcome, IsOfAnswer};
 ghost use Rattle.command_words.specs.Request as request;
-ghost use Rattle.command_words.specs.Request.{request_of};
-ghost use Rattle.verifier_cli.specs.Listing.{Lists, IsSource, IsTextOf, source_of, words_of};
+ghost use Rattle.verifier_cli.specs.Command.{Asks, Becomes, IsNoCommand};
+ghost use Rattle.verifier_cli.specs.Listing.{words_of};
 ghost use Rattle.verifier_cli.specs.Outcome as own;
-ghost use Rattle.verifier_cli.specs.ReadBack.{IsReadBack};
-ghost use Rattle.verifier_cli.specs.Replaying.{Replays};
-ghost use Rattle.verifier_cli.specs.Ringing.{Rings};
+ghost use Rattle.verifier_cli.specs.Outside.{outside};
 ghost use Rattle.verifier_cli.specs.SeenOutcome.{outcome_of};
 ghost use Rattle.verifier_cli.specs.Text.{HasText, outcome_bytes, status_of};
+ghost use Rattle.verifier_cli.specs.World.{ComesTo, IsWritten, World};
 
 use crate::check::check_file;
 use crate::list::list_file;
@@ -42,20 +36,13 @@ fn decide<F: Files>(alloc: Global, words: &[String], files: &mut F) -> Decision
     ensures held_stays { (name : List ℕ) → F.held files.new name ≡ F.held files.old name }
     ensures read_faults_rise { (name : List ℕ) →
         F.faults files.old name ≤ F.faults files.new name }
-    ensures source { IsSource (request_of (map string_bytes words.now)) (F.held files.old)
-        (option_map protocol_of result.protocol) }
     ensures words { HasText (option_map protocol_of result.protocol)
         (outcome_of result.outcome) }
     ensures unused { IsNoCommand (map string_bytes words.now) →
-        Becomes own.Usage (outcome_of result.outcome) }
-    ensures used { outcome_of result.outcome ≡ own.Usage →
-        IsNoCommand (map string_bytes words.now) }
-    ensures fault { outcome_of result.outcome ≡ own.ReadFault →
-        IsUnreadable (request_of (map string_bytes words.now)) (F.held files.old) (λ name.
-        IsFaultCounted (F.faults files.old name) (F.faults files.new name)) }
+        Becomes own.Usage (outcome_of result.outcome) × (F.loads files.new ≡ F.loads files.old) }
     ensures comes { (asked : request.Request) → Asks (map string_bytes words.now) asked →
-        outcome_of result.outcome ≢ own.ReadFault →
-        IsComeTo asked (F.held files.old) (outcome_of result.outcome) }
+        ComesTo asked (outside F.held F.faults F.loads files.old files.new)
+        (option_map protocol_of result.protocol) (outcome_of result.outcome) }
 {
     asked_budgets();
     asked_stages();
@@ -99,8 +86,8 @@ fn finish<S: Sink>(outcome: Outcome, text: &[u8], out: &mut S) -> Answer
     Answer { status, outcome }
 }
 
-/// Makes an outcome's text and writes it. The text of `Usage`, `ReadFault` and `Memory` takes no memory; where there is
-/// none for another, the outcome is `Memory`.
+/// Makes an outcome's text and writes it. The text of `Usage`, `ReadFault` and `Memory` takes no memory; in place of another
+/// outcome `Memory` may come.
 fn respond<S: Sink>(
     alloc: Global,
     protocol: Option<&Protocol>,
@@ -113,9 +100,7 @@ fn respond<S: Sink>(
     ensures faults_rise { S.faults out.old ≤ S.faults out.new }
     ensures fault { result.status ≡ 6 → IsFaultCounted (S.faults out.old) (S.faults out.new) }
     ensures status { result.status ≢ 6 → result.status ≡ status_of (outcome_of result.outcome) }
-    ensures whole { result.status ≢ 6 → S.written out.new ≡ appended (S.written out.old)
-        (outcome_bytes (words_of protocol.entry) (outcome_of result.outcome)) }
-    ensures part { result.status ≡ 6 → AppendsPart (S.written out.old) (S.written out.new)
+    ensures written { IsWritten result.status (S.written out.old) (S.written out.new)
         (outcome_bytes (words_of protocol.entry) (outcome_of result.outcome)) }
 {
     match outcome {
@@ -141,60 +126,24 @@ fn respond<S: Sink>(
 /// run's: that comes to `ReadFault`, to `Refused`, or to `Checked` with what is found of each query's claim, or to `Replayed` with
 /// what the steps show. `ring` takes no file: it comes to `Ring` with the summary. `Memory` may come in place of any of these.
 pub fn top<F: Files, S: Sink>(alloc: Global, words: &[String], files: &mut F, out: &mut S) -> Answer
+    // The words ask for nothing: no file is loaded, and the usage is written.
     ensures usage { IsNoCommand (map string_bytes words.now) →
         Becomes own.Usage (outcome_of result.outcome) }
     ensures usage_only { outcome_of result.outcome ≡ own.Usage →
         IsNoCommand (map string_bytes words.now) }
+    ensures usage_text { IsNoCommand (map string_bytes words.now) →
+        IsWritten result.status (S.written out.old) (S.written out.new)
+        (outcome_bytes None (outcome_of result.outcome)) }
+    ensures usage_loads { IsNoCommand (map string_bytes words.now) →
+        F.loads files.new ≡ F.loads files.old }
 
-    // Only with a fault that was counted for the protocol's file, or where that is accepted, for the other file.
-    ensures read_fault { outcome_of result.outcome ≡ own.ReadFault →
-        IsUnreadable (request_of (map string_bytes words.now)) (F.held files.old) (λ name.
-        IsFaultCounted (F.faults files.old name) (F.faults files.new name)) }
-
-    // No run of the protocol that its file spells, or the ring's text, violates a query that is proved, or whose certificate
-    // is accepted.
-    ensures headline { (asked : request.Request) → Asks (map string_bytes words.now) asked →
-        outcome_of result.outcome ≢ own.ReadFault → OfFile (source_of asked (F.held files.old))
-        (λ bytes. NoneViolated bytes (outcome_of result.outcome)) }
-
-    // Which verdicts and refusals there are, exactly, of the bytes that the file holds.
-    ensures verify { (file : List ℕ) (budget : ℕ) →
-        IsVerify (map string_bytes words.now) file budget →
-        outcome_of result.outcome ≢ own.ReadFault → OfFile (F.held files.old file) (λ bytes.
-        Verifies bytes budget (outcome_of result.outcome)) }
-
-    // What is ruled of the certificates of a report, exactly, and which refusals there are.
-    ensures check { (file report : List ℕ) → IsCheck (map string_bytes words.now) file report →
-        outcome_of result.outcome ≢ own.ReadFault → OfFile (F.held files.old file) (λ bytes.
-        Checks bytes (F.held files.old report) (outcome_of result.outcome)) }
-
-    // What `check` finds in the report that is written, where that isn't too long: that the certificate of each query that
-    // is proved is accepted, and that nothing is claimed of each other.
-    ensures read_back { (file : List ℕ) (budget : ℕ) →
-        IsVerify (map string_bytes words.now) file budget →
-        outcome_of result.outcome ≢ own.ReadFault → OfFile (F.held files.old file) (λ bytes.
-        IsReadBack bytes (outcome_of result.outcome)) }
-
-    // The clauses that a query of the protocol is translated into, exactly, or the point at which they are too large.
-    ensures list { (file : List ℕ) (query : ℕ) → IsList (map string_bytes words.now) file query →
-        outcome_of result.outcome ≢ own.ReadFault → OfFile (F.held files.old file) (λ bytes.
-        Lists bytes query (outcome_of result.outcome)) }
-
-    // What the steps of a run show, exactly, and which refusals there are.
-    ensures replay { (file run : List ℕ) → IsReplay (map string_bytes words.now) file run →
-        outcome_of result.outcome ≢ own.ReadFault → OfFile (F.held files.old file) (λ bytes.
-        Replays bytes (F.held files.old run) (outcome_of result.outcome)) }
-
-    // The summary of a ring, exactly, and so the same at each run. No file is read, and the ring is never refused.
-    ensures ring { (stages : ℕ) → IsRing (map string_bytes words.now) stages →
-        Rings stages (outcome_of result.outcome) }
-
-    // Where its files are accepted and no fault is counted, a command comes to an outcome of its own.
-    ensures complete { (asked : request.Request) → Asks (map string_bytes words.now) asked →
-        AreAccepted asked (F.held files.old) →
-        ((name : List ℕ) → IsFaultCounted (F.faults files.old name) (F.faults files.new name) → ⊥) →
-        (IsFaultCounted (S.faults out.old) (S.faults out.new) → ⊥) →
-        IsOwnOutcome asked (outcome_of result.outcome) × IsOfAnswer result.status }
+    // They ask for something: there is one list of bytes of each file that is read, by which all that the definitions say
+    // of the request is so: the outcome, the headline, the text that is written, what `check` finds in it, and which
+    // outcomes come where the files are accepted.
+    ensures world { (asked : request.Request) → Asks (map string_bytes words.now) asked →
+        World asked (outside F.held F.faults F.loads files.old files.new)
+        (outcome_of result.outcome) (λ text.
+        IsWritten result.status (S.written out.old) (S.written out.new) text) }
 
     ensures held_stays { (name : List ℕ) → F.held files.new name ≡ F.held files.old name }
     ensures read_faults_rise { (name : List ℕ) →
@@ -206,17 +155,6 @@ pub fn top<F: Files, S: Sink>(alloc: Global, words: &[String], files: &mut F, ou
         result.status ≡ status_of (outcome_of result.outcome) }
     ensures write_fault { result.status ≡ 6 →
         IsFaultCounted (S.faults out.old) (S.faults out.new) }
-
-    // What was written: all of the outcome's text, or with status 6 a part of it, from its start. Clauses are written in
-    // the words of the protocol that the file spells.
-    ensures whole { result.status ≢ 6 → (text : List ℕ) ×
-        IsTextOf (request_of (map string_bytes words.now)) (F.held files.old)
-        (outcome_of result.outcome) text ×
-        (S.written out.new ≡ appended (S.written out.old) text) }
-    ensures part { result.status ≡ 6 → (text : List ℕ) ×
-        IsTextOf (request_of (map string_bytes words.now)) (F.held files.old)
-        (outcome_of result.outcome) text ×
-        AppendsPart (S.written out.old) (S.written out.new) text }
 {
     asked_budgets();
     verdicts_are_read_back();

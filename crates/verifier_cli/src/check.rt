@@ -1,22 +1,23 @@
 //! The command `check`: what is ruled of the certificates of a report.
 
-ghost use Rattle.std.specs.Prelude.{◌≡◌, ◌≢◌, ◌≤◌, ℕ, List, None, length, map, IfOk, IfErr};
-ghost use Rattle.hv_io.specs.Faults.{IsFaultCounted};
+ghost use Rattle.std.specs.Prelude.{◌≡◌, ◌≤◌, ℕ, List, None, length, map, IfOk, IfErr};
+ghost use Rattle.spec_calculus.specs.Bounds.{most_report_bytes};
 ghost use Rattle.hv_io.specs.Place.{line_at};
+ghost use Rattle.command_words.specs.Request as request;
 ghost use Rattle.pi_tree.specs.Protocols.{protocol_of};
 ghost use Rattle.pi_tree.specs.Accessors.{IsThere};
 ghost use Rattle.pi_tree.specs.declared.accessors.Kind.TheVariants.{Query as OfQueries};
 ghost use Rattle.query_derive.specs.GoalRows.{OfQuery};
 ghost use Rattle.cert_reader.specs.Seen.{claim_of};
-ghost use Rattle.verifier_cli.specs.Command.{OfFile, IsEitherUnreadable};
 ghost use Rattle.verifier_cli.specs.Checking.{IsFindingOf, AreFindingsOf, IsCheckOf, MakesClaims};
-ghost use Rattle.verifier_cli.specs.Checking.{ChecksReport, Checks};
+ghost use Rattle.verifier_cli.specs.Checking.{ChecksReport};
 ghost use Rattle.verifier_cli.specs.Loaded.{IsLoaded};
-ghost use Rattle.verifier_cli.specs.Outcome as own;
+ghost use Rattle.verifier_cli.specs.Outside.{IfRead, OfFile, outside};
 ghost use Rattle.verifier_cli.specs.ReportReading.{report_not_loaded, report_not_read};
-ghost use Rattle.verifier_cli.specs.ReportReading.{IsUnreadReport, IsOfReport};
+ghost use Rattle.verifier_cli.specs.ReportReading.{IsUnreadReport};
 ghost use Rattle.verifier_cli.specs.SeenOutcome.{outcome_of};
 ghost use Rattle.verifier_cli.specs.Text.{HasText};
+ghost use Rattle.verifier_cli.specs.World.{ComesTo};
 
 use crate::loading::{Unloaded, load_protocol, load_text};
 use crate::outcome::{Finding, Findings, Outcome, Refusal, ReportCode};
@@ -79,12 +80,12 @@ fn load_claims<F: Files>(
     ensures read_faults_rise { (name : List ℕ) →
         F.faults files.old name ≤ F.faults files.new name }
     ensures each { IfOk result (λ claims.
-        length claims.items.items ≡ length protocol.now.queries) }
-    ensures made { IfOk result (λ claims. OfFile (F.held files.old report.now) (λ bytes.
-        MakesClaims (protocol_of protocol.now) bytes (map claim_of claims.items.items))) }
+        length claims ≡ length protocol.now.queries) }
+    ensures made { IfOk result (λ claims.
+        OfFile (outside F.held F.faults F.loads files.old files.new) report.now most_report_bytes
+        (λ bytes. MakesClaims (protocol_of protocol.now) bytes (map claim_of claims))) }
     ensures unread { IfErr result (λ outcome. IsUnreadReport (protocol_of protocol.now)
-        (IsFaultCounted (F.faults files.old report.now) (F.faults files.new report.now))
-        (F.held files.old report.now) (outcome_of outcome)) }
+        (outside F.held F.faults F.loads files.old files.new) report.now (outcome_of outcome)) }
 {
     reports_are_read();
     match load_text(report, MOST_REPORT_BYTES, files) {
@@ -118,9 +119,9 @@ fn finding(
 /// What is found of the claims, one for each query of the protocol.
 fn findings(alloc: Global, protocol: &Protocol, claims: &Claims) -> Result<Findings, AllocError>
     requires loaded { IsLoaded (protocol_of protocol.now) }
-    requires each { length claims.now.items.items ≡ length protocol.now.queries }
+    requires each { length claims.now ≡ length protocol.now.queries }
     ensures { let P = protocol_of protocol.now in IfOk result (λ findings.
-        AreFindingsOf P P.queries (map claim_of claims.now.items.items) findings) }
+        AreFindingsOf P P.queries (map claim_of claims.now) findings) }
 {
     let mut items = Vec::new(alloc);
     'each: for (index, claim) in claims.items.iter().enumerate() {
@@ -132,10 +133,9 @@ fn findings(alloc: Global, protocol: &Protocol, claims: &Claims) -> Result<Findi
 /// What checking the claims comes to.
 fn checked(alloc: Global, protocol: &Protocol, claims: &Claims) -> Outcome
     requires loaded { IsLoaded (protocol_of protocol.now) }
-    requires each { length claims.now.items.items ≡ length protocol.now.queries }
-    ensures found { IsCheckOf (protocol_of protocol.now) (map claim_of claims.now.items.items)
+    requires each { length claims.now ≡ length protocol.now.queries }
+    ensures { IsCheckOf (protocol_of protocol.now) (map claim_of claims.now)
         (outcome_of result) }
-    ensures kind { IsOfReport (outcome_of result) }
 {
     match findings(alloc, protocol, claims) {
         Ok(findings) => Outcome::Checked(findings),
@@ -154,11 +154,8 @@ fn check_report<F: Files>(
     ensures held_stays { (name : List ℕ) → F.held files.new name ≡ F.held files.old name }
     ensures read_faults_rise { (name : List ℕ) →
         F.faults files.old name ≤ F.faults files.new name }
-    ensures kind { IsOfReport (outcome_of result) }
-    ensures fault { outcome_of result ≡ own.ReadFault →
-        IsFaultCounted (F.faults files.old report.now) (F.faults files.new report.now) }
-    ensures found { outcome_of result ≢ own.ReadFault →
-        OfFile (F.held files.old report.now) (λ text.
+    ensures checked { IfRead (outside F.held F.faults F.loads files.old files.new) report.now
+        most_report_bytes (outcome_of result) (λ text.
         ChecksReport (protocol_of protocol.now) text (outcome_of result)) }
 {
     reports_are_read();
@@ -178,14 +175,9 @@ pub(crate) fn check_file<F: Files>(
     ensures held_stays { (name : List ℕ) → F.held files.new name ≡ F.held files.old name }
     ensures read_faults_rise { (name : List ℕ) →
         F.faults files.old name ≤ F.faults files.new name }
-    ensures used { outcome_of result ≢ own.Usage }
     ensures words { HasText None (outcome_of result) }
-    ensures fault { outcome_of result ≡ own.ReadFault →
-        IsEitherUnreadable file.now report.now (F.held files.old) (λ name.
-        IsFaultCounted (F.faults files.old name) (F.faults files.new name)) }
-    ensures checked { outcome_of result ≢ own.ReadFault →
-        OfFile (F.held files.old file.now) (λ bytes.
-        Checks bytes (F.held files.old report.now) (outcome_of result)) }
+    ensures comes { ComesTo (request.Check file.now report.now)
+        (outside F.held F.faults F.loads files.old files.new) None (outcome_of result) }
 {
     one_protocol();
     one_refusal();

@@ -21,7 +21,6 @@ pub use crate::call::top;
 pub use crate::outcome::{
     Answer, Finding, Findings, Outcome, ProtocolCode, Refusal, ReportCode, Ring, RunCode,
 };
-pub use crate::read_back::written_verdicts_are_reports;
 pub use crate::text::{outcome_text, status};
 pub use cert_checker::Ruling;
 pub use query_verify::{Verdict, Verdicts};

@@ -1,16 +1,16 @@
 //! The command `list`: the clauses that a protocol and a query are translated into.
 
-ghost use Rattle.std.specs.Prelude.{◌≡◌, ◌≢◌, ◌↔◌, ◌<◌, ◌≤◌, ℕ, List, length, map, true, option_map, IfOk};
-ghost use Rattle.hv_io.specs.Faults.{IsFaultCounted};
+ghost use Rattle.std.specs.Prelude.{◌≡◌, ◌↔◌, ◌<◌, ◌≤◌, ℕ, List, length, map, true, option_map, IfOk};
 ghost use Rattle.pi_tree.specs.Protocols.{protocol_of};
 ghost use Rattle.run_replay.specs.Limits.{IsLimited};
-ghost use Rattle.verifier_cli.specs.Command.{OfFile};
+ghost use Rattle.command_words.specs.Request as request;
 ghost use Rattle.clause_form.specs.Seen.{clause_at, AreClausesIn};
-ghost use Rattle.verifier_cli.specs.Listing.{IsListOf, Lists, IsSpelledAt};
+ghost use Rattle.verifier_cli.specs.Listing.{IsListOf};
 ghost use Rattle.verifier_cli.specs.Loaded.{IsLoaded};
-ghost use Rattle.verifier_cli.specs.Outcome as own;
+ghost use Rattle.verifier_cli.specs.Outside.{outside};
 ghost use Rattle.verifier_cli.specs.SeenOutcome.{outcome_of};
 ghost use Rattle.verifier_cli.specs.Text.{HasText};
+ghost use Rattle.verifier_cli.specs.World.{ComesTo};
 
 use crate::loading::load_protocol;
 use crate::outcome::{Decision, Outcome};
@@ -76,15 +76,10 @@ fn listed(alloc: Global, protocol: &Protocol, query: u64) -> Outcome
 pub(crate) fn list_file<F: Files>(alloc: Global, file: &str, query: u64, files: &mut F) -> Decision
     ensures held_stays { (name : List ℕ) → F.held files.new name ≡ F.held files.old name }
     ensures read_faults_rise { (name : List ℕ) → F.faults files.old name ≤ F.faults files.new name }
-    ensures used { outcome_of result.outcome ≢ own.Usage }
-    ensures fault { outcome_of result.outcome ≡ own.ReadFault →
-        IsFaultCounted (F.faults files.old file.now) (F.faults files.new file.now) }
-    ensures source { IsSpelledAt (F.held files.old file.now)
-        (option_map protocol_of result.protocol) }
     ensures words { HasText (option_map protocol_of result.protocol) (outcome_of result.outcome) }
-    ensures listed { outcome_of result.outcome ≢ own.ReadFault →
-        OfFile (F.held files.old file.now) (λ bytes.
-        Lists bytes query (outcome_of result.outcome)) }
+    ensures comes { ComesTo (request.ListOf file.now query)
+        (outside F.held F.faults F.loads files.old files.new)
+        (option_map protocol_of result.protocol) (outcome_of result.outcome) }
 {
     one_protocol();
     one_refusal();

@@ -1,15 +1,13 @@
 //! Loading the whole text of a file, and the protocol that it spells.
 
-ghost use Rattle.std.specs.Prelude.{◌≡◌, ◌-◌, ◌^◌, ◌<◌, ◌≤◌, ℕ, List, length, vec_len, IfOk, IfErr, IfSome, Err};
+ghost use Rattle.std.specs.Prelude.{◌≡◌, ◌-◌, ◌^◌, ◌<◌, ◌≤◌, ℕ, List, length, vec_len, IfOk, IfErr};
 ghost use Rattle.spec_calculus.specs.Bounds.{most_bytes};
-ghost use Rattle.hv_io.specs.Faults.{IsFaultCounted};
 ghost use Rattle.pi_tree.specs.Protocols.{protocol_of};
 ghost use Rattle.spec_protocol_scope.specs.Spells.{Spells};
 ghost use Rattle.run_replay.specs.Limits.{IsLimited};
-ghost use Rattle.verifier_cli.specs.declared.loading.Unloaded.TheVariants as unloaded;
-ghost use Rattle.verifier_cli.specs.Command.{OfFile};
 ghost use Rattle.verifier_cli.specs.Loaded.{IsLoaded};
-ghost use Rattle.verifier_cli.specs.Reading.{IsStopOf, IsNoReading, IsUnread, not_loaded};
+ghost use Rattle.verifier_cli.specs.Outside.{OfFile, outside};
+ghost use Rattle.verifier_cli.specs.Reading.{IsStopOf, IsNoReading, IsNoText, IsUnread, not_loaded};
 ghost use Rattle.verifier_cli.specs.SeenOutcome.{outcome_of};
 
 use crate::outcome::{Outcome, ProtocolCode, Refusal};
@@ -27,7 +25,7 @@ pub enum Unloaded {
     Failed,
     /// The file has too many bytes.
     TooLong,
-    /// There was no memory.
+    /// Want of memory.
     Memory,
 }
 
@@ -41,12 +39,11 @@ pub(crate) fn load_text<F: Files>(
     ensures held_stays { (any : List ℕ) → F.held files.new any ≡ F.held files.old any }
     ensures read_faults_rise { (any : List ℕ) → F.faults files.old any ≤ F.faults files.new any }
     ensures within { IfOk result (λ bytes. vec_len bytes ≤ most) }
-    ensures whole { IfOk result (λ bytes. IfSome (F.held files.old name.now)
-        (λ all. bytes.items ≡ all)) }
-    ensures long { result ≡ Err unloaded.TooLong →
-        OfFile (F.held files.old name.now) (λ bytes. most < length bytes) }
-    ensures failed { result ≡ Err unloaded.Failed →
-        IsFaultCounted (F.faults files.old name.now) (F.faults files.new name.now) }
+    ensures loaded { IfOk result (λ bytes.
+        OfFile (outside F.held F.faults F.loads files.old files.new) name.now most (λ all.
+        bytes.items ≡ all)) }
+    ensures unloaded { IfErr result (λ why.
+        IsNoText (outside F.held F.faults F.loads files.old files.new) name.now most why) }
 {
     match files.load(name, most + 1) {
         Err(LoadError::Failed) => Err(Unloaded::Failed),
@@ -120,10 +117,11 @@ pub(crate) fn load_protocol<F: Files>(
     ensures limited { IfOk result (λ protocol. IsLimited (protocol_of protocol)) }
     ensures loaded { IfOk result (λ protocol. IsLoaded (protocol_of protocol)) }
     ensures spelled { IfOk result (λ protocol.
-        OfFile (F.held files.old file.now) (λ bytes. Spells bytes (protocol_of protocol))) }
+        OfFile (outside F.held F.faults F.loads files.old files.new) file.now most_bytes (λ bytes.
+        Spells bytes (protocol_of protocol))) }
     ensures unread { IfErr result (λ outcome.
-        IsUnread (IsFaultCounted (F.faults files.old file.now) (F.faults files.new file.now))
-        (F.held files.old file.now) (outcome_of outcome)) }
+        IsUnread (outside F.held F.faults F.loads files.old files.new) file.now
+        (outcome_of outcome)) }
 {
     match load_text(file, MOST_BYTES, files) {
         Err(why) => Err(not_loaded(why)),

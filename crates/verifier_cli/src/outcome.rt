@@ -153,7 +153,7 @@ pub enum Outcome {
     Refused(Refusal),
     /// A file could not be read.
     ReadFault,
-    /// There was no memory.
+    /// Want of memory, which may come in place of any other outcome.
     Memory,
 }
 

@@ -3,15 +3,17 @@
 ghost use Rattle.std.specs.Prelude.{◌≡◌, ◌≤◌, length, IfOk, IfErr};
 ghost use Rattle.spec_calculus.specs.Bounds.{most_bytes};
 ghost use Rattle.pi_tree.specs.Protocols.{protocol_of};
+ghost use Rattle.pi_parser.specs.Answers.{IsSpelled};
 ghost use Rattle.pi_parser.specs.Files.{file_of};
-ghost use Rattle.spec_protocol_scope.specs.Spells.{IsSketchOf, Spells};
+ghost use Rattle.spec_protocol_tokens.specs.Lexed.{Lexed};
+ghost use Rattle.spec_protocol_scope.specs.Spells.{Spells};
 ghost use Rattle.verifier_cli.specs.Reading.{IsStopOf};
 
 use crate::outcome::ProtocolCode;
-use pi_lexer::{LexError, lex};
+use pi_lexer::{LexError, Tokens, lex};
 use pi_parser::{ParseError, Sketch, parse};
 use pi_tree::Protocol;
-use scope_check::{ScopeError, check_scope};
+use scope_check::{ScopeError, check_tokens};
 use spec_protocol_tokens::spans_ascend;
 use std::alloc::Global;
 
@@ -20,7 +22,7 @@ use std::alloc::Global;
 pub enum Stop {
     /// The bytes are refused, at the byte of this number, from 0.
     Refused(ProtocolCode, usize),
-    /// There was no memory.
+    /// Want of memory.
     Memory,
 }
 
@@ -73,26 +75,16 @@ impl From<ScopeError> for Stop {
     }
 }
 
-/// What the grammar makes of the bytes of a file, or why it refuses them and at which byte.
-fn read_sketch(alloc: Global, bytes: &[u8]) -> Result<Sketch, Stop>
-    requires { length bytes.now ≤ most_bytes }
-    ensures sketched { IfOk result (λ sketch. IsSketchOf bytes.now (file_of sketch)) }
-    ensures refused { IfErr result (λ stop. IsStopOf bytes.now stop) }
-{
-    spans_ascend();
-    let tokens = lex(alloc, bytes)?;
-    let sketch = parse(alloc, bytes, &tokens)?;
-    Ok(sketch)
-}
-
-/// The protocol that the sketch of these bytes stands for, or why it is refused and at which byte.
-fn scoped(alloc: Global, bytes: &[u8], sketch: &Sketch) -> Result<Protocol, Stop>
-    requires { IsSketchOf bytes.now (file_of sketch.now) }
+/// The protocol that the sketch of these tokens stands for, or why it is refused and at which byte.
+fn scoped(alloc: Global, bytes: &[u8], tokens: &Tokens, sketch: &Sketch) -> Result<Protocol, Stop>
+    requires short { length bytes.now ≤ most_bytes }
+    requires lexed { Lexed bytes.now tokens.now }
+    requires sketched { IsSpelled bytes.now tokens.now (file_of sketch.now) }
     ensures spelled { IfOk result (λ protocol. Spells bytes.now (protocol_of protocol)) }
     ensures refused { IfErr result (λ stop. IsStopOf bytes.now stop) }
 {
     spans_ascend();
-    let protocol = check_scope(alloc, bytes, sketch)?;
+    let protocol = check_tokens(alloc, bytes, tokens, sketch)?;
     Ok(protocol)
 }
 
@@ -102,8 +94,10 @@ pub(crate) fn read_protocol(alloc: Global, bytes: &[u8]) -> Result<Protocol, Sto
     ensures spelled { IfOk result (λ protocol. Spells bytes.now (protocol_of protocol)) }
     ensures refused { IfErr result (λ stop. IsStopOf bytes.now stop) }
 {
-    let sketch = read_sketch(alloc, bytes)?;
-    let protocol = scoped(alloc, bytes, &sketch);
+    spans_ascend();
+    let tokens = lex(alloc, bytes)?;
+    let sketch = parse(alloc, bytes, &tokens)?;
+    let protocol = scoped(alloc, bytes, &tokens, &sketch);
     drop(sketch);
     protocol
 }

@@ -1,17 +1,16 @@
 //! The command `replay`: what the steps of a run show.
 
-ghost use Rattle.std.specs.Prelude.{◌≡◌, ◌≢◌, ◌<◌, ◌≤◌, ◌^◌, ◌⊎◌, ℕ, List, None, length, IfOk, IfErr};
-ghost use Rattle.spec_calculus.specs.Syntax as syntax;
-ghost use Rattle.hv_io.specs.Faults.{IsFaultCounted};
+ghost use Rattle.std.specs.Prelude.{◌≡◌, ◌<◌, ◌≤◌, ◌^◌, ℕ, List, None, length, IfOk, IfErr};
+ghost use Rattle.spec_calculus.specs.Bounds.{most_run_bytes};
+ghost use Rattle.command_words.specs.Request as request;
 ghost use Rattle.pi_tree.specs.Protocols.{protocol_of};
-ghost use Rattle.spec_protocol_scope.specs.Spells.{Spells};
 ghost use Rattle.run_replay.specs.Limits.{IsLimited};
-ghost use Rattle.verifier_cli.specs.Command.{OfFile};
-ghost use Rattle.verifier_cli.specs.Outcome as own;
-ghost use Rattle.verifier_cli.specs.Replaying.{SpellsSteps, IsOutcomeOfReplay, RunsOn, Replays};
-ghost use Rattle.verifier_cli.specs.RunReading.{run_not_loaded, run_not_read, IsUnreadRun, IsOfRun};
+ghost use Rattle.verifier_cli.specs.Outside.{IfRead, OfFile, outside};
+ghost use Rattle.verifier_cli.specs.Replaying.{SpellsSteps, IsOutcomeOfReplay, RunsOn};
+ghost use Rattle.verifier_cli.specs.RunReading.{run_not_loaded, run_not_read, IsUnreadRun};
 ghost use Rattle.verifier_cli.specs.SeenOutcome.{outcome_of};
 ghost use Rattle.verifier_cli.specs.Text.{HasText};
+ghost use Rattle.verifier_cli.specs.World.{ComesTo};
 
 use crate::loading::{Unloaded, load_protocol, load_text};
 use crate::outcome::{Outcome, Refusal, RunCode};
@@ -53,11 +52,12 @@ fn load_run<F: Files>(alloc: Global, run: &str, files: &mut F) -> Result<Steps, 
     ensures held_stays { (name : List ℕ) → F.held files.new name ≡ F.held files.old name }
     ensures read_faults_rise { (name : List ℕ) → F.faults files.old name ≤ F.faults files.new name }
     ensures few { IfOk result (λ steps. length steps < 2 ^ 32) }
-    ensures spelled { IfOk result (λ steps. OfFile (F.held files.old run.now)
+    ensures spelled { IfOk result (λ steps.
+        OfFile (outside F.held F.faults F.loads files.old files.new) run.now most_run_bytes
         (λ bytes. SpellsSteps bytes steps)) }
     ensures unread { IfErr result (λ outcome.
-        IsUnreadRun (IsFaultCounted (F.faults files.old run.now) (F.faults files.new run.now))
-        (F.held files.old run.now) (outcome_of outcome)) }
+        IsUnreadRun (outside F.held F.faults F.loads files.old files.new) run.now
+        (outcome_of outcome)) }
 {
     spec_run_text::few_steps();
     match load_text(run, MOST_RUN_BYTES, files) {
@@ -73,8 +73,7 @@ fn load_run<F: Files>(alloc: Global, run: &str, files: &mut F) -> Result<Steps, 
 fn replayed(alloc: Global, protocol: &Protocol, steps: &Steps) -> Outcome
     requires limits { IsLimited (protocol_of protocol.now) }
     requires few { length steps.now < 2 ^ 32 }
-    ensures shown { IsOutcomeOfReplay (protocol_of protocol.now) steps.now (outcome_of result) }
-    ensures kind { IsOfRun (outcome_of result) }
+    ensures { IsOutcomeOfReplay (protocol_of protocol.now) steps.now (outcome_of result) }
 {
     match replay(alloc, protocol, &steps.items) {
         Ok(replayed) => Outcome::Replayed(replayed),
@@ -87,11 +86,8 @@ fn replay_run<F: Files>(alloc: Global, protocol: &Protocol, run: &str, files: &m
     requires { IsLimited (protocol_of protocol.now) }
     ensures held_stays { (name : List ℕ) → F.held files.new name ≡ F.held files.old name }
     ensures read_faults_rise { (name : List ℕ) → F.faults files.old name ≤ F.faults files.new name }
-    ensures kind { IsOfRun (outcome_of result) }
-    ensures fault { outcome_of result ≡ own.ReadFault →
-        IsFaultCounted (F.faults files.old run.now) (F.faults files.new run.now) }
-    ensures shown { outcome_of result ≢ own.ReadFault →
-        OfFile (F.held files.old run.now) (λ text.
+    ensures shown { IfRead (outside F.held F.faults F.loads files.old files.new) run.now
+        most_run_bytes (outcome_of result) (λ text.
         RunsOn (protocol_of protocol.now) text (outcome_of result)) }
 {
     spec_run_text::one_run();
@@ -107,15 +103,9 @@ fn replay_run<F: Files>(alloc: Global, protocol: &Protocol, run: &str, files: &m
 pub(crate) fn replay_file<F: Files>(alloc: Global, file: &str, run: &str, files: &mut F) -> Outcome
     ensures held_stays { (name : List ℕ) → F.held files.new name ≡ F.held files.old name }
     ensures read_faults_rise { (name : List ℕ) → F.faults files.old name ≤ F.faults files.new name }
-    ensures used { outcome_of result ≢ own.Usage }
     ensures words { HasText None (outcome_of result) }
-    ensures fault { outcome_of result ≡ own.ReadFault →
-        IsFaultCounted (F.faults files.old file.now) (F.faults files.new file.now) ⊎
-        (OfFile (F.held files.old file.now) (λ bytes. (P : syntax.Protocol) × Spells bytes P) ×
-        IsFaultCounted (F.faults files.old run.now) (F.faults files.new run.now)) }
-    ensures replayed { outcome_of result ≢ own.ReadFault →
-        OfFile (F.held files.old file.now) (λ bytes.
-        Replays bytes (F.held files.old run.now) (outcome_of result)) }
+    ensures comes { ComesTo (request.Replay file.now run.now)
+        (outside F.held F.faults F.loads files.old files.new) None (outcome_of result) }
 {
     one_protocol();
     one_refusal();

@@ -1,24 +1,37 @@
 //! The command `verify`: the verdicts of the queries of a protocol.
 
-ghost use Rattle.std.specs.Prelude.{◌≡◌, ◌≢◌, ◌≤◌, ℕ, List, option_map};
-ghost use Rattle.hv_io.specs.Faults.{IsFaultCounted};
+ghost use Rattle.std.specs.Prelude.{◌≡◌, ◌≤◌, ℕ, List, option_map, IfOk};
 ghost use Rattle.pi_tree.specs.Protocols.{protocol_of};
-ghost use Rattle.verifier_cli.specs.Command.{OfFile, Verifies, IsDecidedBy};
-ghost use Rattle.verifier_cli.specs.Listing.{IsSpelledAt};
+ghost use Rattle.command_words.specs.Request as request;
+ghost use Rattle.query_verify.specs.Told.{AnswerQueries};
+ghost use Rattle.verifier_cli.specs.Command.{IsDecidedBy};
 ghost use Rattle.verifier_cli.specs.Loaded.{IsLoaded};
-ghost use Rattle.verifier_cli.specs.Outcome as own;
+ghost use Rattle.verifier_cli.specs.Outside.{outside};
 ghost use Rattle.verifier_cli.specs.SeenOutcome.{outcome_of};
 ghost use Rattle.verifier_cli.specs.Text.{HasText};
+ghost use Rattle.verifier_cli.specs.World.{ComesTo};
 
 use crate::loading::load_protocol;
 use crate::outcome::{Decision, Outcome};
 use hv_io::Files;
-use pi_tree::Protocol;
-use query_verify::{MOST_BUDGET, verdicts};
+use pi_tree::{MOST_BUDGET, Protocol};
+use query_verify::{Verdicts, verdicts};
 use spec_protocol_scope::{never_both, one_protocol, one_refusal};
 use spec_read_protocols::queries_of_read_protocols;
 use spec_verdicts::proved_queries_hold;
-use std::alloc::Global;
+use std::alloc::{AllocError, Global};
+use term_tree::TreeBank;
+
+/// The verdicts of the queries of the protocol with the budget, over a bank of their own.
+fn all_verdicts(alloc: Global, protocol: &Protocol, budget: u64) -> Result<Verdicts, AllocError>
+    requires loaded { IsLoaded (protocol_of protocol.now) }
+    requires budget { budget ≤ MOST_BUDGET }
+    ensures { let P = protocol_of protocol.now in
+        IfOk result (λ answers. AnswerQueries P budget P.queries answers) }
+{
+    let mut bank = TreeBank::new(alloc)?;
+    verdicts(alloc, &mut bank, protocol, budget)
+}
 
 /// What the queries of the protocol come to with the budget.
 fn decided(alloc: Global, protocol: &Protocol, budget: u64) -> Outcome
@@ -26,7 +39,7 @@ fn decided(alloc: Global, protocol: &Protocol, budget: u64) -> Outcome
     requires budget { budget ≤ MOST_BUDGET }
     ensures { IsDecidedBy (protocol_of protocol.now) budget (outcome_of result) }
 {
-    match verdicts(alloc, protocol, budget) {
+    match all_verdicts(alloc, protocol, budget) {
         Ok(verdicts) => Outcome::Verified(verdicts),
         Err(_) => Outcome::Memory,
     }
@@ -42,15 +55,10 @@ pub(crate) fn verify_file<F: Files>(
     requires { budget ≤ MOST_BUDGET }
     ensures held_stays { (name : List ℕ) → F.held files.new name ≡ F.held files.old name }
     ensures read_faults_rise { (name : List ℕ) → F.faults files.old name ≤ F.faults files.new name }
-    ensures used { outcome_of result.outcome ≢ own.Usage }
-    ensures fault { outcome_of result.outcome ≡ own.ReadFault →
-        IsFaultCounted (F.faults files.old file.now) (F.faults files.new file.now) }
-    ensures source { IsSpelledAt (F.held files.old file.now)
-        (option_map protocol_of result.protocol) }
     ensures words { HasText (option_map protocol_of result.protocol) (outcome_of result.outcome) }
-    ensures verified { outcome_of result.outcome ≢ own.ReadFault →
-        OfFile (F.held files.old file.now) (λ bytes.
-        Verifies bytes budget (outcome_of result.outcome)) }
+    ensures comes { ComesTo (request.Verify file.now budget)
+        (outside F.held F.faults F.loads files.old files.new)
+        (option_map protocol_of result.protocol) (outcome_of result.outcome) }
 {
     one_protocol();
     one_refusal();

@@ -9,12 +9,12 @@ certify-requires-clause-few g c =
     let many = tell_length (g.B.Bank.trees c.args.bank.now) c.args.log.now c.requires.log.log c.requires.log.tell in
     omega (arith, many, c.requires.log.is_log.within, c.requires.question.budget)
 
-pub returns-in-Cert : goal.returns-in-Cert
-returns-in-Cert g c =
+pub returns-in-Cert-clause-answers : goal.returns-in-Cert-clause-answers
+returns-in-Cert-clause-answers g c =
     proved_answer (protocol_at c.args.question.now) c.args.question.now.query c.args.question.now.budget (g.B.Bank.trees c.args.bank.now) c.args.given.now c.args.log.now c.in_ok-cert.field-0 c.in-Cert.cert
     c.in_ok-cert.ensures.verdict c.in-Cert.is c.requires.log
 
-pub returns-in_ok-entries-in-Unsatisfied : goal.returns-in_ok-entries-in-Unsatisfied
-returns-in_ok-entries-in-Unsatisfied g c =
+pub returns-in_ok-entries-in-Unsatisfied-clause-answers : goal.returns-in_ok-entries-in-Unsatisfied-clause-answers
+returns-in_ok-entries-in-Unsatisfied-clause-answers g c =
     unmet_answer (protocol_at c.args.question.now) c.args.question.now.query c.args.question.now.budget (g.B.Bank.trees c.args.bank.now) (g.B.Bank.trees c.certify.new.bank) c.args.given.now c.args.log.now
     c.in_ok-cert.field-0 c.in-Unsatisfied.number c.in_ok-entries-in-Unsatisfied.entries c.in_ok-cert.ensures.verdict c.in-Unsatisfied.is c.requires.log c.certify.ensures.bank c.in_ok-entries-in-Unsatisfied.ensures

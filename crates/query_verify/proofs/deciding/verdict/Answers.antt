@@ -1,11 +1,10 @@
-use Rattle.std.proofs.Common.{subst}
-use Rattle.pi_tree.specs.Protocols.{protocol_of}
-use Rattle.clause_translate.specs.declared.whole.Translated.{Translated}
-use Rattle.clause_translate.specs.Whole.{Translates}
-use Rattle.query_verify.proofs.Answering.{point_answer}
+use Rattle.std.proofs.Common.{◌∙◌, ap}
+use Rattle.std.specs.Prelude.{take}
+use Rattle.term_tree.proofs.BankLaws.{take-grows}
 use Rattle.query_verify.proofs.deciding.verdict.Goals as goal
 
-pub returns-in-Large : goal.returns-in-Large
-returns-in-Large c =
-    let P = protocol_of c.args.protocol.now in
-    point_answer P c.args.query c.args.budget c.in-Large.point (subst (λ (t : Translated). Translates P c.args.query c.translate.new.bank t) c.in-Large.is c.in_ok-point.ensures.translates)
+pub returns-clause-bank : goal.returns-clause-bank
+returns-clause-bank g c =
+    let old = g.B.Bank.trees c.args.bank.now in
+    let new = g.B.Bank.trees c.asked-answer.new.bank in
+    c.back.ensures ∙ (ap (λ n. take n new) c.mark-mark.ensures ∙ take-grows old new c.asked-answer.ensures.grows)

@@ -1,6 +1,6 @@
-use Rattle.std.proofs.Common.{◌≡◌, length, drop, refl, ◌∙◌, ap, subst, arith}
+use Rattle.std.proofs.Common.{◌≡◌, length, drop, ◌∙◌, subst, arith}
 use Rattle.pi_tree.specs.Protocols.{protocol_of}
-use Rattle.spec_certificate_reading.specs.Runs.{at_end, read_on, read_term}
+use Rattle.spec_certificate_reading.specs.Runs.{read_on, read_term}
 use Rattle.term_reader.specs.Seen.{reading_of}
 use Rattle.term_reader.proofs.Walk.{at_last}
 use Rattle.term_reader.proofs.reading.term_at.Goals as goal
@@ -13,4 +13,4 @@ returns-clause-read c =
     let whole = read_term P (drop c.args.at bytes) c.args.at in
     let same : c.loop-place.place ≡ length bytes = omega (arith, c.loop-place.auto.place-end, c.loop-place-test.false, c.requires) in
     let there : read_on P (drop (length bytes) bytes) (length bytes) r ≡ whole = subst (λ n. read_on P (drop n bytes) n r ≡ whole) same c.loop-place.invariant in
-    c.at_end.ensures.read bytes refl ∙ (ap (at_end (length bytes)) c.in_ok-last.ensures ∙ at_last P bytes (length bytes) r whole there (omega arith))
+    c.at_end-place.ensures ∙ at_last P bytes (length bytes) r whole there (omega arith)

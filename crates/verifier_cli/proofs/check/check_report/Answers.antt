@@ -1,24 +1,33 @@
+use Rattle.std.proofs.Common.{inl, map}
 use Rattle.pi_tree.specs.Protocols.{protocol_of}
+use Rattle.cert_reader.specs.Seen.{claim_of}
+use Rattle.verifier_cli.specs.Checking.{ChecksReport, MakesClaims}
+use Rattle.verifier_cli.specs.ReportReading.{IsNoReport}
+use Rattle.verifier_cli.specs.SeenOutcome.{outcome_of}
+use Rattle.verifier_cli.proofs.Checking.{ReportLaws, claims_check, no_report_checks}
+use Rattle.verifier_cli.proofs.Files.{if_read, of_file}
 use Rattle.verifier_cli.proofs.Limits.{short_queries}
-use Rattle.verifier_cli.proofs.Checking.{ReportLaws, claims_said, unread_report_said}
 use Rattle.verifier_cli.proofs.check.check_report.Goals as goal
 
-pub returns-in-Err-clause-found : goal.returns-in-Err-clause-found
-returns-in-Err-clause-found g c =
+pub returns-in-Err-clause-checked : goal.returns-in-Err-clause-checked
+returns-in-Err-clause-checked g c =
     let P = protocol_of c.args.protocol.now in
     let short = short_queries P c.requires.limits in
     let laws : ReportLaws P = record {
       refused = λ bytes claims place code. c.reports_are_read.ensures.refused P bytes claims place code c.requires.names short;
       one = λ bytes claims others. c.reports_are_read.ensures.one P bytes claims others c.requires.names short;
     } in
-    unread_report_said P laws _ _ _ c.in-Err.ensures.unread
+    let outcome = outcome_of c.in-Err.outcome in
+    if_read _ _ _ _ (λ bytes. IsNoReport P bytes outcome) (λ bytes. ChecksReport P bytes outcome) (λ bytes is. no_report_checks P laws bytes outcome is) c.in-Err.ensures.unread
 
-pub returns-in-Ok-clause-found : goal.returns-in-Ok-clause-found
-returns-in-Ok-clause-found g c =
+pub returns-in-Ok-clause-checked : goal.returns-in-Ok-clause-checked
+returns-in-Ok-clause-checked g c =
     let P = protocol_of c.args.protocol.now in
     let short = short_queries P c.requires.limits in
     let laws : ReportLaws P = record {
       refused = λ bytes claims place code. c.reports_are_read.ensures.refused P bytes claims place code c.requires.names short;
       one = λ bytes claims others. c.reports_are_read.ensures.one P bytes claims others c.requires.names short;
     } in
-    λ _. claims_said P laws _ _ _ c.checked.ensures.found c.in-Ok.ensures.made
+    let outcome = outcome_of c.checked.result in
+    let claims = map claim_of c.in-Ok.claims in
+    inl (of_file _ _ _ (λ bytes. MakesClaims P bytes claims) (λ bytes. ChecksReport P bytes outcome) (λ bytes made. claims_check P laws bytes claims outcome c.checked.ensures made) c.in-Ok.ensures.made)

@@ -7,4 +7,4 @@ use Rattle.verifier_cli.proofs.check.findings.Given as goal
 
 abbrev pub invariant-each : goal.invariant-each
 invariant-each l =
-    AreFindingsOf (protocol_of l.protocol) (take l.index l.protocol.queries) (map claim_of (take l.index l.claims.items.items)) l.items.items
+    AreFindingsOf (protocol_of l.protocol) (take l.index l.protocol.queries) (map claim_of (take l.index l.claims)) l.items.items

@@ -1,6 +1,4 @@
 use Rattle.std.proofs.Common.{sym, subst}
-use Rattle.spec_calculus.specs.Syntax.{Secret, Free}
-use Rattle.spec_trees.specs.Tree.{Leaf}
 use Rattle.pi_tree.specs.Protocols.{protocol_of}
 use Rattle.spec_protocol_scope.specs.Spells.{Spells}
 use Rattle.spec_ring_text.specs.Meaning.{ring_protocol}
@@ -8,13 +6,15 @@ use Rattle.verifier_cli.specs.Outcome.{Outcome}
 use Rattle.verifier_cli.specs.Ringing.{Rings}
 use Rattle.verifier_cli.specs.SeenOutcome.{outcome_of}
 use Rattle.verifier_cli.proofs.Verifying.{Laws, Soundness}
-use Rattle.verifier_cli.proofs.Rings.{memory_rings, only_of, ring_said, unread_is_memory}
+use Rattle.verifier_cli.proofs.Rings.{memory_rings, ring_said, unread_is_memory}
 use Rattle.verifier_cli.proofs.ringing.verify_ring.Goals as goal
 
-pub summed-outcome-requires-clause-only : goal.summed-outcome-requires-clause-only
-summed-outcome-requires-clause-only c =
-    only_of (protocol_of c.in-Ok.protocol) (ring_protocol c.args.stages) (Secret (Leaf (Free 2)))
-    (c.one_protocol.ensures c.args.text.now (protocol_of c.in-Ok.protocol) (ring_protocol c.args.stages) c.in-Ok.ensures.spelled c.requires.spells) (c.ring_shapes.ensures.asked c.args.stages)
+pub summed-outcome-requires-clause-ring : goal.summed-outcome-requires-clause-ring
+summed-outcome-requires-clause-ring c =
+    c.one_protocol.ensures c.args.text.now (protocol_of c.in-Ok.protocol) (ring_protocol c.args.stages) c.in-Ok.ensures.spelled c.requires.spells
+
+pub returns-in-Ok-clause-spelled : goal.returns-in-Ok-clause-spelled
+returns-in-Ok-clause-spelled c = subst (λ text. Spells text (protocol_of c.in-Ok.protocol)) c.requires.text c.in-Ok.ensures.spelled
 
 pub returns-in-Err-clause-rings : goal.returns-in-Err-clause-rings
 returns-in-Err-clause-rings c =

@@ -1,7 +1,7 @@
 -- A step that stops refuses the bytes.
 use Rattle.std.proofs.lemmas.Result.{err_from_is_err_and}
 use Rattle.verifier_cli.proofs.Refusals.{lex_refused, parse_refused}
-use Rattle.verifier_cli.proofs.reading.read_sketch.Goals as goal
+use Rattle.verifier_cli.proofs.reading.read_protocol.Goals as goal
 
 pub returns-in_err-tokens-clause-refused : goal.returns-in_err-tokens-clause-refused
 returns-in_err-tokens-clause-refused c =
