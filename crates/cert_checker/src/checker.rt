@@ -1,6 +1,6 @@
 //! A certificate under check.
 
-use cert_text::Cert;
+use cert_form::Cert;
 use clause_form::Clause;
 use pi_tree::Protocol;
 use std::alloc::Global;

@@ -23,7 +23,7 @@ use crate::checker::Checker;
 use crate::judging::judge;
 use crate::ruling::Ruling;
 use crate::shaping::{Shaped, look_at_shapes};
-use cert_text::Cert;
+use cert_form::Cert;
 use clause_translate::{Translated, translate};
 use pi_tree::Protocol;
 use spec_soundness::accepted_queries_hold;

@@ -8,7 +8,7 @@ ghost use Rattle.clause_form.specs.Seen.{fact_at, clause_at, IsClauseIn};
 ghost use Rattle.cert_checker.specs.Stages.{HasShape};
 ghost use Rattle.cert_checker.specs.Shaping.{AreShaped};
 
-use cert_text::PlainClauses;
+use cert_form::PlainClauses;
 use clause_form::{Clause, Clauses, Fact, copy_into, is_normal, size_of};
 use pi_tree::MOST_SYMBOLS;
 use std::alloc::{AllocError, Global};

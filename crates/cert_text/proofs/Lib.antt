@@ -1,5 +1,2 @@
-pub mod Naming
-pub mod Items
-pub mod Terms
-pub mod Facts
 pub mod Lines
+pub mod Claimed

@@ -1,4 +1,2 @@
-pub mod Appends
-pub mod Parts
-pub mod Remaining
 pub mod Codes
+pub mod Seen

@@ -1,139 +1,117 @@
-//! Certificates as owned trees and numbers, and their texts.
+//! Certificates.
 
-ghost use Rattle.std.specs.Prelude.{◌≡◌, [], ◌∷◌, IfOk, OnOk};
+ghost use Rattle.std.specs.Prelude.{◌≡◌, ◌≤◌, [], drop, length};
 ghost use Rattle.pi_tree.specs.Protocols.{protocol_of};
-ghost use Rattle.spec_certificate_text.specs.Text.{clause_lines, numbers_text, row_lines, certificate_text};
-ghost use Rattle.cert_text.specs.Appends.{Appends};
+ghost use Rattle.term_reader.specs.Naming.{protocol_in};
+ghost use Rattle.term_reader.specs.Few.{HasFewNames};
+ghost use Rattle.spec_certificate_reading.specs.Certificates as reading;
+ghost use Rattle.spec_certificate_reading.specs.Outcomes.{lines_from};
+ghost use Rattle.fact_reader.specs.Gives.{Gives, StopsWithin, same};
+ghost use Rattle.fact_reader.specs.Reads.{Reads};
 
-use crate::clause_text::put_clause;
-use crate::parts::{put, put_number};
+use crate::rows::rows;
+use cert_form::{Cert, PlainClauses};
 use clause_form::PlainClause;
-use pi_tree::Protocol;
-use std::alloc::{AllocError, Global};
-use std::marker::Model;
+use fact_reader::{CertError, Cursor, read_clause};
+use pi_tree::{MOST_CLAUSES, Protocol};
+use std::alloc::Global;
+use term_reader::Names;
 
-/// Clauses over owned trees, in order.
-#[derive(Debug, Drop)]
-pub struct PlainClauses {
-    pub items: Vec<PlainClause>,
+/// `c `, a clause and the end of its line.
+fn clause_line(names: &Names<'_>, cursor: &mut Cursor<'_>) -> Result<PlainClause, CertError>
+    ensures read { Reads same (reading.clause_line (protocol_in names.now))
+        cursor.old cursor.new result }
+    ensures same { cursor.new.bytes.now ≡ cursor.old.bytes.now }
+{
+    cursor.pass(b"c ")?;
+    let clause = read_clause(names, cursor)?;
+    cursor.pass(b"\n")?;
+    Ok(clause)
 }
 
-impl Model for PlainClauses {
-    ghost use Rattle.std.specs.Prelude.{List};
-    ghost use Rattle.spec_terms.specs.Term.{Term, coded_term};
-    ghost use Rattle.spec_clauses.specs.Fact as horn;
-    ghost use Rattle.clause_form.specs.Codes.{coded_clauses};
-
-    ghost Value = { List (horn.Clause Term) };
-
-    ghost coded = { coded_clauses coded_term };
-
-    ghost view = { λ a. a.items.items };
+/// Lines of clauses, at most so many.
+#[tactic(auto, using(crate::proofs::Lines::lines))]
+fn clauses(
+    names: &Names<'_>,
+    cursor: &mut Cursor<'_>,
+    most: usize,
+) -> Result<PlainClauses, CertError>
+    ensures read { Reads same
+        (lines_from 99 (reading.clause_line (protocol_in names.now)) most [])
+        cursor.old cursor.new result }
+    ensures same { cursor.new.bytes.now ≡ cursor.old.bytes.now }
+{
+    let mut items = Vec::new(names.alloc);
+    for round in 0..most {
+        if cursor.front() != b'c' {
+            return Ok(PlainClauses { items });
+        }
+        let next = clause_line(names, cursor)?;
+        items.push(next)?;
+    }
+    if cursor.front() == b'c' {
+        return Err(CertError::Count(cursor.at));
+    }
+    Ok(PlainClauses { items })
 }
 
-/// Rows of numbers, in order.
-#[derive(Debug, Drop)]
-pub struct Rows {
-    pub items: Vec<Vec<u32>>,
-}
-
-impl Model for Rows {
-    ghost use Rattle.std.specs.Prelude.{List, ℕ, map};
-    ghost use Rattle.cert_text.specs.Codes.{coded_rows};
-
-    ghost Value = { List (List ℕ) };
-
-    ghost coded = { coded_rows };
-
-    ghost view = { λ a. map (λ row. row.items) a.items.items };
-}
-
-/// A certificate: its clauses, its cover rows, each the number of a clause and positions, and its goal rows, each the number
-/// of an alternative and positions.
-#[derive(Debug, Drop)]
-pub struct Cert {
-    pub clauses: PlainClauses,
-    pub rows: Rows,
-    pub goals: Rows,
-}
-
-impl Model for Cert {
-    ghost use Rattle.spec_certificates.specs.Certificate.{Certificate};
-    ghost use Rattle.cert_text.specs.Codes.{coded_certificate};
-
-    ghost Value = { Certificate };
-
-    ghost coded = { coded_certificate };
-
-    ghost view = { λ c. record { clauses = c.clauses; rows = c.rows; goals = c.goals } };
-}
-
-/// Puts a line for each clause.
-fn put_clauses(
+/// The two kinds of rows, and the last line.
+fn certificate_end(
     alloc: Global,
-    out: &mut Vec<u8>,
-    protocol: &Protocol,
-    clauses: &PlainClauses,
-) -> Result<(), AllocError>
-    ensures { OnOk result (Appends (clause_lines (protocol_of protocol.now) clauses.now)
-        out.old.items out.new.items) }
+    cursor: &mut Cursor<'_>,
+    clauses: PlainClauses,
+) -> Result<Cert, CertError>
+    ensures read { Reads same (reading.certificate_end clauses) cursor.old cursor.new result }
+    ensures same { cursor.new.bytes.now ≡ cursor.old.bytes.now }
 {
-    'each: for clause in &clauses.items {
-        put(out, b"c ")?;
-        put_clause(alloc, out, protocol, clause)?;
-        put(out, b"\n")?;
-    }
-    Ok(())
+    let cover = rows(alloc, cursor, b'r')?;
+    let goals = rows(alloc, cursor, b'g')?;
+    cursor.pass(b"end\n")?;
+    Ok(Cert {
+        clauses,
+        rows: cover,
+        goals,
+    })
 }
 
-/// Puts numbers, a space before each.
-fn put_numbers(alloc: Global, out: &mut Vec<u8>, numbers: &[u32]) -> Result<(), AllocError>
-    ensures { OnOk result (Appends (numbers_text numbers.now) out.old.items out.new.items) }
+/// The certificate that stands there, of at most so many clauses.
+fn certificate_within(
+    names: &Names<'_>,
+    cursor: &mut Cursor<'_>,
+    most: usize,
+) -> Result<Cert, CertError>
+    ensures read { Reads same (reading.certificate_within most (protocol_in names.now))
+        cursor.old cursor.new result }
+    ensures same { cursor.new.bytes.now ≡ cursor.old.bytes.now }
 {
-    'each: for number in numbers {
-        put(out, b" ")?;
-        put_number(alloc, out, *number)?;
-    }
-    Ok(())
+    cursor.pass(b"cert 1\n")?;
+    let clauses = clauses(names, cursor, most)?;
+    certificate_end(names.alloc, cursor, clauses)
 }
 
-/// Puts a line for each row, which begins with the letter.
-fn put_rows(alloc: Global, out: &mut Vec<u8>, letter: u8, rows: &Rows) -> Result<(), AllocError>
-    ensures { OnOk result (Appends (row_lines letter rows.now) out.old.items out.new.items) }
+/// The certificate that stands there.
+pub fn certificate(names: &Names<'_>, cursor: &mut Cursor<'_>) -> Result<Cert, CertError>
+    ensures read { Reads same (reading.read_certificate (protocol_in names.now))
+        cursor.old cursor.new result }
+    ensures same { cursor.new.bytes.now ≡ cursor.old.bytes.now }
 {
-    'each: for row in &rows.items {
-        put(out, &[letter])?;
-        put_numbers(alloc, out, row)?;
-        put(out, b"\n")?;
-    }
-    Ok(())
+    certificate_within(names, cursor, MOST_CLAUSES)
 }
 
-/// Puts the text of a certificate.
-fn put_cert(
+/// The certificate that stands at the place, and the place behind it; or the first fault.
+pub fn read_cert(
     alloc: Global,
-    out: &mut Vec<u8>,
     protocol: &Protocol,
-    cert: &Cert,
-) -> Result<(), AllocError>
-    ensures { OnOk result (Appends (certificate_text (protocol_of protocol.now) cert.now)
-        out.old.items out.new.items) }
+    bytes: &[u8],
+    at: usize,
+) -> Result<(Cert, usize), CertError>
+    requires few { HasFewNames (protocol_of protocol.now) }
+    requires within { at ≤ length bytes.now }
+    ensures read { Gives same bytes.now result
+        (reading.read_certificate (protocol_of protocol.now) (drop at bytes.now) at) }
+    ensures within { StopsWithin bytes.now result }
 {
-    put(out, b"cert 1\n")?;
-    put_clauses(alloc, out, protocol, &cert.clauses)?;
-    put_rows(alloc, out, b'r', &cert.rows)?;
-    put_rows(alloc, out, b'g', &cert.goals)?;
-    put(out, b"end\n")
-}
-
-/// The text of a certificate, each line ended by LF.
-///
-/// `Err` is want of memory.
-pub fn write_cert(alloc: Global, protocol: &Protocol, cert: &Cert) -> Result<Vec<u8>, AllocError>
-    ensures { IfOk result (λ text. text.items ≡
-        certificate_text (protocol_of protocol.now) cert.now []) }
-{
-    let mut out = Vec::new(alloc);
-    put_cert(alloc, &mut out, protocol, cert)?;
-    Ok(out)
+    let mut cursor = Cursor { bytes, at };
+    let cert = certificate(&Names { alloc, protocol }, &mut cursor)?;
+    Ok((cert, cursor.at))
 }

@@ -1,11 +1,14 @@
-//! The texts of clauses and certificates: exactly what the definitions say, over the words of a protocol.
+//! The texts of certificates and reports, read: exactly what the definitions of the crate `spec_certificate_reading` read.
+//!
+//! The crates `term_reader`, `fact_reader` and `cert_text` belong together: they read terms, facts and clauses, and
+//! certificates and reports. What the crate `cert_form` writes is read here, and offered.
 #![tactic(auto)]
 
 mod certs;
-mod clause_text;
-mod parts;
-mod term_text;
-mod words;
+mod claims;
+mod rows;
 
-pub use crate::certs::{Cert, PlainClauses, Rows, write_cert};
-pub use crate::clause_text::write_clause;
+pub use crate::certs::read_cert;
+pub use crate::claims::{Claim, Claims, read_report};
+pub use cert_form::{Cert, PlainClauses, Rows, write_cert, write_clause};
+pub use fact_reader::{CertError, code_and_place};

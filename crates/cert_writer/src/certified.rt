@@ -1,6 +1,6 @@
 //! What comes of a closed log.
 
-use cert_text::Cert;
+use cert_form::Cert;
 
 /// A certificate, or that there is none.
 #[derive(Drop)]

@@ -23,7 +23,7 @@ use crate::covering::cover_all;
 use crate::living::{live_of, plain_of};
 use crate::satisfying::{Goals, goal_rows};
 use crate::writer::Writer;
-use cert_text::{Cert, Rows};
+use cert_form::{Cert, Rows};
 use clause_form::Clause;
 use clause_saturate::Log;
 use pi_tree::Protocol;

@@ -14,7 +14,7 @@ ghost use Rattle.cert_writer.specs.Adding.{pairs_of_two, pairs_of_one, pairs_if_
 
 use crate::covering::cover_all;
 use crate::writer::Writer;
-use cert_text::Rows;
+use cert_form::Rows;
 use clause_form::Clause;
 use clause_resolve::{Resolved, resolvents};
 use literal_selection::{is_solved, selected};

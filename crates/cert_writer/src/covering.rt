@@ -12,7 +12,7 @@ ghost use Rattle.clause_form.specs.Fit.{AreFit, clauses_at};
 ghost use Rattle.cert_writer.specs.Adding.{AddsRows};
 
 use crate::writer::Writer;
-use cert_text::Rows;
+use cert_form::Rows;
 use clause_form::Clause;
 use multiset_subsume::{Row, cover_row};
 use std::alloc::AllocError;

@@ -4,7 +4,7 @@ ghost use Rattle.std.specs.Prelude.{◌≡◌, ◌++◌, [], ◌∷◌, map, IfO
 ghost use Rattle.clause_form.specs.Seen.{clause_at, AreClausesIn};
 ghost use Rattle.cert_writer.specs.Living.{live_ids};
 
-use cert_text::PlainClauses;
+use cert_form::PlainClauses;
 use clause_form::{Clause, Clauses, read_out};
 use clause_saturate::{Entry, Log};
 use std::alloc::{AllocError, Global};

@@ -16,7 +16,7 @@ ghost use Rattle.clause_saturate.specs.Beating.{clauses_of};
 ghost use Rattle.cert_writer.specs.Goals.{is_due_at, AddsGoal, IsUnmetEntry, AreGoalsOf};
 
 use crate::writer::Writer;
-use cert_text::Rows;
+use cert_form::Rows;
 use clause_form::{Clause, Fact};
 use clause_saturate::{Entry, Log};
 use literal_selection::is_solved;

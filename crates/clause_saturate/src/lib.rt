@@ -21,6 +21,7 @@ mod walk;
 pub use crate::log::{Entry, Log, Origin, PlainEntry, PlainLog, Saturated};
 pub use crate::reading::{read_entry, read_log};
 pub use crate::saturating::saturate;
+pub use spec_saturation::one_log;
 
 /// Entries that tell a log name trees, and tell it as the bank grows. Those that no later one is told to subsume have
 /// the log's live clauses, in order.

@@ -9,7 +9,7 @@ use Rattle.clause_form.specs.Codes.{coded_clause}
 use Rattle.clause_saturate.specs.declared.log.Origin.{Origin}
 use Rattle.clause_saturate.specs.declared.log.PlainEntry.{PlainEntry}
 use Rattle.clause_saturate.specs.Codes.{coded_origin, coded_plain_entries}
-use Rattle.cert_text.specs.Codes.{coded_certificate}
+use Rattle.cert_form.specs.Codes.{coded_certificate}
 use Rattle.query_verify.specs.declared.answers.Verdict.{Verdict}
 use Rattle.query_verify.specs.declared.answers.Verdict.TheVariants.{Proved, Budget, SizePair, SizePoint, Unmet}
 

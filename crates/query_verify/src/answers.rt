@@ -1,6 +1,6 @@
 //! Verdicts of queries.
 
-use cert_text::Cert;
+use cert_form::Cert;
 use clause_saturate::{PlainEntry, PlainLog};
 use std::marker::Model;
 

@@ -3,8 +3,8 @@ use Rattle.std.proofs.Common.{◌≡◌, ℕ, zero, suc, ◌+◌, ◌<◌, ◌�
 use Rattle.std.proofs.lemmas.List.{take_all}
 use Rattle.spec_calculus.specs.Syntax.{Query, Protocol}
 use Rattle.spec_calculus.specs.Points.{numbered}
-use Rattle.cert_reader.specs.Seen.{claim_of}
-use Rattle.cert_reader.specs.declared.claims.Claim.{Claim}
+use Rattle.cert_text.specs.Seen.{claim_of}
+use Rattle.cert_text.specs.declared.claims.Claim.{Claim}
 use Rattle.verifier_cli.specs.declared.outcome.Finding.{Finding}
 use Rattle.verifier_cli.specs.Checking.{IsFindingOf, AreFindingsOf}
 

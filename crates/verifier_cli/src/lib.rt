@@ -23,4 +23,5 @@ pub use crate::outcome::{
 };
 pub use crate::text::{outcome_text, status};
 pub use cert_checker::Ruling;
-pub use query_verify::{Verdict, Verdicts};
+pub use query_verify::{Verdict, Verdicts, verdicts};
+pub use ring_writer::make_ring;

@@ -14,7 +14,7 @@ ghost use Rattle.verifier_cli.specs.World.{ComesTo};
 
 use crate::loading::load_protocol;
 use crate::outcome::{Decision, Outcome};
-use cert_text::PlainClauses;
+use cert_form::PlainClauses;
 use clause_form::{Clauses, read_out};
 use clause_translate::{Translated, translate};
 use hv_io::Files;

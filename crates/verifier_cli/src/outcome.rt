@@ -1,7 +1,7 @@
 //! What a call of the program comes to.
 
 use cert_checker::Ruling;
-use cert_text::PlainClauses;
+use cert_form::PlainClauses;
 use pi_tree::Protocol;
 use query_verify::{Verdict, Verdicts};
 use run_replay::Replayed;

@@ -22,7 +22,7 @@ use crate::outcome::{
 };
 use crate::summary::summary_text;
 use cert_checker::Ruling;
-use cert_text::{Cert, PlainClauses, write_cert, write_clause};
+use cert_form::{Cert, PlainClauses, write_cert, write_clause};
 use clause_saturate::{PlainEntry, PlainLog};
 use pi_model::StepError;
 use pi_tree::Protocol;

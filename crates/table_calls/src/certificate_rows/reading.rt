@@ -1,8 +1,8 @@
 //! The readers of certificates and reports, and the writer.
 
 use crate::certificate_rows::lines::{Change, changed, line_count};
-use cert_reader::{CertError, Claim, Claims, code_and_place, read_cert, read_report};
-use cert_text::{Cert, write_cert};
+use cert_form::{Cert, write_cert};
+use cert_text::{CertError, Claim, Claims, code_and_place, read_cert, read_report};
 use pi_tree::Protocol;
 use std::alloc::{AllocError, Global};
 use term_reader::has_few_names;
@@ -77,13 +77,13 @@ fn refusal_text(alloc: Global, refusal: &Refusal) -> Result<String, AllocError> 
 /// How many bytes the certificate has, where its text is the front of the bytes that was read, and else the fault.
 fn cert_answer(alloc: Global, protocol: &Protocol, bytes: &[u8]) -> Result<String, AllocError> {
     match certificate_in(alloc, protocol, bytes) {
-        Ok((cert, behind)) => cert_text(alloc, protocol, &cert, bytes, behind),
+        Ok((cert, behind)) => cert_form(alloc, protocol, &cert, bytes, behind),
         Err(refusal) => refusal_text(alloc, &refusal),
     }
 }
 
 /// How many bytes the certificate has, where its text is the front of the bytes that was read.
-fn cert_text(
+fn cert_form(
     alloc: Global,
     protocol: &Protocol,
     cert: &Cert,

@@ -1,6 +1,6 @@
 use Rattle.std.proofs.Common.{inl, map}
 use Rattle.pi_tree.specs.Protocols.{protocol_of}
-use Rattle.cert_reader.specs.Seen.{claim_of}
+use Rattle.cert_text.specs.Seen.{claim_of}
 use Rattle.verifier_cli.specs.Checking.{ChecksReport, MakesClaims}
 use Rattle.verifier_cli.specs.ReportReading.{IsNoReport}
 use Rattle.verifier_cli.specs.SeenOutcome.{outcome_of}

@@ -1,7 +1,7 @@
 -- One more claim is looked at.
 use Rattle.std.proofs.Common.{◌≡◌, ◌∙◌, ◌<◌, ap, subst, get_or, length, List}
 use Rattle.pi_tree.specs.Protocols.{protocol_of}
-use Rattle.cert_reader.specs.declared.claims.Claim.{Claim}
+use Rattle.cert_text.specs.declared.claims.Claim.{Claim}
 use Rattle.verifier_cli.proofs.Found.{one_more}
 use Rattle.verifier_cli.proofs.check.findings.Goals as goal
 

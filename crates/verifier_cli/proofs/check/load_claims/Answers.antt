@@ -6,7 +6,7 @@ use Rattle.pi_tree.specs.Protocols.{protocol_of}
 use Rattle.spec_certificate_reading.specs.Reports.{read_report}
 use Rattle.spec_report_text.specs.Text.{SpellsReport}
 use Rattle.fact_reader.specs.Gives.{HasFault}
-use Rattle.cert_reader.specs.Seen.{claim_of}
+use Rattle.cert_text.specs.Seen.{claim_of}
 use Rattle.verifier_cli.specs.Checking.{MakesClaims}
 use Rattle.verifier_cli.specs.Outcome.{Outcome}
 use Rattle.verifier_cli.specs.Outside.{outside}

@@ -1,12 +1,12 @@
 -- The law of the ring's translation tells how many clauses there are.
-use Rattle.std.proofs.Common.{length, ap, ◌∙◌, arith}
+use Rattle.std.proofs.Common.{length, ap, refl, arith}
 use Rattle.pi_tree.specs.Protocols.{protocol_of}
 use Rattle.verifier_cli.proofs.Rings.{only_there, summary_said}
 use Rattle.verifier_cli.proofs.ringing.summary.Goals as goal
 
-pub verdict-verdict-requires-clause-there : goal.verdict-verdict-requires-clause-there
-verdict-verdict-requires-clause-there c = only_there (protocol_of c.args.protocol.now) c.args.stages c.requires.ring
+pub verdict-requires-clause-there : goal.verdict-requires-clause-there
+verdict-requires-clause-there c = only_there (protocol_of c.args.protocol.now) c.args.stages c.requires.ring
 
-pub returns-in_ok-verdict : goal.returns-in_ok-verdict
-returns-in_ok-verdict c =
-    summary_said (protocol_of c.args.protocol.now) c.args.stages _ c.requires.ring (c.ring_translations.ensures c.args.stages c.requires.least (omega (arith, c.requires.most))) refl (c.len.ensures ∙ ap length c.requires.text) refl c.in_ok-verdict.ensures.answers
+pub returns : goal.returns
+returns c =
+    summary_said (protocol_of c.args.protocol.now) c.args.stages _ c.requires.ring (c.ring_translations.ensures c.args.stages c.requires.least (omega (arith, c.requires.most))) refl (ap length c.requires.text) refl c.in_ok-verdict.ensures.answers

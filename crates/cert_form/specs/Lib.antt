@@ -1,0 +1,4 @@
+pub mod Appends
+pub mod Parts
+pub mod Remaining
+pub mod Codes

@@ -1,0 +1,11 @@
+//! Certificates, and the texts of clauses and certificates: exactly what the definitions say, over the words of a protocol.
+#![tactic(auto)]
+
+mod certs;
+mod clause_text;
+mod parts;
+mod term_text;
+mod words;
+
+pub use crate::certs::{Cert, PlainClauses, Rows, write_cert};
+pub use crate::clause_text::write_clause;

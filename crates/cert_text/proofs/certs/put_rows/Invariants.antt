@@ -1,5 +1,0 @@
-use Rattle.cert_text.specs.Remaining.{HasPut, rows_from}
-use Rattle.cert_text.proofs.certs.put_rows.Given as goal
-
-abbrev pub invariant-each : goal.invariant-each
-invariant-each l = HasPut (rows_from l.letter) l.row-index l.rows l.initial.out.items l.out.items

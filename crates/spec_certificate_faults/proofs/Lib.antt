@@ -1,0 +1,15 @@
+pub mod Comes
+pub mod Heads
+pub mod Trees
+pub mod Fronts
+pub mod Told
+pub mod Deep
+pub mod Misapplied
+pub mod AnyFault
+pub mod Standing
+pub mod Explained
+pub mod Followed
+pub mod Completes
+pub mod Shown
+pub mod GoesOn
+pub mod TermFirst
