@@ -1,10 +1,11 @@
 -- Where a term may begin, each tree of the grammar may stand, and some text goes on behind it.
-use Rattle.std.proofs.Common.{◌≡◌, ℕ, suc, ◌+◌, true, List, [], ◌∷◌, ◌++◌, length, refl, sym, ◌∙◌, ap, subst, arith, append_assoc, length-append, ◌&&◌}
+use Rattle.std.proofs.Common.{◌≤◌, ◌≡◌, ℕ, suc, ◌+◌, true, List, [], ◌∷◌, ◌++◌, length, refl, sym, ◌∙◌, ap, subst, arith, append_assoc, length-append, ◌&&◌}
 use Rattle.std.specs.List.{AllByRecursion}
 use Rattle.spec_trees.specs.Tree.{Leaf, Node, none, more, items_of}
 use Rattle.spec_protocol_tokens.specs.Bytes.{begins_word}
 use Rattle.spec_protocol_tokens.proofs.Sizes.{begins_word-in_word}
 use Rattle.spec_certificate_text.specs.Loose.{Head, Applied, Tupled, Made, Attackers, Loose, LooseRow, opening, closing, onto, row, behind}
+use Rattle.spec_certificate_reading.proofs.Long.{behind_long}
 use Rattle.spec_certificate_faults.specs.Grammar.{IsWritten, MayHave, IsInGrammar, AreInGrammar, EndsBefore, with_commas, MayGoOn, IsOpen, MayBegin, whole, within}
 use Rattle.spec_certificate_faults.specs.First.{IsTermText}
 use Rattle.spec_certificate_faults.proofs.Followed.{opening_followed, onto_followed}
@@ -67,6 +68,7 @@ pub record IsCompleted (before : List ℕ) (t : Loose) : Type 0 where
   pub tail : List ℕ
   pub ends : EndsBefore t tail
   pub rest : List ℕ
+  pub long : length rest ≤ length tail
   pub is : IsTermText (before ++ onto t tail) rest
 
 pub record Completes (bytes here : List ℕ) : Type 0 where
@@ -90,6 +92,7 @@ completed_whole t is = record {
   tail = 41 ∷ [];
   ends = ends_closed t [];
   rest = 41 ∷ [];
+  long = omega arith;
   is = record { tree = t; is = is; ends = ends_closed t []; next = 41; later = []; more = refl; text = refl };
 }
 
@@ -107,7 +110,7 @@ completed_within before h ts t written each may is outer =
     ap (opening h) (row_text ts t us (closing h ∷ completed.tail)) ∙ sym (head_front h ts (onto t tail)) in
     let text : before ++ onto (Node h (row_of all)) completed.tail ≡ (before ++ opening h (with_commas ts [])) ++ onto t tail =
     ap (λ l. before ++ l) inner ∙ sym (append_assoc before (opening h (with_commas ts [])) (onto t tail)) in
-    record { tail = tail; ends = ends_behind t (row_of us) h completed.tail; rest = completed.rest; is = subst (λ l. IsTermText l completed.rest) text completed.is }
+    record { tail = tail; ends = ends_behind t (row_of us) h completed.tail; rest = completed.rest; long = omega (arith, completed.long, behind_long (row_of us) (closing h ∷ completed.tail)); is = subst (λ l. IsTermText l completed.rest) text completed.is }
 
 pub completes : (bytes : List ℕ) (level : ℕ) (here : List ℕ) → MayBegin bytes level here → Completes bytes here
 completes bytes level here whole = record { before = []; text = refl; each = completed_whole }

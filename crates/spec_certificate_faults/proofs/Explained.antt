@@ -272,7 +272,7 @@ variable_digits [] e = absurd (cc)
 variable_digits (b ∷ []) e = absurd (cc)
 variable_digits (b ∷ d ∷ ds) e = (both_right (b == 118) (list_all is_ascii_digit (d ∷ ds)) e, omega arith)
 
-no_number : (digits : List ℕ) → AreDigits digits → 1 ≤ length digits → numeral digits ≡ None → AreNoNumber digits
+pub no_number : (digits : List ℕ) → AreDigits digits → 1 ≤ length digits → numeral digits ≡ None → AreNoNumber digits
 no_number digits all some none = record {
   all = all;
   some = some;

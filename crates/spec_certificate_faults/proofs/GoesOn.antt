@@ -1,5 +1,5 @@
 -- Behind what was read so far some text goes on, and none with the byte at which a fault of syntax is told.
-use Rattle.std.proofs.Common.{◌≡◌, ℕ, suc, ◌+◌, Bool, true, false, ◌&&◌, if◌then◌else◌, List, [], ◌∷◌, ◌++◌, length, refl, sym, ◌∙◌, ap, subst, arith, append_assoc, length-append}
+use Rattle.std.proofs.Common.{◌≤◌, ◌≡◌, ℕ, suc, ◌+◌, Bool, true, false, ◌&&◌, if◌then◌else◌, List, [], ◌∷◌, ◌++◌, length, refl, sym, ◌∙◌, ap, subst, arith, append_assoc, length-append}
 use Rattle.std.specs.Char.{is_ascii_digit}
 use Rattle.std.specs.List.{list_all}
 use Rattle.spec_trees.specs.Tree.{Leaf, Node, none, more}
@@ -15,6 +15,7 @@ use Rattle.spec_certificate_reading.specs.Runs.{Refused, followed, cut_off, at_e
 use Rattle.spec_certificate_reading.specs.Sound.{IsSound}
 use Rattle.spec_certificate_reading.proofs.SoundWords.{step-sound}
 use Rattle.spec_certificate_reading.proofs.Kept.{ModeOf, ReadingOf, StepOf, step-kept}
+use Rattle.spec_certificate_reading.proofs.Long.{onto_long}
 use Rattle.spec_reading_faults.proofs.Terms.{Ahead, step-ahead}
 use Rattle.spec_certificate_faults.specs.Grammar.{IsInGrammar, MayBegin}
 use Rattle.spec_certificate_faults.specs.First.{IsTermText}
@@ -29,10 +30,11 @@ pub record GoesOn (bytes rest : List ℕ) : Type 0 where
   pub text : bytes ≡ before ++ rest
   pub other : List ℕ
   pub behind : List ℕ
+  pub long : length behind ≤ length other
   pub is : IsTermText (before ++ other) behind
 
 -- a tree begins with what was read of a term
-mode_goes_on : (bytes : List ℕ) (level : ℕ) (here : List ℕ) → MayBegin bytes level here → (read rest : List ℕ) → here ≡ read ++ rest → (t : Loose) → IsInGrammar t → ((tail : List ℕ) → (other : List ℕ) × (onto t tail ≡ read ++ other)) → GoesOn bytes rest
+mode_goes_on : (bytes : List ℕ) (level : ℕ) (here : List ℕ) → MayBegin bytes level here → (read rest : List ℕ) → here ≡ read ++ rest → (t : Loose) → IsInGrammar t → ((tail : List ℕ) → (other : List ℕ) × (onto t tail ≡ read ++ other) × (length tail ≤ length other)) → GoesOn bytes rest
 mode_goes_on bytes level here may read rest text t is shown =
     let c = completes bytes level here may in
     let done = c.each t is in
@@ -42,6 +44,7 @@ mode_goes_on bytes level here may read rest text t is shown =
       text = c.text ∙ (ap (λ l. c.before ++ l) text ∙ sym (append_assoc c.before read rest));
       other = same.0;
       behind = done.rest;
+      long = omega (arith, done.long, same.2);
       is = subst (λ l. IsTermText l done.rest) (ap (λ l. c.before ++ l) same.1 ∙ sym (append_assoc c.before read same.0)) done.is;
     }
 
@@ -60,16 +63,16 @@ state_goes_on P names total bytes k r is placed text = by r.mode is.mode placed.
     may here heads same = begins_there P names total bytes r.heads here is.heads heads same
 
     by : (mode : Mode) → ModeOf P (length r.heads) mode → ArePlaced P total r.heads (mode_text P mode k) → ModePlaced total r.from mode k → bytes ≡ heads_text P r.heads (mode_text P mode k) → GoesOn bytes k
-    by Begins of_mode heads mode same = mode_goes_on bytes _ k (may k heads same) [] k refl simple simple_in (λ tail. (onto simple tail, refl))
-    by (InWord word) of_mode heads mode same = mode_goes_on bytes _ (word ++ k) (may (word ++ k) heads same) word k refl (Leaf word) mode.1 (λ tail. (tail, refl))
+    by Begins of_mode heads mode same = mode_goes_on bytes _ k (may k heads same) [] k refl simple simple_in (λ tail. (onto simple tail, refl, onto_long simple tail))
+    by (InWord word) of_mode heads mode same = mode_goes_on bytes _ (word ++ k) (may (word ++ k) heads same) word k refl (Leaf word) mode.1 (λ tail. (tail, refl, omega arith))
     by (InDigits word ds) of_mode heads mode same =
         let here = word ++ (64 ∷ (ds ++ k)) in
         mode_goes_on bytes _ here (may here heads same) (word ++ (64 ∷ ds)) k (sym (append_assoc word (64 ∷ ds) k)) (Node (Made word (ds ++ 48 ∷ [])) none)
-        ((mode.1, one_more_digit ds mode.2, omega (arith, length-append ds (48 ∷ []))), tt, tt) (λ tail. (48 ∷ 91 ∷ 93 ∷ tail, digits_read word ds tail))
+        ((mode.1, one_more_digit ds mode.2, omega (arith, length-append ds (48 ∷ []))), tt, tt) (λ tail. (48 ∷ 91 ∷ 93 ∷ tail, digits_read word ds tail, omega arith))
     by AtBracket of_mode heads mode same =
-        mode_goes_on bytes _ (64 ∷ k) (may (64 ∷ k) heads same) (64 ∷ []) k refl (Node Attackers (more simple none)) (tt, refl, (simple_in, tt)) (λ tail. (91 ∷ onto simple (93 ∷ tail), refl))
+        mode_goes_on bytes _ (64 ∷ k) (may (64 ∷ k) heads same) (64 ∷ []) k refl (Node Attackers (more simple none)) (tt, refl, (simple_in, tt)) (λ tail. (91 ∷ onto simple (93 ∷ tail), refl, omega (arith, onto_long simple (93 ∷ tail))))
     by (Ended t) of_mode heads mode same =
-        mode_goes_on bytes _ (term_text P t k) (may (term_text P t k) heads same) (term_text P t []) k (sym (onto_followed (written P t) [] k)) (written P t) (written_in P names t of_mode.is_of) (λ tail. (tail, sym (onto_followed (written P t) [] tail)))
+        mode_goes_on bytes _ (term_text P t k) (may (term_text P t k) heads same) (term_text P t []) k (sym (onto_followed (written P t) [] k)) (written P t) (written_in P names t of_mode.is_of) (λ tail. (tail, sym (onto_followed (written P t) [] tail), omega arith))
 
 -- a fault of syntax is told at the byte that is looked at, or at the end
 pub record SyntaxAt (bytes : List ℕ) (total place : ℕ) : Type 0 where

@@ -1,5 +1,5 @@
 -- A fault that stands somewhere is none of syntax: some text goes on with the byte there.
-use Rattle.std.proofs.Common.{◌≡◌, ℕ, inl, inr, Bool, true, false, ◌==◌, ◌&&◌, ◌||◌, List, [], ◌∷◌, ◌++◌, length, refl, sym, ◌∙◌, ap, subst, arith, append_assoc}
+use Rattle.std.proofs.Common.{◌≤◌, ◌≡◌, ℕ, inl, inr, Bool, true, false, ◌==◌, ◌&&◌, ◌||◌, List, [], ◌∷◌, ◌++◌, length, refl, sym, ◌∙◌, ap, subst, arith, append_assoc}
 use Rattle.std.proofs.lemmas.Bool.Decides.{nat_tests}
 use Rattle.std.specs.Char.{is_ascii_digit}
 use Rattle.std.specs.Fmt.{decimal}
@@ -16,6 +16,7 @@ use Rattle.spec_certificate_text.specs.OfProtocol.{HasNames}
 use Rattle.spec_certificate_text.proofs.Names.{constructor_word, free_word, symbol_word_is_word, restriction_word_is_word}
 use Rattle.spec_certificate_text.proofs.Runs.{both_left}
 use Rattle.spec_certificate_reading.specs.Terms.{Code, Syntax, Number, Symbol, Arity, Count}
+use Rattle.spec_certificate_reading.proofs.Long.{onto_long}
 use Rattle.spec_certificate_faults.specs.Grammar.{IsInGrammar, MayBegin}
 use Rattle.spec_certificate_faults.specs.TermFaults.{begins_term, AreNoNumber, TakesOthers, TermFault, StandsInTerm}
 use Rattle.spec_certificate_faults.specs.First.{IsTermText}
@@ -32,13 +33,14 @@ pub record GoesPast (bytes there : List ℕ) : Type 0 where
   pub begins : there ≡ first ∷ later
   pub other : List ℕ
   pub rest : List ℕ
+  pub long : length rest ≤ length other
   pub is : IsTermText (before ++ first ∷ other) rest
 
 -- a tree that begins with a byte with which a term may begin
 record BeginsTree (b : ℕ) : Type 0 where
   tree : Loose
   is : IsInGrammar tree
-  begins : (tail : List ℕ) → (k : List ℕ) × (onto tree tail ≡ b ∷ k)
+  begins : (tail : List ℕ) → (k : List ℕ) × (onto tree tail ≡ b ∷ k) × (length tail ≤ length k)
 
 tuple_of_two : Loose
 tuple_of_two = Node Tupled (more simple (more simple none))
@@ -54,11 +56,11 @@ begins_tree b begins = by (begins_word b) refl begins
     same c e = grind (arith, nat_tests)
 
     by_mark : (opens : Bool) → (b == 40) ≡ opens → (opens || (b == 64)) ≡ true → BeginsTree b
-    by_mark true is marked = record { tree = tuple_of_two; is = (tt, omega arith, (simple_in, (simple_in, tt))); begins = λ tail. (onto simple (44 ∷ onto simple (41 ∷ tail)), ap (λ c. c ∷ onto simple (44 ∷ onto simple (41 ∷ tail))) (sym (same 40 is))) }
-    by_mark false isnt marked = record { tree = attackers_name; is = (tt, refl, (simple_in, tt)); begins = λ tail. (91 ∷ onto simple (93 ∷ tail), ap (λ c. c ∷ 91 ∷ onto simple (93 ∷ tail)) (sym (same 64 marked))) }
+    by_mark true is marked = record { tree = tuple_of_two; is = (tt, omega arith, (simple_in, (simple_in, tt))); begins = λ tail. (onto simple (44 ∷ onto simple (41 ∷ tail)), ap (λ c. c ∷ onto simple (44 ∷ onto simple (41 ∷ tail))) (sym (same 40 is)), omega (arith, onto_long simple (44 ∷ onto simple (41 ∷ tail)), onto_long simple (41 ∷ tail))) }
+    by_mark false isnt marked = record { tree = attackers_name; is = (tt, refl, (simple_in, tt)); begins = λ tail. (91 ∷ onto simple (93 ∷ tail), ap (λ c. c ∷ 91 ∷ onto simple (93 ∷ tail)) (sym (same 64 marked)), omega (arith, onto_long simple (93 ∷ tail))) }
 
     by : (word : Bool) → begins_word b ≡ word → (word || (b == 40) || (b == 64)) ≡ true → BeginsTree b
-    by true word marked = record { tree = Leaf (b ∷ []); is = one_letter b word; begins = λ tail. (tail, refl) }
+    by true word marked = record { tree = Leaf (b ∷ []); is = one_letter b word; begins = λ tail. (tail, refl, omega arith) }
     by false no_word marked = by_mark (b == 40) refl marked
 
 past_here : (bytes : List ℕ) (level : ℕ) (here : List ℕ) → MayBegin bytes level here → BeginsTerm here → GoesPast bytes here
@@ -67,10 +69,10 @@ past_here bytes level here may is =
     let t = begins_tree is.first is.begins in
     let done = c.each t.tree t.is in
     let front = t.begins done.tail in
-    record { before = c.before; text = c.text; first = is.first; later = is.later; begins = is.text; other = front.0; rest = done.rest; is = subst (λ l. IsTermText (c.before ++ l) done.rest) front.1 done.is }
+    record { before = c.before; text = c.text; first = is.first; later = is.later; begins = is.text; other = front.0; rest = done.rest; long = omega (arith, done.long, front.2); is = subst (λ l. IsTermText (c.before ++ l) done.rest) front.1 done.is }
 
 -- behind some bytes, which a tree begins with too
-past_behind : (bytes : List ℕ) (level : ℕ) (here : List ℕ) → MayBegin bytes level here → (front there : List ℕ) → here ≡ front ++ there → (b : ℕ) (k : List ℕ) → there ≡ b ∷ k → (t : Loose) → IsInGrammar t → ((tail : List ℕ) → (other : List ℕ) × (onto t tail ≡ front ++ b ∷ other)) → GoesPast bytes there
+past_behind : (bytes : List ℕ) (level : ℕ) (here : List ℕ) → MayBegin bytes level here → (front there : List ℕ) → here ≡ front ++ there → (b : ℕ) (k : List ℕ) → there ≡ b ∷ k → (t : Loose) → IsInGrammar t → ((tail : List ℕ) → (other : List ℕ) × (onto t tail ≡ front ++ b ∷ other) × (length tail ≤ length other)) → GoesPast bytes there
 past_behind bytes level here may front there text b k begins t is shown =
     let c = completes bytes level here may in
     let done = c.each t is in
@@ -83,6 +85,7 @@ past_behind bytes level here may front there text b k begins t is shown =
       begins = begins;
       other = same.0;
       rest = done.rest;
+      long = omega (arith, done.long, same.2);
       is = subst (λ l. IsTermText l done.rest) (ap (λ l. c.before ++ l) same.1 ∙ sym (append_assoc c.before front (b ∷ same.0))) done.is;
     }
 
@@ -93,13 +96,13 @@ past_variable : (bytes : List ℕ) (level : ℕ) (here there : List ℕ) → May
 past_variable bytes level here there may [] behind wrong text stand = absurd (let some = wrong.some in omega (arith, some))
 past_variable bytes level here there may (d ∷ ds) behind wrong text stand =
     past_behind bytes level here may (118 ∷ []) there text d (ds ++ behind) stand (Leaf (118 ∷ d ∷ []))
-    record { begins = refl; goes_on = digits_in_word (d ∷ []) (ap (λ t. t && true) (first_digit d ds wrong)) } (λ tail. (tail, refl))
+    record { begins = refl; goes_on = digits_in_word (d ∷ []) (ap (λ t. t && true) (first_digit d ds wrong)) } (λ tail. (tail, refl, omega arith))
 
 past_point : (bytes : List ℕ) (level : ℕ) (here there : List ℕ) → MayBegin bytes level here → (word digits behind : List ℕ) → IsWord word → AreNoNumber digits → here ≡ word ++ (64 ∷ there) → there ≡ digits ++ behind → GoesPast bytes there
 past_point bytes level here there may word [] behind is_word wrong text stand = absurd (let some = wrong.some in omega (arith, some))
 past_point bytes level here there may word (d ∷ ds) behind is_word wrong text stand =
     past_behind bytes level here may (word ++ 64 ∷ []) there (text ∙ sym (append_assoc word (64 ∷ []) there)) d (ds ++ behind) stand (Node (Made word (d ∷ [])) none)
-    ((is_word, ap (λ t. t && true) (first_digit d ds wrong), omega arith), tt, tt) (λ tail. (91 ∷ 93 ∷ tail, sym (append_assoc word (64 ∷ []) (d ∷ 91 ∷ 93 ∷ tail))))
+    ((is_word, ap (λ t. t && true) (first_digit d ds wrong), omega arith), tt, tt) (λ tail. (91 ∷ 93 ∷ tail, sym (append_assoc word (64 ∷ []) (d ∷ 91 ∷ 93 ∷ tail)), omega arith))
 
 misapplied_begins : (P : Protocol) → HasNames P → (f : Sym) (ts : List Term) (k : List ℕ) → TakesOthers P f (length ts) → BeginsTerm (term_text P (node f ts) k)
 misapplied_begins P names (Ctor f) [] k wrong = word_begins (symbol_word P (Ctor f)) k (symbol_word_is_word (symbol_word P (Ctor f)) (constructor_word P false f wrong.0 names wrong.1))

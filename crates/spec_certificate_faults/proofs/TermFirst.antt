@@ -80,7 +80,7 @@ told_stands_at P names bytes at place code e =
 
 -- Bytes of which some text shares more than another can.
 
-is_longer : (before longer there behind : List ℕ) → before ++ there ≡ longer ++ behind → length before + 1 ≤ length longer → (first : ℕ) × (between : List ℕ) × (longer ≡ before ++ first ∷ between) × (there ≡ first ∷ (between ++ behind))
+pub is_longer : (before longer there behind : List ℕ) → before ++ there ≡ longer ++ behind → length before + 1 ≤ length longer → (first : ℕ) × (between : List ℕ) × (longer ≡ before ++ first ∷ between) × (there ≡ first ∷ (between ++ behind))
 is_longer [] [] there behind e long = absurd (omega (arith, long))
 is_longer [] (c ∷ longer) there behind e long = (c, longer, refl, e)
 is_longer (b ∷ before) [] there behind e long = absurd (omega (arith, long))
@@ -166,13 +166,13 @@ done_text P names bytes at place t rest e =
 
 -- Where a fault of syntax stands, a fault is told that does not stand after it.
 
-compare : (m n : ℕ) → (m + 1 ≤ n) ⊎ ((m ≡ n) ⊎ (n + 1 ≤ m))
+pub compare : (m n : ℕ) → (m + 1 ≤ n) ⊎ ((m ≡ n) ⊎ (n + 1 ≤ m))
 compare zero zero = inr (inl refl)
 compare zero (suc n) = inl (omega arith)
 compare (suc m) zero = inr (inr (omega arith))
 compare (suc m) (suc n) = either (compare m n) (λ less. inl (omega (arith, less))) (λ rest. either rest (λ same. inr (inl (ap suc same))) (λ more. inr (inr (omega (arith, more)))))
 
-syntax_or : (c : Code) → (c ≡ Syntax) ⊎ (c ≢ Syntax)
+pub syntax_or : (c : Code) → (c ≡ Syntax) ⊎ (c ≢ Syntax)
 syntax_or Syntax = inl refl
 syntax_or Number = inr (λ e. cc)
 syntax_or Symbol = inr (λ e. cc)

@@ -67,7 +67,7 @@ digits_in_word (b ∷ bytes) e =
     ap (λ c. c && list_all is_in_word bytes) (digit_in_word b (both_left (is_ascii_digit b) (list_all is_ascii_digit bytes) e))
     ∙ digits_in_word bytes (both_right (is_ascii_digit b) (list_all is_ascii_digit bytes) e)
 
-no_numeral : (digits : List ℕ) → AreNoNumber digits → numeral digits ≡ None
+pub no_numeral : (digits : List ℕ) → AreNoNumber digits → numeral digits ≡ None
 no_numeral digits wrong = by (numeral digits) refl
   where
     by : (number : Option ℕ) → numeral digits ≡ number → numeral digits ≡ None

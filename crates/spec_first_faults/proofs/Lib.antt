@@ -1,0 +1,4 @@
+pub mod Tells
+pub mod Small
+pub mod Law
+pub mod Messages
