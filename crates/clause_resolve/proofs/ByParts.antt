@@ -6,18 +6,16 @@ use Rattle.spec_terms.specs.Term.{Term, Subst}
 use Rattle.spec_terms.specs.Unifier.{UnifiesAll}
 use Rattle.spec_clauses.specs.Fact.{Fact, terms_of, fact_under}
 use Rattle.spec_clauses.specs.Head.{head_of}
-use Rattle.spec_clauses.proofs.Parts.{parts_determine, head_of-map, terms_of-map}
+use Rattle.spec_clauses.proofs.Parts.{parts_determine, head_of-map}
 use Rattle.term_tree.specs.Bank.{tree_at}
 use Rattle.term_tree.specs.declared.bank.Id.{Id}
 use Rattle.clause_form.specs.Seen.{fact_at}
+use Rattle.clause_form.proofs.Made.{terms_under}
 use Rattle.clause_resolve.specs.Meeting.{IsMguOfAll, HaveNoUnifierOfAll, IsMguOfFacts, HaveNoUnifier, NeverMeet}
 
--- a fact of ids under a substitution has the head that it has, and its terms under it
+-- a fact of ids under a substitution has the head that it has
 pub head_under : (all : List Term) (s : Subst) (f : Fact Id) → head_of (fact_under s (fact_at all f)) ≡ head_of f
 head_under all s f = head_of-map (bind s) (fact_at all f) ∙ head_of-map (tree_at all) f
-
-pub terms_under : (all : List Term) (s : Subst) (f : Fact Id) → terms_of (fact_under s (fact_at all f)) ≡ map (bind s) (map (tree_at all) (terms_of f))
-terms_under all s f = terms_of-map (bind s) (fact_at all f) ∙ ap (map (bind s)) (terms_of-map (tree_at all) f)
 
 -- so what makes two facts one makes their terms one, and the other way round where the heads are the same
 terms_one : (all : List Term) (s r : Subst) (f g : Fact Id) → fact_under s (fact_at all f) ≡ fact_under r (fact_at all g) → map (bind s) (map (tree_at all) (terms_of f)) ≡ map (bind r) (map (tree_at all) (terms_of g))

@@ -22,9 +22,9 @@ use Rattle.clause_form.specs.Seen.{fact_at, clause_at, IsFactIn, IsClauseIn, Nam
 use Rattle.clause_form.proofs.Lists.{total_more, total-map}
 use Rattle.clause_form.proofs.Copying.{fact_at-grows, facts_at-grow, NamesFact-grows, clause_named}
 use Rattle.clause_form.proofs.Flattening.{with_hypotheses}
-use Rattle.clause_form.proofs.Made.{made_names}
+use Rattle.clause_form.proofs.Made.{made_names, terms_under}
 use Rattle.clause_form.proofs.Renumber.{under_at, IsRenumbered, renumbered_on, renumbered_all, AreRenumbered, facts_renumbered_on, facts_renumbered}
-use Rattle.clause_resolve.proofs.ByParts.{head_under, terms_under}
+use Rattle.clause_resolve.proofs.ByParts.{head_under}
 
 -- what the bindings stand for stays the same as the bank grows
 abbrev pub standing : List Term → List Bound → Subst

@@ -3,20 +3,13 @@
 ghost use Rattle.std.specs.Prelude.{◌≡◌, ◌<◌, true, length, map};
 ghost use Rattle.spec_trees.specs.Tree.{bind};
 ghost use Rattle.spec_terms.specs.Term.{Subst};
-ghost use Rattle.term_tree.specs.Bank.{symbol_of, tree_at, AreKnown};
+ghost use Rattle.term_tree.specs.Bank.{tree_at, AreKnown};
 ghost use Rattle.clause_form.specs.Facts.{fact_of};
 ghost use Rattle.clause_form.specs.Seen.{fact_at, IsFactIn};
 ghost use Rattle.clause_resolve.specs.Meeting.{NeverMeet};
 
 use clause_form::Fact;
-use term_tree::{Bank, Id, Node, Sym};
-
-/// Whether two symbols differ.
-fn is_other_symbol(left: Sym, right: Sym) -> bool
-    ensures { result ≡ true → left ≡ right → ⊥ }
-{
-    left != right
-}
+use term_tree::{Bank, Id, Node};
 
 /// Whether two terms are applications of different symbols, or to different numbers of arguments.
 fn roots_differ<B: Bank>(bank: &B, left: Id, right: Id) -> bool
@@ -33,7 +26,7 @@ fn roots_differ<B: Bank>(bank: &B, left: Id, right: Id) -> bool
                 if xs.len() != ys.len() {
                     return true;
                 }
-                is_other_symbol(f, g)
+                !f.is_same(g)
             }
         },
     }

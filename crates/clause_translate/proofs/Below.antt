@@ -1,18 +1,19 @@
 -- Variables of terms, patterns and rules where they are visited: all are below a number where those of the scope are.
-use Rattle.std.proofs.Common.{ℕ, ◌+◌, ◌-◌, ◌<◌, Bool, true, false, cond, Some, List, [], ◌∷◌, map, filter_map, arith}
+use Rattle.std.proofs.Common.{ℕ, ◌+◌, ◌-◌, ◌<◌, ◌≤◌, Bool, true, false, cond, Some, List, [], ◌∷◌, map, filter_map, arith}
 use Rattle.std.specs.Prelude.{unwrap_or}
 use Rattle.std.specs.List.{AllByRecursion}
 use Rattle.spec_trees.specs.Tree.{Tree, Trees, Leaf, Node, none, more}
 use Rattle.spec_trees.specs.Leaves.{leaves, row_leaves}
 use Rattle.spec_calculus.specs.Syntax.{Name, Made, Variable, Symbol, Hole, Bind, Equal, Pattern, Protocol}
 use Rattle.spec_calculus.specs.Syntax as calculus
+use Rattle.spec_calculus.specs.Bounds.{most_written_symbols}
 use Rattle.spec_calculus.specs.Values.{same_name}
 use Rattle.spec_terms.specs.Term.{Term}
 use Rattle.spec_clauses.specs.Variables.{IsBelow, AreBelow}
 use Rattle.spec_clauses.proofs.Lists.{all_append, all_first, all_second, all_weaker}
 use Rattle.spec_translation.specs.Conversion.{Scope, free_term, converted, converted_row, found_in, leaf_term, term_in, Fresh, hole_term, pattern_term, bound_number, hole_standing, rule_leaf, rule_term}
 use Rattle.clause_terms.specs.Conditions.{IsRoomFor, HasRoomFrom}
-use Rattle.clause_translate.specs.Spans.{EndsBelow, HasEnd, HaveEnd}
+use Rattle.clause_translate.specs.Room.{rule_base}
 
 -- what is converted, where what each leaf stands for is
 module _ (P : Protocol) (n : ℕ) {L : Type 0} (leaf : L → Term) where
@@ -59,18 +60,18 @@ module _ (P : Protocol) (n : ℕ) where
   pub pattern_below : (scope : Scope) (at : Fresh) → AreBelow n (map (λ b. b.term) scope) → (pattern : Pattern) → AllByRecursion (λ i. at.base + (i - at.first) < n) (filter_map bound_number (leaves pattern)) → IsBelow n (pattern_term P scope at pattern)
   pattern_below scope at b pattern a = converted_below P n (hole_term P scope at) pattern (holes_below scope at b (leaves pattern) a)
 
-  -- a rule's
-  rule_leaf_below : (base : ℕ) (x : Name) → EndsBelow base n x → IsBelow n (rule_leaf base x)
-  rule_leaf_below base (calculus.Free k) e = tt
-  rule_leaf_below base (Made p) e = tt
-  rule_leaf_below base (Variable i) e = (e, tt)
+  -- a rule's, where they are below the number
+  rule_leaf_below : (base : ℕ) → base + most_written_symbols ≤ n → (x : Name) → IsRoomFor rule_base x → IsBelow n (rule_leaf base x)
+  rule_leaf_below base up (calculus.Free k) e = tt
+  rule_leaf_below base up (Made p) e = tt
+  rule_leaf_below base up (Variable i) e = (omega (arith, e, up), tt)
 
-  pub rule_below : (base : ℕ) (t : calculus.Term) → HasEnd base n t → IsBelow n (rule_term P base t)
-  rule_below base t e = converted_below P n (rule_leaf base) t (all_weaker (EndsBelow base n) (λ x. IsBelow n (rule_leaf base x)) (rule_leaf_below base) (leaves t) e)
+  pub rule_below : (base : ℕ) → base + most_written_symbols ≤ n → (t : calculus.Term) → HasRoomFrom rule_base t → IsBelow n (rule_term P base t)
+  rule_below base up t e = converted_below P n (rule_leaf base) t (all_weaker (IsRoomFor rule_base) (λ x. IsBelow n (rule_leaf base x)) (rule_leaf_below base up) (leaves t) e)
 
-  pub rules_below : (base : ℕ) (ts : List calculus.Term) → HaveEnd base n ts → AreBelow n (map (rule_term P base) ts)
-  rules_below base [] e = tt
-  rules_below base (t ∷ ts) e = (rule_below base t e.0, rules_below base ts e.1)
+  pub rules_below : (base : ℕ) → base + most_written_symbols ≤ n → (ts : List calculus.Term) → AllByRecursion (HasRoomFrom rule_base) ts → AreBelow n (map (rule_term P base) ts)
+  rules_below base up [] e = tt
+  rules_below base up (t ∷ ts) e = (rule_below base up t e.0, rules_below base up ts e.1)
 
 -- what a pattern binds
 pub bound_below : (n : ℕ) (at : Fresh) (holes : List Hole) → AllByRecursion (λ i. at.base + (i - at.first) < n) (filter_map bound_number holes) → AreBelow n (map (λ b. b.term) (filter_map (hole_standing at) holes))
@@ -78,15 +79,14 @@ bound_below n at [] a = tt
 bound_below n at (Bind i ∷ holes) a = ((a.0, tt), bound_below n at holes a.1)
 bound_below n at (Equal t ∷ holes) a = bound_below n at holes a
 
--- where a rule's variables end below 2^32, there is room for them
-room_of : (base end : ℕ) → end < 4294967296 → (x : Name) → EndsBelow base end x → IsRoomFor base x
-room_of base end fits (calculus.Free k) e = tt
-room_of base end fits (Made p) e = tt
-room_of base end fits (Variable i) e = omega (arith, e, fits)
+-- a rule with few variables has room for them behind each base that isn't greater
+room_of : (base : ℕ) → base ≤ rule_base → (x : Name) → IsRoomFor rule_base x → IsRoomFor base x
+room_of base low (calculus.Free k) e = tt
+room_of base low (Made p) e = tt
+room_of base low (Variable i) e = omega (arith, e, low)
 
-pub room_for : (base end : ℕ) → end < 4294967296 → (t : calculus.Term) → HasEnd base end t → HasRoomFrom base t
-room_for base end fits t e = all_weaker (EndsBelow base end) (IsRoomFor base) (room_of base end fits) (leaves t) e
+pub room_for : (base : ℕ) → base ≤ rule_base → (t : calculus.Term) → HasRoomFrom rule_base t → HasRoomFrom base t
+room_for base low t e = all_weaker (IsRoomFor rule_base) (IsRoomFor base) (room_of base low) (leaves t) e
 
-pub rooms_for : (base end : ℕ) → end < 4294967296 → (ts : List calculus.Term) → HaveEnd base end ts → AllByRecursion (HasRoomFrom base) ts
-rooms_for base end fits [] e = tt
-rooms_for base end fits (t ∷ ts) e = (room_for base end fits t e.0, rooms_for base end fits ts e.1)
+pub rooms_for : (base : ℕ) → base ≤ rule_base → (ts : List calculus.Term) → AllByRecursion (HasRoomFrom rule_base) ts → AllByRecursion (HasRoomFrom base) ts
+rooms_for base low ts e = all_weaker (HasRoomFrom rule_base) (HasRoomFrom base) (room_for base low) ts e

@@ -49,7 +49,8 @@ evented all v event ids made known args below e =
       hypotheses = facts_below v.next (visit_at all v).hypotheses (Mev event (map (tree_at all) ids)) parts.hypotheses below;
       messages = parts.messages;
       sessions = parts.sessions;
-    })
+    }
+    known.room)
 
 -- whether a visit with an event is too large, part by part
 pub first_large : (a b c : Bool) → a ≡ true → (a || (b || c)) ≡ true

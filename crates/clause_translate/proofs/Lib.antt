@@ -20,6 +20,8 @@ pub mod Ruling
 pub mod Calling
 pub mod Courses
 pub mod Weights
+pub mod FewPoints
+pub mod FewCopies
 pub mod Visiting
 pub mod Repeating
 pub mod Reading

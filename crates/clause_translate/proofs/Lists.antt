@@ -2,7 +2,7 @@
 use Rattle.std.proofs.Common.{◌≡◌, ℕ, zero, suc, ◌+◌, ◌<◌, Bool, true, false, ◌||◌, Option, Some, None, List, [], ◌∷◌, length, map, take, get_or, refl, sym, subst, arith}
 use Rattle.std.specs.Prelude.{MatchOption}
 use Rattle.std.specs.List.{AllByRecursion, list_any}
-use Rattle.std.proofs.lemmas.List.{take_more, map_more}
+use Rattle.std.proofs.lemmas.List.{take_more}
 use Rattle.spec_clauses.proofs.Lists.{all_append, all_weaker}
 
 -- the branches of an answer that may be none
@@ -17,10 +17,6 @@ pub all_on : {X : Type 0} (P Q : X → Type 0) (xs : List X) (i : ℕ) (d : X) �
 all_on P Q xs i d within weaker before here =
     subst (λ l. AllByRecursion Q l) (sym (take_more xs i d within)) (all_append Q (take i xs) (get_or xs i d ∷ []) (all_weaker P Q weaker (take i xs) before) (here, tt))
 
-pub all_map_on : {X Y : Type 0} (P Q : Y → Type 0) (f : X → Y) (xs : List X) (i : ℕ) (x : X) → i < length xs → x ≡ get_or xs i x → ((y : Y) → P y → Q y) → AllByRecursion P (map f (take i xs)) → Q (f x) → AllByRecursion Q (map f (take (i + 1) xs))
-all_map_on P Q f xs i x within is weaker before here =
-    subst (λ l. AllByRecursion Q l) (sym (map_more f xs i x within)) (all_append Q (map f (take i xs)) (f (get_or xs i x) ∷ []) (all_weaker P Q weaker (map f (take i xs)) before) (subst (λ y. Q (f y)) is here, tt))
-
 -- an item passes the test
 or_second : (a b : Bool) → b ≡ true → (a || b) ≡ true
 or_second true b e = refl
@@ -30,3 +26,9 @@ pub any_at : {X Y : Type 0} (test : Y → Bool) (f : X → Y) (xs : List X) (i :
 any_at test f [] i d within e = absurd (omega arith)
 any_at test f (x ∷ xs) zero d within e = rw e refl
 any_at test f (x ∷ xs) (suc i) d within e = or_second (test (f x)) (list_any test (map f xs)) (any_at test f xs i d (omega arith) e)
+
+-- what holds of all holds of the one at a place
+pub all_at : {X : Type 0} (Q : X → Type 0) (xs : List X) (i : ℕ) (d : X) → AllByRecursion Q xs → i < length xs → Q (get_or xs i d)
+all_at Q [] i d h within = absurd (omega arith)
+all_at Q (x ∷ xs) zero d h within = h.0
+all_at Q (x ∷ xs) (suc i) d h within = all_at Q xs i d h.1 (omega arith)

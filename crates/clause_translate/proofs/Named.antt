@@ -1,7 +1,7 @@
 -- Visits of a bank that grows, and visits made from visits.
-use Rattle.std.proofs.Common.{◌≡◌, ℕ, ◌+◌, ◌<◌, ◌≤◌, Ok, Err, Result, List, [], ◌∷◌, ◌++◌, map, refl, sym, subst, ◌∙◌, arith}
+use Rattle.std.proofs.Common.{◌≡◌, ℕ, ◌+◌, ◌<◌, ◌≤◌, Ok, Err, Result, List, [], ◌∷◌, ◌++◌, length, map, refl, sym, subst, ◌∙◌, arith}
 use Rattle.std.specs.Prelude.{flat_map, IfOk}
-use Rattle.std.proofs.lemmas.List.{map-append}
+use Rattle.std.proofs.lemmas.List.{map-append, length-append}
 use Rattle.spec_trees.specs.Tree.{Leaf, node, trees}
 use Rattle.spec_calculus.specs.Syntax.{Name, Made}
 use Rattle.spec_terms.specs.Term.{Point, Term}
@@ -16,6 +16,7 @@ use Rattle.clause_form.specs.Seen.{fact_at, NameTerms, NameFacts}
 use Rattle.clause_form.proofs.Copying.{NameTerms-grows, NameTerms-push, NameFacts-grows}
 use Rattle.clause_terms.specs.Scopes.{Held, scope_at, IsScopeIn, NamesScope}
 use Rattle.clause_translate.specs.declared.visit.Visit as source
+use Rattle.clause_translate.specs.Room.{most_next}
 use Rattle.clause_translate.specs.Visits.{visit_at, IsVisitIn, NamesVisit, NameVisits}
 use Rattle.clause_translate.proofs.Scopes.{NamesScope-grows}
 
@@ -63,8 +64,8 @@ below_visit_more n m v up b = record {
 
 -- a visit whose parts are named is
 pub visit_named : (all : List Term) (made : source.Visit) (v : Visit) → NamesScope all made.scope v.scope → NameFacts all made.hypotheses v.hypotheses → NameTerms all made.messages v.messages → NameTerms all made.sessions v.sessions
-    → Below made.next v → NamesVisit all made v
-visit_named all made v scope hypotheses messages sessions below =
+    → Below made.next v → made.next ≤ most_next + length made.sessions → NamesVisit all made v
+visit_named all made v scope hypotheses messages sessions below room =
     let is : visit_at all made ≡ v = λ i. record { scope = scope.is i; hypotheses = hypotheses.are i; messages = messages.are i; sessions = sessions.are i } in
     record {
       known = record {
@@ -73,6 +74,7 @@ visit_named all made v scope hypotheses messages sessions below =
         messages = messages.known;
         sessions = sessions.known;
         below = subst (λ (w : Visit). AreBelow made.next (visit_terms w)) (sym is) (joined made.next v below);
+        room = room;
       };
       is = is;
     }
@@ -95,7 +97,7 @@ module _ (old now : List Term) (v : source.Visit) (grows : Grows old now) (known
   below_parts = parted v.next (visit_at old v) known.below
 
   pub visit_later : NamesVisit now v (visit_at old v)
-  visit_later = visit_named now v (visit_at old v) scope_later hypotheses_later messages_later sessions_later below_parts
+  visit_later = visit_named now v (visit_at old v) scope_later hypotheses_later messages_later sessions_later below_parts known.room
 
 pub NamesVisit-grows : (old now : List Term) (v : source.Visit) (tree : Visit) → Grows old now → NamesVisit old v tree → NamesVisit now v tree
 NamesVisit-grows old now v tree grows names = subst (λ (w : Visit). NamesVisit now v w) names.is (visit_later old now v grows names.known)
@@ -119,6 +121,7 @@ copied old now v session next grows known names e =
       messages = below.messages;
       sessions = all_append (IsBelow next) (visit_at old v).sessions (Leaf v.next ∷ []) below.sessions ((omega (arith, e), tt), tt);
     }
+    (omega (arith, e, known.room, length-append v.sessions (session ∷ [])))
 
 -- one more name in a scope
 pub NamesScope-push : (all : List Term) (scope : List Held) (terms : Scope) (x : Name) (id : Id) (t : Term) → NamesScope all scope terms → Names all id t → NamesScope all (scope ++ record { name = x; id = id } ∷ []) (terms ++ record { name = x; term = t } ∷ [])
@@ -154,3 +157,4 @@ restricted old now v term point grows known names =
       messages = below.messages;
       sessions = below.sessions;
     }
+    known.room

@@ -1,5 +1,6 @@
 -- The parts of visits under bindings, over a bank that grows.
-use Rattle.std.proofs.Common.{◌≡◌, true, Option, None, List, map, ap, sym, subst}
+use Rattle.std.proofs.Common.{◌≡◌, true, Option, None, List, length, map, ap, sym, subst, ◌∙◌, arith}
+use Rattle.std.proofs.lemmas.List.{length-map}
 use Rattle.std.specs.Prelude.{MatchOption}
 use Rattle.spec_trees.specs.Tree.{bind}
 use Rattle.spec_calculus.specs.Bounds.{most_symbols}
@@ -48,9 +49,14 @@ module _ (old mid : List Term) (pairs : List Bound) (grows : Grows old mid) (rea
       let here = subst (λ (l : List (Fact Id)). some_fact_over most_symbols (map (fact_under (resolved (seen mid pairs))) (map (fact_at mid) l)) ≡ true) e over in
       hypotheses_large (visit_under (resolved (seen old pairs)) (visit_at old v)) (subst (λ l. some_fact_over most_symbols l ≡ true) (facts_same v.hypotheses known.hypotheses) here)
 
+-- there are as many terms as before
+same_length : (old new : List Term) (s : Subst) (ids made : List Id) → NameTerms new made (map (bind s) (map (tree_at old) ids)) → length made ≡ length ids
+same_length old new s ids made names = sym (length-map made (tree_at new)) ∙ (ap length names.are ∙ (length-map (map (tree_at old) ids) (bind s) ∙ length-map ids (tree_at old)))
+
 -- a visit is named by its parts
 pub visit_under_named : (old mid new : List Term) (s : Subst) (v made : source.Visit) → IsVisitIn old v → Grows mid new → HasBelow s v.next → made.next ≡ v.next → NamesKnown mid made.scope made.hypotheses (visit_under s (visit_at old v))
     → NameTerms new made.messages (map (bind s) (map (tree_at old) v.messages)) → NameTerms new made.sessions (map (bind s) (map (tree_at old) v.sessions)) → NameFacts new made.hypotheses (map (fact_under s) (map (fact_at old) v.hypotheses)) → NamesVisit new made (visit_under s (visit_at old v))
 visit_under_named old mid new s v made known grows below next parts messages sessions facts =
     visit_named new made (visit_under s (visit_at old v)) (NamesScope-grows mid new made.scope (visit_under s (visit_at old v)).scope grows parts.scope) facts messages sessions
     (subst (λ n. Below n (visit_under s (visit_at old v))) (sym next) (visit_below s v.next below (visit_at old v) (parted v.next (visit_at old v) known.below)))
+    (omega (arith, next, known.room, same_length old new s v.sessions made.sessions sessions))

@@ -1,5 +1,5 @@
--- What is read has short tuples.
-use Rattle.std.proofs.Common.{ℕ, zero, suc, ◌+◌, List, [], ◌∷◌, ◌++◌}
+-- What is read has short tuples, and rules with few variables.
+use Rattle.std.proofs.Common.{ℕ, zero, suc, ◌+◌, List, [], ◌∷◌, ◌++◌, arith}
 use Rattle.std.specs.List.{AllByRecursion, slice_get}
 use Rattle.std.specs.Option.{option_map_or}
 use Rattle.spec_calculus.specs.Syntax.{Name, Made, Process, Nil, Output, Input, Parallel, Replication, New, Let, Event, Expression, Plain, Call, Rule, Destructor, Protocol}
@@ -7,10 +7,12 @@ use Rattle.spec_calculus.specs.Points.{point_after}
 use Rattle.spec_well_formed.specs.Signature.{Signature, signature_of}
 use Rattle.spec_well_formed.specs.Terms.{IsKnown, IsExpressionBelow, bound_by}
 use Rattle.spec_well_formed.specs.Processes.{IsProcessBelow}
+use Rattle.spec_well_formed.specs.Limits.{IsSmallRule, IsSmallDestructor, IsWithinLimits}
+use Rattle.spec_well_formed.specs.Rules.{IsProperRule, HasProperRules}
 use Rattle.spec_well_formed.specs.WellFormed.{IsRuleOver, IsWellScoped}
-use Rattle.clause_terms.specs.Conditions.{IsShortRule}
-use Rattle.clause_terms.proofs.Laws.{short_term, short_terms, short_pattern, short_rule}
-use Rattle.clause_translate.specs.Short.{IsShortExpression, IsShortProcess, HasShortRules}
+use Rattle.clause_terms.proofs.Laws.{short_term, short_terms, short_pattern, short_rule, rule_room}
+use Rattle.clause_translate.specs.Room.{rule_base}
+use Rattle.clause_translate.specs.Short.{IsShortExpression, IsShortProcess, IsFitRule, HasFitRules}
 
 short_expression : (signature : Signature) (bound : List Name) (expression : Expression) → IsExpressionBelow signature bound expression → IsShortExpression expression
 short_expression signature bound (Plain t) below = short_term signature (IsKnown signature bound) t below
@@ -36,15 +38,19 @@ short_process signature bound point (Event performed next) below = (short_terms 
 pub main_short : (P : Protocol) → IsWellScoped P → IsShortProcess P.main
 main_short P scoped = short_process (signature_of P) [] 1 P.main scoped.process
 
-rules_short : (signature : Signature) (rules : List Rule) → AllByRecursion (IsRuleOver signature) rules → AllByRecursion IsShortRule rules
-rules_short signature [] over = tt
-rules_short signature (rule ∷ rules) over = (short_rule signature rule over.0, rules_short signature rules over.1)
+rules_fit : (signature : Signature) (rules : List Rule) → AllByRecursion IsProperRule rules → AllByRecursion IsSmallRule rules → AllByRecursion (IsRuleOver signature) rules → AllByRecursion IsFitRule rules
+rules_fit signature [] proper small over = tt
+rules_fit signature (rule ∷ rules) proper small over = (
+  record { short = short_rule signature rule over.0; few = rule_room rule_base rule proper.0 small.0 (omega arith) },
+  rules_fit signature rules proper.1 small.1 over.1,
+)
 
-short_at : (signature : Signature) (ds : List Destructor) (index : ℕ) → AllByRecursion (λ d. AllByRecursion (IsRuleOver signature) d.rules) ds → AllByRecursion IsShortRule (option_map_or (λ destructor. destructor.rules) (slice_get ds index) [])
-short_at signature [] index over = tt
-short_at signature (d ∷ ds) zero over = rules_short signature d.rules over.0
-short_at signature (d ∷ ds) (suc index) over = short_at signature ds index over.1
+fit_at : (signature : Signature) (ds : List Destructor) (index : ℕ) → AllByRecursion IsProperRule (option_map_or (λ destructor. destructor.rules) (slice_get ds index) []) → AllByRecursion IsSmallDestructor ds
+    → AllByRecursion (λ d. AllByRecursion (IsRuleOver signature) d.rules) ds → AllByRecursion IsFitRule (option_map_or (λ destructor. destructor.rules) (slice_get ds index) [])
+fit_at signature [] index proper small over = tt
+fit_at signature (d ∷ ds) zero proper small over = rules_fit signature d.rules proper small.0.rules over.0
+fit_at signature (d ∷ ds) (suc index) proper small over = fit_at signature ds index proper small.1 over.1
 
-pub has_short_rules : (P : Protocol) → IsWellScoped P → HasShortRules P
-has_short_rules P scoped zero = tt
-has_short_rules P scoped (suc index) = short_at (signature_of P) P.destructors index scoped.rules
+pub has_fit_rules : (P : Protocol) → HasProperRules P → IsWithinLimits P → IsWellScoped P → HasFitRules P
+has_fit_rules P proper limits scoped zero = tt
+has_fit_rules P proper limits scoped (suc index) = fit_at (signature_of P) P.destructors index (proper.proper (suc index)) limits.destructors scoped.rules

@@ -58,7 +58,8 @@ bound_named old now v made span pattern bound grows known up is_span names e =
       hypotheses = below.hypotheses;
       messages = below.messages;
       sessions = below.sessions;
-    })
+    }
+    (omega (arith, is_span.few)))
 
 -- beside the pattern's term
 pub pattern_named : (P : Protocol) (old mid new : List Term) (v made : source.Visit) (from : ℕ) (span : Span) (pattern : Pattern) (term : Id) → Grows old mid → Grows mid new → IsVisitIn old v → v.next ≤ from → IsSpan from (bound_numbers pattern) span
@@ -110,7 +111,8 @@ module _ (P : Protocol) (v : Visit) (c : calculus.Term) (pattern : Pattern) (fro
         hypotheses = facts_below w.next v.hypotheses (sent P (term_in P v.scope c) t) parts.hypotheses (sent_below P w.next (term_in P v.scope c) t (below_more from w.next bound.up (term_in P v.scope c) below) bound.below);
         messages = all_append (IsBelow w.next) v.messages (t ∷ []) parts.messages (bound.below, tt);
         sessions = parts.sessions;
-      } in
+      }
+      known.room in
       (at, bound.is_fresh, subst (λ (m : source.Visit). NamesVisit new m (after_input P v c pattern at)) (sym e) here)
 
 pub received_named : (P : Protocol) (old mid new : List Term) (v w made : source.Visit) (c : calculus.Term) (pattern : Pattern) (channel message : Id) (fact : Fact Id) → Grows old mid → Grows mid new → IsVisitIn old v

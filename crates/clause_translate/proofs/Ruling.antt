@@ -9,7 +9,7 @@ use Rattle.pi_tree.specs.declared.destructors.Rule.{Rule}
 use Rattle.pi_tree.specs.Rules.{rule_of}
 use Rattle.spec_terms.specs.Term.{Term}
 use Rattle.term_tree.specs.Bank.{Grows}
-use Rattle.clause_terms.specs.Conditions.{IsShortRule}
+use Rattle.clause_translate.specs.Short.{IsFitRule}
 use Rattle.term_tree.proofs.BankLaws.{Grows_refl, Grows_trans}
 use Rattle.spec_translation.specs.Visit.{Visit, is_large_visit}
 use Rattle.spec_translation.specs.Visited.{some_large}
@@ -127,14 +127,14 @@ module _ (P : Protocol) (v : Visit) (pattern : Pattern) (values : List Term) (ol
   pub one_large : is_large ≡ true → IsLargeByRules P v pattern values (map rule_of rules)
   one_large e = record { outs = was.outs; go = subst (λ rs. AllByRule P v pattern values rs was.outs) whole was.go; large = was.large ∙ e }
 
--- a rule among short rules is short
-short_in : (rules : List Rule) (i : ℕ) (d : Rule) → AllByRecursion IsShortRule (map rule_of rules) → i < length rules → IsShortRule (rule_of (get_or rules i d))
-short_in [] i d short within = absurd (omega arith)
-short_in (r ∷ rules) zero d short within = short.0
-short_in (r ∷ rules) (suc i) d short within = short_in rules i d short.1 (omega arith)
+-- a rule among fit rules is fit
+fit_in : (rules : List Rule) (i : ℕ) (d : Rule) → AllByRecursion IsFitRule (map rule_of rules) → i < length rules → IsFitRule (rule_of (get_or rules i d))
+fit_in [] i d fit within = absurd (omega arith)
+fit_in (r ∷ rules) zero d fit within = fit.0
+fit_in (r ∷ rules) (suc i) d fit within = fit_in rules i d fit.1 (omega arith)
 
-pub short_at : (rules : List Rule) (i : ℕ) (rule : Rule) → rule ≡ get_or rules i rule → AllByRecursion IsShortRule (map rule_of rules) → i < length rules → IsShortRule (rule_of rule)
-short_at rules i rule is short within = subst (λ (r : Rule). IsShortRule (rule_of r)) (sym is) (short_in rules i rule short within)
+pub fit_at : (rules : List Rule) (i : ℕ) (rule : Rule) → rule ≡ get_or rules i rule → AllByRecursion IsFitRule (map rule_of rules) → i < length rules → IsFitRule (rule_of rule)
+fit_at rules i rule is fit within = subst (λ (r : Rule). IsFitRule (rule_of r)) (sym is) (fit_in rules i rule fit within)
 
 -- a rule goes on in a bank that grew as it does before
 pub by_rule_same : (P : Protocol) (v w : Visit) (pattern : Pattern) (xs ys : List Term) (rule : calculus.Rule) (out : Option Visit) → v ≡ w → xs ≡ ys → ByRule P v pattern xs rule out → ByRule P w pattern ys rule out

@@ -1,21 +1,21 @@
 -- Terms and facts under bindings, over a bank that grows.
-use Rattle.std.proofs.Common.{◌≡◌, ℕ, ◌<◌, Bool, true, false, not, ◌||◌, nat_le, Option, Some, None, List, [], ◌∷◌, length, map, get_or, refl, ap, sym, subst, ◌∙◌, arith}
+use Rattle.std.proofs.Common.{◌≡◌, ℕ, ◌<◌, true, false, not, nat_le, Option, Some, None, List, [], ◌∷◌, length, map, get_or, refl, ap, sym, subst, ◌∙◌, arith}
 use Rattle.std.specs.List.{list_any}
 use Rattle.std.proofs.lemmas.Bool.Decides.{nat_tests}
 use Rattle.spec_trees.specs.Tree.{bind, size}
 use Rattle.spec_calculus.specs.Bounds.{most_symbols}
 use Rattle.spec_terms.specs.Term.{Term, Subst}
 use Rattle.spec_terms.specs.Binding.{resolved}
-use Rattle.spec_clauses.specs.Fact.{Mess, fact_under}
+use Rattle.spec_clauses.specs.Fact.{fact_under}
 use Rattle.term_tree.specs.Bank.{tree_at, Names, Grows}
 use Rattle.term_tree.specs.declared.bank.Id.{Id}
-use Rattle.term_tree.proofs.BankLaws.{Names-grows, tree_at-grows}
+use Rattle.term_tree.proofs.BankLaws.{tree_at-grows}
 use Rattle.unify_match.specs.declared.bound.Bound.{Bound}
 use Rattle.unify_match.specs.Seen.{seen, IsReady}
 use Rattle.unify_match.proofs.SeenLemmas.{seen-grows}
 use Rattle.clause_form.specs.declared.facts.Fact as declared
 use Rattle.clause_form.specs.Facts.{fact_of}
-use Rattle.clause_form.specs.Seen.{fact_at, NamesFact}
+use Rattle.clause_form.specs.Seen.{fact_at}
 use Rattle.clause_form.proofs.Renumber.{under_at}
 use Rattle.clause_translate.specs.Built.{IsUnder}
 use Rattle.clause_translate.specs.Sizes.{is_over, some_over, some_over_in, some_fact_over}
@@ -56,14 +56,3 @@ some_fact_over_at old s fs i f most within is e = subst (λ l. list_any (some_ov
   mapped : (xs : List declared.Fact) → map (fact_under s) (map (fact_at old) (map fact_of xs)) ≡ map (λ h. fact_under s (fact_at old (fact_of h))) xs
   mapped [] = refl
   mapped (x ∷ xs) = let rest = mapped xs in λ i. fact_under s (fact_at old (fact_of x)) ∷ rest i
-
--- a fact of two terms
-pub second_over : (a b : Bool) → b ≡ true → (a || (b || false)) ≡ true
-second_over true b e = refl
-second_over false true e = refl
-second_over false false e = e
-
-pub message_named : (now new : List Term) (channel message : Id) (t u : Term) → Grows now new → Names now channel t → Names new message u → NamesFact new (Mess channel message) (Mess t u)
-message_named now new channel message t u grows first second =
-    let later = Names-grows now new channel t grows first in
-    record { known = (later.known, (second.known, tt)); is = λ i. Mess (later.is i) (second.is i) }

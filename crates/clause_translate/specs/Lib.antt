@@ -1,3 +1,4 @@
+pub mod Room
 pub mod Short
 pub mod ShortProps
 pub mod Places

@@ -1,11 +1,11 @@
--- That tuples are short has one proof at most.
+-- That tuples are short, and that variables have room, has one proof at most.
 use Rattle.std.proofs.Props.{props}
 use Rattle.std.specs.Prelude.{ℕ}
 use Rattle.std.specs.Coded.{×_prop, Unit-prop, le_prop}
 use Rattle.spec_trees.specs.Tree.{Tree, Trees, Leaf, Node, none, more}
-use Rattle.spec_calculus.specs.Syntax.{Symbol, Constructor, Tuple, Hole, Bind, Equal}
+use Rattle.spec_calculus.specs.Syntax.{Name, Free, Made, Variable, Symbol, Constructor, Tuple, Hole, Bind, Equal}
 use Rattle.spec_well_formed.specs.Terms.{row_length, EachSymbol, EachSymbolInRow}
-use Rattle.clause_terms.specs.Conditions.{IsShort, IsShortHole}
+use Rattle.clause_terms.specs.Conditions.{IsShort, IsShortHole, IsRoomFor}
 
 pub IsShort-prop : (f : Symbol) (count : ℕ) → IsProp (IsShort f count)
 IsShort-prop (Constructor f) count = Unit-prop
@@ -24,4 +24,9 @@ pub IsShortHole-prop : (hole : Hole) → IsProp (IsShortHole hole)
 IsShortHole-prop (Bind i) = Unit-prop
 IsShortHole-prop (Equal term) = short_tuples-prop term
 
-pub ruleset short_props = (short_tuples-prop, IsShortHole-prop, props)
+pub IsRoomFor-prop : (base : ℕ) (x : Name) → IsProp (IsRoomFor base x)
+IsRoomFor-prop base (Free n) = Unit-prop
+IsRoomFor-prop base (Made p) = Unit-prop
+IsRoomFor-prop base (Variable i) = le_prop
+
+pub ruleset short_props = (short_tuples-prop, IsShortHole-prop, IsRoomFor-prop, props)

@@ -5,16 +5,17 @@ ghost use Rattle.std.specs.List.{AllByRecursion};
 ghost use Rattle.pi_tree.specs.Terms.{term_of};
 ghost use Rattle.pi_tree.specs.Patterns.{pattern_of, expression_of};
 ghost use Rattle.pi_tree.specs.Rules.{rule_of};
+ghost use Rattle.spec_calculus.specs.Bounds.{most_points};
 ghost use Rattle.spec_calculus.specs.Syntax.{Call};
 ghost use Rattle.spec_clauses.specs.Variables.{AreBelow};
 ghost use Rattle.term_tree.specs.Bank.{tree_at, AreKnown, Grows};
 ghost use Rattle.spec_translation.specs.Visit as translation;
 ghost use Rattle.spec_translation.specs.Choice.{GoesOn, TermGoesOn};
-ghost use Rattle.clause_terms.specs.Conditions.{HasShortTuples, IsShortPattern, IsShortRule};
+ghost use Rattle.clause_terms.specs.Conditions.{HasShortTuples, IsShortPattern};
 ghost use Rattle.clause_translate.specs.Places.{protocol_at};
-ghost use Rattle.clause_translate.specs.Short.{IsShortExpression};
+ghost use Rattle.clause_translate.specs.Short.{IsShortExpression, IsFitRule};
 ghost use Rattle.clause_translate.specs.Forms.{GoOn, IsLargeChoice};
-ghost use Rattle.clause_translate.specs.Visits.{visit_at, IsVisitIn};
+ghost use Rattle.clause_translate.specs.Visits.{visit_at, IsVisitIn, HasFewCopies};
 ghost use Rattle.clause_translate.specs.Ways.{IsWay, choice_at, HasChoiceBelow};
 ghost use Rattle.clause_translate.specs.declared.choices.Way.TheVariants as ways;
 ghost use Rattle.clause_translate.specs.Choices.{ByRule, GoByRules, IsLargeByRules, IsAlone};
@@ -23,11 +24,10 @@ use crate::choice::Choosing;
 use crate::inputs::with_pattern;
 use crate::large::is_large_visit;
 use crate::place::Place;
-use crate::spans::end_of_rule;
 use crate::unified::{Equations, unified, visit_under};
 use crate::visit::{Visit, Visits};
 use clause_terms::{rule_term, rule_terms, term_in, terms_in};
-use pi_tree::{Expr, Pat, Rule, Term, Terms};
+use pi_tree::{Expr, MOST_WRITTEN_SYMBOLS, Pat, Rule, Term, Terms};
 use std::alloc::{AllocError, Global};
 use term_tree::{Bank, Id};
 use term_values::rules_of;
@@ -124,7 +124,7 @@ fn by_rule_grown<B: Bank>(
     requires arguments { AreKnown (B.trees bank.old) arguments.now }
     requires below { AreBelow choosing.now.visit.now.next
         (map (tree_at (B.trees bank.old)) arguments.now) }
-    requires rule { IsShortRule (rule_of rule.now) }
+    requires rule { IsFitRule (rule_of rule.now) }
     ensures grows { Grows (B.trees bank.old) (B.trees bank.new) }
     ensures way { IfOk result (λ way. (out : Option translation.Visit)
         × ByRule (protocol_at choosing.now.place.now)
@@ -134,7 +134,7 @@ fn by_rule_grown<B: Bank>(
 {
     let place = choosing.place;
     let visit = choosing.visit;
-    let base = end_of_rule(visit.next, rule)?;
+    let base = visit.next + MOST_WRITTEN_SYMBOLS;
     let sides = rule_terms(place.alloc, bank, place.protocol, visit.next, &rule.left)?;
     let value = rule_term(place.alloc, bank, place.protocol, visit.next, &rule.right)?;
     let (made, target) = with_pattern(place, bank, visit, base, choosing.pattern)?;
@@ -159,7 +159,7 @@ fn by_rule<B: Bank>(
     requires arguments { AreKnown (B.trees bank.old) arguments.now }
     requires below { AreBelow choosing.now.visit.now.next
         (map (tree_at (B.trees bank.old)) arguments.now) }
-    requires rule { IsShortRule (rule_of rule.now) }
+    requires rule { IsFitRule (rule_of rule.now) }
     ensures grows { Grows (B.trees bank.old) (B.trees bank.new) }
     ensures way { IfOk result (λ way. (out : Option translation.Visit)
         × ByRule (protocol_at choosing.now.place.now)
@@ -192,7 +192,7 @@ fn by_rules<B: Bank>(
     requires arguments { AreKnown (B.trees bank.old) arguments.now }
     requires below { AreBelow choosing.now.visit.now.next
         (map (tree_at (B.trees bank.old)) arguments.now) }
-    requires rules { AllByRecursion IsShortRule (map rule_of rules.now) }
+    requires rules { AllByRecursion IsFitRule (map rule_of rules.now) }
     ensures grows { Grows (B.trees bank.old) (B.trees bank.new) }
     ensures go { IfOk result (λ found. MatchOption found
         (IsLargeByRules (protocol_at choosing.now.place.now)
@@ -272,6 +272,7 @@ pub fn choices<B: Bank>(
     requires visit { IsVisitIn (B.trees bank.old) visit.now }
     requires short { IsShortPattern (pattern_of pattern.now) }
     requires expression { IsShortExpression (expression_of expression.now) }
+    requires copies { HasFewCopies most_points visit.now }
     ensures grows { Grows (B.trees bank.old) (B.trees bank.new) }
     ensures go { IfOk result (λ found. MatchOption found
         (IsLargeChoice (protocol_at place.now) (visit_at (B.trees bank.old) visit.now)

@@ -4,7 +4,6 @@ ghost use Rattle.std.specs.Prelude.{◌≡◌, ◌<◌, true, length, map, IfOk,
 ghost use Rattle.spec_trees.specs.Tree.{Leaf, node, bind};
 ghost use Rattle.spec_calculus.specs.Bounds.{most_symbols};
 ghost use Rattle.spec_terms.specs.Binding.{resolved};
-ghost use Rattle.spec_clauses.specs.Fact as horn;
 ghost use Rattle.spec_clauses.specs.Fact.{fact_under};
 ghost use Rattle.term_tree.specs.Bank.{symbol_of, tree_at, AreKnown, Names, Grows};
 ghost use Rattle.unify_match.specs.Seen.{seen, IsReady};
@@ -19,13 +18,6 @@ use pi_tree::MOST_SYMBOLS;
 use std::alloc::{AllocError, Global};
 use term_tree::{Bank, Id, Node, Sym};
 use unify_match::{Binds, apply_bound};
-
-/// A message that is sent, and the channel.
-#[derive(Clone, Copy)]
-pub struct Sent {
-    pub channel: Id,
-    pub message: Id,
-}
 
 /// The term that a variable is bound to, under the bindings; none where it is over the limit.
 fn bound_under<B: Bank>(
@@ -141,7 +133,7 @@ pub fn term_under<B: Bank>(
 
 /// The terms under the bindings; none where one has more symbols than the limit. On `Err` the bank may have grown.
 #[cycle(under)]
-pub fn terms_under<B: Bank>(
+fn terms_under<B: Bank>(
     alloc: Global,
     bank: &mut B,
     binds: &Binds,
@@ -168,34 +160,6 @@ pub fn terms_under<B: Bank>(
     Ok(Some(Ids { items }))
 }
 
-/// The fact that the message is sent under the bindings; none where one of the two terms has more symbols than the limit.
-/// On `Err` the bank may have grown.
-fn message_under<B: Bank>(
-    alloc: Global,
-    bank: &mut B,
-    binds: &Binds,
-    built: &mut Built,
-    sent: Sent,
-) -> Result<Option<Fact>, AllocError>
-    requires known { IsFactIn (B.trees bank.old) (horn.Mess sent.channel sent.message) }
-    requires ready { IsReady (B.trees bank.old) binds.now.pairs }
-    requires built { AreBuilt (B.trees bank.old) binds.now.pairs built.old }
-    ensures grows { Grows (B.trees bank.old) (B.trees bank.new) }
-    ensures built { OnOk result (AreBuilt (B.trees bank.new) binds.now.pairs built.new) }
-    ensures under { let made = fact_under (resolved (seen (B.trees bank.old) binds.now.pairs))
-        (fact_at (B.trees bank.old) (horn.Mess sent.channel sent.message)) in
-        IfOk result (λ found. MatchOption found (some_over_in most_symbols made ≡ true)
-        (λ fact. NamesFact (B.trees bank.new) (fact_of fact) made)) }
-{
-    match term_under(alloc, bank, binds, built, sent.channel)? {
-        None => Ok(None),
-        Some(channel) => match term_under(alloc, bank, binds, built, sent.message)? {
-            None => Ok(None),
-            Some(message) => Ok(Some(Fact::Mess(channel, message))),
-        },
-    }
-}
-
 /// The fact under the bindings; none where a term of it has more symbols than the limit. On `Err` the bank may have
 /// grown.
 fn fact_under<B: Bank>(
@@ -215,34 +179,10 @@ fn fact_under<B: Bank>(
         IfOk result (λ found. MatchOption found (some_over_in most_symbols made ≡ true)
         (λ fact. NamesFact (B.trees bank.new) (fact_of fact) made)) }
 {
-    match fact {
-        Fact::Att(term) => match term_under(alloc, bank, binds, built, *term)? {
-            None => Ok(None),
-            Some(made) => Ok(Some(Fact::Att(made))),
-        },
-        Fact::Mess(channel, message) => {
-            let sent = Sent {
-                channel: *channel,
-                message: *message,
-            };
-            message_under(alloc, bank, binds, built, sent)
-        }
-        Fact::Ev(event, arguments) => {
-            match terms_under(alloc, bank, binds, built, &arguments.items)? {
-                None => Ok(None),
-                Some(made) => Ok(Some(Fact::Ev(*event, made))),
-            }
-        }
-        Fact::Mev(event, arguments) => {
-            match terms_under(alloc, bank, binds, built, &arguments.items)? {
-                None => Ok(None),
-                Some(made) => Ok(Some(Fact::Mev(*event, made))),
-            }
-        }
-        Fact::Bad(arguments) => match terms_under(alloc, bank, binds, built, &arguments.items)? {
-            None => Ok(None),
-            Some(made) => Ok(Some(Fact::Bad(made))),
-        },
+    let terms = fact.terms();
+    match terms_under(alloc, bank, binds, built, terms.as_slice())? {
+        None => Ok(None),
+        Some(made) => Ok(Some(Fact::made_of(fact.head(), made))),
     }
 }
 

@@ -4,25 +4,25 @@ ghost use Rattle.std.specs.Prelude.{◌≡◌, ◌<◌, true, length, map, IfOk,
 ghost use Rattle.spec_trees.specs.Tree.{bind};
 ghost use Rattle.spec_calculus.specs.Bounds.{most_symbols};
 ghost use Rattle.spec_terms.specs.Binding.{resolved};
-ghost use Rattle.term_tree.specs.Bank.{tree_at, AreKnown, Grows};
+ghost use Rattle.term_tree.specs.Bank.{tree_at, AreKnown, Names, Grows};
 ghost use Rattle.unify_match.specs.Seen.{seen, IsReady};
 ghost use Rattle.spec_translation.specs.Visit as translation;
 ghost use Rattle.clause_form.specs.Seen.{NameTerms};
 ghost use Rattle.clause_terms.specs.Scopes.{scope_at, IsScopeIn, NamesScope};
 ghost use Rattle.clause_terms.specs.Slots.{held_of};
 ghost use Rattle.clause_translate.specs.Sizes.{some_standing_over};
-ghost use Rattle.clause_translate.specs.Built.{AreBuilt};
+ghost use Rattle.clause_translate.specs.Built.{tree_under, AreBuilt};
 ghost use Rattle.clause_translate.specs.Visits.{visit_at, IsVisitIn, NamesVisit};
 ghost use Rattle.clause_translate.specs.Solving.{AreRowsApart, AreRowsSolved, AreSolved, AreUnsolvable, HasBelow, NamesKnown};
 
 use crate::built::Built;
-use crate::substituted::{facts_under, term_under, terms_under};
+use crate::substituted::{facts_under, term_under};
 use crate::visit::Visit;
 use clause_form::{Facts, Ids};
 use clause_terms::{Scope, Standing};
 use std::alloc::{AllocError, Global};
 use term_tree::{Bank, Id};
-use unify_match::{Binds, unify, unify_all};
+use unify_match::{Binds, apply_unlimited, unify, unify_all};
 
 /// The terms that have to become one.
 #[derive(Clone, Copy)]
@@ -123,28 +123,48 @@ fn scope_under<B: Bank>(
     Ok(Some(Scope { items }))
 }
 
-/// The terms under the bindings. There is no memory for one that has more symbols than the limit. On `Err` the bank may
-/// have grown.
+/// The term under the bindings, whatever its size. On `Err` the bank is as before.
+fn whole_under<B: Bank>(
+    bank: &mut B,
+    binds: &Binds,
+    built: &Built,
+    id: Id,
+) -> Result<Id, AllocError>
+    requires known { id.index < length (B.trees bank.old) }
+    requires ready { IsReady (B.trees bank.old) binds.now.pairs }
+    requires built { AreBuilt (B.trees bank.old) binds.now.pairs built.now }
+    ensures grows { Grows (B.trees bank.old) (B.trees bank.new) }
+    ensures names { IfOk result (λ made. Names (B.trees bank.new) made
+        (tree_under (B.trees bank.old) binds.now.pairs id)) }
+{
+    match built.of(id) {
+        Some(made) => Ok(made),
+        None => apply_unlimited(bank, id, binds),
+    }
+}
+
+/// The terms under the bindings, whatever their size. On `Err` the bank may have grown.
 fn all_terms_under<B: Bank>(
     alloc: Global,
     bank: &mut B,
     binds: &Binds,
-    built: &mut Built,
+    built: &Built,
     terms: &[Id],
 ) -> Result<Ids, AllocError>
     requires known { AreKnown (B.trees bank.old) terms.now }
     requires ready { IsReady (B.trees bank.old) binds.now.pairs }
-    requires built { AreBuilt (B.trees bank.old) binds.now.pairs built.old }
+    requires built { AreBuilt (B.trees bank.old) binds.now.pairs built.now }
     ensures grows { Grows (B.trees bank.old) (B.trees bank.new) }
-    ensures built { OnOk result (AreBuilt (B.trees bank.new) binds.now.pairs built.new) }
     ensures names { IfOk result (λ ids. NameTerms (B.trees bank.new) ids
         (map (bind (resolved (seen (B.trees bank.old) binds.now.pairs)))
         (map (tree_at (B.trees bank.old)) terms.now))) }
 {
-    match terms_under(alloc, bank, binds, built, terms)? {
-        None => Err(AllocError),
-        Some(made) => Ok(made),
+    let mut items = Vec::with_capacity(alloc, terms.len())?;
+    'each: for term in terms {
+        let made = whole_under(bank, binds, built, *term)?;
+        items.push(made)?;
     }
+    Ok(Ids { items })
 }
 
 /// The scope and the hypotheses of the visit under the bindings; none where a term of them is over the limit. On `Err` the
@@ -181,12 +201,12 @@ fn past_under<B: Bank>(
     alloc: Global,
     bank: &mut B,
     binds: &Binds,
-    built: &mut Built,
+    built: &Built,
     visit: &Visit,
 ) -> Result<(Ids, Ids), AllocError>
     requires visit { IsVisitIn (B.trees bank.old) visit.now }
     requires ready { IsReady (B.trees bank.old) binds.now.pairs }
-    requires built { AreBuilt (B.trees bank.old) binds.now.pairs built.old }
+    requires built { AreBuilt (B.trees bank.old) binds.now.pairs built.now }
     ensures grows { Grows (B.trees bank.old) (B.trees bank.new) }
     ensures messages { IfOk result (λ past. NameTerms (B.trees bank.new) past.0
         (map (bind (resolved (seen (B.trees bank.old) binds.now.pairs)))
@@ -222,7 +242,7 @@ pub fn visit_under<B: Bank>(
     match known_under(alloc, bank, binds, &mut built, visit)? {
         None => Ok(None),
         Some((scope, hypotheses)) => {
-            let (messages, sessions) = past_under(alloc, bank, binds, &mut built, visit)?;
+            let (messages, sessions) = past_under(alloc, bank, binds, &built, visit)?;
             Ok(Some(Visit {
                 scope,
                 hypotheses,

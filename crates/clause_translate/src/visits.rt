@@ -1,6 +1,7 @@
 //! The visits of a process in pre-order (Blanchet 2016, section 3.3.2).
 
 ghost use Rattle.std.specs.Prelude.{◌≡◌, [], ◌++◌, IfOk};
+ghost use Rattle.std.specs.List.{AllByRecursion};
 ghost use Rattle.spec_calculus.specs.Limits.{compared, terms_in};
 ghost use Rattle.clause_terms.specs.Scopes.{scope_at, IsScopeIn};
 ghost use Rattle.clause_translate.specs.Forms.{are_large_in};
@@ -8,10 +9,10 @@ ghost use Rattle.spec_calculus.specs.Syntax as calculus;
 ghost use Rattle.pi_tree.specs.Patterns.{pattern_of, expression_of};
 ghost use Rattle.pi_tree.specs.Processes.{process_of};
 ghost use Rattle.term_tree.specs.Bank.{Grows};
-ghost use Rattle.clause_translate.specs.Places.{protocol_at};
+ghost use Rattle.clause_translate.specs.Places.{protocol_at, HasFewPoints};
 ghost use Rattle.clause_translate.specs.Processes.{output_form, input_form, parallel_form, let_form, event_form};
 ghost use Rattle.clause_translate.specs.Short.{IsShortProcess};
-ghost use Rattle.clause_translate.specs.Visits.{visit_at, IsVisitIn};
+ghost use Rattle.clause_translate.specs.Visits.{visit_at, IsVisitIn, HasFewCopies};
 ghost use Rattle.clause_translate.specs.Jobs.{Once, Uncounted, Each, Ends, visits_at, AreVisitsIn};
 
 use crate::choices::choices;
@@ -59,6 +60,8 @@ pub fn visit_process<B: Bank>(
 ) -> Result<Option<u32>, AllocError>
     requires visit { IsVisitIn (B.trees bank.old) visit.now }
     requires short { IsShortProcess (process_of process.now) }
+    requires points { HasFewPoints place.now.point (process_of process.now) }
+    requires copies { HasFewCopies place.now.point visit.now }
     ensures grows { Grows (B.trees bank.old) (B.trees bank.new) }
     ensures ends { IfOk result (λ large. Ends (protocol_at place.now)
         (Once (process_of process.now) place.now.point (visit_at (B.trees bank.old) visit.now))
@@ -85,6 +88,8 @@ fn visit_counted<B: Bank>(
 ) -> Result<Option<u32>, AllocError>
     requires visit { IsVisitIn (B.trees bank.old) visit.now }
     requires short { IsShortProcess (process_of process.now) }
+    requires points { HasFewPoints place.now.point (process_of process.now) }
+    requires copies { HasFewCopies place.now.point visit.now }
     ensures grows { Grows (B.trees bank.old) (B.trees bank.new) }
     ensures ends { IfOk result (λ large. Ends (protocol_at place.now)
         (Uncounted (process_of process.now) place.now.point
@@ -113,6 +118,8 @@ fn visit_form<B: Bank>(
 ) -> Result<Option<u32>, AllocError>
     requires visit { IsVisitIn (B.trees bank.old) visit.now }
     requires short { IsShortProcess (process_of process.now) }
+    requires points { HasFewPoints place.now.point (process_of process.now) }
+    requires copies { HasFewCopies place.now.point visit.now }
     ensures grows { Grows (B.trees bank.old) (B.trees bank.new) }
     ensures ends { IfOk result (λ large. Ends (protocol_at place.now)
         (Uncounted (process_of process.now) place.now.point
@@ -170,6 +177,8 @@ fn visit_output<B: Bank>(
 ) -> Result<Option<u32>, AllocError>
     requires visit { IsVisitIn (B.trees bank.old) visit.now }
     requires short { IsShortProcess (output_form output.now) }
+    requires points { HasFewPoints place.now.point (output_form output.now) }
+    requires copies { HasFewCopies place.now.point visit.now }
     ensures grows { Grows (B.trees bank.old) (B.trees bank.new) }
     ensures ends { IfOk result (λ large. Ends (protocol_at place.now)
         (Uncounted (output_form output.now) place.now.point (visit_at (B.trees bank.old) visit.now))
@@ -178,7 +187,7 @@ fn visit_output<B: Bank>(
     if !add_output(place, bank, listing, visit, output)? {
         return Ok(Some(place.point));
     }
-    let below = place.below()?;
+    let below = place.below();
     visit_process(output.next, &below, bank, listing, visit)
 }
 
@@ -193,12 +202,14 @@ fn visit_input<B: Bank>(
 ) -> Result<Option<u32>, AllocError>
     requires visit { IsVisitIn (B.trees bank.old) visit.now }
     requires short { IsShortProcess (input_form input.now) }
+    requires points { HasFewPoints place.now.point (input_form input.now) }
+    requires copies { HasFewCopies place.now.point visit.now }
     ensures grows { Grows (B.trees bank.old) (B.trees bank.new) }
     ensures ends { IfOk result (λ large. Ends (protocol_at place.now)
         (Uncounted (input_form input.now) place.now.point (visit_at (B.trees bank.old) visit.now))
         (B.trees bank.new) listing.old listing.new large) }
 {
-    let below = place.below()?;
+    let below = place.below();
     match after_input(place, bank, visit, input.channel, input.pattern)? {
         None => Ok(Some(place.point)),
         Some(made) => visit_process(input.next, &below, bank, listing, &made),
@@ -216,13 +227,15 @@ fn visit_parallel<B: Bank>(
 ) -> Result<Option<u32>, AllocError>
     requires visit { IsVisitIn (B.trees bank.old) visit.now }
     requires short { IsShortProcess (parallel_form both.now) }
+    requires points { HasFewPoints place.now.point (parallel_form both.now) }
+    requires copies { HasFewCopies place.now.point visit.now }
     ensures grows { Grows (B.trees bank.old) (B.trees bank.new) }
     ensures ends { IfOk result (λ large. Ends (protocol_at place.now)
         (Uncounted (parallel_form both.now) place.now.point (visit_at (B.trees bank.old) visit.now))
         (B.trees bank.new) listing.old listing.new large) }
 {
-    let below = place.below()?;
-    let after = place.after(both.left)?;
+    let below = place.below();
+    let after = place.after(both.left);
     match visit_process(both.left, &below, bank, listing, visit)? {
         Some(point) => Ok(Some(point)),
         None => visit_process(both.right, &after, bank, listing, visit),
@@ -240,12 +253,14 @@ fn visit_copies<B: Bank>(
 ) -> Result<Option<u32>, AllocError>
     requires visit { IsVisitIn (B.trees bank.old) visit.now }
     requires short { IsShortProcess (calculus.Replication (process_of copied.now)) }
+    requires points { HasFewPoints place.now.point (calculus.Replication (process_of copied.now)) }
+    requires copies { HasFewCopies place.now.point visit.now }
     ensures grows { Grows (B.trees bank.old) (B.trees bank.new) }
     ensures ends { IfOk result (λ large. Ends (protocol_at place.now)
         (Uncounted (calculus.Replication (process_of copied.now)) place.now.point
         (visit_at (B.trees bank.old) visit.now)) (B.trees bank.new) listing.old listing.new large) }
 {
-    let below = place.below()?;
+    let below = place.below();
     let made = after_copy(place.alloc, bank, visit)?;
     visit_process(copied, &below, bank, listing, &made)
 }
@@ -261,12 +276,14 @@ fn visit_new<B: Bank>(
 ) -> Result<Option<u32>, AllocError>
     requires visit { IsVisitIn (B.trees bank.old) visit.now }
     requires short { IsShortProcess (calculus.New [] (process_of next.now)) }
+    requires points { HasFewPoints place.now.point (calculus.New [] (process_of next.now)) }
+    requires copies { HasFewCopies place.now.point visit.now }
     ensures grows { Grows (B.trees bank.old) (B.trees bank.new) }
     ensures ends { IfOk result (λ large. Ends (protocol_at place.now)
         (Uncounted (calculus.New [] (process_of next.now)) place.now.point
         (visit_at (B.trees bank.old) visit.now)) (B.trees bank.new) listing.old listing.new large) }
 {
-    let below = place.below()?;
+    let below = place.below();
     match after_new(place, bank, visit)? {
         None => Ok(Some(place.point)),
         Some(made) => visit_process(next, &below, bank, listing, &made),
@@ -284,6 +301,8 @@ fn visit_let<B: Bank>(
 ) -> Result<Option<u32>, AllocError>
     requires visit { IsVisitIn (B.trees bank.old) visit.now }
     requires short { IsShortProcess (let_form choice.now) }
+    requires points { HasFewPoints place.now.point (let_form choice.now) }
+    requires copies { HasFewCopies place.now.point visit.now }
     ensures grows { Grows (B.trees bank.old) (B.trees bank.new) }
     ensures ends { IfOk result (λ large. Ends (protocol_at place.now)
         (Uncounted (let_form choice.now) place.now.point (visit_at (B.trees bank.old) visit.now))
@@ -292,8 +311,8 @@ fn visit_let<B: Bank>(
     if is_large_let(place, bank, &visit.scope, choice.pattern, choice.expression) {
         return Ok(Some(place.point));
     }
-    let below = place.below()?;
-    let after = place.after(choice.next)?;
+    let below = place.below();
+    let after = place.after(choice.next);
     match choices(place, bank, visit, choice.pattern, choice.expression)? {
         None => Ok(Some(place.point)),
         Some(visits) => match visit_each(choice.next, &below, bank, listing, &visits.items)? {
@@ -314,12 +333,14 @@ fn visit_event<B: Bank>(
 ) -> Result<Option<u32>, AllocError>
     requires visit { IsVisitIn (B.trees bank.old) visit.now }
     requires short { IsShortProcess (event_form event.now) }
+    requires points { HasFewPoints place.now.point (event_form event.now) }
+    requires copies { HasFewCopies place.now.point visit.now }
     ensures grows { Grows (B.trees bank.old) (B.trees bank.new) }
     ensures ends { IfOk result (λ large. Ends (protocol_at place.now)
         (Uncounted (event_form event.now) place.now.point (visit_at (B.trees bank.old) visit.now))
         (B.trees bank.new) listing.old listing.new large) }
 {
-    let below = place.below()?;
+    let below = place.below();
     match add_event(place, bank, listing, visit, event.atom)? {
         None => Ok(Some(place.point)),
         Some(made) => visit_process(event.next, &below, bank, listing, &made),
@@ -337,6 +358,8 @@ fn visit_each<B: Bank>(
 ) -> Result<Option<u32>, AllocError>
     requires visits { AreVisitsIn (B.trees bank.old) visits.now }
     requires short { IsShortProcess (process_of process.now) }
+    requires points { HasFewPoints place.now.point (process_of process.now) }
+    requires copies { AllByRecursion (HasFewCopies place.now.point) visits.now }
     ensures grows { Grows (B.trees bank.old) (B.trees bank.new) }
     ensures ends { IfOk result (λ large. Ends (protocol_at place.now)
         (Each (process_of process.now) place.now.point (visits_at (B.trees bank.old) visits.now))

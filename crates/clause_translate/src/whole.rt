@@ -13,7 +13,8 @@ ghost use Rattle.spec_translation.specs.Visit.{first_visit};
 ghost use Rattle.spec_translation.specs.Translation.{goal_clauses};
 ghost use Rattle.clause_form.specs.Seen.{clause_at, AreClausesIn, NameClauses};
 ghost use Rattle.query_derive.specs.GoalRows.{OfQuery};
-ghost use Rattle.clause_translate.specs.Short.{IsShortProcess, HasShortRules};
+ghost use Rattle.clause_translate.specs.Places.{HasFewPoints};
+ghost use Rattle.clause_translate.specs.Short.{IsShortProcess, HasFitRules};
 ghost use Rattle.clause_translate.specs.Jobs.{Once, Ends};
 ghost use Rattle.clause_translate.specs.Whole.{IsLargeAt, IsVisited, Translates, IsKept};
 ghost use Rattle.clause_translate.specs.Soundness.{IsSound};
@@ -47,7 +48,8 @@ fn visit_main<B: Bank>(
     listing: &mut Listing,
 ) -> Result<Option<u32>, AllocError>
     requires short { IsShortProcess (protocol_of protocol.now).main }
-    requires rules { HasShortRules (protocol_of protocol.now) }
+    requires rules { HasFitRules (protocol_of protocol.now) }
+    requires points { HasFewPoints 1 (protocol_of protocol.now).main }
     ensures grows { Grows (B.trees bank.old) (B.trees bank.new) }
     ensures ends { IfOk result (λ large. Ends (protocol_of protocol.now)
         (Once (protocol_of protocol.now).main 1 first_visit) (B.trees bank.new) listing.old
@@ -72,7 +74,8 @@ fn first_large<B: Bank>(
     protocol: &Protocol,
 ) -> Result<Option<u32>, AllocError>
     requires short { IsShortProcess (protocol_of protocol.now).main }
-    requires rules { HasShortRules (protocol_of protocol.now) }
+    requires rules { HasFitRules (protocol_of protocol.now) }
+    requires points { HasFewPoints 1 (protocol_of protocol.now).main }
     ensures grows { Grows (B.trees bank.old) (B.trees bank.new) }
     ensures large { IfOk result (λ large. MatchOption large (B.trees bank.new ≡ B.trees bank.old)
         (λ point. IsLargeAt (protocol_of protocol.now) point)) }
@@ -97,7 +100,8 @@ fn visited<B: Bank>(
 ) -> Result<Translated, AllocError>
     requires clauses { AreClausesIn (B.trees bank.old) clauses }
     requires short { IsShortProcess (protocol_of protocol.now).main }
-    requires rules { HasShortRules (protocol_of protocol.now) }
+    requires rules { HasFitRules (protocol_of protocol.now) }
+    requires points { HasFewPoints 1 (protocol_of protocol.now).main }
     ensures grows { Grows (B.trees bank.old) (B.trees bank.new) }
     ensures visits { IfOk result (λ found. IsVisited (protocol_of protocol.now) (B.trees bank.old)
         (B.trees bank.new) clauses found) }
@@ -171,9 +175,9 @@ fn translate_grown<B: Bank>(
 /// The clauses abstract every run of the protocol: by an abstraction that is one to one on the run's values, what the
 /// attacker knows is derived from them with all events that were performed, and each event with those before it.
 ///
-/// The conditions hold of each protocol that is read. `Err` comes for want of memory, and, as if for that, where a number
-/// doesn't fit: a point or a new variable past 32 bits, or a message or a copy's number that has, under a unifier, more
-/// symbols than the limit. On `Err`, and where a visit is too large, the bank is as before.
+/// The conditions hold of each protocol that is read. `Err` comes for want of memory, and, as if for that, where the new
+/// variables of a pattern would lead past 2^31, as they do in no protocol that is read. On `Err`, and where a visit is too
+/// large, the bank is as before.
 pub fn translate<B: Bank>(
     alloc: Global,
     bank: &mut B,

@@ -1,6 +1,6 @@
 //! A first look at two clauses, which takes no memory: what shows at once that no row holds.
 
-ghost use Rattle.std.specs.Prelude.{◌≡◌, ◌↔◌, ◌<◌, ◌≤◌, ℕ, IsTrue, List, [], ◌∷◌, true, false};
+ghost use Rattle.std.specs.Prelude.{◌≡◌, ◌<◌, ◌≤◌, ℕ, List, [], ◌∷◌, true, false};
 ghost use Rattle.std.specs.Prelude.{length, map};
 ghost use Rattle.spec_trees.specs.Tree.{bind};
 ghost use Rattle.spec_terms.specs.Term.{Subst};
@@ -13,14 +13,7 @@ ghost use Rattle.multiset_subsume.specs.Boards.{facts_at};
 ghost use Rattle.multiset_subsume.specs.Apart.{AreApart, StandsNowhere, CannotAllStand};
 
 use clause_form::{Clause, Fact, is_variable_known};
-use term_tree::{Bank, Id, Node, Sym};
-
-/// Whether two symbols are the same.
-fn is_same_symbol(left: Sym, right: Sym) -> bool
-    ensures { IsTrue result ↔ (left ≡ right) }
-{
-    left == right
-}
+use term_tree::{Bank, Id, Node};
 
 /// Whether a substitution may make the general term the special one, by what is at their roots.
 fn roots_match<B: Bank>(bank: &B, general: Id, special: Id) -> bool
@@ -34,7 +27,7 @@ fn roots_match<B: Bank>(bank: &B, general: Id, special: Id) -> bool
         Node::App(f, xs) => match bank.node(special) {
             Node::Var(_) => false,
             Node::App(g, ys) => {
-                if !is_same_symbol(f, g) {
+                if !f.is_same(g) {
                     return false;
                 }
                 xs.len() == ys.len()

@@ -1,6 +1,6 @@
 //! Owned terms and facts made those of a bank: the bindings of a query's variables are extended.
 
-ghost use Rattle.std.specs.Prelude.{◌≡◌, ◌↔◌, ◌<◌, Some, IsTrue, true, false, length, map, IfOk};
+ghost use Rattle.std.specs.Prelude.{◌≡◌, ◌<◌, Some, true, false, length, map, IfOk};
 ghost use Rattle.spec_terms.specs.Unifier.{Matches, MatchesAll};
 ghost use Rattle.spec_clauses.specs.Fact.{Bad, fact_under};
 ghost use Rattle.spec_clauses.specs.Subsumption.{hypothesis_at};
@@ -16,15 +16,8 @@ ghost use Rattle.query_derive.specs.Wanted.{event_fact};
 use crate::wanted::Event;
 use clause_form::{Fact, Tree, Trees};
 use std::alloc::AllocError;
-use term_tree::{Bank, Id, Node, Sym};
+use term_tree::{Bank, Id, Node};
 use unify_match::{Binds, same_term};
-
-/// Whether two symbols are the same.
-fn is_same(left: Sym, right: Sym) -> bool
-    ensures { IsTrue result ↔ (left ≡ right) }
-{
-    left == right
-}
 
 /// Binds a variable to a term, or compares it with what the variable is bound to.
 fn match_variable<B: Bank>(
@@ -69,7 +62,7 @@ fn match_tree<B: Bank>(bank: &B, tree: &Tree, id: Id, binds: &mut Binds) -> Resu
         Tree::App(symbol, parts) => match bank.node(id) {
             Node::Var(_) => Ok(false),
             Node::App(other, ids) => {
-                if !is_same(*symbol, other) {
+                if !symbol.is_same(other) {
                     return Ok(false);
                 }
                 match_trees(bank, parts, ids, binds)

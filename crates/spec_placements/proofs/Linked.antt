@@ -2,6 +2,7 @@
 use Rattle.std.proofs.Common.{◌≡◌, ℕ, ◌+◌, ◌≤◌, Bool, true, false, not, ◌||◌, cond, nat_eq, List, [], ◌∷◌, ◌++◌, refl, sym, ap, ◌∙◌, subst, arith, eqb-true, eq-eqb, is_some}
 use Rattle.std.specs.Prelude.{flat_map}
 use Rattle.std.specs.List.{AllByRecursion, IsDistinct, list_any}
+use Rattle.std.proofs.Math.Bool.{or_assoc}
 use Rattle.spec_trees.specs.Tree.{Trees, Leaf, Node, none, more, some_leaves}
 use Rattle.spec_terms.specs.Term.{Sym, Term, has_var}
 use Rattle.spec_terms.specs.Binding.{Binding, bound_to}
@@ -138,10 +139,6 @@ rules_link c keeps = all_occurring (λ x. (fact_has x c.conclusion || some_fact_
 -- What is linked by the conclusion is bound once that is matched, and what is linked by a fact once that is placed.
 pub linked_first : (bs : List Binding) (c : Clause Term) (h : Fact Term) → IsLinked c → FactMatched [] bs c.conclusion h → AreLinked bs (loose_variables c.hypotheses) (firm c.hypotheses)
 linked_first bs c h linked m = all_weaker (λ x. (fact_has x c.conclusion || some_fact_has x (firm c.hypotheses)) ≡ true) (λ x. (is_some (bound_to bs x) || some_fact_has x (firm c.hypotheses)) ≡ true) (λ x e. ap (λ b. b || some_fact_has x (firm c.hypotheses)) (m.exactly x) ∙ e) (loose_variables c.hypotheses) linked
-
-or_assoc : (a b c : Bool) → ((a || b) || c) ≡ (a || (b || c))
-or_assoc true b c = refl
-or_assoc false b c = refl
 
 or_swap : (a b c : Bool) → (a || (b || c)) ≡ (b || (a || c))
 or_swap true true c = refl

@@ -1,5 +1,5 @@
 -- The terms of clauses: trees whose leaves are variables, numbered, and whose nodes bear symbols.
-use Rattle.std.specs.Prelude.{◌≡◌, ℕ, Bool, true, false, cond, nat_eq, List, refl}
+use Rattle.std.specs.Prelude.{◌≡◌, ℕ, Bool, true, false, not, cond, nat_eq, List, refl}
 use Rattle.std.specs.Coded.{Coded, code_by, coded×, coded_ℕ}
 use Rattle.spec_trees.specs.Tree.{Tree, some_leaf}
 use Rattle.spec_trees.specs.Code.{coded_tree, coded_tree_list}
@@ -24,6 +24,10 @@ Subst = ℕ → Term
 -- whether the variable x occurs in t
 abbrev pub has_var : ℕ → Term → Bool
 has_var x t = some_leaf (nat_eq x) t
+
+-- whether t has no variable
+abbrev pub is_ground : Term → Bool
+is_ground t = not (some_leaf (λ x. true) t)
 
 -- whether two symbols are the same
 abbrev pub same_symbol : Sym → Sym → Bool

@@ -2,7 +2,7 @@
 use Rattle.std.proofs.Common.{◌≡◌, ℕ, zero, suc, ◌+◌, ◌≤◌, ◌<◌, Some, List, [], ◌∷◌, ◌++◌, length, take, slice_get, unwrap_or, refl, sym, ap, ◌∙◌, subst, arith, append_assoc, append-nil, length-append, get_or, zero-add, suc-add}
 use Rattle.std.proofs.lemmas.Option.{slice_get_read}
 use Rattle.spec_trees.specs.Tree.{Leaf, node, size}
-use Rattle.spec_terms.specs.Term.{Term}
+use Rattle.spec_terms.specs.Term.{Term, is_ground}
 use Rattle.term_tree.specs.Bank.{symbol_of, Grows, capped}
 use Rattle.term_tree.specs.TreeBank.{tree_of, built, HasArgs, IsWell}
 use Rattle.term_tree.specs.declared.tree_bank.Shape.{Shape}
@@ -22,14 +22,14 @@ pub built-append : (before : List Term) (es : List Entry) (e : Entry) → built 
 built-append before [] e = refl
 built-append before (x ∷ xs) e = built-append (before ++ tree_of before x.shape ∷ []) xs e
 
-pub IsWell-append : (before : List Term) (es : List Entry) (e : Entry) → IsWell before es → HasArgs (built before es) e.shape → e.size ≡ capped (size (tree_of (built before es) e.shape)) → IsWell before (es ++ e ∷ [])
-IsWell-append before [] e well args sized = (args, sized, tt)
-IsWell-append before (x ∷ xs) e well args sized = (well.0, well.1, IsWell-append (before ++ tree_of before x.shape ∷ []) xs e well.2 args sized)
+pub IsWell-append : (before : List Term) (es : List Entry) (e : Entry) → IsWell before es → HasArgs (built before es) e.shape → e.size ≡ capped (size (tree_of (built before es) e.shape)) → e.ground ≡ is_ground (tree_of (built before es) e.shape) → IsWell before (es ++ e ∷ [])
+IsWell-append before [] e well args sized ground = (args, sized, ground, tt)
+IsWell-append before (x ∷ xs) e well args sized ground = (well.0, well.1, well.2, IsWell-append (before ++ tree_of before x.shape ∷ []) xs e well.3 args sized ground)
 
 pub IsWell-take : (before : List Term) (es : List Entry) (n : ℕ) → IsWell before es → IsWell before (take n es)
 IsWell-take before es zero well = tt
 IsWell-take before [] (suc n) well = tt
-IsWell-take before (x ∷ xs) (suc n) well = (well.0, well.1, IsWell-take (before ++ tree_of before x.shape ∷ []) xs n well.2)
+IsWell-take before (x ∷ xs) (suc n) well = (well.0, well.1, well.2, IsWell-take (before ++ tree_of before x.shape ∷ []) xs n well.3)
 
 -- cutting the entries cuts the trees
 take-past : {X : Type 0} (xs ys : List X) (n : ℕ) → take (length xs + n) (xs ++ ys) ≡ xs ++ take n ys
@@ -45,11 +45,12 @@ built-take before (x ∷ xs) (suc n) h =
     let longer : length (before ++ tree_of before x.shape ∷ []) + n ≡ length before + suc n = omega (arith, length-append before (tree_of before x.shape ∷ [])) in
     built-take (before ++ tree_of before x.shape ∷ []) xs n (omega arith) ∙ ap (λ m. take m (built (before ++ tree_of before x.shape ∷ []) xs)) longer
 
--- what a bank knows of an entry: its arguments are there, and its tree and its size are those of its place
+-- what a bank knows of an entry: its arguments are there, its tree, its size and whether it has no variable are those of its place
 pub record IsEntry (all : List Term) (k : ℕ) (e : Entry) : Type 0 where
   pub args : HasArgs all e.shape
   pub at : unwrap_or (slice_get all k) (Leaf 0) ≡ tree_of all e.shape
   pub size_is : e.size ≡ capped (size (tree_of all e.shape))
+  pub ground_is : e.ground ≡ is_ground (tree_of all e.shape)
 
 HasArgs-grows : (a b : List Term) (s : Shape) → Grows a b → HasArgs a s → HasArgs b s
 HasArgs-grows a b (Var x) grows h = tt
@@ -74,11 +75,12 @@ IsWell-at before (x ∷ xs) zero e well found =
       args = HasArgs-grows before (built first xs) x.shape grows well.0;
       at = ap (λ o. unwrap_or o (Leaf 0)) stands ∙ sym kept;
       size_is = well.1 ∙ ap (λ t. capped (size t)) (sym kept);
+      ground_is = well.2 ∙ ap is_ground (sym kept);
     }
 IsWell-at before (x ∷ xs) (suc k) e well found =
     let first = before ++ tree_of before x.shape ∷ [] in
     let place : length first + k ≡ length before + suc k = omega (arith, length-append before (tree_of before x.shape ∷ [])) in
-    subst (λ (n : ℕ). IsEntry (built first xs) n e) place (IsWell-at first xs k e well.2 found)
+    subst (λ (n : ℕ). IsEntry (built first xs) n e) place (IsWell-at first xs k e well.3 found)
 
 -- the entry that is read at a place of a bank seen as `all`
 pub entry_at : (es : List Entry) (all : List Term) (k : ℕ) (e : Entry) → built [] es ≡ all → IsWell [] es → k < length all → e ≡ get_or es k e → IsEntry all k e

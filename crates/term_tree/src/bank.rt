@@ -1,17 +1,17 @@
 //! What a bank of terms is to its callers: a list of trees, in which an id names its place.
 
-ghost use Rattle.std.specs.Prelude.{◌≡◌, ◌≤◌, ◌<◌, List, length, take, map, IfOk, OnErr};
+ghost use Rattle.std.specs.Prelude.{◌≡◌, ◌↔◌, ◌≤◌, ◌<◌, IsTrue, List, length, take, map, IfOk, OnErr};
 
 use std::alloc::AllocError;
 
 /// The name of a term in a bank: its place in the list of the bank's trees, from 0.
-#[derive(Clone, Copy, PartialEq, Eq, Debug)]
+#[derive(Clone, Copy, PartialEq, Eq, Hash, Debug)]
 pub struct Id {
     pub index: usize,
 }
 
 /// A symbol of a term.
-#[derive(Clone, Copy, PartialEq, Eq, Debug)]
+#[derive(Clone, Copy, PartialEq, Eq, Hash, Debug)]
 pub enum Sym {
     /// A constructor that is no data constructor, by its number.
     Ctor(u32),
@@ -25,6 +25,15 @@ pub enum Sym {
     Point(u32),
     /// The names that the attacker makes.
     Attacker,
+}
+
+impl Sym {
+    /// Whether two symbols are the same.
+    pub fn is_same(self, other: Sym) -> bool
+        ensures { IsTrue result ↔ (self ≡ other) }
+    {
+        self == other
+    }
 }
 
 /// The root of a term: a variable, or a symbol over the ids of its arguments.
@@ -47,7 +56,7 @@ pub const SIZE_LIMIT: u64 = 0x8000_0000_0000_0000;
 /// goes below it.
 pub trait Bank {
     ghost use Rattle.spec_trees.specs.Tree.{Leaf, node, size};
-    ghost use Rattle.spec_terms.specs.Term.{Term};
+    ghost use Rattle.spec_terms.specs.Term.{Term, is_ground};
     ghost use Rattle.term_tree.specs.Bank.{symbol_of, tree_at, AreKnown, Names, Grows, IsNodeOf, capped};
 
     /// The trees of the bank.
@@ -76,6 +85,11 @@ pub trait Bank {
     fn size(&self, id: Id) -> u64
         requires { id.index < length (trees self.now) }
         ensures { result ≡ capped (size (tree_at (trees self.now) id)) };
+
+    /// Whether a term has no variable. Takes no memory.
+    fn is_ground(&self, id: Id) -> bool
+        requires { id.index < length (trees self.now) }
+        ensures { result ≡ is_ground (tree_at (trees self.now) id) };
 
     /// The present state, for `back`. Takes no memory.
     fn mark(&self) -> Mark

@@ -13,10 +13,11 @@ pub enum Shape {
     App(Sym, Vec<Id>),
 }
 
-/// A place of the bank: its shape, and the size of its tree as it is told.
+/// A place of the bank: its shape, the size of its tree as it is told, and whether that has no variable.
 #[derive(Drop)]
 pub struct Entry {
     pub size: u64,
+    pub ground: bool,
     pub shape: Shape,
 }
 
@@ -44,8 +45,9 @@ impl Model for TreeBank {
 
 impl TreeBank {
     ghost use Rattle.std.specs.Prelude.{◌≡◌, ◌+◌, [], ◌∷◌, ◌++◌, length, map, IfOk, OnErr};
-    ghost use Rattle.spec_trees.specs.Tree.{size as size_of, trees, sizes};
-    ghost use Rattle.term_tree.specs.Bank.{tree_at, AreKnown, capped};
+    ghost use Rattle.spec_trees.specs.Tree.{size as size_of, node, trees, sizes};
+    ghost use Rattle.spec_terms.specs.Term.{is_ground as is_ground_term};
+    ghost use Rattle.term_tree.specs.Bank.{symbol_of, tree_at, AreKnown, capped};
     ghost use Rattle.term_tree.specs.TreeBank.{tree_of, HasArgs};
 
     /// An empty bank.
@@ -59,17 +61,18 @@ impl TreeBank {
     }
 
     /// One more entry, at the end.
-    fn add(&mut self, size: u64, shape: Shape) -> Result<Id, AllocError>
-        requires args { HasArgs self.old shape }
-        requires sized { size ≡ capped (size_of (tree_of self.old shape)) }
+    fn add(&mut self, entry: Entry) -> Result<Id, AllocError>
+        requires args { HasArgs self.old entry.shape }
+        requires sized { entry.size ≡ capped (size_of (tree_of self.old entry.shape)) }
+        requires ground { entry.ground ≡ is_ground_term (tree_of self.old entry.shape) }
         ensures ok { IfOk result (λ id. (id.index ≡ length self.old) ×
-            (self.new ≡ self.old ++ tree_of self.old shape ∷ [])) }
+            (self.new ≡ self.old ++ tree_of self.old entry.shape ∷ [])) }
         ensures err { OnErr result (self.new ≡ self.old) }
     {
         let id = Id {
             index: self.entries.len(),
         };
-        self.entries.push(Entry { size, shape })?;
+        self.entries.push(entry)?;
         Ok(id)
     }
 
@@ -84,24 +87,46 @@ impl TreeBank {
         }
         total
     }
+
+    /// Whether a symbol over the arguments has no variable.
+    fn is_ground_over(&self, symbol: Sym, args: &[Id]) -> bool
+        requires { AreKnown self.now args.now }
+        ensures { result ≡ is_ground_term (node (symbol_of symbol) (map (tree_at self.now) args.now)) }
+    {
+        for arg in args {
+            if !self.is_ground(*arg) {
+                return false;
+            }
+        }
+        true
+    }
 }
 
 impl Bank for TreeBank {
     ghost use Rattle.std.specs.Prelude.{List};
-    ghost use Rattle.spec_terms.specs.Term.{Term};
+    ghost use Rattle.spec_terms.specs.Term.{Term, is_ground};
     ghost use Rattle.spec_trees.specs.Tree.{Leaf, node, size};
     ghost use Rattle.term_tree.specs.Bank.{symbol_of, tree_at, AreKnown, Names, Grows, IsNodeOf, capped};
 
     ghost trees = { λ b. b };
 
     fn var(&mut self, number: u32) -> Result<Id, AllocError> {
-        self.add(1, Shape::Var(number))
+        self.add(Entry {
+            size: 1,
+            ground: false,
+            shape: Shape::Var(number),
+        })
     }
 
     fn app(&mut self, symbol: Sym, args: &[Id]) -> Result<Id, AllocError> {
         let size = self.size_over(args);
-        let copied = args.to_vec(self.alloc)?;
-        self.add(size, Shape::App(symbol, copied))
+        let ground = self.is_ground_over(symbol, args);
+        let shape = Shape::App(symbol, args.to_vec(self.alloc)?);
+        self.add(Entry {
+            size,
+            ground,
+            shape,
+        })
     }
 
     fn node(&self, id: Id) -> Node<'_> {
@@ -113,6 +138,10 @@ impl Bank for TreeBank {
 
     fn size(&self, id: Id) -> u64 {
         self.entries[id.index].size
+    }
+
+    fn is_ground(&self, id: Id) -> bool {
+        self.entries[id.index].ground
     }
 
     fn mark(&self) -> Mark {

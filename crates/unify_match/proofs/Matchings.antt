@@ -1,6 +1,7 @@
 -- The steps of matching, and of comparing two terms.
-use Rattle.std.proofs.Common.{◌≡◌, ℕ, ◌+◌, ◌≤◌, ◌<◌, Bool, true, false, ◌||◌, cond, nat_eq, is_some, Some, None, List, [], ◌∷◌, length, map, drop, get_or, refl, sym, ap, ◌∙◌, arith, eqb-true}
+use Rattle.std.proofs.Common.{◌≡◌, ℕ, ◌+◌, ◌≤◌, ◌<◌, Bool, true, false, ◌||◌, cond, nat_eq, is_some, Some, List, [], ◌∷◌, length, map, drop, get_or, refl, sym, ap, ◌∙◌, arith, eqb-true}
 use Rattle.std.specs.List.{list_any}
+use Rattle.std.proofs.Math.Bool.{or_assoc, or-false}
 use Rattle.spec_trees.specs.Tree.{Leaf, node}
 use Rattle.spec_terms.specs.Term.{Sym, Term, Subst, has_var}
 use Rattle.spec_terms.specs.Binding.{Agrees, replaced_once}
@@ -13,7 +14,7 @@ use Rattle.unify_match.specs.Trail.{id_of, Extends}
 use Rattle.unify_match.specs.Seen.{seen, AreBindings}
 use Rattle.unify_match.specs.Outcome.{Matched, NoMatch, MatchedAll, NoMatchOfAll}
 use Rattle.unify_match.specs.Progress.{HasMatches, HasAllMatches}
-use Rattle.unify_match.proofs.SeenLemmas.{bound_to-seen, bound_to-seen_none}
+use Rattle.unify_match.proofs.SeenLemmas.{bound_to-seen}
 use Rattle.unify_match.proofs.Trails.{Extends-refl, Extends-trans}
 use Rattle.unify_match.proofs.Walking.{heights_of, height-at, known-at, ids_at, ids_past}
 use Rattle.unify_match.proofs.Pairs.{AreOne, under, Remains, remains_begins, remains_next, remains_fails, remains_ends, node_one, one_node, matched_lists, lists_matched, bind-application}
@@ -83,14 +84,6 @@ matching_begins all old top xs ys bindings lefts rights lower = record {
   remains = remains_begins (λ s. under s all) (λ s. tree_at all) (λ s. Agrees s (seen all old)) xs ys;
 }
 
-or_assoc : (a b c : Bool) → ((a || b) || c) ≡ (a || (b || c))
-or_assoc true b c = refl
-or_assoc false b c = refl
-
-or_none : (a : Bool) → (a || false) ≡ a
-or_none true = refl
-or_none false = refl
-
 pub matching_on : (all : List Term) (old now next : List Bound) (top : ℕ) (xs ys : List Id) (i : ℕ) (d : Id) → IsMatching all old now top xs ys i → i < length xs → i < length ys
     → AreBindings all next → Extends now next → HasMatches all now next (tree_at all (get_or xs i d)) (tree_at all (get_or ys i d)) → IsMatching all old next top xs ys (i + 1)
 matching_on all old now next top xs ys i d was in_xs in_ys bindings extends step = record {
@@ -122,7 +115,7 @@ pub matching_ends : (all : List Term) (old now : List Bound) (top : ℕ) (a b : 
 matching_ends all old now top a b f g xs ys i is_a is_b same even was past = record {
   exactly = λ x.
       let rest : some_stands x all (drop i xs) ≡ false = ap (some_stands x all) (ids_past xs i past) in
-      sym (or_none (is_some (id_of now x))) ∙ (ap (λ b. is_some (id_of now x) || b) (sym rest) ∙ (was.bound x
+      sym (or-false (is_some (id_of now x))) ∙ (ap (λ b. is_some (id_of now x) || b) (sym rest) ∙ (was.bound x
       ∙ ap (λ b. is_some (id_of old x) || b) (sym (some_stands-node x all f xs) ∙ ap (has_var x) (sym is_a))));
   only = λ s.
       let ends = remains_ends (λ r. under r all) (λ r. tree_at all) (λ r. Agrees r (seen all now)) (λ r. Agrees r (seen all old)) xs ys i past (omega arith) was.remains s in (
@@ -137,7 +130,7 @@ pub all_matched : (all : List Term) (old now : List Bound) (top : ℕ) (xs ys : 
 all_matched all old now top xs ys i even was past = record {
   exactly = λ x.
       let rest : some_stands x all (drop i xs) ≡ false = ap (some_stands x all) (ids_past xs i past) in
-      sym (or_none (is_some (id_of now x))) ∙ (ap (λ b. is_some (id_of now x) || b) (sym rest) ∙ (was.bound x ∙ ap (λ b. is_some (id_of old x) || b) (some_stands-any x all xs)));
+      sym (or-false (is_some (id_of now x))) ∙ (ap (λ b. is_some (id_of now x) || b) (sym rest) ∙ (was.bound x ∙ ap (λ b. is_some (id_of old x) || b) (some_stands-any x all xs)));
   only = λ s.
       let ends = remains_ends (λ r. under r all) (λ r. tree_at all) (λ r. Agrees r (seen all now)) (λ r. Agrees r (seen all old)) xs ys i past (omega arith) was.remains s in (
         λ agrees. let both = ends.0 agrees in (both.0, matched_lists s all xs ys both.1),

@@ -19,7 +19,6 @@ mod matching;
 mod memo;
 mod rename;
 mod substitute;
-mod symbol;
 mod unification;
 mod walk;
 

@@ -8,7 +8,6 @@ ghost use Rattle.unify_match.specs.Progress.{HasMatches, HasAllMatches};
 ghost use Rattle.unify_match.specs.Outcome.{Matched, NoMatch, MatchedAll, NoMatchOfAll};
 
 use crate::binds::Binds;
-use crate::symbol::is_same;
 use std::alloc::AllocError;
 use term_tree::{Bank, Id, Node};
 
@@ -30,7 +29,7 @@ pub fn same_term<B: Bank>(bank: &B, left: Id, right: Id) -> bool
         Node::App(f, xs) => match bank.node(right) {
             Node::Var(_) => false,
             Node::App(g, ys) => {
-                if !is_same(f, g) {
+                if !f.is_same(g) {
                     return false;
                 }
                 if xs.len() != ys.len() {
@@ -82,7 +81,7 @@ fn match_from<B: Bank>(
         Node::App(f, xs) => match bank.node(special) {
             Node::Var(_) => Ok(false),
             Node::App(g, ys) => {
-                if !is_same(f, g) {
+                if !f.is_same(g) {
                     return Ok(false);
                 }
                 if xs.len() != ys.len() {

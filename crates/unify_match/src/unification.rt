@@ -15,7 +15,6 @@ ghost use Rattle.unify_match.specs.Progress.{Grown, HasSolutions, HasAllSolution
 
 use crate::binds::Binds;
 use crate::memo::Memo;
-use crate::symbol::is_same;
 use crate::walk::{occurs, walk};
 use std::alloc::AllocError;
 use term_tree::{Bank, Id, Node};
@@ -96,7 +95,7 @@ fn unify_from<B: Bank>(
         (Node::Var(x), _) => bind_apart(bank, binds, a, x, b),
         (_, Node::Var(y)) => bind_apart(bank, binds, b, y, a),
         (Node::App(f, xs), Node::App(g, ys)) => {
-            if !is_same(f, g) {
+            if !f.is_same(g) {
                 return Ok(false);
             }
             if xs.len() != ys.len() {

@@ -5,7 +5,7 @@ use Rattle.pi_tree.specs.Patterns.{pattern_of}
 use Rattle.spec_clauses.specs.Variables.{AreBelow}
 use Rattle.term_tree.specs.Bank.{tree_at, AreKnown}
 use Rattle.term_tree.specs.declared.bank.Id.{Id}
-use Rattle.clause_terms.specs.Conditions.{IsShortRule}
+use Rattle.clause_translate.specs.Short.{IsFitRule}
 use Rattle.clause_translate.specs.Places.{protocol_at}
 use Rattle.clause_translate.specs.Visits.{visit_at}
 use Rattle.clause_translate.proofs.Named.{visit_later, below_parts}
@@ -30,7 +30,7 @@ by_rules-requires-clause-below g c =
     (terms_in_below P v.next (visit_at old v).scope (below_parts old mid v c.terms_in.ensures.grows c.requires.visit).scope c.args.arguments.now)
 
 pub by_rules-requires-clause-rules : goal.by_rules-requires-clause-rules
-by_rules-requires-clause-rules g c = subst (λ rs. AllByRecursion IsShortRule rs) (sym c.rules_of-rules.ensures) (c.args.choosing.now.place.now.rules c.args.destructor)
+by_rules-requires-clause-rules g c = subst (λ rs. AllByRecursion IsFitRule rs) (sym c.rules_of-rules.ensures) (c.args.choosing.now.place.now.rules c.args.destructor)
 
 pub returns-clause-go : goal.returns-clause-go
 returns-clause-go g c =

@@ -1,15 +1,18 @@
-use Rattle.std.proofs.Common.{◌∷◌, Option, List, map, ap, sym, subst, ◌∙◌}
+use Rattle.std.proofs.Common.{◌+◌, ◌∷◌, Option, List, map, ap, sym, subst, ◌∙◌, arith}
 use Rattle.pi_tree.specs.Rules.{rule_of}
 use Rattle.pi_tree.specs.Patterns.{pattern_of}
 use Rattle.spec_clauses.specs.Variables.{IsBelow, AreBelow}
 use Rattle.term_tree.specs.Bank.{tree_at, AreKnown}
 use Rattle.term_tree.specs.declared.bank.Id.{Id}
-use Rattle.term_tree.proofs.BankLaws.{Grows_trans, Names-grows, AreKnown-grows, trees_at-grow, Grows_refl}
+use Rattle.term_tree.proofs.BankLaws.{Grows_trans, Names-grows, AreKnown-grows, trees_at-grow}
 use Rattle.spec_translation.specs.Conversion.{rule_term}
 use Rattle.spec_translation.specs.Visit.{Visit}
 use Rattle.spec_translation.specs.Choice.{GoesOn}
 use Rattle.clause_form.proofs.Copying.{NameTerms-grows}
 use Rattle.clause_translate.specs.declared.choices.Way.{Way}
+use Rattle.destructor_rules.proofs.Sides.{left_room, right_room}
+use Rattle.spec_calculus.specs.Bounds.{most_written_symbols}
+use Rattle.clause_translate.specs.Room.{rule_base}
 use Rattle.clause_translate.specs.Places.{protocol_at}
 use Rattle.clause_translate.specs.Visits.{visit_at}
 use Rattle.clause_translate.specs.Patterns.{WithPattern}
@@ -21,10 +24,17 @@ use Rattle.clause_translate.proofs.Choosing.{by_rule_goes}
 use Rattle.clause_translate.proofs.choices.by_rule_grown.Goals as goal
 
 pub rule_terms-requires-clause-room : goal.rule_terms-requires-clause-room
-rule_terms-requires-clause-room g c = rooms_for c.args.choosing.now.visit.now.next c.in_ok-base.base c.in_ok-base.ensures.fits (rule_of c.args.rule.now).left c.in_ok-base.ensures.end.left
+rule_terms-requires-clause-room g c =
+    let rule = rule_of c.args.rule.now in
+    rooms_for c.args.choosing.now.visit.now.next (omega (arith, c.requires.visit.room, c.args.choosing.now.copies)) rule.left (left_room rule_base rule c.requires.rule.few)
 
 pub rule_term-requires-clause-room : goal.rule_term-requires-clause-room
-rule_term-requires-clause-room g c = room_for c.args.choosing.now.visit.now.next c.in_ok-base.base c.in_ok-base.ensures.fits (rule_of c.args.rule.now).right c.in_ok-base.ensures.end.right
+rule_term-requires-clause-room g c =
+    let rule = rule_of c.args.rule.now in
+    room_for c.args.choosing.now.visit.now.next (omega (arith, c.requires.visit.room, c.args.choosing.now.copies)) rule.right (right_room rule_base rule c.requires.rule.few)
+
+pub overflow_add-base : goal.overflow_add-base
+overflow_add-base g c = omega (arith, c.requires.visit.room, c.args.choosing.now.copies)
 
 pub with_pattern-requires-clause-visit : goal.with_pattern-requires-clause-visit
 with_pattern-requires-clause-visit g c =
@@ -41,7 +51,7 @@ way_of-requires g c =
     let P = protocol_at c.args.choosing.now.place.now in
     let v = c.args.choosing.now.visit.now in
     let rule = rule_of c.args.rule.now in
-    let end = c.in_ok-base.base in
+    let end = v.next + most_written_symbols in
     let made = c.in_ok-made.made in
     let bound = c.in_ok-made.ensures.names in
     let to_second = Grows_trans old first second c.rule_terms.ensures.grows c.rule_term.ensures.grows in
@@ -59,9 +69,9 @@ way_of-requires g c =
       target = bound.term.known;
       below = record {
         arguments = subst (λ ts. AreBelow made.next ts) (sym (trees_at-grow old new c.args.arguments.now to_new c.requires.arguments))
-            (all_below_more end made.next up (map (tree_at old) c.args.arguments.now) (all_below_more v.next end c.in_ok-base.ensures.end.up (map (tree_at old) c.args.arguments.now) c.requires.below));
-        sides = subst (λ ts. AreBelow made.next ts) (sym (ap (map (tree_at new)) same_sides ∙ sides.are)) (all_below_more end made.next up (map (rule_term P v.next) rule.left) (rules_below P end v.next rule.left c.in_ok-base.ensures.end.left));
-        value = subst (λ t. IsBelow made.next t) (sym value.is) (below_more end made.next up (rule_term P v.next rule.right) (rule_below P end v.next rule.right c.in_ok-base.ensures.end.right));
+            (all_below_more end made.next up (map (tree_at old) c.args.arguments.now) (all_below_more v.next end (omega arith) (map (tree_at old) c.args.arguments.now) c.requires.below));
+        sides = subst (λ ts. AreBelow made.next ts) (sym (ap (map (tree_at new)) same_sides ∙ sides.are)) (all_below_more end made.next up (map (rule_term P v.next) rule.left) (rules_below P end v.next (omega arith) rule.left (left_room rule_base rule c.requires.rule.few)));
+        value = subst (λ t. IsBelow made.next t) (sym value.is) (below_more end made.next up (rule_term P v.next rule.right) (rule_below P end v.next (omega arith) rule.right (right_room rule_base rule c.requires.rule.few)));
         target = subst (λ t. IsBelow made.next t) (sym bound.term.is) bound.below;
       };
     }
@@ -78,7 +88,7 @@ returns-clause-way g c =
     let v = visit_at old w in
     let rule = rule_of c.args.rule.now in
     let pattern = pattern_of c.args.choosing.now.pattern.now in
-    let end = c.in_ok-base.base in
+    let end = w.next + most_written_symbols in
     let made = c.in_ok-made.made in
     let values = map (tree_at old) c.args.arguments.now in
     let to_second = Grows_trans old first second c.rule_terms.ensures.grows c.rule_term.ensures.grows in
@@ -89,7 +99,7 @@ returns-clause-way g c =
     let same_sides = c.deref.ensures.value ∙ c.sides.view_is in
     let same = (visit_later old second w to_second c.requires.visit).is in
     let bound = subst (λ (x : Visit). WithPattern P x pattern end new made c.in_ok-made.target) same c.in_ok-made.ensures.names in
-    let apart : AreBelow end (map (rule_term P w.next) (rule.right ∷ rule.left)) = (rule_below P end w.next rule.right c.in_ok-base.ensures.end.right, rules_below P end w.next rule.left c.in_ok-base.ensures.end.left) in
+    let apart : AreBelow end (map (rule_term P w.next) (rule.right ∷ rule.left)) = (rule_below P end w.next (omega arith) rule.right (right_room rule_base rule c.requires.rule.few), rules_below P end w.next (omega arith) rule.left (left_room rule_base rule c.requires.rule.few)) in
     if_ok c.way_of.result
     (λ (way : Way). (out : Option Visit) × GoesOn record { arguments = map (tree_at new) c.args.arguments.now; sides = map (tree_at new) c.deref.result.now; value = tree_at new c.in_ok-value.value; target = tree_at new c.in_ok-made.target; visit = visit_at new made } out × IsWay last way out)
     (λ (way : Way). (out : Option Visit) × ByRule P v pattern values rule out × IsWay last way out)
@@ -104,11 +114,8 @@ returns-in_err-made-clause-grows g c = Grows_trans (g.B.Bank.trees c.args.bank.n
 pub returns-clause-grows : goal.returns-clause-grows
 returns-clause-grows g c = Grows_trans (g.B.Bank.trees c.args.bank.now) (g.B.Bank.trees c.with_pattern.new.bank) (g.B.Bank.trees c.way_of.new.bank) (Grows_trans (g.B.Bank.trees c.args.bank.now) (g.B.Bank.trees c.rule_term.new.bank) (g.B.Bank.trees c.with_pattern.new.bank) (Grows_trans (g.B.Bank.trees c.args.bank.now) (g.B.Bank.trees c.rule_terms.new.bank) (g.B.Bank.trees c.rule_term.new.bank) c.rule_terms.ensures.grows c.rule_term.ensures.grows) c.with_pattern.ensures.grows) c.way_of.ensures.grows
 
-pub returns-in_err-base-clause-grows : goal.returns-in_err-base-clause-grows
-returns-in_err-base-clause-grows g c = Grows_refl (g.B.Bank.trees c.args.bank.now)
-
 pub with_pattern-requires-clause-up : goal.with_pattern-requires-clause-up
-with_pattern-requires-clause-up g c = c.in_ok-base.ensures.end.up
+with_pattern-requires-clause-up g c = omega arith
 
 pub with_pattern-requires-clause-short : goal.with_pattern-requires-clause-short
 with_pattern-requires-clause-short g c = c.args.choosing.now.short

@@ -7,7 +7,7 @@ use Rattle.term_tree.proofs.BankLaws.{AreKnown-grows, trees_at-grow, Grows_trans
 use Rattle.clause_translate.specs.Places.{protocol_at}
 use Rattle.clause_translate.specs.Visits.{visit_at}
 use Rattle.clause_translate.proofs.Named.{visit_later}
-use Rattle.clause_translate.proofs.Ruling.{AreRuled, short_at, ruled_nowhere, ruled_large, ruled_visit, by_rule_same}
+use Rattle.clause_translate.proofs.Ruling.{AreRuled, fit_at, ruled_nowhere, ruled_large, ruled_visit, by_rule_same}
 use Rattle.clause_translate.proofs.choices.by_rules.Goals.{in-Nowhere, in-Large, in-Visit+in_ok-push-in-Visit}
 use Rattle.std.proofs.lemmas.Grind.{common_steps}
 use Rattle.clause_translate.proofs.choices.by_rules.Goals as goal
@@ -23,7 +23,7 @@ by_rule-requires-clause-below g c =
     subst (λ ts. AreBelow c.args.choosing.now.visit.now.next ts) (sym (trees_at-grow (g.B.Bank.trees c.args.bank.now) (g.B.Bank.trees c.each.bank) c.args.arguments.now c.each.invariant.grows c.requires.arguments)) c.requires.below
 
 pub by_rule-requires-clause-rule : goal.by_rule-requires-clause-rule
-by_rule-requires-clause-rule g c = short_at c.args.rules.now c.each.rule-index c.rule-item.result c.rule-item.is c.requires.rules c.each-test.true
+by_rule-requires-clause-rule g c = fit_at c.args.rules.now c.each.rule-index c.rule-item.result c.rule-item.is c.requires.rules c.each-test.true
 
 pub each-preserved : goal.each-preserved
 each-preserved g c =

@@ -1,17 +1,20 @@
-use Rattle.std.proofs.Common.{◌≡◌, ◌++◌, ◌∷◌, [], sym, subst, arith}
+use Rattle.std.proofs.Common.{◌≡◌, ◌++◌, ◌∷◌, [], ◌+◌, refl, sym, subst, arith}
 use Rattle.spec_translation.specs.Visit.{after_copy}
 use Rattle.clause_translate.specs.declared.visit.Visit.{Visit}
 use Rattle.clause_translate.specs.Visits.{visit_at, NamesVisit}
 use Rattle.clause_translate.proofs.Named.{if_ok, copied}
 use Rattle.clause_translate.proofs.copies.after_copy.Goals as goal
 
-pub returns-in_ok-session-in-Some-clause-names : goal.returns-in_ok-session-in-Some-clause-names
-returns-in_ok-session-in-Some-clause-names g c =
+pub returns-clause-names : goal.returns-clause-names
+returns-clause-names g c =
     let old = g.B.Bank.trees c.args.bank.now in
     let now = g.B.Bank.trees c.var.new.self in
     let v = c.args.visit.now in
-    let session = c.in_ok-session-in-Some.session in
-    let whole : Visit = record v { sessions = v.sessions ++ session ∷ []; next = c.in-Some.next } in
+    let session = c.in_ok-session.session in
+    let whole : Visit = record v { sessions = v.sessions ++ session ∷ []; next = v.next + 1 } in
     if_ok c.with_session.result (λ (made : Visit). made ≡ whole) (λ (made : Visit). NamesVisit now made (after_copy (visit_at old v) v.next))
-    (λ made e. subst (λ (m : Visit). NamesVisit now m (after_copy (visit_at old v) v.next)) (sym e) (copied old now v session c.in-Some.next c.var.ensures.grows c.requires c.in_ok-session-in-Some.ensures.names (omega (arith, c.in-Some.ensures))))
+    (λ made e. subst (λ (m : Visit). NamesVisit now m (after_copy (visit_at old v) v.next)) (sym e) (copied old now v session (v.next + 1) c.var.ensures.grows c.requires.visit c.in_ok-session.ensures.names refl))
     c.with_session.ensures
+
+pub overflow_add-visit : goal.overflow_add-visit
+overflow_add-visit g c = omega (arith, c.requires.visit.room, c.requires.copies)

@@ -9,6 +9,7 @@ use Rattle.unify_match.proofs.SeenLemmas.{IsReady-grows}
 use Rattle.clause_form.specs.Seen.{NameTerms}
 use Rattle.clause_form.proofs.Copying.{NameTerms-grows}
 use Rattle.clause_translate.specs.declared.visit.Visit.{Visit}
+use Rattle.clause_translate.proofs.Building.{AreBuilt-grows}
 use Rattle.clause_translate.proofs.Parts.{terms_same}
 use Rattle.clause_translate.proofs.unified.past_under.Goals as goal
 
@@ -21,6 +22,9 @@ all_terms_under-requires-2-clause-known g c =
 
 pub all_terms_under-requires-2-clause-ready : goal.all_terms_under-requires-2-clause-ready
 all_terms_under-requires-2-clause-ready g c = IsReady-grows (g.B.Bank.trees c.args.bank.now) (g.B.Bank.trees c.all_terms_under.new.bank) c.args.binds.now.pairs c.all_terms_under.ensures.grows c.requires.ready
+
+pub all_terms_under-requires-2-clause-built : goal.all_terms_under-requires-2-clause-built
+all_terms_under-requires-2-clause-built g c = AreBuilt-grows (g.B.Bank.trees c.args.bank.now) (g.B.Bank.trees c.all_terms_under.new.bank) c.args.binds.now.pairs c.args.built.now c.all_terms_under.ensures.grows c.requires.ready c.requires.built
 
 pub returns-clause-messages : goal.returns-clause-messages
 returns-clause-messages g c =

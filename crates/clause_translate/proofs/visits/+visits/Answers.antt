@@ -1,4 +1,4 @@
-use Rattle.std.proofs.Common.{◌≡◌, ℕ, suc, ◌+◌, ◌-◌, ◌≤◌, true, false, Option, Some, None, List, length, take, refl, ap, sym, subst, ◌∙◌, arith}
+use Rattle.std.proofs.Common.{◌≡◌, ℕ, suc, ◌+◌, ◌-◌, ◌≤◌, true, false, Option, Some, None, List, [], length, take, refl, ap, sym, subst, ◌∙◌, arith}
 use Rattle.std.specs.Prelude.{IfOk, IfSome, MatchOption, MatchBool}
 use Rattle.spec_calculus.specs.Syntax as calculus
 use Rattle.pi_tree.specs.declared.syntax.Process.{Process}
@@ -15,20 +15,27 @@ use Rattle.spec_translation.specs.Visit.{is_large_visit, after_new}
 use Rattle.clause_translate.specs.declared.listing.Listing.{Listing}
 use Rattle.clause_translate.specs.declared.visit.Visit as source
 use Rattle.clause_translate.specs.declared.visit.Visits.{Visits}
-use Rattle.clause_translate.specs.Places.{protocol_at}
+use Rattle.clause_translate.specs.Places.{protocol_at, HasFewPoints}
+use Rattle.clause_translate.specs.Processes.{output_form, input_form, parallel_form, let_form, event_form}
 use Rattle.clause_translate.specs.Short.{IsShortProcess}
-use Rattle.clause_translate.specs.Visits.{visit_at, NamesVisit}
+use Rattle.clause_translate.specs.Visits.{visit_at, NamesVisit, HasFewCopies}
 use Rattle.clause_translate.specs.Forms.{is_large_output, present, Receives, IsLargeInput, EventAdds, GoOn, IsLargeChoice}
 use Rattle.clause_translate.specs.Jobs.{Once, Uncounted, Each, Ends, visits_at}
 use Rattle.clause_translate.proofs.Named.{visit_later}
 use Rattle.clause_translate.proofs.Weights.{weight}
+use Rattle.clause_translate.proofs.Lists.{all_at}
+use Rattle.clause_translate.proofs.FewCopies.{next_copies, later_copies, kept_copies, one_copy, below_copies, chosen_copies}
+use Rattle.clause_translate.proofs.FewPoints.{next_few, next_point, left_few, right_few, left_point, right_point}
 use Rattle.clause_translate.proofs.Visiting.{none_left, nil_ends, spelled, counted_ok, ends_back, moved, moved_each, output_ends, event_ends, input_ends, copies_ends, new_ends, parallel_ends, let_ends, next_large, known_visits, output_large, event_large, input_large, new_large, left_large, let_large, choice_large}
 use Rattle.clause_translate.proofs.Repeating.{visit_of, none_visited, one_visited, one_large, all_visited}
 use Rattle.clause_translate.proofs.visits.+visits.Goals as goal
 
 pub visit_copies-visit_process-requires : goal.visit_copies-visit_process-requires
 visit_copies-visit_process-requires g t c κs within =
-    (omega (arith, c.decreases), (within, (c.in_ok-made.ensures.names.known, c.requires.short)))
+    let old = g.B.Bank.trees c.args.bank.now in
+    let w = c.args.visit.now in
+    let mid = g.B.Bank.trees c.after_copy.new.bank in
+    (omega (arith, c.decreases), (within, (c.in_ok-made.ensures.names.known, (c.requires.short, (next_few c.args.place.now.point (calculus.Replication (process_of c.args.copied.now)) (process_of c.args.copied.now) refl c.below-below.result c.below-below.ensures c.requires.points, below_copies old mid w c.in_ok-made.made c.below-below.result c.args.place.now.point c.below-below.ensures c.requires.copies (omega (arith, one_copy old mid w c.in_ok-made.made w.next c.in_ok-made.ensures.names)))))))
 
 pub visit_copies-returns-clause-ends : goal.visit_copies-returns-clause-ends
 visit_copies-returns-clause-ends g t c =
@@ -37,8 +44,8 @@ visit_copies-returns-clause-ends g t c =
     let w = c.args.visit.now in
     let v = visit_at old w in
     let mid = g.B.Bank.trees c.after_copy.new.bank in
-    copies_ends c.visit_process.result P v w.next (process_of c.args.copied.now) c.args.place.now.point c.in_ok-below.below c.in_ok-made.made mid (g.B.Bank.trees c.visit_process.new.bank) c.args.listing.now c.visit_process.new.listing
-    c.in_ok-below.ensures c.requires.visit.below c.in_ok-made.ensures.names c.visit_process.ensures.ends
+    copies_ends c.visit_process.result P v w.next (process_of c.args.copied.now) c.args.place.now.point c.below-below.result c.in_ok-made.made mid (g.B.Bank.trees c.visit_process.new.bank) c.args.listing.now c.visit_process.new.listing
+    c.below-below.ensures c.requires.visit.below c.in_ok-made.ensures.names c.visit_process.ensures.ends
 
 pub visit_each-each-init : goal.visit_each-each-init
 visit_each-each-init g t c =
@@ -49,7 +56,7 @@ visit_each-visit_process-requires g t c κs within =
     let old = g.B.Bank.trees c.args.bank.now in
     let now = g.B.Bank.trees c.each.bank in
     let known = visit_of old c.args.visits.now c.each.visit-index c.visit-item.result c.visit-item.is c.requires.visits c.each-test.true in
-    (omega (arith, c.decreases), (within, ((visit_later old now c.visit-item.result c.each.invariant.grows known).known, c.requires.short)))
+    (omega (arith, c.decreases), (within, ((visit_later old now c.visit-item.result c.each.invariant.grows known).known, (c.requires.short, (c.requires.points, subst (λ (v : source.Visit). HasFewCopies c.args.place.now.point v) (sym c.visit-item.is) (all_at (HasFewCopies c.args.place.now.point) c.args.visits.now c.each.visit-index c.visit-item.result c.requires.copies c.each-test.true))))))
 
 pub visit_each-returns-in_err-point-clause-grows : goal.visit_each-returns-in_err-point-clause-grows
 visit_each-returns-in_err-point-clause-grows g t c =
@@ -88,7 +95,7 @@ visit_event-visit_process-requires g t c κs within =
     let v = visit_at old w in
     let mid = g.B.Bank.trees c.add_event.new.bank in
     let adds = subst (λ (o : Option source.Visit). EventAdds P v (event_of c.args.event.now.atom.now) mid c.args.listing.now c.add_event.new.listing o) c.in-Some.is c.in_ok-add_event.ensures.adds in
-    (omega (arith, c.decreases), (within, (adds.names.known, c.requires.short.1)))
+    (omega (arith, c.decreases), (within, (adds.names.known, (c.requires.short.1, (next_few c.args.place.now.point (event_form c.args.event.now) (process_of c.args.event.now.next.now) refl c.below-below.result c.below-below.ensures c.requires.points, below_copies old mid w c.in-Some.made c.below-below.result c.args.place.now.point c.below-below.ensures c.requires.copies (omega (arith, kept_copies old mid w c.in-Some.made _ adds.names refl)))))))
 
 pub visit_event-returns-in-Some-clause-ends : goal.visit_event-returns-in-Some-clause-ends
 visit_event-returns-in-Some-clause-ends g t c =
@@ -98,8 +105,8 @@ visit_event-returns-in-Some-clause-ends g t c =
     let v = visit_at old w in
     let mid = g.B.Bank.trees c.add_event.new.bank in
     let adds = subst (λ (o : Option source.Visit). EventAdds P v (event_of c.args.event.now.atom.now) mid c.args.listing.now c.add_event.new.listing o) c.in-Some.is c.in_ok-add_event.ensures.adds in
-    event_ends c.visit_process.result P v (event_of c.args.event.now.atom.now) (process_of c.args.event.now.next.now) c.args.place.now.point c.in_ok-below.below c.in-Some.made mid (g.B.Bank.trees c.visit_process.new.bank) c.args.listing.now c.add_event.new.listing c.visit_process.new.listing
-    c.in_ok-below.ensures c.visit_process.ensures.grows adds c.visit_process.ensures.ends
+    event_ends c.visit_process.result P v (event_of c.args.event.now.atom.now) (process_of c.args.event.now.next.now) c.args.place.now.point c.below-below.result c.in-Some.made mid (g.B.Bank.trees c.visit_process.new.bank) c.args.listing.now c.add_event.new.listing c.visit_process.new.listing
+    c.below-below.ensures c.visit_process.ensures.grows adds c.visit_process.ensures.ends
 
 pub visit_input-visit_process-requires : goal.visit_input-visit_process-requires
 visit_input-visit_process-requires g t c κs within =
@@ -109,7 +116,7 @@ visit_input-visit_process-requires g t c κs within =
     let v = visit_at old w in
     let mid = g.B.Bank.trees c.after_input.new.bank in
     let got = subst (λ (o : Option source.Visit). MatchOption o (IsLargeInput P v (term_of c.args.input.now.channel.now) (pattern_of c.args.input.now.pattern.now)) (λ made. Receives P v (term_of c.args.input.now.channel.now) (pattern_of c.args.input.now.pattern.now) mid made)) c.in-Some.is c.in_ok-after_input.ensures.receives in
-    (omega (arith, c.decreases), (within, (got.names.known, c.requires.short.2)))
+    (omega (arith, c.decreases), (within, (got.names.known, (c.requires.short.2, (next_few c.args.place.now.point (input_form c.args.input.now) (process_of c.args.input.now.next.now) refl c.below-below.result c.below-below.ensures c.requires.points, below_copies old mid w c.in-Some.made c.below-below.result c.args.place.now.point c.below-below.ensures c.requires.copies (omega (arith, kept_copies old mid w c.in-Some.made _ got.names refl)))))))
 
 pub visit_input-returns-in-Some-clause-ends : goal.visit_input-returns-in-Some-clause-ends
 visit_input-returns-in-Some-clause-ends g t c =
@@ -119,8 +126,8 @@ visit_input-returns-in-Some-clause-ends g t c =
     let v = visit_at old w in
     let mid = g.B.Bank.trees c.after_input.new.bank in
     let got = subst (λ (o : Option source.Visit). MatchOption o (IsLargeInput P v (term_of c.args.input.now.channel.now) (pattern_of c.args.input.now.pattern.now)) (λ made. Receives P v (term_of c.args.input.now.channel.now) (pattern_of c.args.input.now.pattern.now) mid made)) c.in-Some.is c.in_ok-after_input.ensures.receives in
-    input_ends c.visit_process.result P v (term_of c.args.input.now.channel.now) (pattern_of c.args.input.now.pattern.now) (process_of c.args.input.now.next.now) c.args.place.now.point c.in_ok-below.below c.in-Some.made mid (g.B.Bank.trees c.visit_process.new.bank) c.args.listing.now c.visit_process.new.listing
-    c.in_ok-below.ensures got c.visit_process.ensures.ends
+    input_ends c.visit_process.result P v (term_of c.args.input.now.channel.now) (pattern_of c.args.input.now.pattern.now) (process_of c.args.input.now.next.now) c.args.place.now.point c.below-below.result c.in-Some.made mid (g.B.Bank.trees c.visit_process.new.bank) c.args.listing.now c.visit_process.new.listing
+    c.below-below.ensures got c.visit_process.ensures.ends
 
 pub visit_new-visit_process-requires : goal.visit_new-visit_process-requires
 visit_new-visit_process-requires g t c κs within =
@@ -129,7 +136,7 @@ visit_new-visit_process-requires g t c κs within =
     let v = visit_at old w in
     let mid = g.B.Bank.trees c.after_new.new.bank in
     let names : NamesVisit mid c.in-Some.made (after_new v c.args.place.now.point) = subst (λ (o : Option source.Visit). IfSome o (λ made. NamesVisit mid made (after_new v c.args.place.now.point))) c.in-Some.is c.in_ok-after_new.ensures.names in
-    (omega (arith, c.decreases), (within, (names.known, c.requires.short)))
+    (omega (arith, c.decreases), (within, (names.known, (c.requires.short, (next_few c.args.place.now.point (calculus.New [] (process_of c.args.next.now)) (process_of c.args.next.now) refl c.below-below.result c.below-below.ensures c.requires.points, below_copies old mid w c.in-Some.made c.below-below.result c.args.place.now.point c.below-below.ensures c.requires.copies (omega (arith, kept_copies old mid w c.in-Some.made _ names refl)))))))
 
 pub visit_new-returns-in-Some-clause-ends : goal.visit_new-returns-in-Some-clause-ends
 visit_new-returns-in-Some-clause-ends g t c =
@@ -140,8 +147,8 @@ visit_new-returns-in-Some-clause-ends g t c =
     let mid = g.B.Bank.trees c.after_new.new.bank in
     let names : NamesVisit mid c.in-Some.made (after_new v c.args.place.now.point) = subst (λ (o : Option source.Visit). IfSome o (λ made. NamesVisit mid made (after_new v c.args.place.now.point))) c.in-Some.is c.in_ok-after_new.ensures.names in
     let small : is_large_visit (after_new v c.args.place.now.point) ≡ false = subst (λ (o : Option source.Visit). MatchOption o (is_large_visit (after_new v c.args.place.now.point) ≡ true) (λ made. is_large_visit (after_new v c.args.place.now.point) ≡ false)) c.in-Some.is c.in_ok-after_new.ensures.large in
-    new_ends c.visit_process.result P v (process_of c.args.next.now) c.args.place.now.point c.in_ok-below.below c.in-Some.made mid (g.B.Bank.trees c.visit_process.new.bank) c.args.listing.now c.visit_process.new.listing
-    c.in_ok-below.ensures small names c.visit_process.ensures.ends
+    new_ends c.visit_process.result P v (process_of c.args.next.now) c.args.place.now.point c.below-below.result c.in-Some.made mid (g.B.Bank.trees c.visit_process.new.bank) c.args.listing.now c.visit_process.new.listing
+    c.below-below.ensures small names c.visit_process.ensures.ends
 
 pub visit_output-visit_process-requires : goal.visit_output-visit_process-requires
 visit_output-visit_process-requires g t c κs within =
@@ -149,7 +156,7 @@ visit_output-visit_process-requires g t c κs within =
     let w = c.args.visit.now in
     let mid = g.B.Bank.trees c.add_output.new.bank in
     let later = visit_later old mid w c.add_output.ensures.grows c.requires.visit in
-    (omega (arith, c.decreases), (within, (later.known, c.requires.short.2)))
+    (omega (arith, c.decreases), (within, (later.known, (c.requires.short.2, (next_few c.args.place.now.point (output_form c.args.output.now) (process_of c.args.output.now.next.now) refl c.below-below.result c.below-below.ensures c.requires.points, next_copies c.below-below.result c.args.place.now.point w c.below-below.ensures c.requires.copies)))))
 
 pub visit_output-returns-clause-ends : goal.visit_output-returns-clause-ends
 visit_output-returns-clause-ends g t c =
@@ -161,12 +168,12 @@ visit_output-returns-clause-ends g t c =
     let adds = c.in_ok-add_output.ensures.adds c.if-not-branch.false in
     let later = visit_later old mid w c.add_output.ensures.grows c.requires.visit in
     let small = subst (λ b. MatchBool b (is_large_output P v (term_of c.args.output.now.channel.now) (term_of c.args.output.now.message.now) ≡ false) (is_large_output P v (term_of c.args.output.now.channel.now) (term_of c.args.output.now.message.now) ≡ true)) c.if-not-branch.false c.in_ok-add_output.ensures.large in
-    output_ends c.visit_process.result P v (term_of c.args.output.now.channel.now) (term_of c.args.output.now.message.now) (process_of c.args.output.now.next.now) c.args.place.now.point c.in_ok-below.below (visit_at mid w) mid (g.B.Bank.trees c.visit_process.new.bank) c.args.listing.now c.add_output.new.listing c.visit_process.new.listing
-    c.in_ok-below.ensures later.is small c.visit_process.ensures.grows adds c.visit_process.ensures.ends
+    output_ends c.visit_process.result P v (term_of c.args.output.now.channel.now) (term_of c.args.output.now.message.now) (process_of c.args.output.now.next.now) c.args.place.now.point c.below-below.result (visit_at mid w) mid (g.B.Bank.trees c.visit_process.new.bank) c.args.listing.now c.add_output.new.listing c.visit_process.new.listing
+    c.below-below.ensures later.is small c.visit_process.ensures.grows adds c.visit_process.ensures.ends
 
 pub visit_parallel-visit_process-requires : goal.visit_parallel-visit_process-requires
 visit_parallel-visit_process-requires g t c κs within =
-    (omega (arith, c.decreases), (within, (c.requires.visit, c.requires.short.0)))
+    (omega (arith, c.decreases), (within, (c.requires.visit, (c.requires.short.0, (left_few c.args.place.now.point (parallel_form c.args.both.now) (process_of c.args.both.now.left.now) (process_of c.args.both.now.right.now) refl c.below-below.result c.below-below.ensures c.requires.points, next_copies c.below-below.result c.args.place.now.point c.args.visit.now c.below-below.ensures c.requires.copies)))))
 
 pub visit_parallel-visit_process-requires-in-None : goal.visit_parallel-visit_process-requires-in-None
 visit_parallel-visit_process-requires-in-None g t c κs within =
@@ -176,9 +183,9 @@ visit_parallel-visit_process-requires-in-None g t c κs within =
     let v = visit_at old w in
     let mid = g.B.Bank.trees c.visit_process.new.bank in
     let later = visit_later old mid w c.visit_process.ensures.grows c.requires.visit in
-    let done = moved P (c.args.place.now.point + 1) v c.in_ok-below.below v (process_of c.args.both.now.left.now) mid c.args.listing.now c.visit_process.new.listing None c.in_ok-below.ensures refl
-    (subst (λ (o : Option ℕ). Ends (protocol_at c.in_ok-below.below) (Once (process_of c.args.both.now.left.now) c.in_ok-below.below.point v) mid c.args.listing.now c.visit_process.new.listing o) c.in-None.is c.in_ok-point.ensures.ends) in
-    (omega (arith, c.decreases), (within, (later.known, c.requires.short.1)))
+    let done = moved P (c.args.place.now.point + 1) v c.below-below.result v (process_of c.args.both.now.left.now) mid c.args.listing.now c.visit_process.new.listing None c.below-below.ensures refl
+    (subst (λ (o : Option ℕ). Ends (protocol_at c.below-below.result) (Once (process_of c.args.both.now.left.now) c.below-below.result.point v) mid c.args.listing.now c.visit_process.new.listing o) c.in-None.is c.in_ok-point.ensures.ends) in
+    (omega (arith, c.decreases), (within, (later.known, (c.requires.short.1, (right_few c.args.place.now.point (parallel_form c.args.both.now) (process_of c.args.both.now.left.now) (process_of c.args.both.now.right.now) refl c.after-after.result c.after-after.ensures c.requires.points, later_copies c.after-after.result c.args.place.now.point (process_of c.args.both.now.left.now) w c.after-after.ensures c.requires.copies)))))
 
 pub visit_parallel-returns-in-None-clause-ends : goal.visit_parallel-returns-in-None-clause-ends
 visit_parallel-returns-in-None-clause-ends g t c =
@@ -188,10 +195,10 @@ visit_parallel-returns-in-None-clause-ends g t c =
     let v = visit_at old w in
     let mid = g.B.Bank.trees c.visit_process.new.bank in
     let later = visit_later old mid w c.visit_process.ensures.grows c.requires.visit in
-    let done = moved P (c.args.place.now.point + 1) v c.in_ok-below.below v (process_of c.args.both.now.left.now) mid c.args.listing.now c.visit_process.new.listing None c.in_ok-below.ensures refl
-    (subst (λ (o : Option ℕ). Ends (protocol_at c.in_ok-below.below) (Once (process_of c.args.both.now.left.now) c.in_ok-below.below.point v) mid c.args.listing.now c.visit_process.new.listing o) c.in-None.is c.in_ok-point.ensures.ends) in
-    parallel_ends c.visit_process-in-None.result P v (process_of c.args.both.now.left.now) (process_of c.args.both.now.right.now) c.args.place.now.point c.in_ok-after.after (visit_at mid w) mid (g.B.Bank.trees c.visit_process-in-None.new.bank) c.args.listing.now c.visit_process.new.listing c.visit_process-in-None.new.listing
-    c.in_ok-after.ensures later.is c.visit_process-in-None.ensures.grows done c.visit_process-in-None.ensures.ends
+    let done = moved P (c.args.place.now.point + 1) v c.below-below.result v (process_of c.args.both.now.left.now) mid c.args.listing.now c.visit_process.new.listing None c.below-below.ensures refl
+    (subst (λ (o : Option ℕ). Ends (protocol_at c.below-below.result) (Once (process_of c.args.both.now.left.now) c.below-below.result.point v) mid c.args.listing.now c.visit_process.new.listing o) c.in-None.is c.in_ok-point.ensures.ends) in
+    parallel_ends c.visit_process-in-None.result P v (process_of c.args.both.now.left.now) (process_of c.args.both.now.right.now) c.args.place.now.point c.after-after.result (visit_at mid w) mid (g.B.Bank.trees c.visit_process-in-None.new.bank) c.args.listing.now c.visit_process.new.listing c.visit_process-in-None.new.listing
+    c.after-after.ensures later.is c.visit_process-in-None.ensures.grows done c.visit_process-in-None.ensures.ends
 
 pub visit_let-visit_each-requires : goal.visit_let-visit_each-requires
 visit_let-visit_each-requires g t c κs within =
@@ -205,7 +212,7 @@ visit_let-visit_each-requires g t c κs within =
     let items = c.deref.result.now in
     let go = subst (λ (vs : List source.Visit). GoOn P v pattern expression all vs) (sym c.deref.ensures.value)
     (subst (λ (o : Option Visits). MatchOption o (IsLargeChoice P v pattern expression) (λ visits. GoOn P v pattern expression all visits.items.items)) c.in-Some.is c.in_ok-choices.ensures.go) in
-    (omega (arith, c.decreases), (within, (known_visits all items (present go.outs) go.names, c.requires.short.2)))
+    (omega (arith, c.decreases), (within, (known_visits all items (present go.outs) go.names, (c.requires.short.2, (left_few c.args.place.now.point (let_form c.args.choice.now) (process_of c.args.choice.now.next.now) (process_of c.args.choice.now.otherwise.now) refl c.below-below.result c.below-below.ensures c.requires.points, chosen_copies P c.below-below.result c.args.place.now.point old all w pattern expression items c.below-below.ensures c.requires.copies go)))))
 
 pub visit_let-returns-in-Some-2-clause-ends : goal.visit_let-returns-in-Some-2-clause-ends
 visit_let-returns-in-Some-2-clause-ends g t c =
@@ -225,8 +232,8 @@ visit_let-returns-in-Some-2-clause-ends g t c =
     let mid = g.B.Bank.trees c.visit_each.new.bank in
     let small = sym c.is_large_let.ensures ∙ c.if-is_large_let.false in
     next_large P v pattern expression next otherwise point all items c.args.listing.now.left c.in-Some-2.point small go
-    (moved_each P (point + 1) c.in_ok-below.below (visits_at all items) next mid c.args.listing.now c.visit_each.new.listing (Some c.in-Some-2.point) c.in_ok-below.ensures
-    (subst (λ (o : Option ℕ). Ends (protocol_at c.in_ok-below.below) (Each next c.in_ok-below.below.point (visits_at all items)) mid c.args.listing.now c.visit_each.new.listing o) c.in-Some-2.is c.in_ok-point-in-Some.ensures.ends))
+    (moved_each P (point + 1) c.below-below.result (visits_at all items) next mid c.args.listing.now c.visit_each.new.listing (Some c.in-Some-2.point) c.below-below.ensures
+    (subst (λ (o : Option ℕ). Ends (protocol_at c.below-below.result) (Each next c.below-below.result.point (visits_at all items)) mid c.args.listing.now c.visit_each.new.listing o) c.in-Some-2.is c.in_ok-point-in-Some.ensures.ends))
 
 pub visit_let-visit_process-requires : goal.visit_let-visit_process-requires
 visit_let-visit_process-requires g t c κs within =
@@ -243,10 +250,10 @@ visit_let-visit_process-requires g t c κs within =
     let go = subst (λ (vs : List source.Visit). GoOn P v pattern expression all vs) (sym c.deref.ensures.value)
     (subst (λ (o : Option Visits). MatchOption o (IsLargeChoice P v pattern expression) (λ visits. GoOn P v pattern expression all visits.items.items)) c.in-Some.is c.in_ok-choices.ensures.go) in
     let mid = g.B.Bank.trees c.visit_each.new.bank in
-    let done = moved_each P (point + 1) c.in_ok-below.below (visits_at all items) next mid c.args.listing.now c.visit_each.new.listing None c.in_ok-below.ensures
-    (subst (λ (o : Option ℕ). Ends (protocol_at c.in_ok-below.below) (Each next c.in_ok-below.below.point (visits_at all items)) mid c.args.listing.now c.visit_each.new.listing o) c.in-None-2.is c.in_ok-point-in-Some.ensures.ends) in
+    let done = moved_each P (point + 1) c.below-below.result (visits_at all items) next mid c.args.listing.now c.visit_each.new.listing None c.below-below.ensures
+    (subst (λ (o : Option ℕ). Ends (protocol_at c.below-below.result) (Each next c.below-below.result.point (visits_at all items)) mid c.args.listing.now c.visit_each.new.listing o) c.in-None-2.is c.in_ok-point-in-Some.ensures.ends) in
     let later = visit_later old mid w (Grows_trans old all mid c.choices.ensures.grows c.visit_each.ensures.grows) c.requires.visit in
-    (omega (arith, c.decreases), (within, (later.known, c.requires.short.3)))
+    (omega (arith, c.decreases), (within, (later.known, (c.requires.short.3, (right_few c.args.place.now.point (let_form c.args.choice.now) (process_of c.args.choice.now.next.now) (process_of c.args.choice.now.otherwise.now) refl c.after-after.result c.after-after.ensures c.requires.points, later_copies c.after-after.result c.args.place.now.point next w c.after-after.ensures c.requires.copies)))))
 
 pub visit_let-returns-clause-ends : goal.visit_let-returns-clause-ends
 visit_let-returns-clause-ends g t c =
@@ -265,11 +272,11 @@ visit_let-returns-clause-ends g t c =
     (subst (λ (o : Option Visits). MatchOption o (IsLargeChoice P v pattern expression) (λ visits. GoOn P v pattern expression all visits.items.items)) c.in-Some.is c.in_ok-choices.ensures.go) in
     let mid = g.B.Bank.trees c.visit_each.new.bank in
     let small = sym c.is_large_let.ensures ∙ c.if-is_large_let.false in
-    let done = moved_each P (point + 1) c.in_ok-below.below (visits_at all items) next mid c.args.listing.now c.visit_each.new.listing None c.in_ok-below.ensures
-    (subst (λ (o : Option ℕ). Ends (protocol_at c.in_ok-below.below) (Each next c.in_ok-below.below.point (visits_at all items)) mid c.args.listing.now c.visit_each.new.listing o) c.in-None-2.is c.in_ok-point-in-Some.ensures.ends) in
+    let done = moved_each P (point + 1) c.below-below.result (visits_at all items) next mid c.args.listing.now c.visit_each.new.listing None c.below-below.ensures
+    (subst (λ (o : Option ℕ). Ends (protocol_at c.below-below.result) (Each next c.below-below.result.point (visits_at all items)) mid c.args.listing.now c.visit_each.new.listing o) c.in-None-2.is c.in_ok-point-in-Some.ensures.ends) in
     let later = visit_later old mid w (Grows_trans old all mid c.choices.ensures.grows c.visit_each.ensures.grows) c.requires.visit in
-    let_ends P v pattern expression next otherwise point c.visit_process.result c.in_ok-after.after (visit_at mid w) all mid (g.B.Bank.trees c.visit_process.new.bank) items c.args.listing.now c.visit_each.new.listing c.visit_process.new.listing
-    c.in_ok-after.ensures later.is small go c.visit_process.ensures.grows done c.visit_process.ensures.ends
+    let_ends P v pattern expression next otherwise point c.visit_process.result c.after-after.result (visit_at mid w) all mid (g.B.Bank.trees c.visit_process.new.bank) items c.args.listing.now c.visit_each.new.listing c.visit_process.new.listing
+    c.after-after.ensures later.is small go c.visit_process.ensures.grows done c.visit_process.ensures.ends
 
 pub visit_process-returns-then-listing-eq0-clause-ends : goal.visit_process-returns-then-listing-eq0-clause-ends
 visit_process-returns-then-listing-eq0-clause-ends g t c =
@@ -281,7 +288,7 @@ visit_process-returns-then-listing-eq0-clause-ends g t c =
 
 pub visit_process-visit_counted-requires : goal.visit_process-visit_counted-requires
 visit_process-visit_counted-requires g t c κs within =
-    (omega (arith, c.decreases), (within, (c.requires.visit, c.requires.short)))
+    (omega (arith, c.decreases), (within, (c.requires.visit, (c.requires.short, (c.requires.points, c.requires.copies)))))
 
 pub visit_process-returns-clause-ends : goal.visit_process-returns-clause-ends
 visit_process-returns-clause-ends g t c =
@@ -293,7 +300,7 @@ visit_process-returns-clause-ends g t c =
 
 pub visit_counted-visit_form-requires : goal.visit_counted-visit_form-requires
 visit_counted-visit_form-requires g t c κs within =
-    (omega (arith, c.decreases), (within, (c.requires.visit, c.requires.short)))
+    (omega (arith, c.decreases), (within, (c.requires.visit, (c.requires.short, (c.requires.points, c.requires.copies)))))
 
 pub visit_counted-returns-then-count-clause-back : goal.visit_counted-returns-then-count-clause-back
 visit_counted-returns-then-count-clause-back g t c = λ same. absurd (omega (arith, ap (λ (cs : List (Clause Id)). length cs) same))
@@ -320,7 +327,7 @@ visit_counted-returns-clause-ends g t c =
 pub visit_form-visit_output-requires : goal.visit_form-visit_output-requires
 visit_form-visit_output-requires g t c κs within =
     let same : process_of c.args.process.now ≡ calculus.Output (term_of c.in-Output.channel) (term_of c.in-Output.message) (process_of c.deref.result.now) = ap process_of c.in-Output.is ∙ ap (λ (x : Process). calculus.Output (term_of c.in-Output.channel) (term_of c.in-Output.message) (process_of x)) (sym c.deref.ensures) in
-    (omega (arith, c.decreases, ap (λ (p : calculus.Process). weight p) same), (within, (c.requires.visit, (subst (λ (p : calculus.Process). IsShortProcess p) same c.requires.short))))
+    (omega (arith, c.decreases, ap (λ (p : calculus.Process). weight p) same), (within, (c.requires.visit, (subst (λ (p : calculus.Process). IsShortProcess p) same c.requires.short, (subst (λ (p : calculus.Process). HasFewPoints c.args.place.now.point p) same c.requires.points, c.requires.copies)))))
 
 pub visit_form-returns-in-Output-clause-ends : goal.visit_form-returns-in-Output-clause-ends
 visit_form-returns-in-Output-clause-ends g t c =
@@ -335,7 +342,7 @@ visit_form-returns-in-Output-clause-ends g t c =
 pub visit_form-visit_input-requires : goal.visit_form-visit_input-requires
 visit_form-visit_input-requires g t c κs within =
     let same : process_of c.args.process.now ≡ calculus.Input (term_of c.in-Input.channel) (pattern_of c.in-Input.pattern) (process_of c.deref-in-Input.result.now) = ap process_of c.in-Input.is ∙ ap (λ (x : Process). calculus.Input (term_of c.in-Input.channel) (pattern_of c.in-Input.pattern) (process_of x)) (sym c.deref-in-Input.ensures) in
-    (omega (arith, c.decreases, ap (λ (p : calculus.Process). weight p) same), (within, (c.requires.visit, (subst (λ (p : calculus.Process). IsShortProcess p) same c.requires.short))))
+    (omega (arith, c.decreases, ap (λ (p : calculus.Process). weight p) same), (within, (c.requires.visit, (subst (λ (p : calculus.Process). IsShortProcess p) same c.requires.short, (subst (λ (p : calculus.Process). HasFewPoints c.args.place.now.point p) same c.requires.points, c.requires.copies)))))
 
 pub visit_form-returns-in-Input-clause-ends : goal.visit_form-returns-in-Input-clause-ends
 visit_form-returns-in-Input-clause-ends g t c =
@@ -350,7 +357,7 @@ visit_form-returns-in-Input-clause-ends g t c =
 pub visit_form-visit_parallel-requires : goal.visit_form-visit_parallel-requires
 visit_form-visit_parallel-requires g t c κs within =
     let same : process_of c.args.process.now ≡ calculus.Parallel (process_of c.deref-in-Par.result.now) (process_of c.deref-in-Par-2.result.now) = ap process_of c.in-Par.is ∙ ap (λ (x : Process). calculus.Parallel (process_of x) (process_of c.in-Par.right.value)) (sym c.deref-in-Par.ensures) ∙ ap (λ (x : Process). calculus.Parallel (process_of c.deref-in-Par.result.now) (process_of x)) (sym c.deref-in-Par-2.ensures) in
-    (omega (arith, c.decreases, ap (λ (p : calculus.Process). weight p) same), (within, (c.requires.visit, (subst (λ (p : calculus.Process). IsShortProcess p) same c.requires.short))))
+    (omega (arith, c.decreases, ap (λ (p : calculus.Process). weight p) same), (within, (c.requires.visit, (subst (λ (p : calculus.Process). IsShortProcess p) same c.requires.short, (subst (λ (p : calculus.Process). HasFewPoints c.args.place.now.point p) same c.requires.points, c.requires.copies)))))
 
 pub visit_form-returns-in-Par-clause-ends : goal.visit_form-returns-in-Par-clause-ends
 visit_form-returns-in-Par-clause-ends g t c =
@@ -365,7 +372,7 @@ visit_form-returns-in-Par-clause-ends g t c =
 pub visit_form-visit_copies-requires : goal.visit_form-visit_copies-requires
 visit_form-visit_copies-requires g t c κs within =
     let same : process_of c.args.process.now ≡ calculus.Replication (process_of c.deref-in-Copies.result.now) = ap process_of c.in-Copies.is ∙ ap (λ (x : Process). calculus.Replication (process_of x)) (sym c.deref-in-Copies.ensures) in
-    (omega (arith, c.decreases, ap (λ (p : calculus.Process). weight p) same), (within, (c.requires.visit, (subst (λ (p : calculus.Process). IsShortProcess p) same c.requires.short))))
+    (omega (arith, c.decreases, ap (λ (p : calculus.Process). weight p) same), (within, (c.requires.visit, (subst (λ (p : calculus.Process). IsShortProcess p) same c.requires.short, (subst (λ (p : calculus.Process). HasFewPoints c.args.place.now.point p) same c.requires.points, c.requires.copies)))))
 
 pub visit_form-returns-in-Copies-clause-ends : goal.visit_form-returns-in-Copies-clause-ends
 visit_form-returns-in-Copies-clause-ends g t c =
@@ -380,7 +387,7 @@ visit_form-returns-in-Copies-clause-ends g t c =
 pub visit_form-visit_new-requires : goal.visit_form-visit_new-requires
 visit_form-visit_new-requires g t c κs within =
     let same : process_of c.args.process.now ≡ calculus.New c.in-New.field-0 (process_of c.deref-in-New.result.now) = ap process_of c.in-New.is ∙ ap (λ (x : Process). calculus.New c.in-New.field-0 (process_of x)) (sym c.deref-in-New.ensures) in
-    (omega (arith, c.decreases, ap (λ (p : calculus.Process). weight p) same), (within, (c.requires.visit, (subst (λ (p : calculus.Process). IsShortProcess p) same c.requires.short))))
+    (omega (arith, c.decreases, ap (λ (p : calculus.Process). weight p) same), (within, (c.requires.visit, (subst (λ (p : calculus.Process). IsShortProcess p) same c.requires.short, (subst (λ (p : calculus.Process). HasFewPoints c.args.place.now.point p) same c.requires.points, c.requires.copies)))))
 
 pub visit_form-returns-in-New-clause-ends : goal.visit_form-returns-in-New-clause-ends
 visit_form-returns-in-New-clause-ends g t c =
@@ -395,7 +402,7 @@ visit_form-returns-in-New-clause-ends g t c =
 pub visit_form-visit_let-requires : goal.visit_form-visit_let-requires
 visit_form-visit_let-requires g t c κs within =
     let same : process_of c.args.process.now ≡ calculus.Let (pattern_of c.in-Let.pattern) (expression_of c.in-Let.expression) (process_of c.deref-in-Let.result.now) (process_of c.deref-in-Let-2.result.now) = ap process_of c.in-Let.is ∙ ap (λ (x : Process). calculus.Let (pattern_of c.in-Let.pattern) (expression_of c.in-Let.expression) (process_of x) (process_of c.in-Let.otherwise.value)) (sym c.deref-in-Let.ensures) ∙ ap (λ (x : Process). calculus.Let (pattern_of c.in-Let.pattern) (expression_of c.in-Let.expression) (process_of c.deref-in-Let.result.now) (process_of x)) (sym c.deref-in-Let-2.ensures) in
-    (omega (arith, c.decreases, ap (λ (p : calculus.Process). weight p) same), (within, (c.requires.visit, (subst (λ (p : calculus.Process). IsShortProcess p) same c.requires.short))))
+    (omega (arith, c.decreases, ap (λ (p : calculus.Process). weight p) same), (within, (c.requires.visit, (subst (λ (p : calculus.Process). IsShortProcess p) same c.requires.short, (subst (λ (p : calculus.Process). HasFewPoints c.args.place.now.point p) same c.requires.points, c.requires.copies)))))
 
 pub visit_form-returns-in-Let-clause-ends : goal.visit_form-returns-in-Let-clause-ends
 visit_form-returns-in-Let-clause-ends g t c =
@@ -410,7 +417,7 @@ visit_form-returns-in-Let-clause-ends g t c =
 pub visit_form-visit_event-requires : goal.visit_form-visit_event-requires
 visit_form-visit_event-requires g t c κs within =
     let same : process_of c.args.process.now ≡ calculus.Event (event_of c.in-Event.atom) (process_of c.deref-in-Event.result.now) = ap process_of c.in-Event.is ∙ ap (λ (x : Process). calculus.Event (event_of c.in-Event.atom) (process_of x)) (sym c.deref-in-Event.ensures) in
-    (omega (arith, c.decreases, ap (λ (p : calculus.Process). weight p) same), (within, (c.requires.visit, (subst (λ (p : calculus.Process). IsShortProcess p) same c.requires.short))))
+    (omega (arith, c.decreases, ap (λ (p : calculus.Process). weight p) same), (within, (c.requires.visit, (subst (λ (p : calculus.Process). IsShortProcess p) same c.requires.short, (subst (λ (p : calculus.Process). HasFewPoints c.args.place.now.point p) same c.requires.points, c.requires.copies)))))
 
 pub visit_form-returns-in-Event-clause-ends : goal.visit_form-returns-in-Event-clause-ends
 visit_form-returns-in-Event-clause-ends g t c =
@@ -458,30 +465,6 @@ visit_event-returns-in-Some-clause-grows g t c = Grows_trans (g.B.Bank.trees c.a
 pub visit_let-returns-in_err-point-in-Some-clause-grows : goal.visit_let-returns-in_err-point-in-Some-clause-grows
 visit_let-returns-in_err-point-in-Some-clause-grows g t c = Grows_trans (g.B.Bank.trees c.args.bank.now) (g.B.Bank.trees c.choices.new.bank) (g.B.Bank.trees c.visit_each.new.bank) c.choices.ensures.grows c.visit_each.ensures.grows
 
-pub visit_let-returns-in_err-after-clause-grows : goal.visit_let-returns-in_err-after-clause-grows
-visit_let-returns-in_err-after-clause-grows g t c = Grows_refl (g.B.Bank.trees c.args.bank.now)
-
-pub visit_let-returns-in_err-below-clause-grows : goal.visit_let-returns-in_err-below-clause-grows
-visit_let-returns-in_err-below-clause-grows g t c = Grows_refl (g.B.Bank.trees c.args.bank.now)
-
-pub visit_parallel-returns-in_err-after-clause-grows : goal.visit_parallel-returns-in_err-after-clause-grows
-visit_parallel-returns-in_err-after-clause-grows g t c = Grows_refl (g.B.Bank.trees c.args.bank.now)
-
-pub visit_parallel-returns-in_err-below-clause-grows : goal.visit_parallel-returns-in_err-below-clause-grows
-visit_parallel-returns-in_err-below-clause-grows g t c = Grows_refl (g.B.Bank.trees c.args.bank.now)
-
-pub visit_input-returns-in_err-below-clause-grows : goal.visit_input-returns-in_err-below-clause-grows
-visit_input-returns-in_err-below-clause-grows g t c = Grows_refl (g.B.Bank.trees c.args.bank.now)
-
-pub visit_event-returns-in_err-below-clause-grows : goal.visit_event-returns-in_err-below-clause-grows
-visit_event-returns-in_err-below-clause-grows g t c = Grows_refl (g.B.Bank.trees c.args.bank.now)
-
-pub visit_new-returns-in_err-below-clause-grows : goal.visit_new-returns-in_err-below-clause-grows
-visit_new-returns-in_err-below-clause-grows g t c = Grows_refl (g.B.Bank.trees c.args.bank.now)
-
-pub visit_copies-returns-in_err-below-clause-grows : goal.visit_copies-returns-in_err-below-clause-grows
-visit_copies-returns-in_err-below-clause-grows g t c = Grows_refl (g.B.Bank.trees c.args.bank.now)
-
 pub visit_let-returns-then-is_large_let-clause-grows : goal.visit_let-returns-then-is_large_let-clause-grows
 visit_let-returns-then-is_large_let-clause-grows g t c = Grows_refl (g.B.Bank.trees c.args.bank.now)
 
@@ -490,9 +473,6 @@ visit_form-returns-in-Nil-clause-grows g t c = Grows_refl (g.B.Bank.trees c.args
 
 pub visit_process-returns-then-listing-eq0-clause-grows : goal.visit_process-returns-then-listing-eq0-clause-grows
 visit_process-returns-then-listing-eq0-clause-grows g t c = Grows_refl (g.B.Bank.trees c.args.bank.now)
-
-pub visit_output-returns-in_err-below-clause-grows : goal.visit_output-returns-in_err-below-clause-grows
-visit_output-returns-in_err-below-clause-grows g t c = c.add_output.ensures.grows
 
 pub visit_output-returns-then-not-branch-clause-grows : goal.visit_output-returns-then-not-branch-clause-grows
 visit_output-returns-then-not-branch-clause-grows g t c = c.add_output.ensures.grows
@@ -602,8 +582,8 @@ visit_parallel-returns-in-Some-clause-ends g t c =
     let left = process_of c.args.both.now.left.now in
     let mid = g.B.Bank.trees c.visit_process.new.bank in
     left_large P v left (process_of c.args.both.now.right.now) point c.args.listing.now.left c.in-Some.point
-    (moved P (point + 1) v c.in_ok-below.below v left mid c.args.listing.now c.visit_process.new.listing (Some c.in-Some.point) c.in_ok-below.ensures refl
-    (subst (λ (o : Option ℕ). Ends (protocol_at c.in_ok-below.below) (Once left c.in_ok-below.below.point v) mid c.args.listing.now c.visit_process.new.listing o) c.in-Some.is c.in_ok-point.ensures.ends))
+    (moved P (point + 1) v c.below-below.result v left mid c.args.listing.now c.visit_process.new.listing (Some c.in-Some.point) c.below-below.ensures refl
+    (subst (λ (o : Option ℕ). Ends (protocol_at c.below-below.result) (Once left c.below-below.result.point v) mid c.args.listing.now c.visit_process.new.listing o) c.in-Some.is c.in_ok-point.ensures.ends))
 
 pub visit_let-returns-then-is_large_let-clause-ends : goal.visit_let-returns-then-is_large_let-clause-ends
 visit_let-returns-then-is_large_let-clause-ends g t c =
@@ -624,3 +604,36 @@ visit_let-returns-in-None-clause-ends g t c =
     let expression = expression_of choice.expression.now in
     choice_large P v pattern expression (process_of choice.next.now) (process_of choice.otherwise.now) point c.args.listing.now.left (sym c.is_large_let.ensures ∙ c.if-is_large_let.false)
     (subst (λ (o : Option Visits). MatchOption o (IsLargeChoice P v pattern expression) (λ visits. GoOn P v pattern expression (g.B.Bank.trees c.choices.new.bank) visits.items.items)) c.in-None.is c.in_ok-choices.ensures.go)
+
+pub visit_output-below-below-requires : goal.visit_output-below-below-requires
+visit_output-below-below-requires g t c = next_point c.args.place.now.point (output_form c.args.output.now) (process_of c.args.output.now.next.now) refl c.requires.points
+
+pub visit_input-below-below-requires : goal.visit_input-below-below-requires
+visit_input-below-below-requires g t c = next_point c.args.place.now.point (input_form c.args.input.now) (process_of c.args.input.now.next.now) refl c.requires.points
+
+pub visit_copies-below-below-requires : goal.visit_copies-below-below-requires
+visit_copies-below-below-requires g t c = next_point c.args.place.now.point (calculus.Replication (process_of c.args.copied.now)) (process_of c.args.copied.now) refl c.requires.points
+
+pub visit_new-below-below-requires : goal.visit_new-below-below-requires
+visit_new-below-below-requires g t c = next_point c.args.place.now.point (calculus.New [] (process_of c.args.next.now)) (process_of c.args.next.now) refl c.requires.points
+
+pub visit_event-below-below-requires : goal.visit_event-below-below-requires
+visit_event-below-below-requires g t c = next_point c.args.place.now.point (event_form c.args.event.now) (process_of c.args.event.now.next.now) refl c.requires.points
+
+pub visit_parallel-below-below-requires : goal.visit_parallel-below-below-requires
+visit_parallel-below-below-requires g t c = left_point c.args.place.now.point (parallel_form c.args.both.now) (process_of c.args.both.now.left.now) (process_of c.args.both.now.right.now) refl c.requires.points
+
+pub visit_parallel-after-after-requires : goal.visit_parallel-after-after-requires
+visit_parallel-after-after-requires g t c = right_point c.args.place.now.point (parallel_form c.args.both.now) (process_of c.args.both.now.left.now) (process_of c.args.both.now.right.now) refl c.requires.points
+
+pub visit_let-below-below-requires : goal.visit_let-below-below-requires
+visit_let-below-below-requires g t c = left_point c.args.place.now.point (let_form c.args.choice.now) (process_of c.args.choice.now.next.now) (process_of c.args.choice.now.otherwise.now) refl c.requires.points
+
+pub visit_let-after-after-requires : goal.visit_let-after-after-requires
+visit_let-after-after-requires g t c = right_point c.args.place.now.point (let_form c.args.choice.now) (process_of c.args.choice.now.next.now) (process_of c.args.choice.now.otherwise.now) refl c.requires.points
+
+pub visit_copies-after_copy-requires-clause-copies : goal.visit_copies-after_copy-requires-clause-copies
+visit_copies-after_copy-requires-clause-copies g t c = omega (arith, c.requires.copies, next_point c.args.place.now.point (calculus.Replication (process_of c.args.copied.now)) (process_of c.args.copied.now) refl c.requires.points)
+
+pub visit_let-choices-requires-clause-copies : goal.visit_let-choices-requires-clause-copies
+visit_let-choices-requires-clause-copies g t c = omega (arith, c.requires.copies, left_point c.args.place.now.point (let_form c.args.choice.now) (process_of c.args.choice.now.next.now) (process_of c.args.choice.now.otherwise.now) refl c.requires.points)

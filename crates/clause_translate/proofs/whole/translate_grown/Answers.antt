@@ -2,7 +2,8 @@ use Rattle.std.proofs.Common.{subst}
 use Rattle.pi_tree.specs.Protocols.{protocol_of}
 use Rattle.clause_translate.specs.declared.whole.Translated.{Translated}
 use Rattle.clause_translate.specs.Whole.{IsVisited}
-use Rattle.clause_translate.proofs.Reading.{main_short, has_short_rules}
+use Rattle.clause_translate.proofs.FewPoints.{first_few}
+use Rattle.clause_translate.proofs.Reading.{main_short, has_fit_rules}
 use Rattle.clause_translate.proofs.Translating.{ends_at, translates_to}
 use Rattle.term_tree.proofs.BankLaws.{Grows_trans}
 use Rattle.clause_translate.proofs.whole.translate_grown.Goals as goal
@@ -11,7 +12,10 @@ pub visited-requires-clause-short : goal.visited-requires-clause-short
 visited-requires-clause-short g c = main_short (protocol_of c.args.protocol.now) c.requires.scoped
 
 pub visited-requires-clause-rules : goal.visited-requires-clause-rules
-visited-requires-clause-rules g c = has_short_rules (protocol_of c.args.protocol.now) c.requires.scoped
+visited-requires-clause-rules g c = has_fit_rules (protocol_of c.args.protocol.now) c.requires.rules c.requires.limits c.requires.scoped
+
+pub visited-requires-clause-points : goal.visited-requires-clause-points
+visited-requires-clause-points g c = first_few (protocol_of c.args.protocol.now).main c.requires.limits.points
 
 pub returns-in-Large-clause-translates : goal.returns-in-Large-clause-translates
 returns-in-Large-clause-translates g c =

@@ -1,0 +1,36 @@
+-- The points of a process and those below it are within the limit.
+use Rattle.std.proofs.Common.{◌≡◌, ℕ, suc, ◌+◌, ◌≤◌, ◌++◌, length, ap, ◌∙◌, arith}
+use Rattle.std.proofs.lemmas.List.{length-append}
+use Rattle.spec_calculus.specs.Syntax.{Process, Protocol}
+use Rattle.spec_calculus.specs.Bounds.{most_points}
+use Rattle.spec_calculus.specs.Points.{nodes, point_after}
+use Rattle.clause_translate.specs.declared.place.Place.{Place}
+use Rattle.clause_translate.specs.Places.{IsAt, HasFewPoints}
+
+pub first_few : (p : Process) → length (nodes p) ≤ most_points → HasFewPoints 1 p
+first_few p few = omega (arith, few)
+
+-- a process with one below it
+module _ (point : ℕ) (p next : Process) (counted : length (nodes p) ≡ suc (length (nodes next))) where
+  pub next_few : {P : Protocol} (to : Place) → IsAt P (point + 1) to → HasFewPoints point p → HasFewPoints to.point next
+  next_few to at few = let is : to.point ≡ point + 1 = at.point in omega (arith, few, is, counted)
+
+  pub next_point : HasFewPoints point p → point ≤ most_points
+  next_point few = omega (arith, few, counted)
+
+-- one with two below it
+module _ (point : ℕ) (p left right : Process) (counted : length (nodes p) ≡ suc (length (nodes left ++ nodes right))) where
+  both : length (nodes p) ≡ suc (length (nodes left) + length (nodes right))
+  both = counted ∙ ap suc (length-append (nodes left) (nodes right))
+
+  pub left_few : {P : Protocol} (to : Place) → IsAt P (point + 1) to → HasFewPoints point p → HasFewPoints to.point left
+  left_few to at few = let is : to.point ≡ point + 1 = at.point in omega (arith, few, is, both)
+
+  pub right_few : {P : Protocol} (to : Place) → IsAt P (point_after (point + 1) left) to → HasFewPoints point p → HasFewPoints to.point right
+  right_few to at few = let is : to.point ≡ point + 1 + length (nodes left) = at.point in omega (arith, few, is, both)
+
+  pub left_point : HasFewPoints point p → point ≤ most_points
+  left_point few = omega (arith, few, both)
+
+  pub right_point : HasFewPoints point p → point + length (nodes left) ≤ most_points
+  right_point few = omega (arith, few, both)
