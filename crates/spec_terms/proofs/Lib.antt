@@ -7,3 +7,4 @@ pub mod Existence
 pub mod Matches
 pub mod Equations
 pub mod Decision
+pub mod Ground

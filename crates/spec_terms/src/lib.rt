@@ -2,9 +2,9 @@
 //! functions here have empty bodies, and say in their contracts what holds of the definitions.
 #![tactic(auto)]
 
-ghost use Rattle.std.specs.Prelude.{◌≡◌, ◌⊎◌, ◌↔◌, ℕ, Some, None, Option, List, IsFalse};
-ghost use Rattle.spec_trees.specs.Tree.{Leaf, node, after};
-ghost use Rattle.spec_terms.specs.Term.{Sym, Term, Subst, has_var};
+ghost use Rattle.std.specs.Prelude.{◌≡◌, ◌⊎◌, ◌↔◌, ℕ, true, Some, None, Option, List, IsFalse};
+ghost use Rattle.spec_trees.specs.Tree.{Leaf, node, bind, after};
+ghost use Rattle.spec_terms.specs.Term.{Sym, Term, Subst, has_var, is_ground};
 ghost use Rattle.spec_terms.specs.Unifier.{Unifies, UnifiesAll, Factors, IsMostGeneral, IsMgu, IsRenaming, Matches, MatchesAll};
 ghost use Rattle.spec_terms.specs.Binding.{Binding, bound_to, NeverLeadsBack, Solves, resolved};
 
@@ -14,6 +14,12 @@ pub fn most_general_unifiers()
     ensures exists { (a b : Term) (u : Subst) → Unifies u a b → (s : Subst) × IsMgu a b s }
     ensures unique { (a b : Term) (s t : Subst) → IsMgu a b s → IsMgu a b t → (q r : Subst) ×
         ((x : ℕ) → after q s x ≡ t x) × ((x : ℕ) → after r t x ≡ s x) × IsRenaming s q r }
+{}
+
+/// In a term without variables no variable occurs, and no substitution changes it.
+pub fn ground_terms_stay()
+    ensures none { (t : Term) (x : ℕ) → is_ground t ≡ true → IsFalse (has_var x t) }
+    ensures same { (t : Term) (s : Subst) → is_ground t ≡ true → bind s t ≡ t }
 {}
 
 /// Whether two terms have a unifier is decided.

@@ -1,14 +1,13 @@
 -- Counting the symbols of what a term stands for.
-use Rattle.std.proofs.Common.{◌≡◌, ℕ, ◌+◌, ◌≤◌, ◌<◌, List, [], ◌∷◌, ◌++◌, length, map, drop, get_or, append_assoc, append-nil, refl, sym, ap, ◌∙◌, arith}
+use Rattle.std.proofs.Common.{◌≡◌, ℕ, ◌+◌, ◌^◌, ◌≤◌, ◌<◌, true, List, [], ◌∷◌, length, map, drop, get_or, refl, sym, ap, ◌∙◌, arith}
 use Rattle.spec_trees.specs.Tree.{Leaf, node, trees, bind, size, sizes}
-use Rattle.spec_terms.specs.Term.{Sym, Term, Subst}
+use Rattle.spec_terms.specs.Term.{Sym, Term, Subst, is_ground}
 use Rattle.spec_terms.specs.Binding.{resolved}
 use Rattle.spec_terms.specs.Rank.{height, ranks}
-use Rattle.term_tree.specs.Bank.{tree_at, AreKnown, Grows, Names}
+use Rattle.term_tree.specs.Bank.{tree_at, AreKnown, capped}
 use Rattle.term_tree.specs.declared.bank.Id.{Id}
 use Rattle.spec_trees.proofs.Measures.{size-positive}
-use Rattle.unify_match.proofs.SeenLemmas.{seen-grows}
-use Rattle.term_tree.proofs.BankLaws.{Grows_refl, Grows-length, Grows_trans, tree_at-grows, AreKnown-append, AreKnown-grows, trees_at-grow}
+use Rattle.spec_terms.proofs.Ground.{ground-bind}
 use Rattle.unify_match.specs.declared.bound.Bound.{Bound}
 use Rattle.unify_match.specs.Seen.{seen, IsReady, IsWalked}
 use Rattle.unify_match.proofs.Walking.{heights_of, height-at, known-at, ids_at, ids_past, args-lower, walked-resolved, walked-variable}
@@ -64,6 +63,10 @@ counting_ends all pairs id most args i left was past =
     let s = resolved (seen all pairs) in
     let rest : sizes_under s all (drop i args) ≡ 0 = ap (sizes_under s all) (ids_past args i past) in
     let before = was.counted in omega arith
+
+-- a term without variables has its own symbols, whatever the bindings
+pub symbols_of_ground : (s : Subst) (t : Term) (told : ℕ) → told ≡ capped (size t) → told < 2 ^ 63 → is_ground t ≡ true → size (bind s t) ≡ told
+symbols_of_ground s t told is less ground = let same = ap size (ground-bind s t ground) in omega (arith, is, less, same)
 
 -- an unbound variable is one symbol
 pub counted_variable : (all : List Term) (pairs : List Bound) (id end : Id) (most left x : ℕ) → IsReady all pairs → IsWalked all pairs id end → tree_at all end ≡ Leaf x → left + 1 ≡ most → left + size (bind (resolved (seen all pairs)) (tree_at all id)) ≡ most

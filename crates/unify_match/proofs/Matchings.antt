@@ -3,10 +3,11 @@ use Rattle.std.proofs.Common.{◌≡◌, ℕ, ◌+◌, ◌≤◌, ◌<◌, Bool,
 use Rattle.std.specs.List.{list_any}
 use Rattle.std.proofs.Math.Bool.{or_assoc, or-false}
 use Rattle.spec_trees.specs.Tree.{Leaf, node}
-use Rattle.spec_terms.specs.Term.{Sym, Term, Subst, has_var}
+use Rattle.spec_terms.specs.Term.{Sym, Term, Subst, has_var, is_ground}
 use Rattle.spec_terms.specs.Binding.{Agrees, replaced_once}
 use Rattle.spec_terms.specs.Rank.{height}
 use Rattle.spec_terms.proofs.Matches.{Agrees-at, replaced-agrees}
+use Rattle.spec_terms.proofs.Ground.{ground-has_var, ground-bind}
 use Rattle.term_tree.specs.Bank.{tree_at, AreKnown}
 use Rattle.term_tree.specs.declared.bank.Id.{Id}
 use Rattle.unify_match.specs.declared.bound.Bound.{Bound}
@@ -34,6 +35,15 @@ is_bound pairs b x = go (nat_eq x b.var) refl (is_some (id_of pairs x)) refl whe
 
 pub matches_bind : (all : List Term) (pairs : List Bound) (b : Bound) → HasMatches all pairs (b ∷ pairs) (Leaf b.var) (tree_at all b.id)
 matches_bind all pairs b = record { exactly = is_bound pairs b; only = λ s. (λ h. (h.1, h.0), λ h. (h.1, h.0)) }
+
+-- a term without variables, to itself
+pub matches_itself : (all : List Term) (pairs : List Bound) (general special : Id) → general.index ≡ special.index → is_ground (tree_at all general) ≡ true → HasMatches all pairs pairs (tree_at all general) (tree_at all special)
+matches_itself all pairs general special same ground =
+    let one : tree_at all general ≡ tree_at all special = ap (λ i. tree_at all record { index = i }) same in
+    record {
+      exactly = λ x. sym (ap (λ b. is_some (id_of pairs x) || b) (ground-has_var (tree_at all general) ground x) ∙ or-false (is_some (id_of pairs x)));
+      only = λ s. (λ h. (h, ground-bind s (tree_at all general) ground ∙ one), λ h. h.0);
+    }
 
 -- a variable that is bound already, to the special term
 pub matches_bound : (all : List Term) (pairs : List Bound) (x : ℕ) (id special : Id) → id_of pairs x ≡ Some id → tree_at all id ≡ tree_at all special → HasMatches all pairs pairs (Leaf x) (tree_at all special)

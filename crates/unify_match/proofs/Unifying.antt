@@ -1,12 +1,11 @@
 -- The steps of unification.
-use Rattle.std.proofs.Common.{◌≡◌, ℕ, ◌+◌, ◌≤◌, ◌<◌, Bool, true, false, cond, nat_eq, ◌⊎◌, inl, inr, List, [], ◌∷◌, ◌++◌, length, map, drop, get_or, refl, sym, ap, ◌∙◌, subst, arith, eqb-true, Result, Ok, Err, IfOk, MatchBool}
+use Rattle.std.proofs.Common.{◌≡◌, ℕ, ◌+◌, ◌≤◌, ◌<◌, Bool, true, false, nat_eq, ◌⊎◌, inl, inr, List, [], ◌∷◌, ◌++◌, length, map, drop, get_or, refl, sym, ap, ◌∙◌, subst, arith, eqb-true, Result, Ok, Err, IfOk, MatchBool}
 use Rattle.spec_trees.specs.Tree.{Leaf, Node, node, bind, binds, size}
 use Rattle.spec_trees.proofs.Occurrence.{leaf_below}
-use Rattle.spec_trees.proofs.Equality.{and_true}
 use Rattle.spec_terms.specs.Term.{Sym, Term, Subst, has_var}
 use Rattle.spec_terms.specs.Unifier.{Unifies, UnifiesAll}
 use Rattle.spec_terms.specs.Binding.{Solves, resolved}
-use Rattle.spec_terms.specs.Rank.{height, ranks}
+use Rattle.spec_terms.specs.Rank.{ranks}
 use Rattle.spec_terms.proofs.Resolve.{resolved-unbound, bind-resolved, resolved-most_general}
 use Rattle.term_tree.specs.Bank.{tree_at, AreKnown}
 use Rattle.term_tree.specs.declared.bank.Id.{Id}

@@ -1,5 +1,5 @@
 -- Following the bindings of variables.
-use Rattle.std.proofs.Common.{◌≡◌, ℕ, ◌+◌, ◌≤◌, ◌<◌, max, Bool, true, false, ◌||◌, ◌⊎◌, inl, inr, Some, None, List, [], ◌∷◌, map, drop, length, get_or, nat_eq, cond, eqb-true, drop-cons, drop_of_length-le, add-one, subst, refl, sym, ap, ◌∙◌, arith}
+use Rattle.std.proofs.Common.{◌≡◌, ℕ, ◌+◌, ◌≤◌, ◌<◌, max, Bool, true, false, ◌||◌, ◌⊎◌, inl, inr, Some, None, List, [], ◌∷◌, map, drop, length, get_or, nat_eq, drop-cons, drop_of_length-le, add-one, subst, refl, sym, ap, ◌∙◌, arith}
 use Rattle.spec_trees.specs.Tree.{Leaf, node, bind}
 use Rattle.spec_terms.specs.Term.{Sym, Term, Subst, has_var}
 use Rattle.spec_terms.specs.Binding.{Solves, resolved}

@@ -12,7 +12,7 @@ use crate::binds::Binds;
 use crate::substitute::{Substitution, substituted};
 use crate::walk::walk;
 use std::alloc::AllocError;
-use term_tree::{Bank, Id, Node};
+use term_tree::{Bank, Id, Node, SIZE_LIMIT};
 
 /// How many of `most` symbols are left after those of what a term stands for; `None` where they do not
 /// suffice. Takes no memory.
@@ -26,6 +26,13 @@ fn spare<B: Bank>(bank: &B, binds: &Binds, id: Id, most: u64) -> Option<u64>
 {
     if most == 0 {
         return None;
+    }
+    let symbols = bank.size(id);
+    if symbols < SIZE_LIMIT && bank.is_ground(id) {
+        if most < symbols {
+            return None;
+        }
+        return Some(most - symbols);
     }
     let end = walk(bank, binds, id);
     match bank.node(end) {

@@ -46,7 +46,7 @@ pub fn same_term<B: Bank>(bank: &B, left: Id, right: Id) -> bool
     }
 }
 
-/// Extends the bindings until the general term is the special one.
+/// Extends the bindings until the general term is the special one: at once where it is that, without a variable.
 fn match_from<B: Bank>(
     bank: &B,
     binds: &mut Binds,
@@ -64,6 +64,9 @@ fn match_from<B: Bank>(
         (NoMatch (B.trees bank.now) binds.old.pairs (tree_at (B.trees bank.now) general)
         (tree_at (B.trees bank.now) special))) }
 {
+    if general.index == special.index && bank.is_ground(general) {
+        return Ok(true);
+    }
     match bank.node(general) {
         Node::Var(x) => match binds.look(x) {
             Some(bound) => {

@@ -163,6 +163,9 @@ fn rebuild<B: Bank>(
         (tree_at (B.trees bank.old) id) ≡ tree_at (B.trees bank.old) id →
         IfOk result (λ made. made ≡ id) }
 {
+    if bank.is_ground(id) {
+        return Ok(id);
+    }
     let end = led(bank, change, id);
     let count = arity(bank, end);
     if count == 0 {

@@ -1,11 +1,29 @@
-use Rattle.std.proofs.Common.{◌-◌, arith}
+use Rattle.std.proofs.Common.{◌≡◌, true, ◌-◌, arith}
 use Rattle.std.proofs.lemmas.Grind.{common_steps}
+use Rattle.spec_terms.specs.Term.{is_ground}
+use Rattle.spec_terms.specs.Binding.{resolved}
 use Rattle.spec_terms.specs.Rank.{ranks}
-use Rattle.term_tree.specs.Bank.{symbol_of}
+use Rattle.term_tree.specs.Bank.{symbol_of, tree_at}
 use Rattle.unify_match.specs.Seen.{seen}
 use Rattle.unify_match.proofs.Walking.{height-at, known-at}
-use Rattle.unify_match.proofs.Applying.{counting_begins, counted_variable}
+use Rattle.unify_match.proofs.Applying.{counting_begins, counted_variable, symbols_of_ground}
 use Rattle.unify_match.proofs.apply.+spare.Goals as goal
+
+pub returns-then-most-symbols : goal.returns-then-most-symbols
+returns-then-most-symbols g t c =
+    let all = g.B.Bank.trees c.args.bank.now in
+    let term = tree_at all c.args.id in
+    let ground : is_ground term ≡ true = cc in
+    let counted = symbols_of_ground (resolved (seen all c.args.binds.now.pairs)) term c.size-symbols.result c.size-symbols.ensures c.if-symbols-lt-SIZE_LIMIT.true ground in
+    omega (arith, counted, c.if-most-symbols.true)
+
+pub returns-then-is_ground : goal.returns-then-is_ground
+returns-then-is_ground g t c =
+    let all = g.B.Bank.trees c.args.bank.now in
+    let term = tree_at all c.args.id in
+    let ground : is_ground term ≡ true = cc in
+    let counted = symbols_of_ground (resolved (seen all c.args.binds.now.pairs)) term c.size-symbols.result c.size-symbols.ensures c.if-symbols-lt-SIZE_LIMIT.true ground in
+    omega (arith, counted, c.if-most-symbols.false)
 
 pub each-init : goal.each-init
 each-init g t c =

@@ -1,6 +1,6 @@
-use Rattle.std.proofs.Common.{◌<◌, ◌∙◌, List, [], ◌∷◌, sym, ap, refl, subst, arith, length}
+use Rattle.std.proofs.Common.{◌≡◌, ◌<◌, true, ◌∙◌, List, [], ◌∷◌, sym, ap, refl, subst, arith, length}
 use Rattle.std.proofs.lemmas.Bool.{MatchBool-at_true, MatchBool-at_false, false≢true}
-use Rattle.spec_terms.specs.Term.{Term}
+use Rattle.spec_terms.specs.Term.{Term, is_ground}
 use Rattle.term_tree.specs.Bank.{tree_at, symbol_of}
 use Rattle.unify_match.specs.declared.bound.Bound.{Bound}
 use Rattle.unify_match.specs.Seen.{AreBindings}
@@ -8,9 +8,15 @@ use Rattle.unify_match.specs.Outcome.{NoMatch}
 use Rattle.unify_match.specs.Progress.{HasMatches}
 use Rattle.unify_match.proofs.SeenLemmas.{AreInBank-at, AreBindings-bind}
 use Rattle.unify_match.proofs.Walking.{args-lower, height-at, known-at}
-use Rattle.unify_match.proofs.Matchings.{levels, matches_bound, matches_other, matching_begins, matching_on, matching_fails, matching_ends, match_applications_fail}
+use Rattle.unify_match.proofs.Matchings.{levels, matches_itself, matches_bound, matches_other, matching_begins, matching_on, matching_fails, matching_ends, match_applications_fail}
 use Rattle.unify_match.proofs.Trails.{Extends-trans}
 use Rattle.unify_match.proofs.matching.+match_from.Goals as goal
+
+pub returns-then-is_ground-clause-outcome : goal.returns-then-is_ground-clause-outcome
+returns-then-is_ground-clause-outcome g t c =
+    let all = g.B.Bank.trees c.args.bank.now in
+    let ground : is_ground (tree_at all c.args.general) ≡ true = cc in
+    matches_itself all c.args.binds.now.pairs c.args.general c.args.special c.if-general-special.true ground
 
 pub same_term-requires-clause-left_known : goal.same_term-requires-clause-left_known
 same_term-requires-clause-left_known g t c = AreInBank-at (g.B.Bank.trees c.args.bank.now) c.args.binds.now.pairs c.in-Var.x c.in-Some.bound c.requires.bindings.known (sym c.in-Some.ensures)

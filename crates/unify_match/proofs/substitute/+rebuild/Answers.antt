@@ -1,16 +1,25 @@
-use Rattle.std.proofs.Common.{◌≡◌, ◌∙◌, ◌<◌, ◌+◌, ◌-◌, List, [], ◌∷◌, ◌++◌, length, take, drop, map, get_or, ap, sym, subst, arith}
+use Rattle.std.proofs.Common.{◌≡◌, true, ◌∙◌, ◌<◌, ◌+◌, ◌-◌, List, [], ◌∷◌, ◌++◌, length, take, drop, map, get_or, ap, sym, subst, arith}
 use Rattle.std.proofs.lemmas.Grind.{common_steps}
 use Rattle.std.proofs.lemmas.Bool.{false≢true}
 use Rattle.std.proofs.lemmas.List.{take_rest}
 use Rattle.spec_trees.specs.Tree.{Leaf, node, bind}
-use Rattle.spec_terms.specs.Term.{Term}
+use Rattle.spec_terms.specs.Term.{Term, is_ground}
 use Rattle.spec_terms.specs.Rank.{height}
+use Rattle.spec_terms.proofs.Ground.{ground-bind}
 use Rattle.term_tree.specs.Bank.{tree_at, symbol_of}
 use Rattle.term_tree.specs.declared.bank.Id.{Id}
 use Rattle.term_tree.proofs.BankLaws.{Grows_trans, tree_at-grows}
 use Rattle.unify_match.specs.Substitution.{subst_of, CanChange, rank_of, arguments}
 use Rattle.unify_match.proofs.Substituting.{IsRebuilding, rebuilding_begins, rebuilding_on, rebuilding_kept, rebuilding_ends, end_unchanged, row_unchanged, argument_unchanged, Names-same, height-argument, subst_of-grows, rank_of-grows, CanChange-argument}
 use Rattle.unify_match.proofs.substitute.+rebuild.Goals as goal
+
+pub returns-then-is_ground-clause-names : goal.returns-then-is_ground-clause-names
+returns-then-is_ground-clause-names g t c =
+    let all = g.B.Bank.trees c.args.bank.now in
+    let ground : is_ground (tree_at all c.args.id) ≡ true = cc in record {
+      known = c.requires.known;
+      is = sym (ground-bind (subst_of all c.args.change) (tree_at all c.args.id) ground);
+    }
 
 pub each-init : goal.each-init
 each-init g t c =

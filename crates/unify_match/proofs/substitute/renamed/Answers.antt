@@ -1,7 +1,6 @@
-use Rattle.std.proofs.Common.{◌∙◌, ap, sym, subst}
-use Rattle.spec_trees.specs.Tree.{Leaf}
+use Rattle.std.proofs.Common.{sym, subst}
 use Rattle.spec_terms.specs.Term.{Term}
-use Rattle.term_tree.specs.Bank.{tree_at, symbol_of, IsNodeOf}
+use Rattle.term_tree.specs.Bank.{tree_at, symbol_of}
 use Rattle.unify_match.specs.Substitution.{subst_of, CanChange}
 use Rattle.unify_match.proofs.Substituting.{variable-fits, constant_stays}
 use Rattle.unify_match.proofs.substitute.renamed.Goals as goal
