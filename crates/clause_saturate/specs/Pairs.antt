@@ -13,6 +13,7 @@ use Rattle.clause_resolve.specs.declared.resolving.Resolved.TheVariants.{NoUnifi
 use Rattle.clause_saturate.specs.declared.log.Entry.{Entry}
 use Rattle.clause_saturate.specs.declared.walk.Pair.{Pair}
 use Rattle.clause_saturate.specs.declared.walk.Stop.{Stop}
+use Rattle.clause_saturate.specs.declared.walk.Stop.TheVariants as stop
 
 -- the later and the earlier of two entries
 abbrev pub major : Pair → ℕ
@@ -77,7 +78,8 @@ IsFoundFor all now entries pair (Clauses clauses) = IsMadeBy all now entries pai
 abbrev pub AreSameOrMore : List Entry → List Entry → Type 0
 AreSameOrMore old new = (new ≡ old) ⊎ (length old < length new)
 
--- where the walk goes on from a pair without an entry more, the bank is as before
+-- where the walk goes on from a pair without an entry more, or stops since the pair is too large, the bank is as before
 abbrev pub IsTidy : List Term → List Term → List Entry → List Entry → Option Stop → Type 0
 IsTidy before after old new None = length new ≡ length old → after ≡ before
-IsTidy before after old new (Some stop) = Unit {0}
+IsTidy before after old new (Some (stop.Large solved unsolved)) = after ≡ before
+IsTidy before after old new (Some (stop.Spent due)) = Unit {0}

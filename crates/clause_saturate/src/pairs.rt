@@ -150,7 +150,8 @@ fn pair_resolvents<B: Bank>(
     }
 }
 
-/// Resolves a due pair, and offers the resolvents; where none of them is kept, the bank is as before. On `Err` it may have grown.
+/// Resolves a due pair, and offers the resolvents. Where none of them is kept or handed back, the bank is as before. On `Err`
+/// it may have grown.
 pub(crate) fn resolve<B: Bank>(
     walk: &mut Walk,
     bank: &mut B,
