@@ -25,7 +25,6 @@ use Rattle.cert_checker.specs.Shaping.{AreShaped}
 use Rattle.clause_form.specs.Fit.{AreFit, clauses_at}
 use Rattle.cert_checker.specs.Answers.{numbered_at, IsShownSo, IsClosedSo}
 use Rattle.cert_checker.specs.declared.ruling.Ruling.{Ruling}
-use Rattle.cert_checker.specs.declared.ruling.Shown as shown
 use Rattle.cert_checker.specs.declared.ruling.Shown.TheVariants as shown_so
 use Rattle.cert_checker.specs.declared.ruling.Closed as closed
 use Rattle.cert_checker.specs.declared.ruling.Closed.TheVariants as closed_so
@@ -48,16 +47,13 @@ module _ (P : Protocol) (q : Query) (cert : Certificate) (all : List Term) (cs :
   pub pairs_rule : (row : ℕ) (ruling : Ruling) (o : closed.Closed) → o ≡ closed_so.Except ruling → IsClosedSo (clauses_at all cs) (pairs_of (numbered_at all cs) (numbered_at all cs)) cert.rows row o → HasCovered P q cert (drop row cert.rows) → IsRuled P q cert (ruling_of ruling)
   pairs_rule row ruling o e x reached = closure_fails P q cert (drop row cert.rows) (ruling_of ruling) reached (closed_as cert.rows row o (closed_so.Except ruling) e x)
 
-  shown_as : (given : List (Clause Term)) (from : ℕ) (o o' : shown.Shown) → o ≡ o' → IsShownSo (CoverRowHolds (clauses_at all cs)) (numbered_from 1 given) cert.rows from o → IsShownSo (CoverRowHolds cert.clauses) (numbered_from 1 given) cert.rows from o'
-  shown_as given from o o' e x =
-      subst (λ (l : List (Clause Term)). IsShownSo (CoverRowHolds l) (numbered_from 1 given) cert.rows from o') are
-      (subst (λ (r : shown.Shown). IsShownSo (CoverRowHolds (clauses_at all cs)) (numbered_from 1 given) cert.rows from r) e x)
+-- What cover rows show of the clauses of the translation.
+module _ (P : Protocol) (q : Query) (cert : Certificate) (given : List (Clause Term)) where
+  pub covers_reached : (next : ℕ) → IsShownSo (CoverRowHolds cert.clauses) (numbered_from 1 given) cert.rows 0 (shown_so.All next) → IsTranslatedTo P q cert given → HasCovered P q cert (drop next cert.rows)
+  covers_reached next shown reached = record { given = given; translated = reached; covered = shown }
 
-  pub covers_reached : (given : List (Clause Term)) (next : ℕ) (o : shown.Shown) → o ≡ shown_so.All next → IsShownSo (CoverRowHolds (clauses_at all cs)) (numbered_from 1 given) cert.rows 0 o → IsTranslatedTo P q cert given → HasCovered P q cert (drop next cert.rows)
-  covers_reached given next o e x reached = record { given = given; translated = reached; covered = shown_as given 0 o (shown_so.All next) e x }
-
-  pub covers_rule : (given : List (Clause Term)) (number : ℕ) (o : shown.Shown) → o ≡ shown_so.Except number → IsShownSo (CoverRowHolds (clauses_at all cs)) (numbered_from 1 given) cert.rows 0 o → IsTranslatedTo P q cert given → IsRuled P q cert (certificates.Cover number)
-  covers_rule given number o e x reached = cover_fails P q cert given number reached (shown_as given 0 o (shown_so.Except number) e x)
+  pub covers_rule : (number : ℕ) → IsShownSo (CoverRowHolds cert.clauses) (numbered_from 1 given) cert.rows 0 (shown_so.Except number) → IsTranslatedTo P q cert given → IsRuled P q cert (certificates.Cover number)
+  covers_rule number shown reached = cover_fails P q cert given number reached shown
 
 -- The translation of a protocol and the query of a number.
 module _ (P : Protocol) (number : ℕ) (all : List Term) (found : Translated) (translates : Translates P number all found) where

@@ -10,6 +10,7 @@ ghost use Rattle.spec_certificates.specs.Ruling.{IsRuled};
 ghost use Rattle.pi_tree.specs.Protocols.{protocol_of};
 ghost use Rattle.pi_tree.specs.Accessors.{IsThere};
 ghost use Rattle.pi_tree.specs.declared.accessors.Kind.TheVariants.{Query as OfQueries};
+ghost use Rattle.term_tree.specs.Bank.{Grows};
 ghost use Rattle.query_derive.specs.GoalRows.{OfQuery};
 ghost use Rattle.cert_checker.specs.Reached.{HasShapes};
 ghost use Rattle.cert_checker.specs.declared.ruling.Ruling.TheVariants.{Accepted};
@@ -20,6 +21,7 @@ ghost use Rattle.cert_checker.specs.Sufficing.{SolvedOnesSuffice};
 use crate::accepted_certificates_suffice;
 use crate::arguments::goal_arguments;
 use crate::checker::Checker;
+use crate::covering::are_covered;
 use crate::judging::judge;
 use crate::ruling::Ruling;
 use crate::shaping::{Shaped, look_at_shapes};
@@ -31,6 +33,7 @@ use std::alloc::{AllocError, Global};
 use term_tree::{Bank, TreeBank};
 
 /// What is ruled behind the shapes: the protocol and the query are translated, never the certificate's clauses taken for it.
+/// The bank is as before.
 fn check_shaped<B: Bank>(bank: &mut B, checker: &Checker<'_>) -> Result<Ruling, AllocError>
     requires fit { AreFit (B.trees bank.old) checker.now.clauses.now }
     requires clauses { clauses_at (B.trees bank.old) checker.now.clauses.now ≡
@@ -40,18 +43,27 @@ fn check_shaped<B: Bank>(bank: &mut B, checker: &Checker<'_>) -> Result<Ruling, 
     requires scoped { IsWellScoped (protocol_of checker.now.protocol.now) }
     requires queries { HasProperQueries (protocol_of checker.now.protocol.now) }
     requires there { IsThere (protocol_of checker.now.protocol.now) OfQueries checker.now.query }
-    ensures { let P = protocol_of checker.now.protocol.now in let cert = checker.now.cert.now in
+    ensures ruled { let P = protocol_of checker.now.protocol.now in
+        let cert = checker.now.cert.now in
         IfOk result (λ ruling. OfQuery P checker.now.query (λ q.
         HasShapes q cert → IsRuled P q cert (ruling_of ruling))) }
+    ensures bank { B.trees bank.new ≡ B.trees bank.old }
 {
+    let mark = bank.mark();
     match translate(checker.alloc, bank, checker.protocol, checker.query)? {
         Translated::Large(point) => Ok(Ruling::Translation(point)),
-        Translated::Clauses(given) => judge(bank, checker, &given.items),
+        Translated::Clauses(given) => {
+            let translated = given.items.as_slice();
+            let covered = are_covered(bank, checker, translated, 0);
+            bank.back(mark);
+            let shown = covered?;
+            judge(bank, checker, shown)
+        }
     }
 }
 
-/// What is ruled of a certificate, whose clauses are copied into the bank.
-fn check_in_bank<B: Bank>(
+/// What is ruled of a certificate, whose clauses are copied into the bank and stay there.
+fn check_copied<B: Bank>(
     alloc: Global,
     bank: &mut B,
     protocol: &Protocol,
@@ -63,8 +75,9 @@ fn check_in_bank<B: Bank>(
     requires scoped { IsWellScoped (protocol_of protocol.now) }
     requires queries { HasProperQueries (protocol_of protocol.now) }
     requires there { IsThere (protocol_of protocol.now) OfQueries query }
-    ensures { IfOk result (λ ruling. OfQuery (protocol_of protocol.now) query (λ q.
+    ensures ruled { IfOk result (λ ruling. OfQuery (protocol_of protocol.now) query (λ q.
         IsRuled (protocol_of protocol.now) q cert.now (ruling_of ruling))) }
+    ensures grows { Grows (B.trees bank.old) (B.trees bank.new) }
 {
     let arguments = goal_arguments(alloc, bank, protocol, query)?;
     match look_at_shapes(alloc, bank, &cert.clauses, arguments)? {
@@ -85,12 +98,43 @@ fn check_in_bank<B: Bank>(
 /// What is ruled of a certificate of the protocol's query of that number: that it is accepted, or the first obligation that
 /// isn't met. Where it is accepted, what is derived from the translation is derived by the certificate's solved clauses alone,
 /// with the same events, and no run of the protocol beside the attacker violates the query. Nothing is searched for:
-/// each row is looked at once. The memory taken is bounded by the sizes of the certificate and the translation, since what a
-/// pair of clauses gives is dropped before the next.
+/// each row is looked at once. The memory taken is bounded by the sizes of the certificate and the translation, since the
+/// bank is taken back to the certificate's clauses once those of the translation were looked at, and behind each pair.
+/// Whatever is answered, the bank is as before.
 ///
 /// The conditions hold of each protocol that is read. Nothing is asked of the certificate: a symbol of it that the protocol
 /// doesn't declare is like any other. `Err` comes for want of memory, and where `translate` answers it since a number doesn't
 /// fit.
+pub fn check_cert_in<B: Bank>(
+    alloc: Global,
+    bank: &mut B,
+    protocol: &Protocol,
+    query: u32,
+    cert: &Cert,
+) -> Result<Ruling, AllocError>
+    requires limits { IsWithinLimits (protocol_of protocol.now) }
+    requires rules { HasProperRules (protocol_of protocol.now) }
+    requires scoped { IsWellScoped (protocol_of protocol.now) }
+    requires queries { HasProperQueries (protocol_of protocol.now) }
+    requires there { IsThere (protocol_of protocol.now) OfQueries query }
+    ensures ruled { IfOk result (λ ruling. OfQuery (protocol_of protocol.now) query (λ q.
+        IsRuled (protocol_of protocol.now) q cert.now (ruling_of ruling))) }
+    ensures suffices { IfOk result (λ ruling. ruling ≡ Accepted →
+        OfQuery (protocol_of protocol.now) query (λ q.
+        SolvedOnesSuffice (protocol_of protocol.now) q cert.now.clauses)) }
+    ensures holds { IfOk result (λ ruling. ruling ≡ Accepted →
+        OfQuery (protocol_of protocol.now) query (λ q. Holds (protocol_of protocol.now) q)) }
+    ensures bank { B.trees bank.new ≡ B.trees bank.old }
+{
+    accepted_certificates_suffice();
+    accepted_queries_hold();
+    let mark = bank.mark();
+    let ruling = check_copied(alloc, bank, protocol, query, cert);
+    bank.back(mark);
+    ruling
+}
+
+/// What is ruled of a certificate: the same as `check_cert_in`, over a bank of its own.
 pub fn check_cert(
     alloc: Global,
     protocol: &Protocol,
@@ -110,8 +154,6 @@ pub fn check_cert(
     ensures holds { IfOk result (λ ruling. ruling ≡ Accepted →
         OfQuery (protocol_of protocol.now) query (λ q. Holds (protocol_of protocol.now) q)) }
 {
-    accepted_certificates_suffice();
-    accepted_queries_hold();
     let mut bank = TreeBank::new(alloc)?;
-    check_in_bank(alloc, &mut bank, protocol, query, cert)
+    check_cert_in(alloc, &mut bank, protocol, query, cert)
 }

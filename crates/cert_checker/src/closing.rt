@@ -49,8 +49,8 @@ fn closed_where(pair: Pair, shown: Shown) -> Closed
     }
 }
 
-/// Whether the resolvents of a pair, on the hypothesis at that place, are covered by the rows from a place on. On Ok the bank
-/// is as before.
+/// Whether the resolvents of a pair, on the hypothesis at that place, are covered by the rows from a place on. The bank is
+/// as before.
 fn close_pair<B: Bank>(
     bank: &mut B,
     checker: &Checker<'_>,
@@ -67,7 +67,7 @@ fn close_pair<B: Bank>(
         IsClosedSo (clauses_at all checker.now.clauses.now)
         (pair_at (numbered_at all checker.now.clauses.now) pair.solved pair.unsolved)
         checker.now.cert.now.rows from closed) }
-    ensures bank { IfOk result (λ _. B.trees bank.new ≡ B.trees bank.old) }
+    ensures bank { B.trees bank.new ≡ B.trees bank.old }
 {
     let mark = bank.mark();
     let solved = &checker.clauses[pair.solved];
@@ -76,14 +76,15 @@ fn close_pair<B: Bank>(
         Resolved::NoUnifier => Ok(Closed::All(from)),
         Resolved::Large => Ok(uncovered(pair, 0)),
         Resolved::Clauses(made) => {
-            let shown = are_covered(bank, checker, &made.items, from)?;
+            let covered = are_covered(bank, checker, &made.items, from);
             bank.back(mark);
+            let shown = covered?;
             Ok(closed_where(pair, shown))
         }
     }
 }
 
-/// Whether the resolvents of a solved clause with each unsolved one are covered.
+/// Whether the resolvents of a solved clause with each unsolved one are covered. The bank is as before.
 fn close_solved<B: Bank>(
     bank: &mut B,
     checker: &Checker<'_>,
@@ -99,7 +100,7 @@ fn close_solved<B: Bank>(
         IsClosedSo (clauses_at all checker.now.clauses.now)
         (pairs_at (numbered_at all checker.now.clauses.now) solved)
         checker.now.cert.now.rows from closed) }
-    ensures bank { IfOk result (λ _. B.trees bank.new ≡ B.trees bank.old) }
+    ensures bank { B.trees bank.new ≡ B.trees bank.old }
 {
     let mut next = from;
     'each: for one in unsolved {
@@ -131,7 +132,7 @@ fn close_one<B: Bank>(
         IsClosedSo (clauses_at all checker.now.clauses.now)
         (pairs_at_solved (numbered_at all checker.now.clauses.now) solved)
         checker.now.cert.now.rows from closed) }
-    ensures bank { IfOk result (λ _. B.trees bank.new ≡ B.trees bank.old) }
+    ensures bank { B.trees bank.new ≡ B.trees bank.old }
 {
     if !is_solved(bank, &checker.clauses[solved]) {
         return Ok(Closed::All(from));
@@ -139,7 +140,7 @@ fn close_one<B: Bank>(
     close_solved(bank, checker, solved, unsolved, from)
 }
 
-/// Whether the resolvents of each solved clause with each unsolved one are covered.
+/// Whether the resolvents of each solved clause with each unsolved one are covered. The bank is as before.
 fn close_all<B: Bank>(
     bank: &mut B,
     checker: &Checker<'_>,
@@ -153,7 +154,7 @@ fn close_all<B: Bank>(
         IsClosedSo (clauses_at all checker.now.clauses.now)
         (let each = numbered_at all checker.now.clauses.now in pairs_of each each)
         checker.now.cert.now.rows from closed) }
-    ensures bank { IfOk result (λ _. B.trees bank.new ≡ B.trees bank.old) }
+    ensures bank { B.trees bank.new ≡ B.trees bank.old }
 {
     let mut next = from;
     'each: for solved in 0..checker.clauses.len() {
@@ -166,7 +167,7 @@ fn close_all<B: Bank>(
 }
 
 /// Whether the resolvents of all pairs are covered, by the rows from a place on in order. The unsolved clauses are sought out
-/// once, since nearly all clauses may be solved. On Ok the bank is as before.
+/// once, since nearly all clauses may be solved. The bank is as before.
 pub(crate) fn are_closed<B: Bank>(
     bank: &mut B,
     checker: &Checker<'_>,
@@ -177,7 +178,7 @@ pub(crate) fn are_closed<B: Bank>(
         IsClosedSo (clauses_at all checker.now.clauses.now)
         (let each = numbered_at all checker.now.clauses.now in pairs_of each each)
         checker.now.cert.now.rows from closed) }
-    ensures bank { IfOk result (λ _. B.trees bank.new ≡ B.trees bank.old) }
+    ensures bank { B.trees bank.new ≡ B.trees bank.old }
 {
     let unsolved = unsolved_ones(bank, checker)?;
     close_all(bank, checker, &unsolved, from)

@@ -4,22 +4,22 @@ ghost use Rattle.std.specs.Prelude.{◌≡◌, List, drop, IfOk};
 ghost use Rattle.spec_terms.specs.Term.{Term};
 ghost use Rattle.spec_clauses.specs.Fact.{Clause};
 ghost use Rattle.spec_well_formed.specs.Limits.{IsWithinLimits};
+ghost use Rattle.spec_certificates.specs.Certificate.{CoverRowHolds, numbered_from};
 ghost use Rattle.spec_certificates.specs.Ruling.{IsRuled};
 ghost use Rattle.pi_tree.specs.Protocols.{protocol_of};
 ghost use Rattle.pi_tree.specs.Accessors.{IsThere};
 ghost use Rattle.pi_tree.specs.declared.accessors.Kind.TheVariants.{Query as OfQueries};
 ghost use Rattle.query_derive.specs.GoalRows.{OfQuery};
+ghost use Rattle.cert_checker.specs.Answers.{IsShownSo};
 ghost use Rattle.cert_checker.specs.Reached.{IsTranslatedTo, HasCovered, HasClosed};
 ghost use Rattle.cert_checker.specs.Rulings.{ruling_of};
 ghost use Rattle.clause_form.specs.Fit.{AreFit, clauses_at};
 
 use crate::checker::Checker;
 use crate::closing::are_closed;
-use crate::covering::are_covered;
 use crate::left_over::left_over;
 use crate::ruling::{Closed, Ruling, Shown};
 use crate::satisfying::are_satisfied;
-use clause_form::Clause;
 use std::alloc::AllocError;
 use term_tree::Bank;
 
@@ -40,7 +40,7 @@ fn judge_goals<B: Bank>(bank: &B, checker: &Checker<'_>, row: usize) -> Result<R
     }
 }
 
-/// What is ruled behind the translation, where the cover rows before the place were used.
+/// What is ruled behind the translation, where the cover rows before the place were used. The bank is as before.
 fn judge_pairs<B: Bank>(
     bank: &mut B,
     checker: &Checker<'_>,
@@ -51,9 +51,11 @@ fn judge_pairs<B: Bank>(
         checker.now.cert.now.clauses }
     requires limits { IsWithinLimits (protocol_of checker.now.protocol.now) }
     requires there { IsThere (protocol_of checker.now.protocol.now) OfQueries checker.now.query }
-    ensures { let P = protocol_of checker.now.protocol.now in let cert = checker.now.cert.now in
+    ensures ruled { let P = protocol_of checker.now.protocol.now in
+        let cert = checker.now.cert.now in
         IfOk result (λ ruling. OfQuery P checker.now.query (λ q.
         HasCovered P q cert (drop row cert.rows) → IsRuled P q cert (ruling_of ruling))) }
+    ensures bank { B.trees bank.new ≡ B.trees bank.old }
 {
     match are_closed(bank, checker, row)? {
         Closed::All(next) => judge_goals(bank, checker, next),
@@ -61,24 +63,26 @@ fn judge_pairs<B: Bank>(
     }
 }
 
-/// What is ruled behind the shapes, where the protocol and the query are translated into these clauses.
+/// What is ruled behind the translation by what cover rows show of its clauses. The bank is as before.
 pub(crate) fn judge<B: Bank>(
     bank: &mut B,
     checker: &Checker<'_>,
-    given: &[Clause],
+    shown: Shown,
 ) -> Result<Ruling, AllocError>
     requires fit { AreFit (B.trees bank.old) checker.now.clauses.now }
     requires clauses { clauses_at (B.trees bank.old) checker.now.clauses.now ≡
         checker.now.cert.now.clauses }
     requires limits { IsWithinLimits (protocol_of checker.now.protocol.now) }
     requires there { IsThere (protocol_of checker.now.protocol.now) OfQueries checker.now.query }
-    requires given { AreFit (B.trees bank.old) given.now }
-    ensures { let P = protocol_of checker.now.protocol.now in let cert = checker.now.cert.now in
+    ensures ruled { let P = protocol_of checker.now.protocol.now in
+        let cert = checker.now.cert.now in
+        (given : List (Clause Term)) →
+        IsShownSo (CoverRowHolds cert.clauses) (numbered_from 1 given) cert.rows 0 shown →
         IfOk result (λ ruling. OfQuery P checker.now.query (λ q.
-        IsTranslatedTo P q cert (clauses_at (B.trees bank.old) given.now) →
-        IsRuled P q cert (ruling_of ruling))) }
+        IsTranslatedTo P q cert given → IsRuled P q cert (ruling_of ruling))) }
+    ensures bank { B.trees bank.new ≡ B.trees bank.old }
 {
-    match are_covered(bank, checker, given, 0)? {
+    match shown {
         Shown::All(next) => judge_pairs(bank, checker, next),
         Shown::Except(number) => Ok(Ruling::Cover(number)),
     }

@@ -1,42 +1,73 @@
-use Rattle.std.proofs.Common.{◌≡◌, ◌∙◌, List, sym, subst, rules}
-use Rattle.term_tree.specs.declared.bank.Id.{Id}
+use Rattle.std.proofs.Common.{◌≡◌, ◌∙◌, List, sym, ap, subst, rules, arith}
+use Rattle.spec_terms.specs.Term.{Term}
 use Rattle.spec_clauses.specs.Fact.{Clause}
+use Rattle.spec_certificates.specs.Certificate.{CoverRowHolds, numbered_from}
 use Rattle.spec_certificates.specs.Ruling.{IsRuled}
+use Rattle.term_tree.specs.declared.bank.Id.{Id}
 use Rattle.pi_tree.specs.Protocols.{protocol_of}
 use Rattle.query_derive.specs.GoalRows.{OfQuery}
-use Rattle.query_derive.proofs.Searching.{if_ok_map}
+use Rattle.clause_translate.specs.Whole.{IsKept}
+use Rattle.clause_translate.specs.declared.whole.Translated.{Translated}
+use Rattle.cert_checker.specs.Answers.{IsShownSo}
 use Rattle.cert_checker.specs.Reached.{HasShapes, IsTranslatedTo}
 use Rattle.cert_checker.specs.Rulings.{ruling_of}
 use Rattle.clause_form.specs.Fit.{AreFit, clauses_at}
 use Rattle.clause_form.proofs.Fit.{AreFit-grow, clauses_grow}
+use Rattle.term_tree.proofs.BankLaws.{Grows-length}
+use Rattle.clause_resolve.proofs.Answering.{as_before}
+use Rattle.query_derive.proofs.Searching.{if_ok_map}
 use Rattle.cert_checker.proofs.Reaching.{given_fit, given_reached, large_rules}
 use Rattle.cert_checker.proofs.checking.check_shaped.Goals as goal
 
-pub judge-requires-clause-fit : goal.judge-requires-clause-fit
-judge-requires-clause-fit g c = AreFit-grow (g.B.Bank.trees c.args.bank.now) (g.B.Bank.trees c.translate.new.bank) c.args.checker.now.clauses.now c.translate.ensures.grows c.requires.fit
+pub are_covered-covered-requires-clause-fit : goal.are_covered-covered-requires-clause-fit
+are_covered-covered-requires-clause-fit g c = AreFit-grow (g.B.Bank.trees c.args.bank.now) (g.B.Bank.trees c.translate.new.bank) c.args.checker.now.clauses.now c.translate.ensures.grows c.requires.fit
 
-pub judge-requires-clause-clauses : goal.judge-requires-clause-clauses
-judge-requires-clause-clauses g c = clauses_grow (g.B.Bank.trees c.args.bank.now) (g.B.Bank.trees c.translate.new.bank) c.args.checker.now.clauses.now c.translate.ensures.grows c.requires.fit ∙ c.requires.clauses
-
-pub judge-requires-clause-given : goal.judge-requires-clause-given
-judge-requires-clause-given g c =
+pub are_covered-covered-requires-clause-clauses : goal.are_covered-covered-requires-clause-clauses
+are_covered-covered-requires-clause-clauses g c =
     let all = g.B.Bank.trees c.translate.new.bank in
-    let same : c.deref.result.now ≡ c.in-Clauses.given = search rules in
+    let same : c.as_slice-translated.result.now ≡ c.in-Clauses.given = search rules in
     subst (λ (cs : List (Clause Id)). AreFit all cs) (sym same) (given_fit (protocol_of c.args.checker.now.protocol.now) c.args.checker.now.query all _ c.in_ok-point.ensures.translates c.in-Clauses.given c.in-Clauses.is c.requires.limits)
 
-pub returns-in-Large : goal.returns-in-Large
-returns-in-Large g c = λ q asked shaped.
+pub back-requires : goal.back-requires
+back-requires g c = omega (arith, c.mark-mark.ensures, Grows-length (g.B.Bank.trees c.args.bank.now) (g.B.Bank.trees c.translate.new.bank) c.translate.ensures.grows)
+
+pub judge-requires-clause-fit : goal.judge-requires-clause-fit
+judge-requires-clause-fit g c =
+    let back = as_before (g.B.Bank.trees c.args.bank.now) (g.B.Bank.trees c.translate.new.bank) (g.B.Bank.trees c.back.new.self) _ c.translate.ensures.grows c.mark-mark.ensures c.back.ensures in
+    subst (λ (all : List Term). AreFit all c.args.checker.now.clauses.now) (sym back) c.requires.fit
+
+pub judge-requires-clause-clauses : goal.judge-requires-clause-clauses
+judge-requires-clause-clauses g c =
+    let back = as_before (g.B.Bank.trees c.args.bank.now) (g.B.Bank.trees c.translate.new.bank) (g.B.Bank.trees c.back.new.self) _ c.translate.ensures.grows c.mark-mark.ensures c.back.ensures in
+    ap (λ all. clauses_at all c.args.checker.now.clauses.now) back ∙ c.requires.clauses
+
+pub returns-in-Large-clause-ruled : goal.returns-in-Large-clause-ruled
+returns-in-Large-clause-ruled g c = λ q asked shaped.
     large_rules (protocol_of c.args.checker.now.protocol.now) c.args.checker.now.query (g.B.Bank.trees c.translate.new.bank) _ c.in_ok-point.ensures.translates c.in-Large.point c.in-Large.is q asked c.args.checker.now.cert.now shaped
 
-pub returns-in-Clauses : goal.returns-in-Clauses
-returns-in-Clauses g c =
+pub returns-in-Large-clause-bank : goal.returns-in-Large-clause-bank
+returns-in-Large-clause-bank g c = subst (λ (found : Translated). IsKept (g.B.Bank.trees c.args.bank.now) (g.B.Bank.trees c.translate.new.bank) found) c.in-Large.is c.in_ok-point.ensures.large
+
+pub returns-in_ok-shown-in-Clauses-clause-ruled : goal.returns-in_ok-shown-in-Clauses-clause-ruled
+returns-in_ok-shown-in-Clauses-clause-ruled g c =
     let P = protocol_of c.args.checker.now.protocol.now in
     let cert = c.args.checker.now.cert.now in
     let number = c.args.checker.now.query in
+    let old = g.B.Bank.trees c.args.bank.now in
     let all = g.B.Bank.trees c.translate.new.bank in
-    let same : c.deref.result.now ≡ c.in-Clauses.given = search rules in
-    if_ok_map c.judge.result (λ ruling. OfQuery P number (λ q. IsTranslatedTo P q cert (clauses_at all c.deref.result.now) → IsRuled P q cert (ruling_of ruling)))
+    let cs = c.args.checker.now.clauses.now in
+    let given = clauses_at all c.in-Clauses.given in
+    let listed : c.as_slice-translated.result.now ≡ c.in-Clauses.given = search rules in
+    let seen = clauses_grow old all cs c.translate.ensures.grows c.requires.fit ∙ c.requires.clauses in
+    let of_given = subst (λ (made : List (Clause Id)). IsShownSo (CoverRowHolds (clauses_at all cs)) (numbered_from 1 (clauses_at all made)) cert.rows 0 c.in_ok-shown-in-Clauses.shown) listed c.in_ok-shown-in-Clauses.ensures in
+    let shown = subst (λ (clauses : List (Clause Term)). IsShownSo (CoverRowHolds clauses) (numbered_from 1 given) cert.rows 0 c.in_ok-shown-in-Clauses.shown) seen of_given in
+    if_ok_map c.judge.result (λ ruling. OfQuery P number (λ q. IsTranslatedTo P q cert given → IsRuled P q cert (ruling_of ruling)))
     (λ ruling. OfQuery P number (λ q. HasShapes q cert → IsRuled P q cert (ruling_of ruling)))
-    (λ ruling ruled q asked shaped. ruled q asked (subst (λ (cs : List (Clause Id)). IsTranslatedTo P q cert (clauses_at all cs)) (sym same)
-    (given_reached P number all _ c.in_ok-point.ensures.translates c.in-Clauses.given c.in-Clauses.is q asked cert shaped)))
-    c.judge.ensures
+    (λ ruling ruled q asked shaped. ruled q asked (given_reached P number all _ c.in_ok-point.ensures.translates c.in-Clauses.given c.in-Clauses.is q asked cert shaped))
+    (c.judge.ensures.ruled given shown)
+
+pub returns-in_ok-shown-in-Clauses-clause-bank : goal.returns-in_ok-shown-in-Clauses-clause-bank
+returns-in_ok-shown-in-Clauses-clause-bank g c = c.judge.ensures.bank ∙ as_before (g.B.Bank.trees c.args.bank.now) (g.B.Bank.trees c.translate.new.bank) (g.B.Bank.trees c.back.new.self) _ c.translate.ensures.grows c.mark-mark.ensures c.back.ensures
+
+pub returns-in_err-shown-in-Clauses-clause-bank : goal.returns-in_err-shown-in-Clauses-clause-bank
+returns-in_err-shown-in-Clauses-clause-bank g c = as_before (g.B.Bank.trees c.args.bank.now) (g.B.Bank.trees c.translate.new.bank) (g.B.Bank.trees c.back.new.self) _ c.translate.ensures.grows c.mark-mark.ensures c.back.ensures

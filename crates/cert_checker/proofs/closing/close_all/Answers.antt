@@ -11,7 +11,7 @@ close_one-requires-clause-unsolved g c = c.requires.unsolved ∙ ap (λ (all : L
 pub each-preserved : goal.each-preserved
 each-preserved g c =
     all_go_on (g.B.Bank.trees c.args.bank.now) c.args.checker.now.clauses.now c.args.checker.now.cert.now.rows c.args.from c.each.solved c.each.next c.in-All.left (g.B.Bank.trees c.each.bank) (g.B.Bank.trees c.close_one.new.bank) c.in_ok-left.field-0
-    c.each.invariant (omega arith) c.in_ok-left.ensures.bank c.in-All.is c.in_ok-left.ensures.closed
+    c.each.invariant (omega arith) c.close_one.ensures.bank c.in-All.is c.in_ok-left.ensures.closed
 
 pub returns-in-Except-clause-closed : goal.returns-in-Except-clause-closed
 returns-in-Except-clause-closed g c =

@@ -34,11 +34,11 @@ resolvents-requires-clause-unsolved_low g c =
 pub resolvents-requires-clause-selected : goal.resolvents-requires-clause-selected
 resolvents-requires-clause-selected g c = selected_at (g.B.Bank.trees c.args.bank.now) c.args.checker.now.clauses.now c.args.pair.unsolved c.args.at c.index-checker-pair-2.result c.requires.unsolved c.requires.selected
 
-pub are_covered-requires-clause-fit : goal.are_covered-requires-clause-fit
-are_covered-requires-clause-fit g c = AreFit-grow (g.B.Bank.trees c.args.bank.now) (g.B.Bank.trees c.resolvents.new.bank) c.args.checker.now.clauses.now c.resolvents.ensures.grows c.requires.fit
+pub are_covered-covered-requires-clause-fit : goal.are_covered-covered-requires-clause-fit
+are_covered-covered-requires-clause-fit g c = AreFit-grow (g.B.Bank.trees c.args.bank.now) (g.B.Bank.trees c.resolvents.new.bank) c.args.checker.now.clauses.now c.resolvents.ensures.grows c.requires.fit
 
-pub are_covered-requires-clause-clauses : goal.are_covered-requires-clause-clauses
-are_covered-requires-clause-clauses g c =
+pub are_covered-covered-requires-clause-clauses : goal.are_covered-covered-requires-clause-clauses
+are_covered-covered-requires-clause-clauses g c =
     let new = g.B.Bank.trees c.resolvents.new.bank in
     let same : c.deref.result.now ≡ c.in-Clauses.made = search rules in
     subst (λ (cs : List (Clause Id)). AreFit new cs) (sym same) (made_fit new _ _ c.in_ok-resolvents.field-0 c.in-Clauses.made c.in-Clauses.is c.in_ok-resolvents.ensures.answer)
@@ -83,3 +83,6 @@ returns-in-NoUnifier-clause-bank g c = subst (λ (found : Resolved). LeavesBank 
 
 pub returns-in-Large-clause-bank : goal.returns-in-Large-clause-bank
 returns-in-Large-clause-bank g c = subst (λ (found : Resolved). LeavesBank (g.B.Bank.trees c.args.bank.now) (g.B.Bank.trees c.resolvents.new.bank) found) c.in-Large.is c.in_ok-resolvents.ensures.as_before
+
+pub returns-in_err-shown-in-Clauses-clause-bank : goal.returns-in_err-shown-in-Clauses-clause-bank
+returns-in_err-shown-in-Clauses-clause-bank g c = as_before (g.B.Bank.trees c.args.bank.now) (g.B.Bank.trees c.resolvents.new.bank) (g.B.Bank.trees c.back.new.self) _ c.resolvents.ensures.grows c.mark-mark.ensures c.back.ensures

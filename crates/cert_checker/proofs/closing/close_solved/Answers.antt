@@ -22,7 +22,7 @@ close_pair-requires-clause-selected g c =
 pub each-preserved : goal.each-preserved
 each-preserved g c =
     with_goes_on (g.B.Bank.trees c.args.bank.now) c.args.checker.now.clauses.now c.args.checker.now.cert.now.rows c.args.from c.args.solved c.args.unsolved.now c.each.one-index c.each.next (g.B.Bank.trees c.each.bank) c.each.invariant
-    (unsolved_one 0 0) c.each-test.true c.in_ok-left.field-0 c.in_ok-left.ensures.closed c.in-All.left (g.B.Bank.trees c.close_pair.new.bank) c.in_ok-left.ensures.bank c.in-All.is
+    (unsolved_one 0 0) c.each-test.true c.in_ok-left.field-0 c.in_ok-left.ensures.closed c.in-All.left (g.B.Bank.trees c.close_pair.new.bank) c.close_pair.ensures.bank c.in-All.is
 
 pub returns-in-Except-clause-closed : goal.returns-in-Except-clause-closed
 returns-in-Except-clause-closed g c =

@@ -11,13 +11,13 @@ use Rattle.cert_checker.proofs.Reaching.{pairs_reached, pairs_rule}
 use Rattle.cert_checker.proofs.judging.judge_pairs.Goals as goal
 
 pub judge_goals-requires-clause-fit : goal.judge_goals-requires-clause-fit
-judge_goals-requires-clause-fit g c = subst (λ (all : List Term). AreFit all c.args.checker.now.clauses.now) (sym c.in_ok-next.ensures.bank) c.requires.fit
+judge_goals-requires-clause-fit g c = subst (λ (all : List Term). AreFit all c.args.checker.now.clauses.now) (sym c.are_closed.ensures.bank) c.requires.fit
 
 pub judge_goals-requires-clause-clauses : goal.judge_goals-requires-clause-clauses
-judge_goals-requires-clause-clauses g c = ap (λ all. clauses_at all c.args.checker.now.clauses.now) c.in_ok-next.ensures.bank ∙ c.requires.clauses
+judge_goals-requires-clause-clauses g c = ap (λ all. clauses_at all c.args.checker.now.clauses.now) c.are_closed.ensures.bank ∙ c.requires.clauses
 
-pub returns-in-All : goal.returns-in-All
-returns-in-All g c =
+pub returns-in-All-clause-ruled : goal.returns-in-All-clause-ruled
+returns-in-All-clause-ruled g c =
     let P = protocol_of c.args.checker.now.protocol.now in
     let cert = c.args.checker.now.cert.now in
     let all = g.B.Bank.trees c.args.bank.now in
@@ -26,9 +26,12 @@ returns-in-All g c =
     (λ ruling ruled q asked reached. ruled q asked (pairs_reached P q cert all c.args.checker.now.clauses.now c.requires.clauses c.args.row c.in-All.next _ c.in-All.is c.in_ok-next.ensures.closed reached))
     c.judge_goals.ensures
 
-pub returns-in-Except : goal.returns-in-Except
-returns-in-Except g c = λ q asked reached.
+pub returns-in-Except-clause-ruled : goal.returns-in-Except-clause-ruled
+returns-in-Except-clause-ruled g c = λ q asked reached.
     let P = protocol_of c.args.checker.now.protocol.now in
     let cert = c.args.checker.now.cert.now in
     let all = g.B.Bank.trees c.args.bank.now in
     pairs_rule P q cert all c.args.checker.now.clauses.now c.requires.clauses c.args.row c.in-Except.ruling _ c.in-Except.is c.in_ok-next.ensures.closed reached
+
+pub returns-in-All-clause-bank : goal.returns-in-All-clause-bank
+returns-in-All-clause-bank g c = c.are_closed.ensures.bank
