@@ -1,2 +1,3 @@
 pub mod BankLaws
-pub mod Built
+pub mod Roots
+mod Entries

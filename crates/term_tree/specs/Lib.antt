@@ -1,2 +1,3 @@
 pub mod Bank
+pub mod Roots
 pub mod TreeBank

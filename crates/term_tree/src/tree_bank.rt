@@ -36,19 +36,21 @@ impl Model for TreeBank {
 
     ghost coded = { coded_terms };
 
-    ghost use Rattle.term_tree.specs.TreeBank.{built, IsWell};
+    ghost use Rattle.term_tree.specs.Roots.{built};
+    ghost use Rattle.term_tree.specs.TreeBank.{roots, IsWell};
 
-    ghost view = { λ b. built [] b.entries.items };
+    ghost view = { λ b. built [] (roots b.entries.items) };
 
-    ghost invariant = { λ b. IsWell [] b.entries.items };
+    ghost invariant = { λ b. IsWell b.entries.items };
 }
 
 impl TreeBank {
     ghost use Rattle.std.specs.Prelude.{◌≡◌, ◌+◌, [], ◌∷◌, ◌++◌, length, map, IfOk, OnErr};
-    ghost use Rattle.spec_trees.specs.Tree.{size as size_of, node, trees, sizes};
+    ghost use Rattle.spec_trees.specs.Tree.{node, trees, sizes};
     ghost use Rattle.spec_terms.specs.Term.{is_ground as is_ground_term};
     ghost use Rattle.term_tree.specs.Bank.{symbol_of, tree_at, AreKnown, capped};
-    ghost use Rattle.term_tree.specs.TreeBank.{tree_of, HasArgs};
+    ghost use Rattle.term_tree.specs.Roots.{tree_of, HasArgs, told};
+    ghost use Rattle.term_tree.specs.TreeBank.{root_of};
 
     /// An empty bank.
     pub fn new(alloc: Global) -> Result<Self, AllocError>
@@ -62,11 +64,10 @@ impl TreeBank {
 
     /// One more entry, at the end.
     fn add(&mut self, entry: Entry) -> Result<Id, AllocError>
-        requires args { HasArgs self.old entry.shape }
-        requires sized { entry.size ≡ capped (size_of (tree_of self.old entry.shape)) }
-        requires ground { entry.ground ≡ is_ground_term (tree_of self.old entry.shape) }
+        requires args { HasArgs self.old (root_of entry.shape) }
+        requires tells { (entry.size, entry.ground) ≡ told (tree_of self.old (root_of entry.shape)) }
         ensures ok { IfOk result (λ id. (id.index ≡ length self.old) ×
-            (self.new ≡ self.old ++ tree_of self.old entry.shape ∷ [])) }
+            (self.new ≡ self.old ++ tree_of self.old (root_of entry.shape) ∷ [])) }
         ensures err { OnErr result (self.new ≡ self.old) }
     {
         let id = Id {

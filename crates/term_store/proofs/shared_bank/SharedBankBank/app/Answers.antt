@@ -1,0 +1,13 @@
+use Rattle.std.proofs.Common.{List, map, OnOk, ap, sym, ◌∙◌, subst}
+use Rattle.spec_trees.specs.Tree.{node}
+use Rattle.term_tree.specs.Bank.{symbol_of, tree_at}
+use Rattle.term_tree.specs.Roots.{told}
+use Rattle.term_tree.specs.declared.bank.Id.{Id}
+use Rattle.term_store.specs.SharedBank.{AddsNew}
+use Rattle.term_store.proofs.shared_bank.SharedBankBank.app.Goals as goal
+
+pub add-requires-clause-tells : goal.add-requires-clause-tells
+add-requires-clause-tells c = c.measure_over-measure.ensures (symbol_of c.args.symbol) ∙ ap (λ (ids : List Id). told (node (symbol_of c.args.symbol) (map (tree_at c.args.self.now) ids))) (sym c.in_ok-args.ensures.ok)
+
+pub returns-clause-added : goal.returns-clause-added
+returns-clause-added c = subst (λ (ids : List Id). OnOk c.add.result (AddsNew c.args.self.now c.add.new.self (node (symbol_of c.args.symbol) (map (tree_at c.args.self.now) ids)))) c.in_ok-args.ensures.ok c.add.ensures.added

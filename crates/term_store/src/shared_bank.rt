@@ -1,0 +1,198 @@
+//! The shared bank: a set of shapes in the order of their coming, each over shapes before it.
+
+ghost use Rattle.std.specs.Prelude.{◌≡◌, ◌≤◌, ◌<◌, ◌+◌, List, [], ◌∷◌, ◌++◌, length, take, map, IsOk, IfOk, OnOk, OnErr};
+
+use indexmap::IndexSet;
+use smallvec::SmallVec;
+use std::alloc::{AllocError, Global};
+use std::marker::Model;
+use term_tree::{Bank, Id, Mark, Node, SIZE_LIMIT, Sym};
+
+/// What stands at a place of the bank: a variable, or a symbol over earlier places. Four arguments stand
+/// in the shape itself, and more of them in memory of their own.
+#[derive(PartialEq, Eq, Hash, Drop)]
+pub enum Shape {
+    Var(u32),
+    App(Sym, SmallVec<Id, 4>),
+}
+
+/// What is told of the tree of a place: its size, and whether it has no variable.
+#[derive(Clone, Copy)]
+pub struct Measure {
+    pub size: u64,
+    pub is_ground: bool,
+}
+
+/// The shared bank, where a call of `var` or `app` makes a tree only where it isn't there.
+#[derive(Drop)]
+pub struct SharedBank {
+    shapes: IndexSet<Shape>,
+    measures: Vec<Measure>,
+    alloc: Global,
+}
+
+impl Model for SharedBank {
+    ghost use Rattle.std.specs.Prelude.{List, []};
+    ghost use Rattle.spec_terms.specs.Term.{Term, coded_terms};
+
+    ghost Value = { List Term };
+
+    ghost coded = { coded_terms };
+
+    ghost use Rattle.term_store.specs.SharedBank.{trees_of, IsWell};
+
+    ghost view = { λ b. trees_of b.shapes.keys };
+
+    ghost invariant = { λ b. IsWell b.shapes.keys b.measures.items };
+}
+
+impl SharedBank {
+    ghost use Rattle.std.specs.Prelude.{◌≡◌, ◌<◌, [], length, map, IsOk, IfOk, OnOk, OnErr};
+    ghost use Rattle.spec_trees.specs.Tree.{node};
+    ghost use Rattle.spec_terms.specs.Term.{Sym as Symbol};
+    ghost use Rattle.term_tree.specs.Bank.{tree_at, AreKnown, Names, Grows};
+    ghost use Rattle.term_tree.specs.Roots.{tree_of, HasArgs, told};
+    ghost use Rattle.term_store.specs.SharedBank.{root_of, AreShared, Finds, AddsNew, IsKnown};
+
+    /// An empty bank.
+    pub fn new(alloc: Global) -> Result<Self, AllocError>
+        ensures { IfOk result (λ bank. bank ≡ []) }
+    {
+        Ok(SharedBank {
+            shapes: IndexSet::new(alloc),
+            measures: Vec::new(alloc),
+            alloc,
+        })
+    }
+
+    /// Equal trees have equal ids.
+    pub fn equal_trees_have_equal_ids(&self)
+        ensures { AreShared self.now }
+    {
+        let _ = &self.shapes;
+    }
+
+    /// The id of the shape's tree, which is added at the end where it isn't there.
+    fn add(&mut self, shape: Shape, measure: Measure) -> Result<Id, AllocError>
+        requires args { HasArgs self.old (root_of shape) }
+        requires tells { (measure.size, measure.is_ground) ≡ told (tree_of self.old (root_of shape)) }
+        ensures names { IfOk result (λ id. Names self.new id (tree_of self.old (root_of shape))) }
+        ensures grows { Grows self.old self.new }
+        ensures found { IfOk result (Finds self.old self.new (tree_of self.old (root_of shape))) }
+        ensures added { OnOk result (AddsNew self.old self.new (tree_of self.old (root_of shape))) }
+        ensures no_memory { IsKnown self.old (tree_of self.old (root_of shape)) → IsOk result }
+        ensures err { OnErr result (self.new ≡ self.old) }
+    {
+        let (index, is_new) = self.shapes.insert_full(shape)?;
+        let id = Id { index };
+        if !is_new {
+            return Ok(id);
+        }
+        match self.measures.push(measure) {
+            Ok(()) => Ok(id),
+            Err(_) => {
+                self.shapes.truncate(index);
+                Err(AllocError)
+            }
+        }
+    }
+
+    /// What is told of a place.
+    fn measure(&self, id: Id) -> Measure
+        requires { id.index < length self.now }
+        ensures { (result.size, result.is_ground) ≡ told (tree_at self.now id) }
+    {
+        self.measures[id.index]
+    }
+
+    /// What is told of a symbol over the arguments, whatever the symbol is.
+    fn measure_over(&self, args: &[Id]) -> Measure
+        requires { AreKnown self.now args.now }
+        ensures { (symbol : Symbol) → (result.size, result.is_ground) ≡
+            told (node symbol (map (tree_at self.now) args.now)) }
+    {
+        let mut total = Measure {
+            size: 1,
+            is_ground: true,
+        };
+        for arg in args {
+            let part = self.measure(*arg);
+            total = Measure {
+                size: total.size.saturating_add(part.size).min(SIZE_LIMIT),
+                is_ground: total.is_ground && part.is_ground,
+            };
+        }
+        total
+    }
+}
+
+impl Bank for SharedBank {
+    ghost use Rattle.std.specs.Prelude.{List, ◌≡◌, ◌≤◌, length, map, IsOk, IfOk, OnOk, OnErr};
+    ghost use Rattle.spec_terms.specs.Term.{Term, is_ground};
+    ghost use Rattle.spec_trees.specs.Tree.{Leaf, node, size};
+    ghost use Rattle.term_tree.specs.Bank.{symbol_of, tree_at, AreKnown, Names, Grows, IsNodeOf, capped};
+    ghost use Rattle.term_store.specs.SharedBank.{Finds, AddsNew, IsKnown};
+
+    ghost trees = { λ b. b };
+
+    fn var(&mut self, number: u32) -> Result<Id, AllocError>
+        ensures names { IfOk result (λ id. Names self.new id (Leaf number)) }
+        ensures grows { Grows self.old self.new }
+        ensures err { OnErr result (self.new ≡ self.old) }
+        ensures found { IfOk result (Finds self.old self.new (Leaf number)) }
+        ensures added { OnOk result (AddsNew self.old self.new (Leaf number)) }
+        ensures no_memory { IsKnown self.old (Leaf number) → IsOk result }
+    {
+        self.add(
+            Shape::Var(number),
+            Measure {
+                size: 1,
+                is_ground: false,
+            },
+        )
+    }
+
+    fn app(&mut self, symbol: Sym, args: &[Id]) -> Result<Id, AllocError>
+        requires { AreKnown self.old args.now }
+        ensures names { IfOk result (λ id. Names self.new id
+            (node (symbol_of symbol) (map (tree_at self.old) args.now))) }
+        ensures grows { Grows self.old self.new }
+        ensures err { OnErr result (self.new ≡ self.old) }
+        ensures found { IfOk result (Finds self.old self.new
+            (node (symbol_of symbol) (map (tree_at self.old) args.now))) }
+        ensures added { OnOk result (AddsNew self.old self.new
+            (node (symbol_of symbol) (map (tree_at self.old) args.now))) }
+        ensures no_memory { length args.now ≤ 4 → IsKnown self.old
+            (node (symbol_of symbol) (map (tree_at self.old) args.now)) → IsOk result }
+    {
+        let measure = self.measure_over(args);
+        let args = SmallVec::from_slice(self.alloc, args)?;
+        self.add(Shape::App(symbol, args), measure)
+    }
+
+    fn node(&self, id: Id) -> Node<'_> {
+        match &self.shapes.as_slice()[id.index] {
+            Shape::Var(number) => Node::Var(*number),
+            Shape::App(symbol, args) => Node::App(*symbol, args.as_slice()),
+        }
+    }
+
+    fn size(&self, id: Id) -> u64 {
+        self.measure(id).size
+    }
+
+    fn is_ground(&self, id: Id) -> bool {
+        self.measure(id).is_ground
+    }
+
+    fn mark(&self) -> Mark {
+        Mark {
+            len: self.measures.len(),
+        }
+    }
+
+    fn back(&mut self, to: Mark) {
+        self.shapes.truncate(to.len);
+        self.measures.truncate(to.len);
+    }
+}
