@@ -1,5 +1,6 @@
 -- The items of a text are put one by one.
 use Rattle.std.proofs.Common.{◌≡◌, ℕ, zero, suc, ◌+◌, ◌<◌, ◌≤◌, List, [], ◌∷◌, ◌++◌, length, map, drop, get_or, refl, sym, ◌∙◌, ap, subst, arith, add-one}
+use Rattle.std.proofs.lemmas.List.{append-nil}
 use Rattle.cert_form.specs.Appends.{Appends}
 use Rattle.cert_form.specs.Remaining.{HasPut}
 
@@ -10,6 +11,10 @@ then f g a b c first second = record { is = λ rest. second.is rest ∙ first.is
 -- no text
 pub nothing : (a : List ℕ) → Appends (λ rest. rest) a a
 nothing a = record { is = λ rest. refl }
+
+-- what was put stands at the end
+pub at_end : (f : List ℕ → List ℕ) (a b : List ℕ) → Appends f a b → b ≡ a ++ f []
+at_end f a b put = sym (append-nil b) ∙ put.is []
 
 -- the item of that place is the first of those from there on
 from_item : {A X : Type 0} (f : A → X) (items : List A) (n : ℕ) (x : A) → n < length items → x ≡ get_or items n x → drop n (map f items) ≡ f x ∷ drop (suc n) (map f items)

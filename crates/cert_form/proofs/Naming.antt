@@ -1,5 +1,5 @@
 -- Words by their number.
-use Rattle.std.proofs.Common.{◌≡◌, ℕ, zero, suc, ◌+◌, ◌<◌, List, [], Some, None, map, length, get_or, slice_get, option_map, unwrap_or, refl, ap, ◌∙◌, sym, arith, add-one, ◌∷◌}
+use Rattle.std.proofs.Common.{◌≡◌, ℕ, ◌+◌, ◌<◌, List, [], Some, None, map, length, get_or, slice_get, option_map, unwrap_or, refl, ap, ◌∙◌, sym, add-one}
 use Rattle.std.proofs.lemmas.Option.{slice_get-map, slice_get_read}
 use Rattle.spec_calculus.specs.Syntax as calculus
 use Rattle.spec_calculus.specs.Points.{numbered, nodes}

@@ -1,6 +1,6 @@
 //! Certificates as owned trees and numbers, and their texts.
 
-ghost use Rattle.std.specs.Prelude.{◌≡◌, [], ◌∷◌, IfOk, OnOk};
+ghost use Rattle.std.specs.Prelude.{◌≡◌, [], ◌∷◌, ◌++◌, IfOk, OnOk};
 ghost use Rattle.pi_tree.specs.Protocols.{protocol_of};
 ghost use Rattle.spec_certificate_text.specs.Text.{clause_lines, numbers_text, row_lines, certificate_text};
 ghost use Rattle.cert_form.specs.Appends.{Appends};
@@ -70,7 +70,6 @@ impl Model for Cert {
 
 /// Puts a line for each clause.
 fn put_clauses(
-    alloc: Global,
     out: &mut Vec<u8>,
     protocol: &Protocol,
     clauses: &PlainClauses,
@@ -80,49 +79,48 @@ fn put_clauses(
 {
     'each: for clause in &clauses.items {
         put(out, b"c ")?;
-        put_clause(alloc, out, protocol, clause)?;
+        put_clause(out, protocol, clause)?;
         put(out, b"\n")?;
     }
     Ok(())
 }
 
 /// Puts numbers, a space before each.
-fn put_numbers(alloc: Global, out: &mut Vec<u8>, numbers: &[u32]) -> Result<(), AllocError>
+fn put_numbers(out: &mut Vec<u8>, numbers: &[u32]) -> Result<(), AllocError>
     ensures { OnOk result (Appends (numbers_text numbers.now) out.old.items out.new.items) }
 {
     'each: for number in numbers {
         put(out, b" ")?;
-        put_number(alloc, out, *number)?;
+        put_number(out, *number)?;
     }
     Ok(())
 }
 
 /// Puts a line for each row, which begins with the letter.
-fn put_rows(alloc: Global, out: &mut Vec<u8>, letter: u8, rows: &Rows) -> Result<(), AllocError>
+fn put_rows(out: &mut Vec<u8>, letter: u8, rows: &Rows) -> Result<(), AllocError>
     ensures { OnOk result (Appends (row_lines letter rows.now) out.old.items out.new.items) }
 {
     'each: for row in &rows.items {
         put(out, &[letter])?;
-        put_numbers(alloc, out, row)?;
+        put_numbers(out, row)?;
         put(out, b"\n")?;
     }
     Ok(())
 }
 
-/// Puts the text of a certificate.
-fn put_cert(
-    alloc: Global,
-    out: &mut Vec<u8>,
-    protocol: &Protocol,
-    cert: &Cert,
-) -> Result<(), AllocError>
-    ensures { OnOk result (Appends (certificate_text (protocol_of protocol.now) cert.now)
+/// Puts the text of a certificate at the end, each line ended by LF.
+///
+/// `Err` comes only for want of memory; what was put till then stays.
+pub fn put_cert(out: &mut Vec<u8>, protocol: &Protocol, cert: &Cert) -> Result<(), AllocError>
+    ensures onto { OnOk result (Appends (certificate_text (protocol_of protocol.now) cert.now)
         out.old.items out.new.items) }
+    ensures text { OnOk result (out.new.items ≡
+        out.old.items ++ certificate_text (protocol_of protocol.now) cert.now []) }
 {
     put(out, b"cert 1\n")?;
-    put_clauses(alloc, out, protocol, &cert.clauses)?;
-    put_rows(alloc, out, b'r', &cert.rows)?;
-    put_rows(alloc, out, b'g', &cert.goals)?;
+    put_clauses(out, protocol, &cert.clauses)?;
+    put_rows(out, b'r', &cert.rows)?;
+    put_rows(out, b'g', &cert.goals)?;
     put(out, b"end\n")
 }
 
@@ -133,7 +131,7 @@ pub fn write_cert(alloc: Global, protocol: &Protocol, cert: &Cert) -> Result<Vec
     ensures { IfOk result (λ text. text.items ≡
         certificate_text (protocol_of protocol.now) cert.now []) }
 {
-    let mut out = Vec::new(alloc);
-    put_cert(alloc, &mut out, protocol, cert)?;
-    Ok(out)
+    let mut text = Vec::new(alloc);
+    put_cert(&mut text, protocol, cert)?;
+    Ok(text)
 }

@@ -1,6 +1,6 @@
 //! The texts of facts and clauses.
 
-ghost use Rattle.std.specs.Prelude.{◌≡◌, [], IfOk, OnOk};
+ghost use Rattle.std.specs.Prelude.{◌≡◌, [], ◌++◌, IfOk, OnOk};
 ghost use Rattle.spec_trees.specs.Tree.{trees};
 ghost use Rattle.pi_tree.specs.Protocols.{protocol_of};
 ghost use Rattle.clause_form.specs.Plain.{term_of};
@@ -19,7 +19,6 @@ use std::alloc::{AllocError, Global};
 
 /// Puts the text of an event of terms.
 fn put_event(
-    alloc: Global,
     out: &mut Vec<u8>,
     protocol: &Protocol,
     event: u32,
@@ -30,46 +29,41 @@ fn put_event(
 {
     let alone = is_alone(arguments);
     put_word(out, declared_word(&protocol.events, event), alone)?;
-    put_terms(alloc, out, protocol, arguments)?;
+    put_terms(out, protocol, arguments)?;
     put_word_end(out, alone)
 }
 
 /// Puts the text of a fact.
-fn put_fact(
-    alloc: Global,
-    out: &mut Vec<u8>,
-    protocol: &Protocol,
-    fact: &PlainFact,
-) -> Result<(), AllocError>
+fn put_fact(out: &mut Vec<u8>, protocol: &Protocol, fact: &PlainFact) -> Result<(), AllocError>
     ensures { OnOk result (Appends (fact_text (protocol_of protocol.now) (plain_fact_of fact.now))
         out.old.items out.new.items) }
 {
     match fact {
         PlainFact::Att(term) => {
             put(out, b"att(")?;
-            put_term(alloc, out, protocol, term)?;
+            put_term(out, protocol, term)?;
             put(out, b")")
         }
         PlainFact::Mess(channel, message) => {
             put(out, b"mess(")?;
-            put_term(alloc, out, protocol, channel)?;
+            put_term(out, protocol, channel)?;
             put(out, b",")?;
-            put_term(alloc, out, protocol, message)?;
+            put_term(out, protocol, message)?;
             put(out, b")")
         }
         PlainFact::Ev(event, arguments) => {
             put(out, b"ev(")?;
-            put_event(alloc, out, protocol, *event, arguments)?;
+            put_event(out, protocol, *event, arguments)?;
             put(out, b")")
         }
         PlainFact::Mev(event, arguments) => {
             put(out, b"mev(")?;
-            put_event(alloc, out, protocol, *event, arguments)?;
+            put_event(out, protocol, *event, arguments)?;
             put(out, b")")
         }
         PlainFact::Bad(arguments) => {
             put(out, b"bad(")?;
-            put_terms(alloc, out, protocol, arguments)?;
+            put_terms(out, protocol, arguments)?;
             put(out, b")")
         }
     }
@@ -77,7 +71,6 @@ fn put_fact(
 
 /// Puts the texts of hypotheses.
 fn put_hypotheses(
-    alloc: Global,
     out: &mut Vec<u8>,
     protocol: &Protocol,
     hyps: &PlainFacts,
@@ -87,24 +80,27 @@ fn put_hypotheses(
 {
     'each: for (place, hyp) in hyps.items.iter().enumerate() {
         put_gap(out, place)?;
-        put_fact(alloc, out, protocol, hyp)?;
+        put_fact(out, protocol, hyp)?;
     }
     put_gap_end(out, hyps.items.len())
 }
 
-/// Puts the text of a clause.
+/// Puts the text of a clause at the end, without a line feed.
+///
+/// `Err` comes only for want of memory; what was put till then stays.
 pub fn put_clause(
-    alloc: Global,
     out: &mut Vec<u8>,
     protocol: &Protocol,
     clause: &PlainClause,
 ) -> Result<(), AllocError>
-    ensures { OnOk result (Appends (clause_text (protocol_of protocol.now) clause.now) out.old.items
-        out.new.items) }
+    ensures onto { OnOk result (Appends (clause_text (protocol_of protocol.now) clause.now)
+        out.old.items out.new.items) }
+    ensures text { OnOk result (out.new.items ≡
+        out.old.items ++ clause_text (protocol_of protocol.now) clause.now []) }
 {
-    put_hypotheses(alloc, out, protocol, &clause.hyps)?;
+    put_hypotheses(out, protocol, &clause.hyps)?;
     put(out, b"=> ")?;
-    put_fact(alloc, out, protocol, &clause.concl)
+    put_fact(out, protocol, &clause.concl)
 }
 
 /// The text of a clause, without a line feed.
@@ -118,7 +114,7 @@ pub fn write_clause(
     ensures { IfOk result (λ text. text.items ≡
         clause_text (protocol_of protocol.now) clause.now []) }
 {
-    let mut out = Vec::new(alloc);
-    put_clause(alloc, &mut out, protocol, clause)?;
-    Ok(out)
+    let mut text = Vec::new(alloc);
+    put_clause(&mut text, protocol, clause)?;
+    Ok(text)
 }

@@ -7,5 +7,5 @@ mod parts;
 mod term_text;
 mod words;
 
-pub use crate::certs::{Cert, PlainClauses, Rows, write_cert};
-pub use crate::clause_text::write_clause;
+pub use crate::certs::{Cert, PlainClauses, Rows, put_cert, write_cert};
+pub use crate::clause_text::{put_clause, write_clause};

@@ -9,9 +9,9 @@ ghost use Rattle.cert_form.specs.Parts.{is_alone, word_opening, word_closing, ma
 
 use crate::words::{declared_word, word_at};
 use clause_form::Trees;
-use hv_io::decimal;
+use hv_io::put_words;
 use pi_tree::Protocol;
-use std::alloc::{AllocError, Global};
+use std::alloc::AllocError;
 use term_tree::Sym;
 
 /// Puts bytes at the end.
@@ -22,12 +22,11 @@ pub fn put(out: &mut Vec<u8>, bytes: &[u8]) -> Result<(), AllocError>
 }
 
 /// Puts the digits of a number.
-pub fn put_number(alloc: Global, out: &mut Vec<u8>, number: u32) -> Result<(), AllocError>
+pub fn put_number(out: &mut Vec<u8>, number: u32) -> Result<(), AllocError>
     ensures { OnOk result (Appends (λ rest. decimal_of number ++ rest) out.old.items
         out.new.items) }
 {
-    let digits = decimal(alloc, u64::from(number))?;
-    put(out, &digits)
+    put_words(out, number)
 }
 
 /// Whether there are no arguments.
@@ -53,24 +52,18 @@ pub fn put_word_end(out: &mut Vec<u8>, alone: bool) -> Result<(), AllocError>
 }
 
 /// Puts what stands before the arguments of the name of a restriction.
-fn put_made(
-    alloc: Global,
-    out: &mut Vec<u8>,
-    protocol: &Protocol,
-    point: u32,
-) -> Result<(), AllocError>
+fn put_made(out: &mut Vec<u8>, protocol: &Protocol, point: u32) -> Result<(), AllocError>
     ensures { OnOk result (Appends (made_opening (protocol_of protocol.now) point) out.old.items
         out.new.items) }
 {
     put(out, word_at(protocol, point))?;
     put(out, b"@")?;
-    put_number(alloc, out, point)?;
+    put_number(out, point)?;
     put(out, b"[")
 }
 
 /// Puts what stands before the arguments of a symbol.
 pub fn put_opening(
-    alloc: Global,
     out: &mut Vec<u8>,
     protocol: &Protocol,
     symbol: Sym,
@@ -85,7 +78,7 @@ pub fn put_opening(
         }
         Sym::Tuple(_) => put(out, b"("),
         Sym::Free(number) => put_word(out, declared_word(&protocol.frees, number), alone),
-        Sym::Point(point) => put_made(alloc, out, protocol, point),
+        Sym::Point(point) => put_made(out, protocol, point),
         Sym::Attacker => put(out, b"@["),
     }
 }

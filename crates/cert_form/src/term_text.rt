@@ -12,29 +12,24 @@ ghost use Rattle.cert_form.specs.Appends.{Appends};
 use crate::parts::{is_alone, put, put_closing, put_comma, put_number, put_opening};
 use clause_form::{Tree, Trees};
 use pi_tree::Protocol;
-use std::alloc::{AllocError, Global};
+use std::alloc::AllocError;
 
 /// Puts the text of a term.
-pub fn put_term(
-    alloc: Global,
-    out: &mut Vec<u8>,
-    protocol: &Protocol,
-    term: &Tree,
-) -> Result<(), AllocError>
+pub fn put_term(out: &mut Vec<u8>, protocol: &Protocol, term: &Tree) -> Result<(), AllocError>
     ensures { OnOk result (Appends (term_text (protocol_of protocol.now) (term_of term.now))
         out.old.items out.new.items) }
 {
     match term {
         Tree::Var(number) => {
             put(out, b"v")?;
-            put_number(alloc, out, *number)
+            put_number(out, *number)
         }
         Tree::App(symbol, arguments) => {
             let alone = is_alone(arguments);
-            put_opening(alloc, out, protocol, *symbol, alone)?;
+            put_opening(out, protocol, *symbol, alone)?;
             'each: for (place, argument) in arguments.items.iter().enumerate() {
                 put_comma(out, place)?;
-                put_term(alloc, out, protocol, argument)?;
+                put_term(out, protocol, argument)?;
             }
             put_closing(out, *symbol, alone)
         }
@@ -42,18 +37,13 @@ pub fn put_term(
 }
 
 /// Puts the texts of terms, a comma between each two.
-pub fn put_terms(
-    alloc: Global,
-    out: &mut Vec<u8>,
-    protocol: &Protocol,
-    terms: &Trees,
-) -> Result<(), AllocError>
+pub fn put_terms(out: &mut Vec<u8>, protocol: &Protocol, terms: &Trees) -> Result<(), AllocError>
     ensures { OnOk result (Appends (row (written_row (protocol_of protocol.now) (trees terms.now)))
         out.old.items out.new.items) }
 {
     'each: for (place, term) in terms.items.iter().enumerate() {
         put_comma(out, place)?;
-        put_term(alloc, out, protocol, term)?;
+        put_term(out, protocol, term)?;
     }
     Ok(())
 }

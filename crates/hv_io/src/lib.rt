@@ -21,6 +21,6 @@ pub use loading::{Files, LoadError};
 pub use mem_files::MemFiles;
 pub use mem_sink::MemSink;
 pub use opened_files::{OpenedFiles, Opener};
-pub use text::{decimal, place};
+pub use text::{decimal, place, put_words};
 pub use writer_sink::{Output, WriterSink};
 pub use writing::{Failed, Sink, put_all};

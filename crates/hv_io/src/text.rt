@@ -1,10 +1,24 @@
-//! Numbers and places in a text.
-ghost use Rattle.std.specs.Prelude.{◌≡◌, ◌≤◌, IfOk, length};
-ghost use Rattle.std.specs.Fmt.{decimal as decimal_of};
+//! Words, numbers and places in a text.
+ghost use Rattle.std.specs.Prelude.{◌≡◌, ◌≤◌, IfOk, OnOk, length};
+ghost use Rattle.std.specs.Fmt.{AppendsText, decimal as decimal_of};
 ghost use Rattle.hv_io.specs.Decimal.{IsDecimal};
 ghost use Rattle.hv_io.specs.Place.{line_at, column_at};
 
 use std::alloc::{AllocError, Global};
+use std::fmt::Display;
+use std::io::Write;
+
+/// Puts words at the end of a text.
+///
+/// `Err` comes only for want of memory; what was put till then stays.
+pub fn put_words<D: Display + Drop>(text: &mut Vec<u8>, words: D) -> Result<(), AllocError>
+    ensures { OnOk result (AppendsText text.old.items text.new.items (D.output words)) }
+{
+    match text.write_fmt(words) {
+        Ok(()) => Ok(()),
+        Err(_) => Err(AllocError),
+    }
+}
 
 /// The decimal digits of `number`, without leading zero.
 pub fn decimal(alloc: Global, number: u64) -> Result<Vec<u8>, AllocError>

@@ -7,7 +7,7 @@ ghost use Rattle.spec_protocol_scope.specs.Spells.{Spells};
 ghost use Rattle.spec_ring_text.specs.Meaning.{ring_protocol};
 ghost use Rattle.spec_ring_text.specs.Text.{key, key_line, key_lines, middle_lines, pass_line, pass_lines, ring_text, successor};
 
-use hv_io::decimal;
+use hv_io::put_words;
 use spec_ring_text::rings_are_protocols;
 use std::alloc::{AllocError, Global};
 
@@ -19,51 +19,49 @@ fn put(out: &mut Vec<u8>, bytes: &[u8]) -> Result<(), AllocError>
 }
 
 /// Puts the word of a key.
-fn put_key(alloc: Global, out: &mut Vec<u8>, number: u64) -> Result<(), AllocError>
+fn put_key(out: &mut Vec<u8>, number: u64) -> Result<(), AllocError>
     ensures { OnOk result (out.new.items ≡ out.old.items ++ key number) }
 {
-    let digits = decimal(alloc, number)?;
-    put(out, b"k")?;
-    put(out, &digits)
+    put_words(out, format_args!("k{number}"))
 }
 
 /// Puts the line that declares a key.
-fn put_key_line(alloc: Global, out: &mut Vec<u8>, number: u64) -> Result<(), AllocError>
+fn put_key_line(out: &mut Vec<u8>, number: u64) -> Result<(), AllocError>
     ensures { OnOk result (out.new.items ≡ out.old.items ++ key_line number []) }
 {
     put(out, b"private free ")?;
-    put_key(alloc, out, number)?;
+    put_key(out, number)?;
     put(out, b".\n")
 }
 
 /// Puts the lines that declare so many keys.
-fn put_key_lines(alloc: Global, out: &mut Vec<u8>, keys: u64) -> Result<(), AllocError>
+fn put_key_lines(out: &mut Vec<u8>, keys: u64) -> Result<(), AllocError>
     requires { keys ≤ most_keys }
     ensures { OnOk result (out.new.items ≡ out.old.items ++ key_lines 1 keys []) }
 {
     'each: for number in 1..keys + 1 {
-        put_key_line(alloc, out, number)?;
+        put_key_line(out, number)?;
     }
     Ok(())
 }
 
 /// Puts the query, and the process that sends `s` under the first key.
-fn put_middle_lines(alloc: Global, out: &mut Vec<u8>) -> Result<(), AllocError>
+fn put_middle_lines(out: &mut Vec<u8>) -> Result<(), AllocError>
     ensures { OnOk result (out.new.items ≡ out.old.items ++ middle_lines []) }
 {
     put(out, b"query attacker(s).\nprocess\nout(c,enc(s,")?;
-    put_key(alloc, out, 1)?;
+    put_key(out, 1)?;
     put(out, b"))\n")
 }
 
 /// Puts the line of the process that decrypts with one key, and encrypts with the next.
-fn put_pass_line(alloc: Global, out: &mut Vec<u8>, number: u64, next: u64) -> Result<(), AllocError>
+fn put_pass_line(out: &mut Vec<u8>, number: u64, next: u64) -> Result<(), AllocError>
     ensures { OnOk result (out.new.items ≡ out.old.items ++ pass_line number next []) }
 {
     put(out, b"| !in(c,x); let y = dec(x,")?;
-    put_key(alloc, out, number)?;
+    put_key(out, number)?;
     put(out, b") in out(c,enc(y,")?;
-    put_key(alloc, out, next)?;
+    put_key(out, next)?;
     put(out, b"))\n")
 }
 
@@ -76,12 +74,12 @@ fn successor(keys: u64, number: u64) -> u64
 }
 
 /// Puts the lines of so many processes, one for each key.
-fn put_pass_lines(alloc: Global, out: &mut Vec<u8>, keys: u64) -> Result<(), AllocError>
+fn put_pass_lines(out: &mut Vec<u8>, keys: u64) -> Result<(), AllocError>
     requires { keys ≤ most_keys }
     ensures { OnOk result (out.new.items ≡ out.old.items ++ pass_lines keys 1 keys []) }
 {
     'each: for number in 1..keys + 1 {
-        put_pass_line(alloc, out, number, successor(keys, number))?;
+        put_pass_line(out, number, successor(keys, number))?;
     }
     Ok(())
 }
@@ -101,8 +99,8 @@ pub fn make_ring(alloc: Global, n: u64) -> Result<Vec<u8>, AllocError>
         &mut out,
         b"free c.\nprivate free s.\nfun enc/2.\nreduc dec(enc(x,y),y) -> x.\n",
     )?;
-    put_key_lines(alloc, &mut out, n)?;
-    put_middle_lines(alloc, &mut out)?;
-    put_pass_lines(alloc, &mut out, n)?;
+    put_key_lines(&mut out, n)?;
+    put_middle_lines(&mut out)?;
+    put_pass_lines(&mut out, n)?;
     Ok(out)
 }

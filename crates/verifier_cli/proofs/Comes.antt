@@ -7,7 +7,7 @@ use Rattle.hv_io.specs.Files.{Load, with_loads}
 use Rattle.spec_protocol_scope.specs.Spells.{Spells}
 use Rattle.spec_ring_text.specs.Text.{ring_text}
 use Rattle.verifier_cli.specs.Outside.{Outside, outside, IsFaulty, IsNothingLoaded, IsUnloaded, OfFile, IfRead, load_of}
-use Rattle.verifier_cli.specs.Outcome.{Refusal, Protocol, Report, Run, Outcome, Usage, Verified, Checked, Listed, ListLarge, NoQuery, Replayed, Ring, Refused, ReadFault, Memory}
+use Rattle.verifier_cli.specs.Outcome.{Refusal, Protocol, Report, Run, Outcome, Verified, Checked, Listed, ListLarge, NoQuery, Replayed, Ring, Refused, ReadFault, Memory}
 use Rattle.verifier_cli.specs.Command.{Becomes, IsRefusalOf, IsDecidedBy}
 use Rattle.verifier_cli.specs.Checking.{ChecksReport, IsOutcomeOfReport}
 use Rattle.verifier_cli.specs.Listing.{IsListOf}

@@ -1,5 +1,5 @@
 -- Files that were read, and those that were not.
-use Rattle.std.proofs.Common.{◌≡◌, ◌<◌, ◌≤◌, ◌+◌, ℕ, List, [], ◌∷◌, ◌++◌, length, take, Option, None, Some, IfSome, inl, inr, refl, sym, ap, subst, ◌∙◌, arith, append_assoc, unwrap_or}
+use Rattle.std.proofs.Common.{◌≡◌, ◌<◌, ◌≤◌, ◌+◌, ℕ, List, [], ◌∷◌, ◌++◌, length, take, Option, None, Some, IfSome, inl, inr, refl, sym, ap, subst, ◌∙◌, arith, append_assoc}
 use Rattle.std.proofs.lemmas.List.{append-nil, length-take, take_all}
 use Rattle.spec_calculus.specs.Bounds.{most_bytes, most_report_bytes, most_run_bytes}
 use Rattle.spec_calculus.specs.Syntax as syntax

@@ -5,6 +5,7 @@ pub mod Followed
 pub mod Found
 pub mod Files
 pub mod Limits
+pub mod Lines
 pub mod Listing
 pub mod OneLine
 pub mod ReadBack

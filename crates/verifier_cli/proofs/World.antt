@@ -1,10 +1,10 @@
 -- From what a request comes to to all that is said of a call.
-use Rattle.std.proofs.Common.{◌≡◌, ◌≢◌, ◌≤◌, ℕ, List, Option, Some, None, Bool, true, false, IfSome, inl, inr, refl, sym, ap, subst, ◌∙◌}
+use Rattle.std.proofs.Common.{◌≡◌, ◌≤◌, ℕ, List, Option, Some, None, true, false, inl, inr, refl, sym, subst, ◌∙◌}
 use Rattle.spec_calculus.specs.Syntax.{Protocol}
 use Rattle.command_words.specs.Request.{Request, Verify, Check, ListOf, Replay, RingOf, request_of}
 use Rattle.spec_protocol_scope.specs.Spells.{Spells}
 use Rattle.verifier_cli.specs.Outside.{Outside}
-use Rattle.verifier_cli.specs.Outcome.{Outcome, Usage, Verified, Memory}
+use Rattle.verifier_cli.specs.Outcome.{Outcome, Usage, Verified}
 use Rattle.verifier_cli.specs.Command.{Becomes, IsNoCommand, Verifies}
 use Rattle.verifier_cli.specs.ReadBack.{IsReadBack}
 use Rattle.verifier_cli.specs.Text.{HasText, outcome_bytes}

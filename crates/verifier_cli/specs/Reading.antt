@@ -1,15 +1,10 @@
 -- What the reading of a protocol answers.
-use Rattle.std.specs.Prelude.{ℕ, ◌<◌, ◌≤◌, List, length}
+use Rattle.std.specs.Prelude.{ℕ, ◌<◌, List, length, Option, Some, None, IfSome, option_map}
 use Rattle.spec_calculus.specs.Bounds.{most_bytes}
-use Rattle.pi_lexer.specs.declared.error.LexError.{LexError}
-use Rattle.pi_lexer.specs.declared.error.LexError.TheVariants as lex
-use Rattle.pi_parser.specs.declared.error.ParseError.{ParseError}
-use Rattle.pi_parser.specs.declared.error.ParseError.TheVariants as parse
-use Rattle.scope_check.specs.declared.error.ScopeError.{ScopeError}
-use Rattle.scope_check.specs.declared.error.ScopeError.TheVariants as scope
+use Rattle.spec_protocol_tokens.specs.Piece as lexing
+use Rattle.pi_parser.specs.Errors as parsing
 use Rattle.spec_protocol_scope.specs.Spells as spells
 use Rattle.spec_protocol_scope.specs.Spells.{Refuses}
-use Rattle.verifier_cli.specs.declared.outcome.ProtocolCode.TheVariants as code
 use Rattle.verifier_cli.specs.declared.reading.Stop.{Stop}
 use Rattle.verifier_cli.specs.declared.reading.Stop.TheVariants as stop
 use Rattle.verifier_cli.specs.declared.loading.Unloaded.{Unloaded}
@@ -19,33 +14,25 @@ use Rattle.verifier_cli.specs.Command.{IsRefusalOf}
 use Rattle.verifier_cli.specs.Outside.{Outside, IsFaulty, IsNothingLoaded, OfFile, IfRead}
 use Rattle.verifier_cli.specs.Seen.{refusal_by}
 
--- the errors of the lexer, the parser and the rules of scope, with their places
-abbrev pub lex_stop : LexError → Stop
-lex_stop (lex.BadByte place) = stop.Refused code.BadByte place
-lex_stop (lex.OpenComment place) = stop.Refused code.OpenComment place
-lex_stop (lex.LongNumber place) = stop.Refused code.LongNumber place
-lex_stop (lex.Memory e) = stop.Memory
+-- the refusal and its place; want of memory is none
+abbrev pub refusal_of : Stop → Option (spells.Refusal × ℕ)
+refusal_of (stop.Refused why place) = Some (refusal_by why, place)
+refusal_of stop.Memory = None
 
-abbrev pub parse_stop : ParseError → Stop
-parse_stop (parse.Unexpected place) = stop.Refused code.Unexpected place
-parse_stop (parse.TooDeep place) = stop.Refused code.TooDeep place
-parse_stop (parse.Memory e) = stop.Memory
+-- what the lexer, the parser and the rules of scope refuse, among the refusals of a file
+abbrev pub lexical : Option (lexing.Refusal × ℕ) → Option (spells.Refusal × ℕ)
+lexical refusal = option_map (λ r. (spells.Lexical r.0, r.1)) refusal
 
-abbrev pub scope_stop : ScopeError → Stop
-scope_stop (scope.Unknown place) = stop.Refused code.Unknown place
-scope_stop (scope.Twice place) = stop.Refused code.Twice place
-scope_stop (scope.Arity place) = stop.Refused code.Arity place
-scope_stop (scope.Kind place) = stop.Refused code.Kind place
-scope_stop (scope.LooseVariable place) = stop.Refused code.LooseVariable place
-scope_stop (scope.TooMany place) = stop.Refused code.TooMany place
-scope_stop (scope.AmbiguousNew place) = stop.Refused code.AmbiguousNew place
-scope_stop scope.LongFile = stop.Refused code.LongFile 0
-scope_stop (scope.Memory e) = stop.Memory
+abbrev pub by_grammar : parsing.Refusal → spells.Refusal
+by_grammar parsing.Unexpected = spells.Unexpected
+by_grammar parsing.TooDeep = spells.TooDeep
 
--- the bytes are refused so, at one of them or at their end; want of memory says nothing of them
+abbrev pub grammatical : Option (parsing.Refusal × ℕ) → Option (spells.Refusal × ℕ)
+grammatical refusal = option_map (λ r. (by_grammar r.0, r.1)) refusal
+
+-- the bytes are refused so; want of memory says nothing of them
 abbrev pub IsStopOf : List ℕ → Stop → Type 0
-IsStopOf bytes (stop.Refused why place) = Refuses bytes (refusal_by why) place × (place ≤ length bytes)
-IsStopOf bytes stop.Memory = Unit {0}
+IsStopOf bytes why = IfSome (refusal_of why) (λ refusal. Refuses bytes refusal.0 refusal.1)
 
 -- a call that read no protocol in these bytes
 abbrev pub IsNoReading : List ℕ → Outcome → Type 0

@@ -16,6 +16,7 @@ use hv_io::{Files, LoadError, place};
 use pi_tree::{MOST_BYTES, Protocol};
 use spec_certificate_text::spelled_protocols_have_names;
 use spec_protocol_scope::{proper_rules, query_leaves, well_scoped, within_limits};
+use spec_protocol_tokens::spans_ascend;
 use std::alloc::Global;
 
 /// Why a text was not loaded.
@@ -78,6 +79,7 @@ fn not_read(bytes: &[u8], why: Stop) -> Outcome
     requires { IsStopOf bytes.now why }
     ensures { IsNoReading bytes.now (outcome_of result) }
 {
+    spans_ascend();
     match why {
         Stop::Refused(code, at) => {
             let (line, column) = place(bytes, at);

@@ -14,7 +14,6 @@ use pi_lexer::{LexError, Tokens, lex};
 use pi_parser::{ParseError, Sketch, parse};
 use pi_tree::Protocol;
 use scope_check::{ScopeError, check_tokens};
-use spec_protocol_tokens::spans_ascend;
 use std::alloc::Global;
 
 /// Why no protocol was read.
@@ -27,9 +26,10 @@ pub enum Stop {
 }
 
 impl From<LexError> for Stop {
-    ghost use Rattle.verifier_cli.specs.Reading.{lex_stop};
+    ghost use Rattle.pi_lexer.specs.Error as lexing;
+    ghost use Rattle.verifier_cli.specs.Reading.{lexical, refusal_of};
 
-    ghost from_gives = { λ e stop. stop ≡ lex_stop e };
+    ghost from_gives = { λ e stop. refusal_of stop ≡ lexical (lexing.refusal_of e) };
 
     fn from(error: LexError) -> Stop {
         match error {
@@ -42,9 +42,10 @@ impl From<LexError> for Stop {
 }
 
 impl From<ParseError> for Stop {
-    ghost use Rattle.verifier_cli.specs.Reading.{parse_stop};
+    ghost use Rattle.pi_parser.specs.Errors as parsing;
+    ghost use Rattle.verifier_cli.specs.Reading.{grammatical, refusal_of};
 
-    ghost from_gives = { λ e stop. stop ≡ parse_stop e };
+    ghost from_gives = { λ e stop. refusal_of stop ≡ grammatical (parsing.refusal_of e) };
 
     fn from(error: ParseError) -> Stop {
         match error {
@@ -56,9 +57,10 @@ impl From<ParseError> for Stop {
 }
 
 impl From<ScopeError> for Stop {
-    ghost use Rattle.verifier_cli.specs.Reading.{scope_stop};
+    ghost use Rattle.scope_check.specs.Error as scoping;
+    ghost use Rattle.verifier_cli.specs.Reading.{refusal_of};
 
-    ghost from_gives = { λ e stop. stop ≡ scope_stop e };
+    ghost from_gives = { λ e stop. refusal_of stop ≡ scoping.refusal_of e };
 
     fn from(error: ScopeError) -> Stop {
         match error {
@@ -83,7 +85,6 @@ fn scoped(alloc: Global, bytes: &[u8], tokens: &Tokens, sketch: &Sketch) -> Resu
     ensures spelled { IfOk result (λ protocol. Spells bytes.now (protocol_of protocol)) }
     ensures refused { IfErr result (λ stop. IsStopOf bytes.now stop) }
 {
-    spans_ascend();
     let protocol = check_tokens(alloc, bytes, tokens, sketch)?;
     Ok(protocol)
 }
@@ -94,7 +95,6 @@ pub(crate) fn read_protocol(alloc: Global, bytes: &[u8]) -> Result<Protocol, Sto
     ensures spelled { IfOk result (λ protocol. Spells bytes.now (protocol_of protocol)) }
     ensures refused { IfErr result (λ stop. IsStopOf bytes.now stop) }
 {
-    spans_ascend();
     let tokens = lex(alloc, bytes)?;
     let sketch = parse(alloc, bytes, &tokens)?;
     let protocol = scoped(alloc, bytes, &tokens, &sketch);

@@ -1,8 +1,7 @@
 //! The text of an outcome, and the status that the program ends with.
 
-ghost use Rattle.std.specs.Prelude.{◌≡◌, ◌++◌, codes, decimal, is_none, option_copied, IfOk, []};
+ghost use Rattle.std.specs.Prelude.{◌≡◌, ◌++◌, codes, decimal, is_none, option_copied, IfOk, OnOk, []};
 ghost use Rattle.std.specs.List.{list_all};
-ghost use Rattle.std.specs.String.{string_bytes};
 ghost use Rattle.spec_calculus.specs.Points.{numbered};
 ghost use Rattle.spec_certificate_text.specs.Text.{certificate_text};
 ghost use Rattle.verifier_cli.specs.SeenOutcome.{outcome_of, refusal_of};
@@ -20,16 +19,16 @@ use crate::codes::StepCode;
 use crate::outcome::{
     Finding, Findings, Outcome, ProtocolCode, Refusal, ReportCode, Ring, RunCode,
 };
-use crate::summary::summary_text;
+use crate::summary::put_summary;
 use cert_checker::Ruling;
-use cert_form::{Cert, PlainClauses, write_cert, write_clause};
+use cert_form::{Cert, PlainClauses, put_cert, put_clause};
 use clause_saturate::{PlainEntry, PlainLog};
+use hv_io::put_words;
 use pi_model::StepError;
 use pi_tree::Protocol;
 use query_verify::{Verdict, Verdicts};
 use run_replay::{Firsts, Replayed};
 use std::alloc::{AllocError, Global};
-use std::fmt::Write;
 
 /// What is written for words that are no command.
 pub(crate) const USAGE: &[u8] =
@@ -51,330 +50,343 @@ fn entry_at(log: &PlainLog, number: usize) -> Option<&PlainEntry>
     log.items.get(number - 1)
 }
 
-/// What is written behind the number of a query that is proved: its line's end, and the certificate.
-fn proved_text(alloc: Global, protocol: &Protocol, cert: &Cert) -> Result<Vec<u8>, AllocError>
-    ensures { IfOk result (λ text. text.items ≡
-        line (codes "proved") ++ certificate_text (protocol_of protocol.now) cert.now []) }
+/// Puts what is written behind the number of a query that is proved: its line's end, and the certificate.
+fn put_proved(out: &mut Vec<u8>, protocol: &Protocol, cert: &Cert) -> Result<(), AllocError>
+    ensures { OnOk result (out.new.items ≡ out.old.items ++
+        (line (codes "proved") ++ certificate_text (protocol_of protocol.now) cert.now [])) }
 {
-    let mut text = b"proved\n".to_vec(alloc)?;
-    let words = write_cert(alloc, protocol, cert)?;
-    text.extend_from_slice(&words)?;
-    Ok(text)
+    out.extend_from_slice(b"proved\n")?;
+    put_cert(out, protocol, cert)
 }
 
-/// The same of a query with a clause that is not satisfied.
-fn unmet_text(
-    alloc: Global,
+/// Puts the clause of an entry, if there is one.
+fn put_entry(
+    out: &mut Vec<u8>,
+    protocol: &Protocol,
+    entry: Option<&PlainEntry>,
+) -> Result<(), AllocError>
+    ensures { OnOk result (out.new.items ≡ out.old.items ++
+        entry_text (protocol_of protocol.now) (option_copied entry.entry)) }
+{
+    match entry {
+        Some(entry) => put_clause(out, protocol, &entry.clause),
+        None => Ok(()),
+    }
+}
+
+/// Puts what is written behind the number of a query with a clause that is not satisfied.
+fn put_unmet(
+    out: &mut Vec<u8>,
     protocol: &Protocol,
     log: &PlainLog,
     number: usize,
-) -> Result<Vec<u8>, AllocError>
-    ensures { IfOk result (λ text. text.items ≡
+) -> Result<(), AllocError>
+    ensures { OnOk result (out.new.items ≡ out.old.items ++
         line (codes "unknown clause " ++ entry_text (protocol_of protocol.now)
         (numbered log.now number))) }
 {
-    let mut text = b"unknown clause ".to_vec(alloc)?;
-    match entry_at(log, number) {
-        Some(entry) => {
-            let words = write_clause(alloc, protocol, &entry.clause)?;
-            text.extend_from_slice(&words)?;
-        }
-        None => {}
-    }
-    text.push(b'\n')?;
-    Ok(text)
+    out.extend_from_slice(b"unknown clause ")?;
+    put_entry(out, protocol, entry_at(log, number))?;
+    out.push(b'\n')?;
+    Ok(())
 }
 
-/// The same where the budget is spent on so many entries.
-fn budget_line(alloc: Global, entries: usize) -> Result<String, AllocError>
-    ensures { IfOk result (λ text. string_bytes text ≡
-        line (codes "unknown budget " ++ decimal entries)) }
-{
-    format!(in alloc; "unknown budget {entries}\n")
-}
-
-/// The same where a pair of entries is too large.
-fn pair_line(alloc: Global, solved: usize, unsolved: usize) -> Result<String, AllocError>
-    ensures { IfOk result (λ text. string_bytes text ≡
+/// Puts what is written behind the number of a query with a pair of entries that is too large.
+fn put_pair(out: &mut Vec<u8>, solved: usize, unsolved: usize) -> Result<(), AllocError>
+    ensures { OnOk result (out.new.items ≡ out.old.items ++
         line (codes "unknown size pair " ++ decimal solved ++ codes " " ++ decimal unsolved)) }
 {
-    format!(in alloc; "unknown size pair {solved} {unsolved}\n")
+    put_words(out, format_args!("unknown size pair {solved} {unsolved}\n"))
 }
 
-/// The same where the visit of a point is too large.
-fn visit_line(alloc: Global, point: u32) -> Result<String, AllocError>
-    ensures { IfOk result (λ text. string_bytes text ≡
-        line (codes "unknown size point " ++ decimal point)) }
-{
-    format!(in alloc; "unknown size point {point}\n")
-}
-
-/// What is written behind the number of a query, its line and a certificate.
-pub(crate) fn verdict_text(
-    alloc: Global,
+/// Puts what is written behind the number of a query, its line and a certificate.
+pub(crate) fn put_verdict(
+    out: &mut Vec<u8>,
     protocol: &Protocol,
     verdict: &Verdict,
-) -> Result<Vec<u8>, AllocError>
-    ensures { IfOk result (λ text. text.items ≡
-        verdict_text (protocol_of protocol.now) verdict.now) }
+) -> Result<(), AllocError>
+    ensures { OnOk result (out.new.items ≡
+        out.old.items ++ verdict_text (protocol_of protocol.now) verdict.now) }
 {
     match verdict {
-        Verdict::Proved(cert) => proved_text(alloc, protocol, cert),
-        Verdict::Budget(log, _) => Ok(budget_line(alloc, log.items.len())?.into_bytes()),
-        Verdict::SizePair(_, solved, unsolved) => {
-            Ok(pair_line(alloc, *solved, *unsolved)?.into_bytes())
+        Verdict::Proved(cert) => put_proved(out, protocol, cert),
+        Verdict::Budget(log, _) => {
+            let entries = log.items.len();
+            put_words(out, format_args!("unknown budget {entries}\n"))
         }
-        Verdict::SizePoint(point) => Ok(visit_line(alloc, *point)?.into_bytes()),
-        Verdict::Unmet(log, number) => unmet_text(alloc, protocol, log, *number),
+        Verdict::SizePair(_, solved, unsolved) => put_pair(out, *solved, *unsolved),
+        Verdict::SizePoint(point) => put_words(out, format_args!("unknown size point {point}\n")),
+        Verdict::Unmet(log, number) => put_unmet(out, protocol, log, *number),
     }
 }
 
-/// What begins the line of a query.
-fn query_words(alloc: Global, number: u64) -> Result<String, AllocError>
-    ensures { IfOk result (λ text. string_bytes text ≡
-        codes "query " ++ decimal number ++ codes " ") }
+/// Puts what begins the line of a query.
+fn put_query(out: &mut Vec<u8>, number: u64) -> Result<(), AllocError>
+    ensures { OnOk result (out.new.items ≡ out.old.items ++
+        (codes "query " ++ decimal number ++ codes " ")) }
 {
-    format!(in alloc; "query {number} ")
+    put_words(out, format_args!("query {number} "))
 }
 
-/// The text of the verdicts of a protocol's queries.
-fn verdicts_text(
-    alloc: Global,
+/// Puts the text of the verdicts of a protocol's queries.
+fn put_verdicts(
+    out: &mut Vec<u8>,
     protocol: &Protocol,
     verdicts: &Verdicts,
-) -> Result<Vec<u8>, AllocError>
-    ensures { IfOk result (λ text. text.items ≡
-        verdict_lines 1 verdicts.now (protocol_of protocol.now)) }
+) -> Result<(), AllocError>
+    ensures { OnOk result (out.new.items ≡
+        out.old.items ++ verdict_lines 1 verdicts.now (protocol_of protocol.now)) }
 {
-    let mut text = Vec::new(alloc);
     'each: for (place, verdict) in verdicts.items.iter().enumerate() {
-        let number = query_words(alloc, place as u64 + 1)?;
-        text.extend_from_slice(number.as_bytes())?;
-        let words = verdict_text(alloc, protocol, verdict)?;
-        text.extend_from_slice(&words)?;
+        put_query(out, place as u64 + 1)?;
+        put_verdict(out, protocol, verdict)?;
     }
-    Ok(text)
+    Ok(())
 }
 
-/// The line that refuses a protocol at a place.
-fn protocol_refusal(
-    alloc: Global,
+/// Puts the line that refuses a protocol at a place.
+fn put_protocol_refusal(
+    out: &mut Vec<u8>,
     row: u64,
     column: u64,
     code: ProtocolCode,
-) -> Result<String, AllocError>
-    ensures { IfOk result (λ text. string_bytes text ≡
+) -> Result<(), AllocError>
+    ensures { OnOk result (out.new.items ≡ out.old.items ++
         line (refusal_text (own.Protocol row column (refusal_by code)))) }
 {
-    format!(in alloc; "refused {row}:{column} {code}\n")
+    put_words(out, format_args!("refused {row}:{column} {code}\n"))
 }
 
-/// The line that refuses a report at one of its lines.
-fn report_refusal(alloc: Global, row: u64, code: ReportCode) -> Result<String, AllocError>
-    ensures { IfOk result (λ text.
-        string_bytes text ≡ line (refusal_text (own.Report row (report_refusal_by code)))) }
+/// Puts the line that refuses a report at one of its lines.
+fn put_report_refusal(out: &mut Vec<u8>, row: u64, code: ReportCode) -> Result<(), AllocError>
+    ensures { OnOk result (out.new.items ≡ out.old.items ++
+        line (refusal_text (own.Report row (report_refusal_by code)))) }
 {
-    format!(in alloc; "refused report {row} {code}\n")
+    put_words(out, format_args!("refused report {row} {code}\n"))
 }
 
-/// The line that refuses the text of a run at one of its lines.
-fn run_refusal(alloc: Global, row: u64, code: RunCode) -> Result<String, AllocError>
-    ensures { IfOk result (λ text. string_bytes text ≡
+/// Puts the line that refuses the text of a run at one of its lines.
+fn put_run_refusal(out: &mut Vec<u8>, row: u64, code: RunCode) -> Result<(), AllocError>
+    ensures { OnOk result (out.new.items ≡ out.old.items ++
         line (refusal_text (own.Run row (run_refusal_by code)))) }
 {
-    format!(in alloc; "refused run {row} {code}\n")
+    put_words(out, format_args!("refused run {row} {code}\n"))
 }
 
-/// The text of a refusal, one line.
-fn refusal_line(alloc: Global, refusal: Refusal) -> Result<String, AllocError>
-    ensures { IfOk result (λ text. string_bytes text ≡ line (refusal_text (refusal_of refusal))) }
+/// Puts the text of a refusal, one line.
+fn put_refusal(out: &mut Vec<u8>, refusal: Refusal) -> Result<(), AllocError>
+    ensures { OnOk result (out.new.items ≡ out.old.items ++
+        line (refusal_text (refusal_of refusal))) }
 {
     match refusal {
-        Refusal::Protocol { line, column, code } => protocol_refusal(alloc, line, column, code),
-        Refusal::Report { line, code } => report_refusal(alloc, line, code),
-        Refusal::Run { line, code } => run_refusal(alloc, line, code),
+        Refusal::Protocol { line, column, code } => put_protocol_refusal(out, line, column, code),
+        Refusal::Report { line, code } => put_report_refusal(out, line, code),
+        Refusal::Run { line, code } => put_run_refusal(out, line, code),
     }
 }
 
-/// What is ruled of a pair of clauses of which a resolvent isn't covered.
-fn closure_words(
-    alloc: Global,
+/// Puts what is ruled of a pair of clauses of which a resolvent isn't covered.
+fn put_closure(
+    out: &mut Vec<u8>,
     solved: u64,
     unsolved: u64,
     resolvent: u64,
-) -> Result<String, AllocError>
-    ensures { IfOk result (λ text.
-        string_bytes text ≡ ruling_text (ruling.Closure solved unsolved resolvent)) }
+) -> Result<(), AllocError>
+    ensures { OnOk result (out.new.items ≡ out.old.items ++
+        ruling_text (ruling.Closure solved unsolved resolvent)) }
 {
-    format!(in alloc; "refused closure {solved} {unsolved} {resolvent}")
+    put_words(
+        out,
+        format_args!("refused closure {solved} {unsolved} {resolvent}"),
+    )
 }
 
-/// What is ruled of a certificate.
-fn ruling_words(alloc: Global, ruling: Ruling) -> Result<String, AllocError>
-    ensures { IfOk result (λ text. string_bytes text ≡ ruling_text ruling) }
+/// Puts what is ruled of a certificate.
+fn put_ruling(out: &mut Vec<u8>, ruling: Ruling) -> Result<(), AllocError>
+    ensures { OnOk result (out.new.items ≡ out.old.items ++ ruling_text ruling) }
 {
     match ruling {
-        Ruling::Accepted => String::from_str(alloc, "accepted"),
-        Ruling::Shape(clause) => format!(in alloc; "refused shape {clause}"),
-        Ruling::Translation(point) => format!(in alloc; "refused translation {point}"),
-        Ruling::Cover(clause) => format!(in alloc; "refused cover {clause}"),
+        Ruling::Accepted => out.extend_from_slice(b"accepted"),
+        Ruling::Shape(clause) => put_words(out, format_args!("refused shape {clause}")),
+        Ruling::Translation(point) => put_words(out, format_args!("refused translation {point}")),
+        Ruling::Cover(clause) => put_words(out, format_args!("refused cover {clause}")),
         Ruling::Closure(solved, unsolved, resolvent) => {
-            closure_words(alloc, solved, unsolved, resolvent)
+            put_closure(out, solved, unsolved, resolvent)
         }
-        Ruling::Goal(clause) => format!(in alloc; "refused goal {clause}"),
-        Ruling::Extra(row) => format!(in alloc; "refused extra {row}"),
+        Ruling::Goal(clause) => put_words(out, format_args!("refused goal {clause}")),
+        Ruling::Extra(row) => put_words(out, format_args!("refused extra {row}")),
     }
 }
 
-/// What is found of a claim.
-fn finding_words(alloc: Global, finding: Finding) -> Result<String, AllocError>
-    ensures { IfOk result (λ text. string_bytes text ≡ finding_text finding) }
+/// Puts what is found of a claim.
+fn put_finding(out: &mut Vec<u8>, finding: Finding) -> Result<(), AllocError>
+    ensures { OnOk result (out.new.items ≡ out.old.items ++ finding_text finding) }
 {
     match finding {
-        Finding::Ruled(ruling) => ruling_words(alloc, ruling),
-        Finding::Missing => String::from_str(alloc, "missing"),
-        Finding::NotClaimed => String::from_str(alloc, "not claimed"),
+        Finding::Ruled(ruling) => put_ruling(out, ruling),
+        Finding::Missing => out.extend_from_slice(b"missing"),
+        Finding::NotClaimed => out.extend_from_slice(b"not claimed"),
     }
 }
 
-/// A line for each query of a report that was checked.
-fn findings_text(alloc: Global, findings: &Findings) -> Result<String, AllocError>
-    ensures { IfOk result (λ text. string_bytes text ≡ finding_lines 1 findings.now) }
+/// Puts the line of a query of a report that was checked.
+fn put_finding_line(out: &mut Vec<u8>, number: u64, finding: Finding) -> Result<(), AllocError>
+    ensures { OnOk result (out.new.items ≡ out.old.items ++
+        line (codes "query " ++ decimal number ++ codes " " ++ finding_text finding)) }
 {
-    let mut text = String::new(alloc);
-    for (place, finding) in findings.items.iter().enumerate() {
-        let number = place as u64 + 1;
-        let words = finding_words(alloc, *finding)?;
-        writeln!(text, "query {number} {words}")?;
-    }
-    Ok(text)
+    put_query(out, number)?;
+    put_finding(out, finding)?;
+    out.push(b'\n')?;
+    Ok(())
 }
 
-/// Since when a query is violated.
-fn first_words(alloc: Global, first: Option<u64>) -> Result<String, AllocError>
-    ensures { IfOk result (λ text. string_bytes text ≡ first_text first) }
+/// Puts a line for each query of a report that was checked.
+fn put_findings(out: &mut Vec<u8>, findings: &Findings) -> Result<(), AllocError>
+    ensures { OnOk result (out.new.items ≡ out.old.items ++ finding_lines 1 findings.now) }
+{
+    'each: for (place, finding) in findings.items.iter().enumerate() {
+        put_finding_line(out, place as u64 + 1, *finding)?;
+    }
+    Ok(())
+}
+
+/// Puts since when a query is violated.
+fn put_first(out: &mut Vec<u8>, first: Option<u64>) -> Result<(), AllocError>
+    ensures { OnOk result (out.new.items ≡ out.old.items ++ first_text first) }
 {
     match first {
-        None => String::from_str(alloc, "not violated"),
-        Some(step) => format!(in alloc; "violated {step}"),
+        None => out.extend_from_slice(b"not violated"),
+        Some(step) => put_words(out, format_args!("violated {step}")),
     }
 }
 
-/// A line for each query of a replay.
-fn firsts_text(alloc: Global, firsts: &Firsts) -> Result<String, AllocError>
-    ensures { IfOk result (λ text. string_bytes text ≡ first_lines 1 firsts.now) }
+/// Puts the line of a query of a replay.
+fn put_first_line(out: &mut Vec<u8>, number: u64, first: Option<u64>) -> Result<(), AllocError>
+    ensures { OnOk result (out.new.items ≡ out.old.items ++
+        line (codes "query " ++ decimal number ++ codes " " ++ first_text first)) }
 {
-    let mut text = String::new(alloc);
-    for (place, first) in firsts.items.iter().enumerate() {
-        let number = place as u64 + 1;
-        let words = first_words(alloc, *first)?;
-        writeln!(text, "query {number} {words}")?;
+    put_query(out, number)?;
+    put_first(out, first)?;
+    out.push(b'\n')?;
+    Ok(())
+}
+
+/// Puts a line for each query of a replay.
+fn put_firsts(out: &mut Vec<u8>, firsts: &Firsts) -> Result<(), AllocError>
+    ensures { OnOk result (out.new.items ≡ out.old.items ++ first_lines 1 firsts.now) }
+{
+    'each: for (place, first) in firsts.items.iter().enumerate() {
+        put_first_line(out, place as u64 + 1, *first)?;
     }
-    Ok(text)
+    Ok(())
 }
 
-/// The text of a replay to the end.
-fn done_text(alloc: Global, steps: u64, firsts: &Firsts) -> Result<String, AllocError>
-    ensures { IfOk result (λ text. string_bytes text ≡ done_text steps firsts.now) }
+/// Puts the text of a replay to the end.
+fn put_done(out: &mut Vec<u8>, steps: u64, firsts: &Firsts) -> Result<(), AllocError>
+    ensures { OnOk result (out.new.items ≡ out.old.items ++ done_text steps firsts.now) }
 {
-    let lines = firsts_text(alloc, firsts)?;
-    format!(in alloc; "done {steps}\n{lines}")
+    put_words(out, format_args!("done {steps}\n"))?;
+    put_firsts(out, firsts)
 }
 
-/// The text of a replay up to a step that is refused.
-fn stuck_text(alloc: Global, number: u64, error: StepError) -> Result<String, AllocError>
-    ensures { IfOk result (λ text. string_bytes text ≡
+/// Puts the text of a replay up to a step that is refused.
+fn put_stuck(out: &mut Vec<u8>, number: u64, error: StepError) -> Result<(), AllocError>
+    ensures { OnOk result (out.new.items ≡ out.old.items ++
         replay_text (own.Stuck number (errors.refusal_of error))) }
 {
     let code = StepCode(error);
-    format!(in alloc; "stuck {number} {code}\n")
+    put_words(out, format_args!("stuck {number} {code}\n"))
 }
 
-/// The text of a replay.
-fn replayed_text(alloc: Global, replayed: &Replayed) -> Result<String, AllocError>
-    ensures { IfOk result (λ text. string_bytes text ≡ replay_text (replay_of replayed.now)) }
+/// Puts the text of a replay.
+fn put_replayed(out: &mut Vec<u8>, replayed: &Replayed) -> Result<(), AllocError>
+    ensures { OnOk result (out.new.items ≡ out.old.items ++
+        replay_text (replay_of replayed.now)) }
 {
     match replayed {
-        Replayed::Done(end, firsts) => done_text(alloc, end.steps, firsts),
-        Replayed::Stuck(number, error) => stuck_text(alloc, *number, *error),
+        Replayed::Done(end, firsts) => put_done(out, end.steps, firsts),
+        Replayed::Stuck(number, error) => put_stuck(out, *number, *error),
     }
 }
 
-/// A line for each clause, in the words of the protocol.
-fn clauses_text(
-    alloc: Global,
+/// Puts a line for each clause, in the words of the protocol.
+fn put_clauses(
+    out: &mut Vec<u8>,
     protocol: &Protocol,
     clauses: &PlainClauses,
-) -> Result<Vec<u8>, AllocError>
-    ensures { IfOk result (λ text. text.items ≡
-        clause_lines (protocol_of protocol.now) clauses.now) }
+) -> Result<(), AllocError>
+    ensures { OnOk result (out.new.items ≡
+        out.old.items ++ clause_lines (protocol_of protocol.now) clauses.now) }
 {
-    let mut text = Vec::new(alloc);
     'each: for clause in &clauses.items {
-        let words = write_clause(alloc, protocol, clause)?;
-        text.extend_from_slice(&words)?;
-        text.push(b'\n')?;
+        put_clause(out, protocol, clause)?;
+        out.push(b'\n')?;
     }
-    Ok(text)
+    Ok(())
 }
 
-/// The line that tells at which point a translation is too large.
-fn point_line(alloc: Global, point: u32) -> Result<String, AllocError>
-    ensures { IfOk result (λ text. string_bytes text ≡
-        line (codes "size point " ++ decimal point)) }
-{
-    format!(in alloc; "size point {point}\n")
-}
-
-/// The line that tells that there is no such query.
-fn query_line(alloc: Global, query: u64) -> Result<String, AllocError>
-    ensures { IfOk result (λ text. string_bytes text ≡ line (codes "no query " ++ decimal query)) }
-{
-    format!(in alloc; "no query {query}\n")
-}
-
-/// The verdicts' text, where there is a protocol in whose words to write it.
-fn verified_text(
-    alloc: Global,
+/// Puts the verdicts' text, where there is a protocol in whose words to write it.
+fn put_verified(
+    out: &mut Vec<u8>,
     protocol: Option<&Protocol>,
     verdicts: &Verdicts,
-) -> Result<Vec<u8>, AllocError>
-    ensures { IfOk result (λ text. text.items ≡
+) -> Result<(), AllocError>
+    ensures { OnOk result (out.new.items ≡ out.old.items ++
         in_words (verdict_lines 1 verdicts.now) (words_of protocol.entry)) }
 {
     match protocol {
-        Some(protocol) => verdicts_text(alloc, protocol, verdicts),
-        None => Ok(Vec::new(alloc)),
+        Some(protocol) => put_verdicts(out, protocol, verdicts),
+        None => Ok(()),
     }
 }
 
-/// The clauses' lines, where there is a protocol in whose words to write them.
-fn listed_text(
-    alloc: Global,
+/// Puts the clauses' lines, where there is a protocol in whose words to write them.
+fn put_listed(
+    out: &mut Vec<u8>,
     protocol: Option<&Protocol>,
     clauses: &PlainClauses,
-) -> Result<Vec<u8>, AllocError>
-    ensures { IfOk result (λ text. text.items ≡
+) -> Result<(), AllocError>
+    ensures { OnOk result (out.new.items ≡ out.old.items ++
         in_words (λ own. clause_lines own clauses.now) (words_of protocol.entry)) }
 {
     match protocol {
-        Some(protocol) => clauses_text(alloc, protocol, clauses),
-        None => Ok(Vec::new(alloc)),
+        Some(protocol) => put_clauses(out, protocol, clauses),
+        None => Ok(()),
     }
 }
 
-/// The lines of a ring's summary, where there is a protocol in whose words to write them.
-fn ringed_text(
-    alloc: Global,
-    protocol: Option<&Protocol>,
-    ring: &Ring,
-) -> Result<Vec<u8>, AllocError>
-    ensures { IfOk result (λ text. text.items ≡
+/// Puts the lines of a ring's summary, where there is a protocol in whose words to write them.
+fn put_ring(out: &mut Vec<u8>, protocol: Option<&Protocol>, ring: &Ring) -> Result<(), AllocError>
+    ensures { OnOk result (out.new.items ≡ out.old.items ++
         in_words (summary_lines ring.now) (words_of protocol.entry)) }
 {
     match protocol {
-        Some(protocol) => summary_text(alloc, protocol, ring),
-        None => Ok(Vec::new(alloc)),
+        Some(protocol) => put_summary(out, protocol, ring),
+        None => Ok(()),
+    }
+}
+
+/// Puts all that a call writes whose outcome is this.
+fn put_outcome(
+    out: &mut Vec<u8>,
+    protocol: Option<&Protocol>,
+    outcome: &Outcome,
+) -> Result<(), AllocError>
+    ensures { OnOk result (out.new.items ≡ out.old.items ++
+        outcome_bytes (words_of protocol.entry) (outcome_of outcome.now)) }
+{
+    match outcome {
+        Outcome::Usage => out.extend_from_slice(USAGE),
+        Outcome::Verified(verdicts) => put_verified(out, protocol, verdicts),
+        Outcome::Checked(findings) => put_findings(out, findings),
+        Outcome::Listed(clauses) => put_listed(out, protocol, clauses),
+        Outcome::ListLarge(point) => put_words(out, format_args!("size point {point}\n")),
+        Outcome::NoQuery(query) => put_words(out, format_args!("no query {query}\n")),
+        Outcome::Replayed(replayed) => put_replayed(out, replayed),
+        Outcome::Ring(ring) => put_ring(out, protocol, ring),
+        Outcome::Refused(refusal) => put_refusal(out, *refusal),
+        Outcome::ReadFault => out.extend_from_slice(READ_FAULT),
+        Outcome::Memory => out.extend_from_slice(WANT_OF_MEMORY),
     }
 }
 
@@ -388,19 +400,9 @@ pub fn outcome_text(
     ensures { IfOk result (λ text. text.items ≡
         outcome_bytes (words_of protocol.entry) (outcome_of outcome.now)) }
 {
-    match outcome {
-        Outcome::Usage => USAGE.to_vec(alloc),
-        Outcome::Verified(verdicts) => verified_text(alloc, protocol, verdicts),
-        Outcome::Checked(findings) => Ok(findings_text(alloc, findings)?.into_bytes()),
-        Outcome::Listed(clauses) => listed_text(alloc, protocol, clauses),
-        Outcome::ListLarge(point) => Ok(point_line(alloc, *point)?.into_bytes()),
-        Outcome::NoQuery(query) => Ok(query_line(alloc, *query)?.into_bytes()),
-        Outcome::Replayed(replayed) => Ok(replayed_text(alloc, replayed)?.into_bytes()),
-        Outcome::Ring(ring) => ringed_text(alloc, protocol, ring),
-        Outcome::Refused(refusal) => Ok(refusal_line(alloc, *refusal)?.into_bytes()),
-        Outcome::ReadFault => READ_FAULT.to_vec(alloc),
-        Outcome::Memory => WANT_OF_MEMORY.to_vec(alloc),
-    }
+    let mut text = Vec::new(alloc);
+    put_outcome(&mut text, protocol, outcome)?;
+    Ok(text)
 }
 
 /// Whether the verdict is that the query is proved.

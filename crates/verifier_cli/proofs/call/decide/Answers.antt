@@ -1,5 +1,5 @@
 -- The files are those that the words name.
-use Rattle.std.proofs.Common.{◌≡◌, map, Option, Some, None, option_map, inr, refl, sym, ap, ◌∙◌}
+use Rattle.std.proofs.Common.{◌≡◌, map, Option, Some, None, option_map, refl, sym, ap, ◌∙◌}
 use Rattle.std.specs.String.{string_bytes}
 use Rattle.command_words.specs.declared.Request.{Request}
 use Rattle.command_words.specs.Request.{Verify, Check, ListOf, Replay, RingOf, request_of, request_seen}

@@ -1,4 +1,4 @@
-use Rattle.std.proofs.Common.{ℕ, List, Option, Some, ap, map, option_map, subst, ◌∙◌}
+use Rattle.std.proofs.Common.{ℕ, List, Some, ap, map, option_map, subst, ◌∙◌}
 use Rattle.std.specs.String.{string_bytes}
 use Rattle.command_words.specs.Request.{request_of}
 use Rattle.pi_tree.specs.Protocols.{protocol_of}

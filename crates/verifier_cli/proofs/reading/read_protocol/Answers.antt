@@ -6,9 +6,9 @@ use Rattle.verifier_cli.proofs.reading.read_protocol.Goals as goal
 pub returns-in_err-tokens-clause-refused : goal.returns-in_err-tokens-clause-refused
 returns-in_err-tokens-clause-refused c =
     let p = err_from_is_err_and c.from_residual.result c.from_residual.ensures.1 in
-    rw (p.1, p.2) (lex_refused c.args.bytes.now c.in_err-tokens.field-0.0 c.requires c.in_err-tokens.ensures.refused)
+    rw p.1 (lex_refused c.args.bytes.now c.in_err-tokens.field-0.0 p.0 c.requires c.in_err-tokens.ensures.refused p.2)
 
 pub returns-in_err-sketch-clause-refused : goal.returns-in_err-sketch-clause-refused
 returns-in_err-sketch-clause-refused c =
     let p = err_from_is_err_and c.from_residual-in_err-sketch.result c.from_residual-in_err-sketch.ensures.1 in
-    rw (p.1, p.2) (parse_refused c.spans_ascend.ensures c.args.bytes.now _ c.in_err-sketch.field-0.0 c.requires c.in_ok-tokens.ensures.lexed c.in_err-sketch.ensures.refused)
+    rw p.1 (parse_refused c.args.bytes.now _ c.in_err-sketch.field-0.0 p.0 c.requires c.in_ok-tokens.ensures.lexed c.in_err-sketch.ensures.refused p.2)

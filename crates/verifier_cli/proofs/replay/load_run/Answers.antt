@@ -1,5 +1,5 @@
 -- Steps are no more than the bytes that spell them.
-use Rattle.std.proofs.Common.{◌≡◌, ◌≤◌, ℕ, List, length, inl, sym, ap, subst, arith}
+use Rattle.std.proofs.Common.{◌≤◌, ℕ, List, length, inl, sym, ap, subst, arith}
 use Rattle.spec_calculus.specs.Bounds.{most_run_bytes}
 use Rattle.spec_run_text.specs.Text.{SpellsRun}
 use Rattle.run_replay.specs.Answer.{IsRefusalOf}

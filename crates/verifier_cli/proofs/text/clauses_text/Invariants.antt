@@ -1,9 +1,0 @@
--- The lines so far, and those of the clauses that are left, are the lines of all.
-use Rattle.std.proofs.Common.{◌≡◌, ◌++◌, drop}
-use Rattle.pi_tree.specs.Protocols.{protocol_of}
-use Rattle.verifier_cli.specs.Text.{clause_lines}
-use Rattle.verifier_cli.proofs.text.clauses_text.Given as goal
-
-abbrev pub invariant-each : goal.invariant-each
-invariant-each l =
-    l.text.items ++ clause_lines (protocol_of l.protocol) (drop l.clause-index l.clause-items) ≡ clause_lines (protocol_of l.protocol) l.clause-items

@@ -1,9 +1,0 @@
--- The text so far, and that of the verdicts that are left, are the text of all.
-use Rattle.std.proofs.Common.{◌≡◌, ◌+◌, ◌++◌, drop}
-use Rattle.pi_tree.specs.Protocols.{protocol_of}
-use Rattle.verifier_cli.specs.Text.{verdict_lines}
-use Rattle.verifier_cli.proofs.text.verdicts_text.Given as goal
-
-abbrev pub invariant-each : goal.invariant-each
-invariant-each l =
-    l.text.items ++ verdict_lines (l.place + 1) (drop l.place l.verdict-items) (protocol_of l.protocol) ≡ verdict_lines 1 l.verdict-items (protocol_of l.protocol)
