@@ -1,2 +1,4 @@
 pub mod Lines
 pub mod Claimed
+mod Spelled
+mod Refused

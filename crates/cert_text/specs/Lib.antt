@@ -1,2 +1,4 @@
 pub mod Codes
 pub mod Seen
+pub mod Spelled
+pub mod Refused

@@ -1,6 +1,6 @@
 //! Certificates.
 
-ghost use Rattle.std.specs.Prelude.{◌≡◌, ◌≤◌, [], drop, length};
+ghost use Rattle.std.specs.Prelude.{◌≡◌, ℕ, ◌≤◌, List, [], drop, length, IfOk, IfErr};
 ghost use Rattle.pi_tree.specs.Protocols.{protocol_of};
 ghost use Rattle.term_reader.specs.Naming.{protocol_in};
 ghost use Rattle.term_reader.specs.Few.{HasFewNames};
@@ -8,12 +8,22 @@ ghost use Rattle.spec_certificate_reading.specs.Certificates as reading;
 ghost use Rattle.spec_certificate_reading.specs.Outcomes.{lines_from};
 ghost use Rattle.fact_reader.specs.Gives.{Gives, StopsWithin, same};
 ghost use Rattle.fact_reader.specs.Reads.{Reads};
+ghost use Rattle.spec_certificates.specs.Certificate.{Certificate};
+ghost use Rattle.spec_certificate_text.specs.OfProtocol.{HasNames};
+ghost use Rattle.spec_certificate_reading.specs.Terms.{Code};
+ghost use Rattle.spec_certificate_faults.specs.First.{IsFirstFault};
+ghost use Rattle.spec_first_faults.specs.Clauses.{certificates};
+ghost use Rattle.fact_reader.specs.Errors.{refusal_of};
+ghost use Rattle.cert_text.specs.Spelled.{SpellsCertificate, GivesCertificate};
+ghost use Rattle.cert_text.specs.Refused.{IsFirstOf, GivesRefusal};
 
 use crate::rows::rows;
 use cert_form::{Cert, PlainClauses};
 use clause_form::PlainClause;
 use fact_reader::{CertError, Cursor, read_clause};
 use pi_tree::{MOST_CLAUSES, Protocol};
+use spec_certificate_reading::certificates_are_read;
+use spec_first_faults::the_first_fault_of_a_certificate_is_told;
 use std::alloc::Global;
 use term_reader::Names;
 
@@ -98,8 +108,8 @@ pub fn certificate(names: &Names<'_>, cursor: &mut Cursor<'_>) -> Result<Cert, C
     certificate_within(names, cursor, MOST_CLAUSES)
 }
 
-/// The certificate that stands at the place, and the place behind it; or the first fault.
-pub fn read_cert(
+/// The certificate that stands at the place, and the place behind it.
+fn certificate_at(
     alloc: Global,
     protocol: &Protocol,
     bytes: &[u8],
@@ -114,4 +124,37 @@ pub fn read_cert(
     let mut cursor = Cursor { bytes, at };
     let cert = certificate(&Names { alloc, protocol }, &mut cursor)?;
     Ok((cert, cursor.at))
+}
+
+/// The certificate that stands at the place, and the place behind it; or the first fault.
+pub fn read_cert(
+    alloc: Global,
+    protocol: &Protocol,
+    bytes: &[u8],
+    at: usize,
+) -> Result<(Cert, usize), CertError>
+    requires few { HasFewNames (protocol_of protocol.now) }
+    requires within { at ≤ length bytes.now }
+    ensures read { Gives same bytes.now result
+        (reading.read_certificate (protocol_of protocol.now) (drop at bytes.now) at) }
+    ensures within { StopsWithin bytes.now result }
+
+    // What is read is spelled, and a certificate that is spelled is read.
+    ensures spelled { IfOk result (λ x.
+        SpellsCertificate (protocol_of protocol.now) (drop at bytes.now) x.0 (drop x.1 bytes.now)) }
+    ensures accepts { (certificate : Certificate) (rest : List ℕ) →
+        HasNames (protocol_of protocol.now) →
+        SpellsCertificate (protocol_of protocol.now) (drop at bytes.now) certificate rest →
+        GivesCertificate bytes.now certificate rest result }
+
+    // A refusal is the first fault of the bytes, and the first fault is the refusal.
+    ensures refused { let P = protocol_of protocol.now in HasNames P → IfErr result (λ e.
+        IsFirstOf (certificates P) (drop at bytes.now) at (refusal_of e)) }
+    ensures first_fault { (place : ℕ) (code : Code) → let P = protocol_of protocol.now in
+        HasNames P → IsFirstFault (certificates P) (drop at bytes.now) at place code →
+        GivesRefusal place code result }
+{
+    certificates_are_read();
+    the_first_fault_of_a_certificate_is_told();
+    certificate_at(alloc, protocol, bytes, at)
 }

@@ -1,18 +1,28 @@
 //! Reports: what they claim of each query.
 
-ghost use Rattle.std.specs.Prelude.{◌≡◌, ◌≢◌, List, [], ◌+◌, ◌≤◌, ◌==◌, drop, length};
+ghost use Rattle.std.specs.Prelude.{◌≡◌, ◌≢◌, ℕ, List, [], ◌+◌, ◌≤◌, ◌==◌, drop, length, map, IfOk, IfErr};
 ghost use Rattle.std.specs.List.{position_or_len};
 ghost use Rattle.pi_tree.specs.Protocols.{protocol_of};
 ghost use Rattle.term_reader.specs.Naming.{protocol_in};
 ghost use Rattle.term_reader.specs.Few.{HasFewNames};
 ghost use Rattle.spec_certificate_reading.specs.Reports as reading;
 ghost use Rattle.fact_reader.specs.Reads.{left_of, Reads, Passes};
+ghost use Rattle.spec_certificate_text.specs.OfProtocol.{HasNames, IsShort};
+ghost use Rattle.spec_report_text.specs.Text.{SpellsReport};
 ghost use Rattle.cert_text.specs.Seen.{claim_of, GivesClaims};
+ghost use Rattle.spec_certificate_reading.specs.Terms.{Code};
+ghost use Rattle.spec_certificate_faults.specs.First.{IsFirstFault};
+ghost use Rattle.spec_first_faults.specs.Reports.{reports};
+ghost use Rattle.fact_reader.specs.Errors.{refusal_of};
+ghost use Rattle.cert_text.specs.Spelled.{GivesReport};
+ghost use Rattle.cert_text.specs.Refused.{IsFirstOf, GivesRefusal};
 
 use crate::certs::certificate;
 use cert_form::Cert;
 use fact_reader::{CertError, Cursor};
 use pi_tree::Protocol;
+use spec_first_faults::the_first_fault_of_a_report_is_told;
+use spec_report_text::reports_are_read;
 use std::alloc::Global;
 use std::marker::Model;
 use term_reader::Names;
@@ -189,11 +199,36 @@ fn all_claims(names: &Names<'_>, cursor: &mut Cursor<'_>) -> Result<Claims, Cert
     further(cursor)
 }
 
-/// The claims of a report, one for each query of the protocol; or the first fault.
-pub fn read_report(alloc: Global, protocol: &Protocol, bytes: &[u8]) -> Result<Claims, CertError>
+/// The claims of all bytes, one for each query of the protocol.
+fn report_claims(alloc: Global, protocol: &Protocol, bytes: &[u8]) -> Result<Claims, CertError>
     requires { HasFewNames (protocol_of protocol.now) }
     ensures { GivesClaims result (reading.read_report (protocol_of protocol.now) bytes.now) }
 {
     let mut cursor = Cursor { bytes, at: 0 };
     all_claims(&Names { alloc, protocol }, &mut cursor)
+}
+
+/// The claims of a report, one for each query of the protocol; or the first fault.
+pub fn read_report(alloc: Global, protocol: &Protocol, bytes: &[u8]) -> Result<Claims, CertError>
+    requires { HasFewNames (protocol_of protocol.now) }
+    ensures read { GivesClaims result
+        (reading.read_report (protocol_of protocol.now) bytes.now) }
+
+    // What is read is spelled, and claims that are spelled are read.
+    ensures spelled { IfOk result (λ claims.
+        SpellsReport (protocol_of protocol.now) bytes.now (map claim_of claims)) }
+    ensures accepts { (claims : List reading.Claim) → HasNames (protocol_of protocol.now) →
+        IsShort (length (protocol_of protocol.now).queries) →
+        SpellsReport (protocol_of protocol.now) bytes.now claims → GivesReport claims result }
+
+    // A refusal is the first fault of the bytes, and the first fault is the refusal.
+    ensures refused { let P = protocol_of protocol.now in HasNames P → IfErr result (λ e.
+        IsFirstOf (reports P) bytes.now 0 (refusal_of e)) }
+    ensures first_fault { (place : ℕ) (code : Code) → let P = protocol_of protocol.now in
+        HasNames P → IsFirstFault (reports P) bytes.now 0 place code →
+        GivesRefusal place code result }
+{
+    reports_are_read();
+    the_first_fault_of_a_report_is_told();
+    report_claims(alloc, protocol, bytes)
 }

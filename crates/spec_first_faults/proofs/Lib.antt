@@ -1,4 +1,16 @@
 pub mod Tells
-pub mod Small
 pub mod Law
+pub mod Told
+pub mod Behind
+pub mod OneOf
+pub mod Small
+pub mod Closed
 pub mod Messages
+pub mod Marked
+pub mod Many
+pub mod Rows
+pub mod Numbers
+pub mod Events
+pub mod Facts
+pub mod Clauses
+pub mod Reports

@@ -1,11 +1,14 @@
--- Readers that tell the first fault of a kind of texts; one behind another.
-use Rattle.std.proofs.Common.{◌≡◌, ◌≢◌, ℕ, ◌+◌, ◌≤◌, ◌⊎◌, inl, inr, List, [], ◌∷◌, ◌++◌, length, refl, sym, ◌∙◌, ap, subst, arith, append_assoc, length-append}
+-- Readers that tell the first fault of a kind of texts.
+use Rattle.std.proofs.Common.{◌≡◌, ◌≢◌, ℕ, ◌+◌, ◌≤◌, ◌⊎◌, inl, inr, List, [], ◌∷◌, ◌++◌, length, sym, ◌∙◌, ap, arith, length-append}
 use Rattle.spec_certificate_reading.specs.Terms.{Code, Syntax}
 use Rattle.spec_certificate_reading.specs.Outcomes.{Outcome, Found, Faulty, next, Reader}
 use Rattle.spec_reading_faults.proofs.Shared.{IsLocal, next_local, found_local}
+use Rattle.spec_reading_faults.proofs.Parts.{same_local}
 use Rattle.spec_certificate_faults.specs.First.{Kind, code_number}
 use Rattle.spec_certificate_faults.proofs.Comes.{either}
-use Rattle.spec_first_faults.specs.Kinds.{behind}
+
+abbrev pub Anything : List ℕ → Type 0
+Anything other = Unit {0}
 
 -- some text of the kind begins with these bytes, and ends no sooner
 pub record Extends (K : Kind) (before : List ℕ) : Type 0 where
@@ -29,6 +32,20 @@ pub record GoesPastIt (K : Kind) (bytes there : List ℕ) : Type 0 where
   pub begins : there ≡ first ∷ later
   pub extends : Extends K (before ++ first ∷ [])
 
+-- the bytes are a text, and end there
+pub record EndsThere (K : Kind) (bytes there : List ℕ) : Type 0 where
+  pub none : there ≡ []
+  pub rest : List ℕ
+  pub is : K.Text bytes rest
+
+-- Some kinds are the last of all: with their texts all bytes end.
+
+abbrev pub IsLast : Type 0
+IsLast = Unit {0}
+
+abbrev pub IsPassed : Type 0 → Kind → List ℕ → List ℕ → Type 0
+IsPassed Last K bytes there = GoesPastIt K bytes there ⊎ (Last × EndsThere K bytes there)
+
 -- what is told is of syntax, where some text goes on; or it stands there
 pub record SyntaxIn (K : Kind) (bytes : List ℕ) (total place : ℕ) : Type 0 where
   pub there : List ℕ
@@ -43,21 +60,24 @@ pub record StandsIn (K : Kind) (bytes : List ℕ) (total place : ℕ) (code : Co
 abbrev pub IsRight : Kind → List ℕ → ℕ → ℕ → Code → Type 0
 IsRight K bytes total place code = ((code ≡ Syntax) × SyntaxIn K bytes total place) ⊎ StandsIn K bytes total place code
 
--- of a text something is found, or a fault is told before its end
+-- of a text something is found, or a fault is told before its end; of the last of all, at its end at most
 pub record FindsIt {A : Type 0} (o : Outcome A) (rest : List ℕ) : Type 0 where
   pub value : A
   pub place : ℕ
   pub is : o ≡ Found value place rest
 
-pub record StopsIt {A : Type 0} (o : Outcome A) (bytes : List ℕ) (at : ℕ) (rest : List ℕ) : Type 0 where
+abbrev pub IsEarly : Type 0 → ℕ → List ℕ → ℕ → Type 0
+IsEarly Last place rest total = (place + length rest + 1 ≤ total) ⊎ (Last × (place + length rest ≤ total))
+
+pub record StopsIt {A : Type 0} (Last : Type 0) (o : Outcome A) (bytes : List ℕ) (at : ℕ) (rest : List ℕ) : Type 0 where
   pub place : ℕ
   pub code : Code
   pub is : o ≡ Faulty place code
-  pub early : place + length rest + 1 ≤ at + length bytes
+  pub early : IsEarly Last place rest (at + length bytes)
   pub other : code ≢ Syntax
 
-abbrev pub TextRead : {A : Type 0} → Outcome A → List ℕ → ℕ → List ℕ → Type 0
-TextRead o bytes at rest = FindsIt o rest ⊎ StopsIt o bytes at rest
+abbrev pub TextRead : {A : Type 0} → Type 0 → Outcome A → List ℕ → ℕ → List ℕ → Type 0
+TextRead Last o bytes at rest = FindsIt o rest ⊎ StopsIt Last o bytes at rest
 
 -- a fault is told that does not stand after one that stands there
 pub record ToldIt {A : Type 0} (o : Outcome A) (bytes : List ℕ) (at : ℕ) (there : List ℕ) (code : Code) : Type 0 where
@@ -79,19 +99,45 @@ pub record HasSome (K : Kind) (May : List ℕ → Type 0) : Type 0 where
   pub follows : List ℕ
   pub may : May follows
 
-pub record Tells {A : Type 0} (K : Kind) (May : List ℕ → Type 0) (r : Reader A) : Type 0 where
-  pub found : (bytes : List ℕ) (at place : ℕ) (x : A) (rest : List ℕ) → r bytes at ≡ Found x place rest → K.Text bytes rest
-  pub counted : (bytes : List ℕ) (at place : ℕ) (x : A) (rest : List ℕ) → r bytes at ≡ Found x place rest → place + length rest ≡ at + length bytes
-  pub right : (bytes : List ℕ) (at place : ℕ) (code : Code) → r bytes at ≡ Faulty place code → IsRight K bytes (at + length bytes) place code
-  pub texts : (bytes rest : List ℕ) (at : ℕ) → K.Text bytes rest → TextRead (r bytes at) bytes at rest
-  pub told : (code : Code) (bytes there : List ℕ) (at : ℕ) → K.Fault code bytes there → ToldIt (r bytes at) bytes at there code
-  pub past : (code : Code) (bytes there : List ℕ) → K.Fault code bytes there → GoesPastIt K bytes there
+-- what is so of a kind, however it is read
+pub record Forms (Last : Type 0) (K : Kind) (May : List ℕ → Type 0) : Type 0 where
   pub moved : (bytes rest : List ℕ) → K.Text bytes rest → IsMoved K May bytes rest
   pub some : HasSome K May
+  pub past : (code : Code) (bytes there : List ℕ) → K.Fault code bytes there → IsPassed Last K bytes there
   pub other_codes : (bytes there : List ℕ) → K.Fault Syntax bytes there → ⊥
-  pub local : IsLocal r
 
--- The same reader of something else.
+-- the reader tells the first fault of bytes of which this is so
+pub record Tells {A : Type 0} (Last : Type 0) (K : Kind) (Of May : List ℕ → Type 0) (r : Reader A) : Type 0 where
+  pub forms : Forms Last K May
+  pub local : IsLocal r
+  pub found : (bytes : List ℕ) (at place : ℕ) (x : A) (rest : List ℕ) → Of bytes → r bytes at ≡ Found x place rest → K.Text bytes rest
+  pub counted : (bytes : List ℕ) (at place : ℕ) (x : A) (rest : List ℕ) → Of bytes → r bytes at ≡ Found x place rest → place + length rest ≡ at + length bytes
+  pub right : (bytes : List ℕ) (at place : ℕ) (code : Code) → Of bytes → r bytes at ≡ Faulty place code → IsRight K bytes (at + length bytes) place code
+  pub texts : (bytes rest : List ℕ) (at : ℕ) → Of bytes → K.Text bytes rest → TextRead Last (r bytes at) bytes at rest
+  pub told : (code : Code) (bytes there : List ℕ) (at : ℕ) → Of bytes → K.Fault code bytes there → ToldIt (r bytes at) bytes at there code
+
+pub shorter : (K : Kind) (May : List ℕ → Type 0) (bytes rest : List ℕ) → IsMoved K May bytes rest → length rest ≤ length bytes
+shorter K May bytes rest moved = omega (arith, ap length moved.text, length-append moved.front rest)
+
+pub there_shorter : (Last : Type 0) (K : Kind) (bytes there : List ℕ) → IsPassed Last K bytes there → length there ≤ length bytes
+there_shorter Last K bytes there (inl past) = omega (arith, ap length past.text, length-append past.before there)
+there_shorter Last K bytes there (inr ends) = omega (arith, ap length ends.1.none)
+
+-- where a kind is not the last of all
+
+pub goes_past : (K : Kind) (bytes there : List ℕ) → IsPassed ⊥ K bytes there → GoesPastIt K bytes there
+goes_past K bytes there (inl past) = past
+goes_past K bytes there (inr ends) = absurd ends.0
+
+pub is_early : (place : ℕ) (rest : List ℕ) (total : ℕ) → IsEarly ⊥ place rest total → place + length rest + 1 ≤ total
+is_early place rest total (inl early) = early
+is_early place rest total (inr last) = absurd last.0
+
+-- it may stand before the last of all
+pub as_before : (Last : Type 0) (K : Kind) (May : List ℕ → Type 0) → Forms ⊥ K May → Forms Last K May
+as_before Last K May forms = record { moved = forms.moved; some = forms.some; past = λ code bytes there fault. inl (goes_past K bytes there (forms.past code bytes there fault)); other_codes = forms.other_codes }
+
+-- The same reader of something else, and readers that answer the same.
 
 abbrev pub mapped : {A B : Type 0} → (A → B) → Reader A → Reader B
 mapped f r bytes at = next (r bytes at) (λ x p k. Found (f x) p k)
@@ -110,199 +156,138 @@ mapped_fault f (Faulty p c) place code e =
     ap (λ q. Faulty q c) places ∙ ap (Faulty place) codes
 mapped_fault f (Found x p k) place code e = absurd (cc)
 
-pub mapped_tells : {A B : Type 0} (K : Kind) (May : List ℕ → Type 0) (r : Reader A) (f : A → B) → Tells K May r → Tells K May (mapped f r)
-mapped_tells {A} {B} K May r f tells = record {
-  found = λ bytes at place y rest e. let one = mapped_found f (r bytes at) y place rest e in tells.found bytes at place one.0 rest one.1;
-  counted = λ bytes at place y rest e. let one = mapped_found f (r bytes at) y place rest e in tells.counted bytes at place one.0 rest one.1;
-  right = λ bytes at place code e. tells.right bytes at place code (mapped_fault f (r bytes at) place code e);
-  texts = λ bytes rest at text. either (tells.texts bytes rest at text)
+pub mapped_tells : {A B : Type 0} {Last : Type 0} (K : Kind) (Of May : List ℕ → Type 0) (r : Reader A) (f : A → B) → Tells Last K Of May r → Tells Last K Of May (mapped f r)
+mapped_tells {A} {B} K Of May r f tells = record {
+  forms = tells.forms;
+  local = next_local r (λ at x bytes p. Found (f x) p bytes) tells.local (λ at x. found_local (f x));
+  found = λ bytes at place y rest of e. let one = mapped_found f (r bytes at) y place rest e in tells.found bytes at place one.0 rest of one.1;
+  counted = λ bytes at place y rest of e. let one = mapped_found f (r bytes at) y place rest e in tells.counted bytes at place one.0 rest of one.1;
+  right = λ bytes at place code of e. tells.right bytes at place code of (mapped_fault f (r bytes at) place code e);
+  texts = λ bytes rest at of text. either (tells.texts bytes rest at of text)
       (λ finds. inl record { value = f finds.value; place = finds.place; is = ap (λ o. next o (λ x p k. Found (f x) p k)) finds.is })
       (λ stops. inr record { place = stops.place; code = stops.code; is = ap (λ o. next o (λ x p k. Found (f x) p k)) stops.is; early = stops.early; other = stops.other });
-  told = λ code bytes there at fault. let one = tells.told code bytes there at fault in record { place = one.place; told = one.told; is = ap (λ o. next o (λ x p k. Found (f x) p k)) one.is; not_after = one.not_after };
-  past = λ code bytes there fault. tells.past code bytes there fault;
-  moved = λ bytes rest text. tells.moved bytes rest text;
-  some = tells.some;
-  other_codes = λ bytes there fault. tells.other_codes bytes there fault;
-  local = next_local r (λ at x bytes p. Found (f x) p bytes) tells.local (λ at x. found_local (f x));
+  told = λ code bytes there at of fault. let one = tells.told code bytes there at of fault in record { place = one.place; told = one.told; is = ap (λ o. next o (λ x p k. Found (f x) p k)) one.is; not_after = one.not_after };
 }
 
--- One behind another.
-
-split : (before other front rest : List ℕ) → before ++ other ≡ front ++ rest → length rest ≤ length other → (o : List ℕ) × (front ≡ before ++ o)
-split [] other front rest e long = (front, refl)
-split (b ∷ before) other [] rest e long = absurd (let same = ap length e in omega (arith, same, long, length-append before other))
-split (b ∷ before) other (c ∷ front) rest e long =
-    let first : b ≡ c = cc in
-    let later : before ++ other ≡ front ++ rest = cc in
-    let cut = split before other front rest later long in
-    (cut.0, ap (λ fs. c ∷ fs) cut.1 ∙ ap (λ d. d ∷ (before ++ cut.0)) (sym first))
-
--- a text of the first that begins with these bytes, and so one of both
-first_extends : (K L : Kind) (May Must : List ℕ → Type 0) (before : List ℕ) → ((bs rest : List ℕ) → K.Text bs rest → IsMoved K May bs rest) → ((bs rest : List ℕ) → L.Text bs rest → May bs) → HasSome L Must → Extends K before → Extends (behind K L) before
-first_extends K L May Must before moved may some to =
-    let m = moved (before ++ to.other) to.rest to.is in
-    let cut = split before to.other m.front to.rest m.text to.long in
-    let second = some.front ++ some.follows in
-    let is = some.each some.follows some.may in
-    let whole : m.front ++ second ≡ before ++ (cut.0 ++ second) = ap (λ f. f ++ second) cut.1 ∙ append_assoc before cut.0 second in
-    record {
-      other = cut.0 ++ second;
-      rest = some.follows;
-      long = omega (arith, length-append cut.0 second, length-append some.front some.follows);
-      is = (second, subst (λ bs. K.Text bs second) whole (m.each second (may second some.follows is)), is);
-    }
-
--- behind a text of the first a text of the second that begins with these bytes
-second_extends : (K L : Kind) (May : List ℕ → Type 0) (front before : List ℕ) → ((other : List ℕ) → May other → K.Text (front ++ other) other) → ((bs rest : List ℕ) → L.Text bs rest → May bs) → Extends L before → Extends (behind K L) (front ++ before)
-second_extends K L May front before each may to =
-    let second = before ++ to.other in
-    record {
-      other = to.other;
-      rest = to.rest;
-      long = to.long;
-      is = (second, subst (λ bs. K.Text bs second) (sym (append_assoc front before to.other)) (each second (may second to.rest to.is)), to.is);
-    }
-
-same_fault : {A : Type 0} (o : Outcome A) (p q : ℕ) (c d : Code) → o ≡ Faulty p c → p ≡ q → c ≡ d → o ≡ Faulty q d
-same_fault o p q c d is places codes = is ∙ (ap (λ r. Faulty r c) places ∙ ap (Faulty q) codes)
-
--- the second reader, behind what the first one found
-abbrev pub then_read : {A B : Type 0} → Reader A → (ℕ → A → Reader B) → Reader B
-then_read r m bytes at = next (r bytes at) (λ x p k. m at x k p)
-
-found_both : {A B : Type 0} (K L : Kind) (May Must : List ℕ → Type 0) (r : Reader A) (m : ℕ → A → Reader B) → Tells K May r → ((at : ℕ) (x : A) → Tells L Must (m at x)) → (bytes : List ℕ) (at place : ℕ) (y : B) (rest : List ℕ) → (o : Outcome A) → r bytes at ≡ o → next o (λ x p k. m at x k p) ≡ Found y place rest
-    → (behind K L).Text bytes rest × (place + length rest ≡ at + length bytes)
-found_both K L May Must r m first second bytes at place y rest (Faulty p c) is told = absurd (cc)
-found_both K L May Must r m first second bytes at place y rest (Found x p k) is told =
-    ((k, first.found bytes at p x k is, (second at x).found k p place y rest told), (second at x).counted k p place y rest told ∙ first.counted bytes at p x k is)
-
-right_first : {A : Type 0} (K L : Kind) (May Must : List ℕ → Type 0) (r : Reader A) → Tells K May r → ((bs rest : List ℕ) → L.Text bs rest → May bs) → HasSome L Must → (bytes : List ℕ) (total place : ℕ) (code : Code) → IsRight K bytes total place code → IsRight (behind K L) bytes total place code
-right_first K L May Must r first may some bytes total place code (inl syntax) =
-    let to = syntax.1.to in
-    inl (syntax.0, record { there = syntax.1.there; to = record { before = to.before; text = to.text; extends = first_extends K L May Must to.before first.moved may some to.extends }; counted = syntax.1.counted })
-right_first K L May Must r first may some bytes total place code (inr stands) = inr record { there = stands.there; is = inl stands.is; counted = stands.counted }
-
-right_second : {A : Type 0} (K L : Kind) (May : List ℕ → Type 0) (r : Reader A) → Tells K May r → ((bs rest : List ℕ) → L.Text bs rest → May bs) → (bytes mid : List ℕ) (total place : ℕ) (code : Code) → K.Text bytes mid → IsRight L mid total place code → IsRight (behind K L) bytes total place code
-right_second K L May r first may bytes mid total place code text (inl syntax) =
-    let to = syntax.1.to in
-    let moved = first.moved bytes mid text in
-    inl (
-      syntax.0,
-      record {
-        there = syntax.1.there;
-        to = record {
-          before = moved.front ++ to.before;
-          text = moved.text ∙ (ap (λ bs. moved.front ++ bs) to.text ∙ sym (append_assoc moved.front to.before syntax.1.there));
-          extends = second_extends K L May moved.front to.before moved.each may to.extends;
-        };
-        counted = syntax.1.counted;
-      },
-    )
-right_second K L May r first may bytes mid total place code text (inr stands) = inr record { there = stands.there; is = inr (mid, text, stands.is); counted = stands.counted }
-
-right_both : {A B : Type 0} (K L : Kind) (May Must : List ℕ → Type 0) (r : Reader A) (m : ℕ → A → Reader B) → Tells K May r → ((at : ℕ) (x : A) → Tells L Must (m at x)) → ((bs rest : List ℕ) → L.Text bs rest → May bs) → HasSome L Must → (bytes : List ℕ) (at place : ℕ) (code : Code) → (o : Outcome A) → r bytes at ≡ o
-    → next o (λ x p k. m at x k p) ≡ Faulty place code → IsRight (behind K L) bytes (at + length bytes) place code
-right_both {A} {B} K L May Must r m first second may some bytes at place code (Faulty p c) is told =
-    let places : p ≡ place = cc in
-    let codes : c ≡ code = cc in
-    right_first K L May Must r first may some bytes (at + length bytes) place code (first.right bytes at place code (same_fault (r bytes at) p place c code is places codes))
-right_both {A} {B} K L May Must r m first second may some bytes at place code (Found x p k) is told =
-    subst (λ total. IsRight (behind K L) bytes total place code) (first.counted bytes at p x k is)
-    (right_second K L May r first may bytes k (p + length k) place code (first.found bytes at p x k is) ((second at x).right k p place code told))
-
-shorter : (K : Kind) (May : List ℕ → Type 0) (bytes rest : List ℕ) → IsMoved K May bytes rest → length rest ≤ length bytes
-shorter K May bytes rest moved = omega (arith, ap length moved.text, length-append moved.front rest)
-
-texts_both : {A B : Type 0} (K L : Kind) (May Must : List ℕ → Type 0) (r : Reader A) (m : ℕ → A → Reader B) → Tells K May r → ((at : ℕ) (x : A) → Tells L Must (m at x)) → (any : A) → (bytes mid rest : List ℕ) (at : ℕ) → K.Text bytes mid → L.Text mid rest → TextRead (then_read r m bytes at) bytes at rest
-texts_both {A} {B} K L May Must r m first second any bytes mid rest at one two =
-    either (first.texts bytes mid at one)
-    (λ finds.
-    let counted = first.counted bytes at finds.place finds.value mid finds.is in
-    either ((second at finds.value).texts mid rest finds.place two)
-    (λ again. inl record { value = again.value; place = again.place; is = ap (λ o. next o (λ x p k. m at x k p)) finds.is ∙ again.is })
-    (λ stops. inr record { place = stops.place; code = stops.code; is = ap (λ o. next o (λ x p k. m at x k p)) finds.is ∙ stops.is; early = omega (arith, stops.early, counted); other = stops.other }))
-    (λ stops. inr record {
-      place = stops.place;
-      code = stops.code;
-      is = ap (λ o. next o (λ x p k. m at x k p)) stops.is;
-      early = omega (arith, stops.early, shorter L Must mid rest ((second at any).moved mid rest two));
-      other = stops.other;
-    })
-
-there_shorter : (K : Kind) (bytes there : List ℕ) → GoesPastIt K bytes there → length there ≤ length bytes
-there_shorter K bytes there past = omega (arith, ap length past.text, length-append past.before there)
-
-told_both : {A B : Type 0} (K L : Kind) (May Must : List ℕ → Type 0) (r : Reader A) (m : ℕ → A → Reader B) → Tells K May r → ((at : ℕ) (x : A) → Tells L Must (m at x)) → (any : A) → (code : Code) (bytes there : List ℕ) (at : ℕ) → (behind K L).Fault code bytes there → ToldIt (then_read r m bytes at) bytes at there code
-told_both {A} {B} K L May Must r m first second any code bytes there at (inl fault) =
-    let told = first.told code bytes there at fault in
-    record { place = told.place; told = told.told; is = ap (λ o. next o (λ x p k. m at x k p)) told.is; not_after = told.not_after }
-told_both {A} {B} K L May Must r m first second any code bytes there at (inr (mid, one, fault)) =
-    either (first.texts bytes mid at one)
-    (λ finds.
-    let counted = first.counted bytes at finds.place finds.value mid finds.is in
-    let told = (second at finds.value).told code mid there finds.place fault in
-    record {
-      place = told.place;
-      told = told.told;
-      is = ap (λ o. next o (λ x p k. m at x k p)) finds.is ∙ told.is;
-      not_after = either told.not_after (λ early. inl (omega (arith, early, counted))) (λ same. inr (same.0 ∙ counted, same.1));
-    })
-    (λ stops. record {
-      place = stops.place;
-      told = stops.code;
-      is = ap (λ o. next o (λ x p k. m at x k p)) stops.is;
-      not_after = inl (omega (arith, stops.early, there_shorter L mid there ((second at any).past code mid there fault)));
-    })
-
-past_both : {A B : Type 0} (K L : Kind) (May Must : List ℕ → Type 0) (r : Reader A) (s : Reader B) → Tells K May r → Tells L Must s → ((bs rest : List ℕ) → L.Text bs rest → May bs) → (code : Code) (bytes there : List ℕ) → (behind K L).Fault code bytes there → GoesPastIt (behind K L) bytes there
-past_both K L May Must r s first second may code bytes there (inl fault) =
-    let past = first.past code bytes there fault in
-    record { before = past.before; text = past.text; first = past.first; later = past.later; begins = past.begins; extends = first_extends K L May Must (past.before ++ past.first ∷ []) first.moved may second.some past.extends }
-past_both K L May Must r s first second may code bytes there (inr (mid, one, fault)) =
-    let past = second.past code mid there fault in
-    let moved = first.moved bytes mid one in
-    record {
-      before = moved.front ++ past.before;
-      text = moved.text ∙ (ap (λ bs. moved.front ++ bs) past.text ∙ sym (append_assoc moved.front past.before there));
-      first = past.first;
-      later = past.later;
-      begins = past.begins;
-      extends = subst (Extends (behind K L)) (sym (append_assoc moved.front past.before (past.first ∷ []))) (second_extends K L May moved.front (past.before ++ past.first ∷ []) moved.each may past.extends);
-    }
-
-moved_both : (K L : Kind) (May Must : List ℕ → Type 0) → ((bs rest : List ℕ) → K.Text bs rest → IsMoved K May bs rest) → ((bs rest : List ℕ) → L.Text bs rest → IsMoved L Must bs rest) → ((bs rest : List ℕ) → L.Text bs rest → May bs) → (bytes mid rest : List ℕ) → K.Text bytes mid → L.Text mid rest → IsMoved (behind K L) Must bytes rest
-moved_both K L May Must first second may bytes mid rest one two =
-    let a = first bytes mid one in
-    let b = second mid rest two in
-    record {
-      front = a.front ++ b.front;
-      text = a.text ∙ (ap (λ bs. a.front ++ bs) b.text ∙ sym (append_assoc a.front b.front rest));
-      each = λ other must.
-          let l = b.each other must in
-          (b.front ++ other, subst (λ bs. K.Text bs (b.front ++ other)) (sym (append_assoc a.front b.front other)) (a.each (b.front ++ other) (may (b.front ++ other) other l)), l);
-    }
-
-some_both : (K L : Kind) (May Must : List ℕ → Type 0) → HasSome K May → HasSome L Must → ((bs rest : List ℕ) → L.Text bs rest → May bs) → HasSome (behind K L) Must
-some_both K L May Must first second may = record {
-  front = first.front ++ second.front;
-  each = λ other must.
-      let l = second.each other must in
-      (second.front ++ other, subst (λ bs. K.Text bs (second.front ++ other)) (sym (append_assoc first.front second.front other)) (first.each (second.front ++ other) (may (second.front ++ other) other l)), l);
-  follows = second.follows;
-  may = second.may;
+pub same_tells : {A : Type 0} {Last : Type 0} (K : Kind) (Of May : List ℕ → Type 0) (r s : Reader A) → ((bytes : List ℕ) (at : ℕ) → r bytes at ≡ s bytes at) → Tells Last K Of May s → Tells Last K Of May r
+same_tells {A} {Last} K Of May r s same tells = record {
+  forms = tells.forms;
+  local = same_local r s same tells.local;
+  found = λ bytes at place x rest of e. tells.found bytes at place x rest of (sym (same bytes at) ∙ e);
+  counted = λ bytes at place x rest of e. tells.counted bytes at place x rest of (sym (same bytes at) ∙ e);
+  right = λ bytes at place code of e. tells.right bytes at place code of (sym (same bytes at) ∙ e);
+  texts = λ bytes rest at of text. either (tells.texts bytes rest at of text)
+      (λ finds. inl record { value = finds.value; place = finds.place; is = same bytes at ∙ finds.is })
+      (λ stops. inr record { place = stops.place; code = stops.code; is = same bytes at ∙ stops.is; early = stops.early; other = stops.other });
+  told = λ code bytes there at of fault. let one = tells.told code bytes there at of fault in record { place = one.place; told = one.told; is = same bytes at ∙ one.is; not_after = one.not_after };
 }
 
--- a reader behind another tells the first fault of the one kind behind the other
-pub both_tell : {A B : Type 0} (K L : Kind) (May Must : List ℕ → Type 0) (r : Reader A) (m : ℕ → A → Reader B) → Tells K May r → ((at : ℕ) (x : A) → Tells L Must (m at x)) → A → ((bs rest : List ℕ) → L.Text bs rest → May bs) → Tells (behind K L) Must (then_read r m)
-both_tell {A} {B} K L May Must r m first second any may = record {
-  found = λ bytes at place y rest e. (found_both K L May Must r m first second bytes at place y rest (r bytes at) refl e).0;
-  counted = λ bytes at place y rest e. (found_both K L May Must r m first second bytes at place y rest (r bytes at) refl e).1;
-  right = λ bytes at place code e. right_both K L May Must r m first second may (second 0 any).some bytes at place code (r bytes at) refl e;
-  texts = λ bytes rest at text. texts_both K L May Must r m first second any bytes text.0 rest at text.1 text.2;
-  told = λ code bytes there at fault. told_both K L May Must r m first second any code bytes there at fault;
-  past = λ code bytes there fault. past_both K L May Must r (m 0 any) first (second 0 any) may code bytes there fault;
-  moved = λ bytes rest text. moved_both K L May Must first.moved (second 0 any).moved may bytes text.0 rest text.1 text.2;
-  some = some_both K L May Must first.some (second 0 any).some may;
-  other_codes = λ bytes there fault. either fault (λ k. first.other_codes bytes there k) (λ l. (second 0 any).other_codes l.0 there l.2);
-  local = next_local r m first.local (λ at x. (second at x).local);
+-- The same kind in other words.
+
+pub record IsSameKind (K L : Kind) : Type 0 where
+  pub text : (bytes rest : List ℕ) → K.Text bytes rest → L.Text bytes rest
+  pub text_back : (bytes rest : List ℕ) → L.Text bytes rest → K.Text bytes rest
+  pub fault : (code : Code) (bytes there : List ℕ) → K.Fault code bytes there → L.Fault code bytes there
+  pub fault_back : (code : Code) (bytes there : List ℕ) → L.Fault code bytes there → K.Fault code bytes there
+
+pub extends_to : (K L : Kind) (before : List ℕ) → ((bytes rest : List ℕ) → K.Text bytes rest → L.Text bytes rest) → Extends K before → Extends L before
+extends_to K L before to is = record { other = is.other; rest = is.rest; long = is.long; is = to (before ++ is.other) is.rest is.is }
+
+pub past_to : (Last : Type 0) (K L : Kind) (bytes there : List ℕ) → ((bytes rest : List ℕ) → K.Text bytes rest → L.Text bytes rest) → IsPassed Last K bytes there → IsPassed Last L bytes there
+past_to Last K L bytes there to (inl past) = inl record { before = past.before; text = past.text; first = past.first; later = past.later; begins = past.begins; extends = extends_to K L (past.before ++ past.first ∷ []) to past.extends }
+past_to Last K L bytes there to (inr ends) = inr (ends.0, record { none = ends.1.none; rest = ends.1.rest; is = to bytes ends.1.rest ends.1.is })
+
+pub moved_to : (K L : Kind) (May : List ℕ → Type 0) (bytes rest : List ℕ) → ((bytes rest : List ℕ) → K.Text bytes rest → L.Text bytes rest) → IsMoved K May bytes rest → IsMoved L May bytes rest
+moved_to K L May bytes rest to moved = record { front = moved.front; text = moved.text; each = λ other may. to (moved.front ++ other) other (moved.each other may) }
+
+pub some_to : (K L : Kind) (May : List ℕ → Type 0) → ((bytes rest : List ℕ) → K.Text bytes rest → L.Text bytes rest) → HasSome K May → HasSome L May
+some_to K L May to some = record { front = some.front; each = λ other may. to (some.front ++ other) other (some.each other may); follows = some.follows; may = some.may }
+
+pub right_to : (K L : Kind) (bytes : List ℕ) (total place : ℕ) (code : Code) → ((bytes rest : List ℕ) → K.Text bytes rest → L.Text bytes rest) → ((there : List ℕ) → K.Fault code bytes there → L.Fault code bytes there) → IsRight K bytes total place code → IsRight L bytes total place code
+right_to K L bytes total place code to fault (inl syntax) =
+    let on = syntax.1.to in
+    inl (syntax.0, record { there = syntax.1.there; to = record { before = on.before; text = on.text; extends = extends_to K L on.before to on.extends }; counted = syntax.1.counted })
+right_to K L bytes total place code to fault (inr stands) = inr record { there = stands.there; is = fault stands.there stands.is; counted = stands.counted }
+
+pub kind_forms : {Last : Type 0} (K L : Kind) (May : List ℕ → Type 0) → IsSameKind K L → Forms Last K May → Forms Last L May
+kind_forms {Last} K L May same forms = record {
+  moved = λ bytes rest text. moved_to K L May bytes rest same.text (forms.moved bytes rest (same.text_back bytes rest text));
+  some = some_to K L May same.text forms.some;
+  past = λ code bytes there fault. past_to Last K L bytes there same.text (forms.past code bytes there (same.fault_back code bytes there fault));
+  other_codes = λ bytes there fault. forms.other_codes bytes there (same.fault_back Syntax bytes there fault);
+}
+
+pub kind_tells : {A : Type 0} {Last : Type 0} (K L : Kind) (Of May : List ℕ → Type 0) (r : Reader A) → IsSameKind K L → Tells Last K Of May r → Tells Last L Of May r
+kind_tells {A} {Last} K L Of May r same tells = record {
+  forms = kind_forms K L May same tells.forms;
+  local = tells.local;
+  found = λ bytes at place x rest of e. same.text bytes rest (tells.found bytes at place x rest of e);
+  counted = tells.counted;
+  right = λ bytes at place code of e. right_to K L bytes (at + length bytes) place code same.text (same.fault code bytes) (tells.right bytes at place code of e);
+  texts = λ bytes rest at of text. tells.texts bytes rest at of (same.text_back bytes rest text);
+  told = λ code bytes there at of fault. tells.told code bytes there at of (same.fault_back code bytes there fault);
+}
+
+-- Of fewer bytes, where less may follow, and before the last of all.
+
+pub tells_last : {A : Type 0} (Last : Type 0) (K : Kind) (Of May : List ℕ → Type 0) (r : Reader A) → Tells ⊥ K Of May r → Tells Last K Of May r
+tells_last Last K Of May r tells = record {
+  forms = as_before Last K May tells.forms;
+  local = tells.local;
+  found = tells.found;
+  counted = tells.counted;
+  right = tells.right;
+  texts = λ bytes rest at of text. either (tells.texts bytes rest at of text) (λ finds. inl finds) (λ stops. inr record { place = stops.place; code = stops.code; is = stops.is; early = inl (is_early stops.place rest (at + length bytes) stops.early); other = stops.other });
+  told = tells.told;
+}
+
+pub tells_of : {A : Type 0} {Last : Type 0} (K : Kind) (Of On May : List ℕ → Type 0) (r : Reader A) → ((bytes : List ℕ) → On bytes → Of bytes) → Tells Last K Of May r → Tells Last K On May r
+tells_of K Of On May r fewer tells = record {
+  forms = tells.forms;
+  local = tells.local;
+  found = λ bytes at place x rest of e. tells.found bytes at place x rest (fewer bytes of) e;
+  counted = λ bytes at place x rest of e. tells.counted bytes at place x rest (fewer bytes of) e;
+  right = λ bytes at place code of e. tells.right bytes at place code (fewer bytes of) e;
+  texts = λ bytes rest at of text. tells.texts bytes rest at (fewer bytes of) text;
+  told = λ code bytes there at of fault. tells.told code bytes there at (fewer bytes of) fault;
+}
+
+pub tells_before : {A : Type 0} {Last : Type 0} (K : Kind) (Of May Must : List ℕ → Type 0) (r : Reader A) (follows : List ℕ) → ((other : List ℕ) → Must other → May other) → Must follows → Tells Last K Of May r → Tells Last K Of Must r
+tells_before K Of May Must r follows less must tells = record {
+  forms = record {
+    moved = λ bytes rest text. let moved = tells.forms.moved bytes rest text in record { front = moved.front; text = moved.text; each = λ other is. moved.each other (less other is) };
+    some = record { front = tells.forms.some.front; each = λ other is. tells.forms.some.each other (less other is); follows = follows; may = must };
+    past = tells.forms.past;
+    other_codes = tells.forms.other_codes;
+  };
+  local = tells.local;
+  found = tells.found;
+  counted = tells.counted;
+  right = tells.right;
+  texts = tells.texts;
+  told = tells.told;
+}
+
+-- of no bytes
+pub never_tells : {A : Type 0} {Last : Type 0} (K : Kind) (Of May : List ℕ → Type 0) (r : Reader A) → Forms Last K May → IsLocal r → ((bytes : List ℕ) → Of bytes → ⊥) → Tells Last K Of May r
+never_tells K Of May r forms local never = record {
+  forms = forms;
+  local = local;
+  found = λ bytes at place x rest of e. absurd (never bytes of);
+  counted = λ bytes at place x rest of e. absurd (never bytes of);
+  right = λ bytes at place code of e. absurd (never bytes of);
+  texts = λ bytes rest at of text. absurd (never bytes of);
+  told = λ code bytes there at of fault. absurd (never bytes of);
+}
+
+-- a reader that looks at the number of the bytes
+pub each_length_tells : {A : Type 0} {Last : Type 0} (K : Kind) (May : List ℕ → Type 0) (r : ℕ → Reader A) → IsLocal (λ bytes at. r (length bytes) bytes at) → ((most : ℕ) → Tells Last K (λ bytes. length bytes ≤ most) May (r most)) → Tells Last K Anything May (λ bytes at. r (length bytes) bytes at)
+each_length_tells K May r local each = record {
+  forms = (each 0).forms;
+  local = local;
+  found = λ bytes at place x rest of e. (each (length bytes)).found bytes at place x rest (omega arith) e;
+  counted = λ bytes at place x rest of e. (each (length bytes)).counted bytes at place x rest (omega arith) e;
+  right = λ bytes at place code of e. (each (length bytes)).right bytes at place code (omega arith) e;
+  texts = λ bytes rest at of text. (each (length bytes)).texts bytes rest at (omega arith) text;
+  told = λ code bytes there at of fault. (each (length bytes)).told code bytes there at (omega arith) fault;
 }

@@ -1,3 +1,7 @@
--- Kinds of texts, and the kinds of facts.
+-- Kinds of texts, and the kinds of facts, clauses, certificates and reports.
 pub mod Kinds
-pub mod Messages
+pub mod Numbers
+pub mod Facts
+pub mod Clauses
+pub mod Reports
+pub mod Told

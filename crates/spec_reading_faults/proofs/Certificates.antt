@@ -42,11 +42,11 @@ behind_hypothesis-moves h =
     choice_moves (λ b. b == 44) (λ bytes at. next (read_fixed (codes ", ") bytes at) (λ _ p r. Found (h, true) p r)) (λ bytes at. next (read_fixed (codes " => ") bytes at) (λ _ p r. Found (h, false) p r))
     (closing_moves 44 (32 ∷ []) (h, true)) (closing_moves 32 (codes "=> ") (h, false))
 
-one_hypothesis-local : (P : Protocol) → IsLocal (one_hypothesis P)
+pub one_hypothesis-local : (P : Protocol) → IsLocal (one_hypothesis P)
 unfolding behind_hypothesis
 one_hypothesis-local P = next_local (read_hypothesis P) (λ at h. behind_hypothesis h) (hypothesis_local P) (λ at h. behind_hypothesis-local h)
 
-one_hypothesis-moves : (P : Protocol) → Moves (one_hypothesis P)
+pub one_hypothesis-moves : (P : Protocol) → Moves (one_hypothesis P)
 unfolding behind_hypothesis
 one_hypothesis-moves P = moves_second (read_hypothesis P) (λ at h. behind_hypothesis h) (hypothesis_local P) (λ at h. behind_hypothesis-moves h)
 
@@ -104,13 +104,13 @@ one_number-moves : Moves one_number
 unfolding behind_number
 one_number-moves = moves_second read_number (λ at n. behind_number n) number_local (λ at n. behind_number-moves n)
 
-numbers_local : IsLocal (things one_number)
+pub numbers_local : IsLocal (things one_number)
 numbers_local = things_local one_number one_number-local one_number-moves
 
 row_line-local : (letter : ℕ) → IsLocal (row_line letter)
 row_line-local letter = behind_fixed (letter ∷ 32 ∷ []) (things one_number) numbers_local
 
-row_line-moves : (letter : ℕ) → Moves (row_line letter)
+pub row_line-moves : (letter : ℕ) → Moves (row_line letter)
 row_line-moves letter = moves_first (read_fixed (letter ∷ 32 ∷ [])) (λ at u. things one_number) (fixed_moves letter (32 ∷ [])) (λ at u. numbers_local)
 
 rows_local : (letter : ℕ) → (0 == letter) ≡ false → IsLocal (read_rows letter)

@@ -67,7 +67,7 @@ argument_moves : (P : Protocol) → Moves (argument P)
 unfolding behind_argument skipping no_thing
 argument_moves P = moves_second (one_term P) (λ at t. behind_argument t) (term_local P) (λ at t. behind_argument-moves t)
 
-terms_local : (P : Protocol) → IsLocal (read_terms P)
+pub terms_local : (P : Protocol) → IsLocal (read_terms P)
 terms_local P = things_local (argument P) (argument_local P) (argument_moves P)
 
 -- Events.
@@ -225,7 +225,7 @@ me_as P (b ∷ c ∷ bytes) at = by (b == 109) (c == 101)
     by false true = one_way (front bytes == 118) (Faulty at Syntax)
     by false false = one_way (front bytes == 118) (Faulty at Syntax)
 
-mev_or_mess-local : (P : Protocol) → IsLocal (read_mev_or_mess P)
+pub mev_or_mess-local : (P : Protocol) → IsLocal (read_mev_or_mess P)
 unfolding behind_me
 mev_or_mess-local P = same_local (read_mev_or_mess P) (behind_me P) (me_as P) (behind_fixed (codes "me") (third P) (third_local P))
 

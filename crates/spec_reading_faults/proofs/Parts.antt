@@ -194,11 +194,11 @@ number_local = same_local read_number (λ bytes at. if is_ascii_digit (front byt
 
 -- Rows of things.
 
-things_more : {A : Type 0} (r : Reader (A × Bool)) (most : ℕ) (xs : List A) (bytes : List ℕ) (at : ℕ) → things_from r (suc most) xs bytes at ≡ next (r bytes at) (λ x p k. if x.1 then things_from r most (xs ++ x.0 ∷ []) k p else Found (xs ++ x.0 ∷ []) p k)
+pub things_more : {A : Type 0} (r : Reader (A × Bool)) (most : ℕ) (xs : List A) (bytes : List ℕ) (at : ℕ) → things_from r (suc most) xs bytes at ≡ next (r bytes at) (λ x p k. if x.1 then things_from r most (xs ++ x.0 ∷ []) k p else Found (xs ++ x.0 ∷ []) p k)
 unfolding things_from
 things_more r most xs bytes at = refl
 
-things_none : {A : Type 0} (r : Reader (A × Bool)) (xs : List A) (bytes : List ℕ) (at : ℕ) → things_from r 0 xs bytes at ≡ Faulty at Syntax
+pub things_none : {A : Type 0} (r : Reader (A × Bool)) (xs : List A) (bytes : List ℕ) (at : ℕ) → things_from r 0 xs bytes at ≡ Faulty at Syntax
 unfolding things_from
 things_none r xs bytes at = refl
 
@@ -309,7 +309,7 @@ things_local r local moves = record {
 
 -- Lines that begin with a letter.
 
-lines_more : {A : Type 0} (letter : ℕ) (r : Reader A) (most : ℕ) (xs : List A) (bytes : List ℕ) (at : ℕ)
+pub lines_more : {A : Type 0} (letter : ℕ) (r : Reader A) (most : ℕ) (xs : List A) (bytes : List ℕ) (at : ℕ)
     → lines_from letter r (suc most) xs bytes at ≡ (if front bytes == letter then next (r bytes at) (λ x p k. lines_from letter r most (xs ++ x ∷ []) k p) else Found xs at bytes)
 unfolding lines_from
 lines_more letter r most xs bytes at = refl

@@ -9,7 +9,7 @@ use Rattle.spec_certificate_reading.specs.Terms.{Syntax, Count}
 use Rattle.spec_certificate_reading.specs.Outcomes.{Outcome, Found, Faulty, next, front, read_fixed, read_number, Reader}
 use Rattle.spec_certificate_reading.specs.Certificates.{read_certificate}
 use Rattle.spec_certificate_reading.specs.Reports.{Claim, Proved, Bare, Unknown, query_number, read_text, read_proof, read_verdict, read_claim, behind_claims, claims_from, read_report}
-use Rattle.spec_report_text.specs.Text.{SpellsReport}
+use Rattle.spec_report_text.specs.Text.{SpellsReport, in_line}
 use Rattle.spec_report_text.proofs.ReportsRead.{refused_is_none}
 use Rattle.spec_reading_faults.proofs.Shared.{Shares, shares_behind, Passed, IsLocal, next_local, choice_local, found_local, never_local, other_local}
 use Rattle.spec_reading_faults.proofs.Parts.{same_local, either_local, fixed_local, number_local, run, run_local}
@@ -38,11 +38,7 @@ query_number-local number = behind_fixed (codes "query ") (numbered_so number) (
 
 -- Some bytes on a line.
 
-in_line : ℕ → Bool
-in_line b = not (b == 10)
-
 long_as : (bytes : List ℕ) → prefix_len in_line bytes ≡ position_or_len (λ b. b == 10) bytes
-unfolding in_line
 long_as bytes = is_position_or_len (prefix_len in_line) (λ b. b == 10) refl (λ b rest. by (b == 10) (1 + prefix_len in_line rest)) bytes
   where
     by : (t : Bool) (n : ℕ) → cond (not t) n 0 ≡ cond t 0 n
@@ -70,7 +66,7 @@ read_so : List ℕ → ℕ → ℕ → Outcome (Unit {0})
 read_so bytes at long = if long == 0 then Faulty at Syntax else read_fixed (codes "\n") (drop long bytes) (at + long)
 
 text_as : (bytes : List ℕ) (at : ℕ) → read_text bytes at ≡ some_line bytes at
-unfolding some_line line no_line run read_so read_fixed in_line
+unfolding some_line line no_line run read_so read_fixed
 text_as [] at = let same : at ≡ at + 0 = omega arith in ap (no_line []) same
 text_as (b ∷ bytes) at = ap (read_so (b ∷ bytes) at) (sym (long_as (b ∷ bytes))) ∙ by (b == 10)
   where
@@ -149,7 +145,7 @@ verdict_as P (b ∷ bytes) at = by (b == 32)
     by true = refl
     by false = one_way (front bytes == 117) (Faulty at Syntax)
 
-verdict_local : (P : Protocol) → IsLocal (read_verdict P)
+pub verdict_local : (P : Protocol) → IsLocal (read_verdict P)
 unfolding behind_space
 verdict_local P = same_local (read_verdict P) (behind_space P) (verdict_as P) (behind_fixed (codes " ") (second P) (second_local P))
 
@@ -235,7 +231,7 @@ one_claim-local : (P : Protocol) (left number : ℕ) (claims : List Claim) → (
 unfolding one_claim
 one_claim-local P left number claims again = next_local (read_claim P number) (λ at c. claims_from P left (number + 1) (claims ++ c ∷ [])) (claim_local P number) (λ at c. again (claims ++ c ∷ []))
 
-claims_local : (P : Protocol) (left number : ℕ) (claims : List Claim) → IsLocal (claims_from P left number claims)
+pub claims_local : (P : Protocol) (left number : ℕ) (claims : List Claim) → IsLocal (claims_from P left number claims)
 claims_local P zero number claims = same_local (claims_from P 0 number claims) (ends claims) (claims_end P number claims) (ends_local claims)
 claims_local P (suc left) number claims =
     some_local (claims_from P (suc left) number claims) (one_claim P left number claims) (claims_more P left number claims) (none_later P left number claims) (none_passed P left number claims)

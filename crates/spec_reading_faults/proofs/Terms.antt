@@ -8,7 +8,7 @@ use Rattle.spec_protocol_scope.specs.Names.{is_variable}
 use Rattle.spec_terms.specs.Term.{Tuple, Attacker, Term}
 use Rattle.spec_run_text.specs.Reading.{numeral}
 use Rattle.spec_certificate_reading.specs.Names.{Named, symbol_called, name_called}
-use Rattle.spec_certificate_reading.specs.Terms.{Syntax, Number, Symbol, Arity, Count, Open, Mode, Begins, InWord, InDigits, AtBracket, Ended, Reading, Step, Goes, Ends, Fault}
+use Rattle.spec_certificate_reading.specs.Terms.{Code, Syntax, Number, Symbol, Arity, Count, Open, Mode, Begins, InWord, InDigits, AtBracket, Ended, Reading, Step, Goes, Ends, Fault}
 use Rattle.spec_certificate_reading.specs.Steps.{is_deep, goes, unless_deep, opened, with_parts, has_arity, closed, closing_byte, may_close, may_go_on, may_be_empty, after_term, begin_term, at_begin, after_variable, after_name, after_word, apply, in_word, after_point, after_number, after_digits, step_in, step}
 use Rattle.spec_certificate_reading.specs.Runs.{Read, Done, Refused, followed, cut_off, at_end, read_on, read_term}
 use Rattle.spec_certificate_reading.specs.Outcomes.{Found, Faulty}
@@ -231,14 +231,14 @@ read_found P (suc n) (b ∷ bytes) (c ∷ others) at place t rest r shares there
 
 -- What comes of a term's reading.
 
-as_refused : (o : Read) (place : ℕ) → term_outcome o ≡ Faulty place Syntax → o ≡ Refused place Syntax
-as_refused (Done t p rest) place e = absurd (cc)
-as_refused (Refused p c) place e =
+pub as_refused : (o : Read) (place : ℕ) (code : Code) → term_outcome o ≡ Faulty place code → o ≡ Refused place code
+as_refused (Done t p rest) place code e = absurd (cc)
+as_refused (Refused p c) place code e =
     let places : p ≡ place = cc in
-    let codes : c ≡ Syntax = cc in
+    let codes : c ≡ code = cc in
     ap (λ q. Refused q c) places ∙ ap (Refused place) codes
 
-as_done : (o : Read) (t : Term) (place : ℕ) (rest : List ℕ) → term_outcome o ≡ Found t place rest → o ≡ Done t place rest
+pub as_done : (o : Read) (t : Term) (place : ℕ) (rest : List ℕ) → term_outcome o ≡ Found t place rest → o ≡ Done t place rest
 as_done (Done u p k) t place rest e =
     let same : u ≡ t = cc in
     let places : p ≡ place = cc in
@@ -248,8 +248,8 @@ as_done (Refused p c) t place rest e = absurd (cc)
 
 pub term_local : (P : Protocol) → IsLocal (one_term P)
 term_local P = record {
-  fault = λ bytes others at n place shares there e. ap term_outcome (read_fault P n bytes others at place record { heads = []; mode = Begins; from = at } shares there (as_refused (read_term P bytes at) place e));
+  fault = λ bytes others at n place shares there e. ap term_outcome (read_fault P n bytes others at place record { heads = []; mode = Begins; from = at } shares there (as_refused (read_term P bytes at) place Syntax e));
   found = λ bytes others at n place t rest shares there e. ap term_outcome (read_found P n bytes others at place t rest record { heads = []; mode = Begins; from = at } shares there (as_done (read_term P bytes at) t place rest e));
   passed = λ bytes at place t rest e. read_passed P bytes at place t rest record { heads = []; mode = Begins; from = at } (as_done (read_term P bytes at) t place rest e);
-  later = λ bytes at place e. read_later P bytes at place record { heads = []; mode = Begins; from = at } (as_refused (read_term P bytes at) place e);
+  later = λ bytes at place e. read_later P bytes at place record { heads = []; mode = Begins; from = at } (as_refused (read_term P bytes at) place Syntax e);
 }

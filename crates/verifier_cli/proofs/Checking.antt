@@ -11,11 +11,12 @@ use Rattle.spec_certificates.specs.Certificate.{Certificate}
 use Rattle.spec_certificates.specs.Ruling as certificates
 use Rattle.spec_certificates.specs.Ruling.{IsRuled}
 use Rattle.spec_certificate_reading.specs.Terms.{Code}
-use Rattle.spec_certificate_reading.specs.Outcomes as reading
-use Rattle.spec_certificate_reading.specs.Outcomes.{Faulty}
-use Rattle.spec_certificate_reading.specs.Reports.{Claim, Proved, Bare, Unknown, read_report}
+use Rattle.spec_certificate_reading.specs.Reports.{Claim, Proved, Bare, Unknown}
 use Rattle.spec_report_text.specs.Text.{SpellsReport}
-use Rattle.fact_reader.specs.Gives.{HasFault}
+use Rattle.spec_certificate_faults.specs.First.{IsFirstFault}
+use Rattle.spec_first_faults.specs.Reports.{reports}
+use Rattle.fact_reader.specs.Errors.{refusal_of}
+use Rattle.cert_text.specs.Refused.{IsFirstOf}
 use Rattle.fact_reader.specs.declared.error.CertError.{CertError}
 use Rattle.fact_reader.specs.declared.error.CertError.TheVariants as error
 use Rattle.spec_protocol_scope.specs.Spells.{Spells}
@@ -32,23 +33,21 @@ use Rattle.verifier_cli.proofs.Verifying.{Laws, same_refusal}
 
 -- the laws of the texts of reports on a protocol
 pub record ReportLaws (P : syntax.Protocol) : Type 0 where
-  pub refused : (bytes : List ℕ) (claims : List Claim) (place : ℕ) (code : Code) → read_report P bytes ≡ Faulty place code → SpellsReport P bytes claims → ⊥
+  pub refused : (bytes : List ℕ) (claims : List Claim) (place : ℕ) (code : Code) → IsFirstFault (reports P) bytes 0 place code → SpellsReport P bytes claims → ⊥
+  pub first : (bytes : List ℕ) (place other : ℕ) (code another : Code) → IsFirstFault (reports P) bytes 0 place code → IsFirstFault (reports P) bytes 0 other another → (place ≡ other) × (code ≡ another)
   pub one : (bytes : List ℕ) (claims others : List Claim) → SpellsReport P bytes claims → SpellsReport P bytes others → claims ≡ others
 
 not_both : (P : syntax.Protocol) → ReportLaws P → (bytes : List ℕ) (claims : List Claim) (why : ReportRefusal) (line : ℕ) → MakesClaims P bytes claims → RefusesReport P bytes why line → ⊥
 not_both P laws bytes claims (Misspelled code) line s r = laws.refused bytes claims r.1.0 code r.1.1 s.1
 not_both P laws bytes claims LongReport line s r = omega (arith, s.0, r.0)
 
-one_fault : (o : reading.Outcome (List Claim)) (p q : ℕ) (f g : Code) → o ≡ Faulty p f → o ≡ Faulty q g → (f ≡ g) × (p ≡ q)
-one_fault o p q f g e h = let same = sym e ∙ h in (cc, cc)
-
-one_reason : (P : syntax.Protocol) (bytes : List ℕ) (r s : ReportRefusal) (i j : ℕ) → RefusesReport P bytes r i → RefusesReport P bytes s j → (r ≡ s) × (i ≡ j)
-one_reason P bytes (Misspelled f) (Misspelled g) i j a b =
-    let e = one_fault (read_report P bytes) a.1.0 b.1.0 f g a.1.1 b.1.1 in
-    (ap Misspelled e.0, a.1.2 ∙ (ap (λ (place : ℕ). line_at bytes place) e.1 ∙ sym b.1.2))
-one_reason P bytes (Misspelled f) LongReport i j a b = absurd (omega (arith, a.0, b.0))
-one_reason P bytes LongReport (Misspelled g) i j a b = absurd (omega (arith, a.0, b.0))
-one_reason P bytes LongReport LongReport i j a b = (refl, a.1 ∙ sym b.1)
+one_reason : (P : syntax.Protocol) → ReportLaws P → (bytes : List ℕ) (r s : ReportRefusal) (i j : ℕ) → RefusesReport P bytes r i → RefusesReport P bytes s j → (r ≡ s) × (i ≡ j)
+one_reason P laws bytes (Misspelled f) (Misspelled g) i j a b =
+    let e = laws.first bytes a.1.0 b.1.0 f g a.1.1 b.1.1 in
+    (ap Misspelled e.1, a.1.2 ∙ (ap (λ (place : ℕ). line_at bytes place) e.0 ∙ sym b.1.2))
+one_reason P laws bytes (Misspelled f) LongReport i j a b = absurd (omega (arith, a.0, b.0))
+one_reason P laws bytes LongReport (Misspelled g) i j a b = absurd (omega (arith, a.0, b.0))
+one_reason P laws bytes LongReport LongReport i j a b = (refl, a.1 ∙ sym b.1)
 
 same_report_refusal : (r s : ReportRefusal) (i j : ℕ) → (r ≡ s) × (i ≡ j) → Report i r ≡ Report j s
 same_report_refusal r s i j (e, h) = ap (λ (why : ReportRefusal). Report i why) e ∙ ap (λ (line : ℕ). Report line s) h
@@ -71,7 +70,7 @@ refusal_checks : (P : syntax.Protocol) → ReportLaws P → (bytes : List ℕ) (
 refusal_checks P laws bytes why line refused = record {
   answers = refused;
   accepts = λ claims s. absurd (not_both P laws bytes claims why line s refused);
-  refuses = λ other at r. inl (ap Refused (same_report_refusal why other line at (one_reason P bytes why other line at refused r)));
+  refuses = λ other at r. inl (ap Refused (same_report_refusal why other line at (one_reason P laws bytes why other line at refused r)));
 }
 
 -- and of want of memory
@@ -168,8 +167,8 @@ report_words files name most P ReadFault is = refl
 report_words files name most P _ (inl x) = absurd x.fact.answers
 report_words files name most P _ (inr why) = absurd why.1
 
--- a report with a fault is refused, at the line of its place
-pub fault_unread : (P : syntax.Protocol) (bytes : List ℕ) (e : CertError) → length bytes ≤ most_report_bytes → HasFault e (read_report P bytes) → IsNoReport P bytes (report_not_read bytes e)
+-- a report with a first fault is refused, at the line of its place
+pub fault_unread : (P : syntax.Protocol) (bytes : List ℕ) (e : CertError) → length bytes ≤ most_report_bytes → IsFirstOf (reports P) bytes 0 (refusal_of e) → IsNoReport P bytes (report_not_read bytes e)
 fault_unread P bytes (error.Syntax place) fits h = (fits, (place, h, refl))
 fault_unread P bytes (error.Number place) fits h = (fits, (place, h, refl))
 fault_unread P bytes (error.Symbol place) fits h = (fits, (place, h, refl))

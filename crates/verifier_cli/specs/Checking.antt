@@ -6,9 +6,10 @@ use Rattle.hv_io.specs.Place.{line_at}
 use Rattle.spec_protocol_scope.specs.Spells as spells
 use Rattle.spec_protocol_scope.specs.Spells.{Spells, Refuses}
 use Rattle.spec_certificates.specs.Ruling.{IsRuled}
-use Rattle.spec_certificate_reading.specs.Outcomes.{Faulty}
-use Rattle.spec_certificate_reading.specs.Reports.{Claim, Proved, Bare, Unknown, read_report}
+use Rattle.spec_certificate_reading.specs.Reports.{Claim, Proved, Bare, Unknown}
 use Rattle.spec_report_text.specs.Text.{SpellsReport}
+use Rattle.spec_certificate_faults.specs.First.{IsFirstFault}
+use Rattle.spec_first_faults.specs.Reports.{reports}
 use Rattle.cert_checker.specs.Rulings.{ruling_of}
 use Rattle.verifier_cli.specs.declared.outcome.Finding.{Finding}
 use Rattle.verifier_cli.specs.declared.outcome.Finding.TheVariants.{Ruled, Missing, NotClaimed}
@@ -20,11 +21,12 @@ use Rattle.verifier_cli.specs.Command.{Becomes, IsRefusalOf, refusal_at, NoneVio
 abbrev pub MakesClaims : Protocol → List ℕ → List Claim → Type 0
 MakesClaims P bytes claims = (length bytes ≤ most_report_bytes) × SpellsReport P bytes claims
 
--- they are refused so as a report on the protocol, and at that line, from 1: too many before all else, at the first
+-- they are refused so as a report on the protocol, and at that line, from 1: too many before all else, at the first; else for the fault
+-- that stands at the earliest place, and of those at one place for the one of the least number
 abbrev pub RefusesReport : Protocol → List ℕ → ReportRefusal → ℕ → Type 0
 RefusesReport P bytes LongReport line = (most_report_bytes < length bytes) × (line ≡ 1)
 RefusesReport P bytes (Misspelled code) line =
-    (length bytes ≤ most_report_bytes) × ((place : ℕ) × (read_report P bytes ≡ Faulty place code) × (line ≡ line_at bytes place))
+    (length bytes ≤ most_report_bytes) × ((place : ℕ) × IsFirstFault (reports P) bytes 0 place code × (line ≡ line_at bytes place))
 
 -- what is found of a claim about a query: what is ruled of its certificate, that there is none, or that nothing is claimed
 abbrev pub IsFindingOf : Protocol → Query → Claim → Finding → Type 0

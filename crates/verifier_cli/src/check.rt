@@ -25,6 +25,7 @@ use cert_checker::check_cert;
 use cert_text::{CertError, Claim, Claims, read_report};
 use hv_io::{Files, place};
 use pi_tree::{MOST_REPORT_BYTES, Protocol};
+use spec_first_faults::the_first_fault_of_a_report_is_told;
 use spec_protocol_scope::{never_both, one_protocol, one_refusal};
 use spec_read_protocols::queries_of_read_protocols;
 use spec_report_text::reports_are_read;
@@ -87,7 +88,6 @@ fn load_claims<F: Files>(
     ensures unread { IfErr result (λ outcome. IsUnreadReport (protocol_of protocol.now)
         (outside F.held F.faults F.loads files.old files.new) report.now (outcome_of outcome)) }
 {
-    reports_are_read();
     match load_text(report, MOST_REPORT_BYTES, files) {
         Err(why) => Err(report_not_loaded(why)),
         Ok(bytes) => match read_report(alloc, protocol, &bytes) {
@@ -159,6 +159,7 @@ fn check_report<F: Files>(
         ChecksReport (protocol_of protocol.now) text (outcome_of result)) }
 {
     reports_are_read();
+    the_first_fault_of_a_report_is_told();
     match load_claims(alloc, protocol, report, files) {
         Err(outcome) => outcome,
         Ok(claims) => checked(alloc, protocol, &claims),

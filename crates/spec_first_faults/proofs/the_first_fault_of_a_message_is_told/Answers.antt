@@ -1,7 +1,7 @@
 use Rattle.spec_certificate_reading.specs.Facts.{read_att, read_mess}
-use Rattle.spec_first_faults.specs.Messages.{known, sent}
+use Rattle.spec_first_faults.specs.Facts.{known, sent}
 use Rattle.spec_first_faults.proofs.Law.{told_is_first, first_is_told, found_has_none}
-use Rattle.spec_first_faults.proofs.Small.{Anything}
+use Rattle.spec_first_faults.proofs.Tells.{Anything}
 use Rattle.spec_first_faults.proofs.Messages.{known_tells, sent_tells}
 use Rattle.spec_first_faults.proofs.the_first_fault_of_a_message_is_told.Goals as goal
 

@@ -14,7 +14,8 @@ returns-in-Err-clause-checked g c =
     let P = protocol_of c.args.protocol.now in
     let short = short_queries P c.requires.limits in
     let laws : ReportLaws P = record {
-      refused = λ bytes claims place code. c.reports_are_read.ensures.refused P bytes claims place code c.requires.names short;
+      refused = λ bytes claims place code is spells. (c.the_first_fault_of_a_report_is_told.ensures.spelled P bytes claims c.requires.names short spells).none place code is.stands;
+      first = c.the_first_fault_of_a_report_is_told.ensures.one P;
       one = λ bytes claims others. c.reports_are_read.ensures.one P bytes claims others c.requires.names short;
     } in
     let outcome = outcome_of c.in-Err.outcome in
@@ -25,7 +26,8 @@ returns-in-Ok-clause-checked g c =
     let P = protocol_of c.args.protocol.now in
     let short = short_queries P c.requires.limits in
     let laws : ReportLaws P = record {
-      refused = λ bytes claims place code. c.reports_are_read.ensures.refused P bytes claims place code c.requires.names short;
+      refused = λ bytes claims place code is spells. (c.the_first_fault_of_a_report_is_told.ensures.spelled P bytes claims c.requires.names short spells).none place code is.stands;
+      first = c.the_first_fault_of_a_report_is_told.ensures.one P;
       one = λ bytes claims others. c.reports_are_read.ensures.one P bytes claims others c.requires.names short;
     } in
     let outcome = outcome_of c.checked.result in

@@ -1,12 +1,13 @@
 -- What was read is what the file spells.
-use Rattle.std.proofs.Common.{◌≡◌, ◌∙◌, ◌≤◌, ℕ, List, [], length, map, inl, sym, ap, subst, arith}
+use Rattle.std.proofs.Common.{◌≡◌, ◌∙◌, ◌≤◌, ℕ, List, length, map, inl, sym, ap, subst, arith}
 use Rattle.std.proofs.lemmas.List.{length-map}
 use Rattle.spec_calculus.specs.Bounds.{most_report_bytes}
 use Rattle.pi_tree.specs.Protocols.{protocol_of}
-use Rattle.spec_certificate_reading.specs.Reports.{read_report}
 use Rattle.spec_report_text.specs.Text.{SpellsReport}
-use Rattle.fact_reader.specs.Gives.{HasFault}
+use Rattle.spec_first_faults.specs.Reports.{reports}
+use Rattle.fact_reader.specs.Errors.{refusal_of}
 use Rattle.cert_text.specs.Seen.{claim_of}
+use Rattle.cert_text.specs.Refused.{IsFirstOf}
 use Rattle.verifier_cli.specs.Checking.{MakesClaims}
 use Rattle.verifier_cli.specs.Outcome.{Outcome}
 use Rattle.verifier_cli.specs.Outside.{outside}
@@ -17,21 +18,15 @@ use Rattle.verifier_cli.proofs.Files.{no_report, of_all}
 use Rattle.verifier_cli.proofs.check.load_claims.Goals as goal
 
 pub returns-in-Ok-read_report-clause-each : goal.returns-in-Ok-read_report-clause-each
-returns-in-Ok-read_report-clause-each g c =
-    let claims = c.in-Ok-read_report.claims in
-    let read = c.in-Ok-read_report.ensures in
-    let spelled = c.reports_are_read.ensures.there (protocol_of c.args.protocol.now) c.deref.result.now (map claim_of claims) read.0 [] read.1 in
-    sym (length-map claims claim_of) ∙ spelled.all
+returns-in-Ok-read_report-clause-each g c = sym (length-map c.in-Ok-read_report.claims claim_of) ∙ c.in-Ok-read_report.ensures.spelled.all
 
 pub returns-in-Ok-read_report-clause-made : goal.returns-in-Ok-read_report-clause-made
 returns-in-Ok-read_report-clause-made g c =
     let P = protocol_of c.args.protocol.now in
     let claims = map claim_of c.in-Ok-read_report.claims in
-    let read = c.in-Ok-read_report.ensures in
-    let spelled = c.reports_are_read.ensures.there P c.deref.result.now claims read.0 [] read.1 in
     let same = ap (λ (bytes : List ℕ). length bytes) c.deref.ensures.value in
     let fits : length c.in-Ok.bytes.items ≤ most_report_bytes = omega (arith, c.in-Ok.ensures.within, c.deref.ensures.len, same) in
-    of_all _ _ _ (λ bytes. MakesClaims P bytes claims) c.in-Ok.bytes.items (fits, subst (λ (bytes : List ℕ). SpellsReport P bytes claims) c.deref.ensures.value spelled) c.in-Ok.ensures.loaded
+    of_all _ _ _ (λ bytes. MakesClaims P bytes claims) c.in-Ok.bytes.items (fits, subst (λ (bytes : List ℕ). SpellsReport P bytes claims) c.deref.ensures.value c.in-Ok-read_report.ensures.spelled) c.in-Ok.ensures.loaded
 
 pub returns-in-Err-clause-unread : goal.returns-in-Err-clause-unread
 returns-in-Err-clause-unread g c =
@@ -47,7 +42,7 @@ returns-clause-unread g c =
     let files = outside g.F.Files.held g.F.Files.faults g.F.Files.loads c.args.files.now c.load_text.new.files in
     let same = ap (λ (all : List ℕ). length all) c.deref.ensures.value in
     let fits : length bytes ≤ most_report_bytes = omega (arith, c.in-Ok.ensures.within, c.deref.ensures.len, same) in
-    let fault : HasFault error (read_report P bytes) = subst (λ (all : List ℕ). HasFault error (read_report P all)) c.deref.ensures.value c.in-Err-read_report.ensures in
+    let fault : IsFirstOf (reports P) bytes 0 (refusal_of error) = subst (λ (all : List ℕ). IsFirstOf (reports P) all 0 (refusal_of error)) c.deref.ensures.value (c.in-Err-read_report.ensures.refused c.requires.names) in
     let is : outcome_of c.report_not_read.result ≡ report_not_read bytes error = c.report_not_read.ensures ∙ ap (λ (all : List ℕ). report_not_read all error) c.deref-in-Err-read_report.ensures.value in
     subst (λ (outcome : Outcome). IsUnreadReport P files c.args.report.now outcome) (sym is)
     (inl (of_all _ _ _ (λ all. IsNoReport P all (report_not_read bytes error)) bytes (fault_unread P bytes error fits fault) c.in-Ok.ensures.loaded))
