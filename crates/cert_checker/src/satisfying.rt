@@ -1,16 +1,13 @@
 //! Goal rows: each says which alternative a clause that concludes `bad` satisfies, and by which positions.
 
-ghost use Rattle.std.specs.Prelude.{◌≡◌, ◌↔◌, ◌<◌, ◌+◌, ◌^◌, ◌∷◌, ◌&&◌, IsTrue, drop, IfOk};
+ghost use Rattle.std.specs.Prelude.{◌≡◌, ◌↔◌, ◌<◌, ◌+◌, ◌^◌, ◌∷◌, IsTrue, drop, IfOk};
 ghost use Rattle.spec_well_formed.specs.Limits.{IsWithinLimits};
-ghost use Rattle.spec_clauses.specs.Selection.{is_solved as is_solved_list};
-ghost use Rattle.spec_translation.specs.Satisfied.{is_bad as is_bad_fact};
 ghost use Rattle.spec_certificates.specs.Certificate.{GoalHolds};
 ghost use Rattle.spec_certificates.specs.Ruling.{bad_ones};
 ghost use Rattle.pi_tree.specs.Protocols.{protocol_of};
 ghost use Rattle.pi_tree.specs.Accessors.{IsThere};
 ghost use Rattle.pi_tree.specs.declared.accessors.Kind.TheVariants.{Query as OfQueries};
-ghost use Rattle.clause_form.specs.Facts.{fact_of};
-ghost use Rattle.clause_form.specs.Seen.{fact_at, clause_at, IsClauseIn};
+ghost use Rattle.clause_form.specs.Seen.{clause_at, IsClauseIn};
 ghost use Rattle.query_derive.specs.GoalRows.{OfQuery};
 ghost use Rattle.cert_checker.specs.Stages.{NextShows};
 ghost use Rattle.clause_form.specs.Fit.{AreFit};
@@ -18,8 +15,8 @@ ghost use Rattle.cert_checker.specs.Answers.{numbered_at, IsShownSo};
 
 use crate::checker::Checker;
 use crate::ruling::Shown;
-use clause_form::{Clause, Fact};
-use literal_selection::is_solved;
+use clause_form::Clause;
+use literal_selection::is_solved_goal;
 use query_derive::{Positions, QueryRow, query_row_holds};
 use std::alloc::AllocError;
 use term_tree::Bank;
@@ -101,25 +98,6 @@ fn next_satisfies<B: Bank>(
     }
 }
 
-/// Whether the fact is `bad`.
-fn is_bad<B: Bank>(bank: &B, fact: &Fact) -> bool
-    ensures { result ≡ is_bad_fact (fact_at (B.trees bank.now) (fact_of fact.now)) }
-{
-    match fact {
-        Fact::Bad(_) => true,
-        Fact::Att(_) | Fact::Mess(..) | Fact::Ev(..) | Fact::Mev(..) => false,
-    }
-}
-
-/// Whether the clause is solved, and concludes `bad`.
-fn needs_row<B: Bank>(bank: &B, clause: &Clause) -> bool
-    requires { IsClauseIn (B.trees bank.now) clause.now }
-    ensures { let seen = clause_at (B.trees bank.now) clause.now in
-        result ≡ (is_solved_list seen.hypotheses && is_bad_fact seen.conclusion) }
-{
-    is_solved(bank, clause) && is_bad(bank, &clause.concl)
-}
-
 /// Whether each solved clause that concludes `bad` is satisfied, by the goal rows in order.
 pub(crate) fn are_satisfied<B: Bank>(bank: &B, checker: &Checker<'_>) -> Result<Shown, AllocError>
     requires fit { AreFit (B.trees bank.now) checker.now.clauses.now }
@@ -132,7 +110,7 @@ pub(crate) fn are_satisfied<B: Bank>(bank: &B, checker: &Checker<'_>) -> Result<
 {
     let mut next = 0usize;
     'each: for (k, clause) in checker.clauses.iter().enumerate() {
-        if needs_row(bank, clause) {
+        if is_solved_goal(bank, clause) {
             if !next_satisfies(bank, checker, next, clause)? {
                 return Ok(Shown::Except(k as u64 + 1));
             }

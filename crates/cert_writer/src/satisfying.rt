@@ -1,15 +1,13 @@
 //! Goal rows: the first that show that live solved clauses which conclude `bad` satisfy the query.
 
-ghost use Rattle.std.specs.Prelude.{◌≡◌, ◌<◌, ◌^◌, ◌∷◌, ◌&&◌, ℕ, length, IfOk, MatchBool, MatchOption};
+ghost use Rattle.std.specs.Prelude.{◌≡◌, ◌<◌, ◌^◌, ◌∷◌, ℕ, length, IfOk, MatchBool, MatchOption};
 ghost use Rattle.spec_well_formed.specs.Limits.{IsWithinLimits};
-ghost use Rattle.spec_clauses.specs.Selection.{is_solved as is_solved_list};
-ghost use Rattle.spec_translation.specs.Satisfied.{is_bad as is_bad_fact, IsSatisfied};
+ghost use Rattle.spec_translation.specs.Satisfied.{IsSatisfied};
 ghost use Rattle.spec_verdicts.specs.FirstRows.{IsFirstGoal};
 ghost use Rattle.pi_tree.specs.Protocols.{protocol_of};
 ghost use Rattle.pi_tree.specs.Accessors.{IsThere};
 ghost use Rattle.pi_tree.specs.declared.accessors.Kind.TheVariants.{Query as OfQueries};
-ghost use Rattle.clause_form.specs.Facts.{fact_of};
-ghost use Rattle.clause_form.specs.Seen.{fact_at, clause_at, IsClauseIn};
+ghost use Rattle.clause_form.specs.Seen.{clause_at, IsClauseIn};
 ghost use Rattle.query_derive.specs.GoalRows.{OfQuery};
 ghost use Rattle.clause_form.specs.Fit.{IsFit, AreFit};
 ghost use Rattle.clause_saturate.specs.Beating.{clauses_of};
@@ -17,9 +15,9 @@ ghost use Rattle.cert_writer.specs.Goals.{is_due_at, AddsGoal, IsUnmetEntry, Are
 
 use crate::writer::Writer;
 use cert_form::Rows;
-use clause_form::{Clause, Fact};
+use clause_form::Clause;
 use clause_saturate::{Entry, Log};
-use literal_selection::is_solved;
+use literal_selection::is_solved_goal;
 use query_derive::{QueryRow, satisfies};
 use std::alloc::AllocError;
 use term_tree::Bank;
@@ -31,25 +29,6 @@ pub(crate) enum Goals {
     Unsatisfied(usize),
 }
 
-/// Whether the fact is `bad`.
-fn is_bad<B: Bank>(bank: &B, fact: &Fact) -> bool
-    ensures { result ≡ is_bad_fact (fact_at (B.trees bank.now) (fact_of fact.now)) }
-{
-    match fact {
-        Fact::Bad(_) => true,
-        Fact::Att(_) | Fact::Mess(..) | Fact::Ev(..) | Fact::Mev(..) => false,
-    }
-}
-
-/// Whether the clause is solved, and concludes `bad`.
-fn asks<B: Bank>(bank: &B, clause: &Clause) -> bool
-    requires { IsClauseIn (B.trees bank.now) clause.now }
-    ensures { let seen = clause_at (B.trees bank.now) clause.now in
-        result ≡ (is_solved_list seen.hypotheses && is_bad_fact seen.conclusion) }
-{
-    is_solved(bank, clause) && is_bad(bank, &clause.concl)
-}
-
 /// Whether the entry is live and solved, and concludes `bad`.
 fn is_due<B: Bank>(bank: &B, entry: &Entry) -> bool
     requires { IsClauseIn (B.trees bank.now) entry.now.clause }
@@ -57,7 +36,7 @@ fn is_due<B: Bank>(bank: &B, entry: &Entry) -> bool
 {
     match entry.by {
         Some(_) => false,
-        None => asks(bank, &entry.clause),
+        None => is_solved_goal(bank, &entry.clause),
     }
 }
 

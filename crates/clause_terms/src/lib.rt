@@ -54,8 +54,8 @@ pub fn what_is_read_is_short()
 
 /// The variables of a proper rule within the limit of symbols are few, and find room behind a base.
 pub fn rules_have_room()
-    ensures { (base : ℕ) (rule : Rule) → IsProperRule rule → IsSmallRule rule → base + most_written_symbols ≤ 2 ^ 32
-        → HasRoomForRule base rule }
+    ensures { (base : ℕ) (rule : Rule) → IsProperRule rule → IsSmallRule rule →
+        base + most_written_symbols ≤ 2 ^ 32 → HasRoomForRule base rule }
 {}
 
 /// A term of a query is made as one of a rule from base 0 is.

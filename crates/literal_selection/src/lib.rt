@@ -1,10 +1,11 @@
 //! Selection of a hypothesis: the first of the largest that can be selected (Blanchet 2016, section 3.3.1).
 #![tactic(auto)]
 
-ghost use Rattle.std.specs.Prelude.{◌≡◌, ◌↔◌, ◌+◌, ◌^◌, ◌<◌, List, ◌∷◌, map, true, IsNone};
+ghost use Rattle.std.specs.Prelude.{◌≡◌, ◌↔◌, ◌+◌, ◌^◌, ◌<◌, ◌&&◌, List, ◌∷◌, map, true, IsNone};
 ghost use Rattle.spec_terms.specs.Term.{Term};
 ghost use Rattle.spec_clauses.specs.Fact.{Fact as FactOf, total, fact_size, clause_size};
 ghost use Rattle.spec_clauses.specs.Selection.{select, is_solved as is_solved_list};
+ghost use Rattle.spec_translation.specs.Satisfied.{is_bad as is_bad_fact};
 ghost use Rattle.clause_form.specs.Facts.{fact_of};
 ghost use Rattle.clause_form.specs.Seen.{fact_at, clause_at, IsFactIn, AreFactsIn, IsClauseIn};
 ghost use Rattle.literal_selection.specs.Best.{selected_place, remembered};
@@ -18,6 +19,26 @@ pub fn is_solved<B: Bank>(bank: &B, clause: &Clause) -> bool
     ensures { result ≡ is_solved_list (clause_at (B.trees bank.now) clause.now).hypotheses }
 {
     are_solved(bank, &clause.hyps.items)
+}
+
+/// Whether the fact is `bad`.
+fn is_bad<B: Bank>(bank: &B, fact: &Fact) -> bool
+    ensures { result ≡ is_bad_fact (fact_at (B.trees bank.now) (fact_of fact.now)) }
+{
+    match fact {
+        Fact::Bad(_) => true,
+        Fact::Att(_) | Fact::Mess(..) | Fact::Ev(..) | Fact::Mev(..) => false,
+    }
+}
+
+/// Whether the clause is solved, and concludes `bad`: then a goal row has to show that it satisfies the query. Takes no
+/// memory.
+pub fn is_solved_goal<B: Bank>(bank: &B, clause: &Clause) -> bool
+    requires { IsClauseIn (B.trees bank.now) clause.now }
+    ensures { let seen = clause_at (B.trees bank.now) clause.now in
+        result ≡ (is_solved_list seen.hypotheses && is_bad_fact seen.conclusion) }
+{
+    is_solved(bank, clause) && is_bad(bank, &clause.concl)
 }
 
 /// A fact that can be selected: its place and its size.

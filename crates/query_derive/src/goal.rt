@@ -115,7 +115,7 @@ fn norms_into<B: Bank>(
 
 /// The goal clause of a query, as it stands last in the translation: one clause, always.
 ///
-/// `Err` comes only for want of memory; then the bank is as before.
+/// `Err` is want of memory; the bank is then as before.
 pub fn goal_clause<B: Bank>(
     alloc: Global,
     bank: &mut B,

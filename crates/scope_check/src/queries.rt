@@ -103,7 +103,8 @@ fn asked_event(
 ) -> Result<Atom, Stop>
     requires { FindsVariables scope.now.text variables.old }
     ensures read { GivesWith event_of result variables.new.items.items
-        (rules.asked_event (scope_of scope.now) variables.old.items.items (sketched.atom_of sketch.now)) }
+        (rules.asked_event (scope_of scope.now) variables.old.items.items
+        (sketched.atom_of sketch.now)) }
     ensures known { OnOk result (FindsVariables scope.now.text variables.new) }
 {
     let (read, symbols) = event(sketch, alloc, scope, &Setting::Event, variables)?;

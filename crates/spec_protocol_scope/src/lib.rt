@@ -50,7 +50,8 @@ pub fn main_process_points()
 
 /// A protocol that bytes spell has no more points than the limit.
 pub fn few_points()
-    ensures { (bytes : List ℕ) (p : Protocol) → Spells bytes p → length (nodes p.main) ≤ most_points }
+    ensures { (bytes : List ℕ) (p : Protocol) → Spells bytes p →
+        length (nodes p.main) ≤ most_points }
 {}
 
 /// The rules of a protocol that bytes spell hold variables alone, numbered from 1 by first occurrence, and those of one

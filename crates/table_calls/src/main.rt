@@ -4,9 +4,11 @@
 //! each row that shows something else, and how many rows a table has.
 //!
 //! What a table is about is told by its name (`tables`): files and what they spell (`file_rows`), clauses and what comes of them
-//! (`clause_rows`), the logs of saturation (`log_rows`), and the texts of certificates and reports (`certificate_rows`).
+//! (`clause_rows`), the logs of saturation (`log_rows`), verdicts over both banks (`bank_rows`), and the texts of certificates and reports
+//! (`certificate_rows`).
 #![tactic(auto)]
 
+mod bank_rows;
 mod certificate_rows;
 mod clause_rows;
 mod file_rows;

@@ -1,5 +1,6 @@
 //! The tables, by the names of their files.
 
+use crate::bank_rows::BankRows;
 use crate::certificate_rows::settings::Setting;
 use crate::clause_rows::rows::ClauseRows;
 use crate::file_rows::FileRows;
@@ -13,16 +14,18 @@ enum Topic {
     Files,
     Certificates,
     Logs,
+    Banks,
 }
 
 /// The topics of the tables that aren't about clauses.
-const TOPICS: [(&str, Topic); 6] = [
+const TOPICS: [(&str, Topic); 7] = [
     ("tokens.txt", Topic::Files),
     ("protocols.txt", Topic::Files),
     ("certificates.txt", Topic::Certificates),
     ("reports.txt", Topic::Certificates),
     ("certificate_limits.txt", Topic::Certificates),
     ("logs.txt", Topic::Logs),
+    ("banks.txt", Topic::Banks),
 ];
 
 /// The rows of a table.
@@ -34,6 +37,8 @@ pub enum TableRows {
     Certificates(Setting),
     /// Rows about logs.
     Logs(LogRows),
+    /// Rows about banks.
+    Banks(BankRows),
     /// Rows about clauses.
     Clauses(ClauseRows),
 }
@@ -44,6 +49,7 @@ impl Rows for TableRows {
             Some(Topic::Files) => TableRows::Files(FileRows::new(alloc)),
             Some(Topic::Certificates) => TableRows::Certificates(Setting::new(alloc)),
             Some(Topic::Logs) => TableRows::Logs(LogRows::new(alloc)),
+            Some(Topic::Banks) => TableRows::Banks(BankRows::new(alloc)),
             None => TableRows::Clauses(ClauseRows::new(name)),
         })
     }
@@ -53,6 +59,7 @@ impl Rows for TableRows {
             TableRows::Files(rows) => rows.follow(alloc, line),
             TableRows::Certificates(rows) => rows.follow(alloc, line),
             TableRows::Logs(rows) => rows.follow(alloc, line),
+            TableRows::Banks(rows) => rows.follow(alloc, line),
             TableRows::Clauses(rows) => rows.follow(alloc, line),
         }
     }

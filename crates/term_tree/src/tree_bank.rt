@@ -92,7 +92,8 @@ impl TreeBank {
     /// Whether a symbol over the arguments has no variable.
     fn is_ground_over(&self, symbol: Sym, args: &[Id]) -> bool
         requires { AreKnown self.now args.now }
-        ensures { result ≡ is_ground_term (node (symbol_of symbol) (map (tree_at self.now) args.now)) }
+        ensures { result ≡ is_ground_term (node (symbol_of symbol)
+            (map (tree_at self.now) args.now)) }
     {
         for arg in args {
             if !self.is_ground(*arg) {

@@ -14,13 +14,13 @@ use Rattle.cert_checker.proofs.Walking.{IsWalked, with_number, clause_next, none
 use Rattle.clause_form.proofs.Fit.{clause_fit_at}
 use Rattle.cert_checker.proofs.Fitting.{clause_at_index}
 use Rattle.cert_checker.proofs.satisfying.are_satisfied.Goals as goal
-use Rattle.cert_checker.proofs.satisfying.are_satisfied.Goals.{then-needs_row+in_ok-next_satisfies+else-not-branch, else-needs_row}
+use Rattle.cert_checker.proofs.satisfying.are_satisfied.Goals.{then-is_solved_goal+in_ok-next_satisfies+else-not-branch, else-is_solved_goal}
 
 abbrev due : Numbered → Bool
 due d = is_solved d.clause.hypotheses && is_bad d.clause.conclusion
 
-pub needs_row-requires : goal.needs_row-requires
-needs_row-requires g c = (clause_fit_at (g.B.Bank.trees c.args.bank.now) c.args.checker.now.clauses.now c.each.k c.clause-item.result c.clause-item.is c.requires.fit c.each-test.true).known
+pub is_solved_goal-requires : goal.is_solved_goal-requires
+is_solved_goal-requires g c = (clause_fit_at (g.B.Bank.trees c.args.bank.now) c.args.checker.now.clauses.now c.each.k c.clause-item.result c.clause-item.is c.requires.fit c.each-test.true).known
 
 pub next_satisfies-requires-clause-known : goal.next_satisfies-requires-clause-known
 next_satisfies-requires-clause-known g c = (clause_fit_at (g.B.Bank.trees c.args.bank.now) c.args.checker.now.clauses.now c.each.k c.clause-item.result c.clause-item.is c.requires.fit c.each-test.true).known
@@ -39,7 +39,7 @@ returns-then-not-branch g c = λ q asked.
     let rows = c.args.checker.now.cert.now.goals in
     let seen = clause_at all c.clause-item.result in
     let ahead = clause_next (clauses_at all cs) c.each.k seen (clause_at_index all cs c.each.k c.clause-item.result c.clause-item.is c.each-test.true) in
-    let passes : due (with_number (c.each.k + 1) seen) ≡ true = sym c.needs_row.ensures ∙ c.if-needs_row.true in
+    let passes : due (with_number (c.each.k + 1) seen) ≡ true = sym c.is_solved_goal.ensures ∙ c.if-is_solved_goal.true in
     let no : c.in_ok-next_satisfies.field-0 ≡ false = search rules in
     walk_fails (GoalHolds P q) (bad_ones (numbered_at all cs)) rows 0 (bad_ones (drop c.each.k (numbered_at all cs))) (bad_ones (drop (c.each.k + 1) (numbered_at all cs))) c.each.next (with_number (c.each.k + 1) seen)
     (sought_ahead due (drop c.each.k (numbered_at all cs)) (drop (c.each.k + 1) (numbered_at all cs)) (with_number (c.each.k + 1) seen) ahead passes)
@@ -55,16 +55,16 @@ each-preserved g c = λ q asked.
     let whole = bad_ones (numbered_at all cs) in
     let behind = bad_ones (drop (c.each.k + 1) (numbered_at all cs)) in
     let ahead = clause_next (clauses_at all cs) c.each.k seen (clause_at_index all cs c.each.k c.clause-item.result c.clause-item.is c.each-test.true) in
-    elim c.if-needs_row.branch as (λ _. IsWalked (GoalHolds P q) whole rows 0 behind c.if-needs_row.next) [
-      | then-needs_row+in_ok-next_satisfies+else-not-branch w ↦
+    elim c.if-is_solved_goal.branch as (λ _. IsWalked (GoalHolds P q) whole rows 0 behind c.if-is_solved_goal.next) [
+      | then-is_solved_goal+in_ok-next_satisfies+else-not-branch w ↦
           let yes : w.in_ok-next_satisfies.field-0 ≡ true = search rules in
           subst (λ n. IsWalked (GoalHolds P q) whole rows 0 behind n) (sym w.next-is)
           (walk_goes_on (GoalHolds P q) whole rows 0 (bad_ones (drop c.each.k (numbered_at all cs))) behind c.each.next (with_number (c.each.k + 1) seen)
-          (sought_ahead due (drop c.each.k (numbered_at all cs)) (drop (c.each.k + 1) (numbered_at all cs)) (with_number (c.each.k + 1) seen) ahead (sym c.needs_row.ensures ∙ w.if-needs_row.true))
+          (sought_ahead due (drop c.each.k (numbered_at all cs)) (drop (c.each.k + 1) (numbered_at all cs)) (with_number (c.each.k + 1) seen) ahead (sym c.is_solved_goal.ensures ∙ w.if-is_solved_goal.true))
           ((w.in_ok-next_satisfies.ensures.satisfies q asked).0 yes) (c.each.invariant q asked))
-      | else-needs_row w ↦
+      | else-is_solved_goal w ↦
           subst (λ n. IsWalked (GoalHolds P q) whole rows 0 behind n) (sym w.next-is)
-          (subst (λ a. IsWalked (GoalHolds P q) whole rows 0 a c.each.next) (passed_over due (drop c.each.k (numbered_at all cs)) (drop (c.each.k + 1) (numbered_at all cs)) (with_number (c.each.k + 1) seen) ahead (sym c.needs_row.ensures ∙ w.if-needs_row.false)) (c.each.invariant q asked))
+          (subst (λ a. IsWalked (GoalHolds P q) whole rows 0 a c.each.next) (passed_over due (drop c.each.k (numbered_at all cs)) (drop (c.each.k + 1) (numbered_at all cs)) (with_number (c.each.k + 1) seen) ahead (sym c.is_solved_goal.ensures ∙ w.if-is_solved_goal.false)) (c.each.invariant q asked))
     ]
 
 pub returns : goal.returns
