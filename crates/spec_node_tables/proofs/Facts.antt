@@ -1,0 +1,181 @@
+-- Facts and clauses are told apart by their texts, where their terms are: terms with texts of their own, or numbers.
+use Rattle.std.proofs.Common.{◌≡◌, ℕ, false, List, [], ◌∷◌, ◌++◌, length, get_or, refl, sym, ◌∙◌, ap, arith}
+use Rattle.std.specs.Prelude.{codes}
+use Rattle.std.specs.List.{AllByRecursion}
+use Rattle.std.proofs.lemmas.List.{append_cancel_left}
+use Rattle.spec_calculus.specs.Syntax.{Protocol}
+use Rattle.spec_protocol_tokens.specs.Bytes.{is_in_word}
+use Rattle.spec_well_formed.specs.Words as declared
+use Rattle.spec_clauses.specs.Fact.{Fact, Att, Mess, Ev, Mev, Bad, Clause}
+use Rattle.spec_certificate_text.specs.Words.{event_word}
+use Rattle.spec_certificate_text.specs.Spelled.{Stops, goes_on}
+use Rattle.spec_certificate_text.specs.OfProtocol.{IsEvent, HasNames}
+use Rattle.spec_certificate_text.proofs.Runs.{later_same, run_apart}
+use Rattle.spec_certificate_text.proofs.Names.{event_word_is_word, one_name, event_named}
+use Rattle.spec_certificate_text.proofs.Clauses.{Same}
+use Rattle.spec_node_tables.specs.Text.{later_terms, terms_text, event_over, fact_over, later_hypotheses, hypotheses_over, clause_over, clause_lines_over}
+use Rattle.spec_node_tables.specs.OfProtocol.{IsFactOver, IsClauseOver}
+use Rattle.spec_node_tables.proofs.Lines.{differ, is_letter, begins_with}
+
+-- Texts of single terms: each tells its term, where what follows can't go on with it, and begins as nothing else does.
+pub record TellsTerms {X : Type 0} (one : X → List ℕ → List ℕ) (Is : X → Type 0) : Type 0 where
+  pub apart : (x y : X) (k l : List ℕ) → Is x → Is y → Stops goes_on k → Stops goes_on l → one x k ≡ one y l → Same x y k l
+  pub begins : (x : X) (k : List ℕ) (b : ℕ) (rest : List ℕ) → Is x → goes_on b ≡ false → one x k ≡ b ∷ rest → ⊥
+
+-- a fact's predicate by the third byte of its text: `t` of `att`, `s` of `mess`, `(` of `ev`, `v` of `mev`, `d` of `bad`
+third : {X : Type 0} → Fact X → ℕ
+third (Att t) = 116
+third (Mess t u) = 115
+third (Ev e ts) = 40
+third (Mev e ts) = 118
+third (Bad ts) = 100
+
+module _ {X : Type 0} (one : X → List ℕ → List ℕ) (Is : X → Type 0) (tells : TellsTerms one Is) (P : Protocol) (names : HasNames P) where
+  later_stops : (ts : List X) (k : List ℕ) → Stops goes_on (later_terms one P ts (41 ∷ k))
+  later_stops [] k = refl
+  later_stops (t ∷ ts) k = refl
+
+  later_terms_apart : (ts us : List X) (k l : List ℕ) → AllByRecursion Is ts → AllByRecursion Is us → later_terms one P ts (41 ∷ k) ≡ later_terms one P us (41 ∷ l) → Same ts us k l
+  later_terms_apart [] [] k l are_t are_u e = record { thing = refl; rest = later_same 41 41 k l e }
+  later_terms_apart [] (u ∷ us) k l are_t are_u e = absurd (differ 41 44 k (one u (later_terms one P us (41 ∷ l))) refl e)
+  later_terms_apart (t ∷ ts) [] k l are_t are_u e = absurd (differ 44 41 (one t (later_terms one P ts (41 ∷ k))) l refl e)
+  later_terms_apart (t ∷ ts) (u ∷ us) k l are_t are_u e =
+      let x = later_terms one P ts (41 ∷ k) in
+      let y = later_terms one P us (41 ∷ l) in
+      let first = tells.apart t u x y are_t.0 are_u.0 (later_stops ts k) (later_stops us l) (later_same 44 44 (one t x) (one u y) e) in
+      let later = later_terms_apart ts us k l are_t.1 are_u.1 first.rest in
+      record { thing = ap (λ v. v ∷ ts) first.thing ∙ ap (λ vs. u ∷ vs) later.thing; rest = later.rest }
+
+  terms_apart : (ts us : List X) (k l : List ℕ) → AllByRecursion Is ts → AllByRecursion Is us → terms_text one P ts (41 ∷ k) ≡ terms_text one P us (41 ∷ l) → Same ts us k l
+  terms_apart [] [] k l are_t are_u e = record { thing = refl; rest = later_same 41 41 k l e }
+  terms_apart [] (u ∷ us) k l are_t are_u e = absurd (tells.begins u (later_terms one P us (41 ∷ l)) 41 k are_u.0 refl (sym e))
+  terms_apart (t ∷ ts) [] k l are_t are_u e = absurd (tells.begins t (later_terms one P ts (41 ∷ k)) 41 l are_t.0 refl e)
+  terms_apart (t ∷ ts) (u ∷ us) k l are_t are_u e =
+      let first = tells.apart t u (later_terms one P ts (41 ∷ k)) (later_terms one P us (41 ∷ l)) are_t.0 are_u.0 (later_stops ts k) (later_stops us l) e in
+      let later = later_terms_apart ts us k l are_t.1 are_u.1 first.rest in
+      record { thing = ap (λ v. v ∷ ts) first.thing ∙ ap (λ vs. u ∷ vs) later.thing; rest = later.rest }
+
+  -- Events.
+
+  event_tail : List X → List ℕ → List ℕ
+  event_tail [] rest = rest
+  event_tail (t ∷ ts) rest = 40 ∷ terms_text one P (t ∷ ts) (41 ∷ rest)
+
+  event_over-parts : (e : ℕ) (ts : List X) (k : List ℕ) → event_over one P e ts k ≡ event_word P e ++ event_tail ts k
+  unfolding event_tail
+  event_over-parts e [] k = refl
+  event_over-parts e (t ∷ ts) k = refl
+
+  event_tail_stops : (ts : List X) (k : List ℕ) → Stops is_in_word (event_tail ts (41 ∷ k))
+  unfolding event_tail
+  event_tail_stops [] k = refl
+  event_tail_stops (t ∷ ts) k = refl
+
+  tails_apart : (ts us : List X) (k l : List ℕ) → AllByRecursion Is ts → AllByRecursion Is us → event_tail ts (41 ∷ k) ≡ event_tail us (41 ∷ l) → Same ts us k l
+  unfolding event_tail
+  tails_apart [] [] k l are_t are_u e = record { thing = refl; rest = later_same 41 41 k l e }
+  tails_apart [] (u ∷ us) k l are_t are_u e = absurd (differ 41 40 k (terms_text one P (u ∷ us) (41 ∷ 41 ∷ l)) refl e)
+  tails_apart (t ∷ ts) [] k l are_t are_u e = absurd (differ 40 41 (terms_text one P (t ∷ ts) (41 ∷ 41 ∷ k)) l refl e)
+  tails_apart (t ∷ ts) (u ∷ us) k l are_t are_u e =
+      let x = terms_text one P (t ∷ ts) (41 ∷ 41 ∷ k) in
+      let y = terms_text one P (u ∷ us) (41 ∷ 41 ∷ l) in
+      let inside = terms_apart (t ∷ ts) (u ∷ us) (41 ∷ k) (41 ∷ l) are_t are_u (later_same 40 40 x y e) in
+      record { thing = inside.thing; rest = later_same 41 41 k l inside.rest }
+
+  record EventsApart (e g : ℕ) (ts us : List X) (k l : List ℕ) : Type 0 where
+    event : e ≡ g
+    arguments : ts ≡ us
+    rest : k ≡ l
+
+  events_apart : (e g : ℕ) (ts us : List X) (k l : List ℕ) → IsEvent P e (length ts) → IsEvent P g (length us) → AllByRecursion Is ts → AllByRecursion Is us → event_over one P e ts (41 ∷ k) ≡ event_over one P g us (41 ∷ l) → EventsApart e g ts us k l
+  events_apart e g ts us k l is_e is_g are_t are_u same =
+      let parts = run_apart is_in_word (event_word P e) (event_word P g) (event_tail ts (41 ∷ k)) (event_tail us (41 ∷ l))
+      (event_word_is_word P e (length ts) names is_e).goes_on (event_word_is_word P g (length us) names is_g).goes_on (event_tail_stops ts k) (event_tail_stops us l)
+      (sym (event_over-parts e ts (41 ∷ k)) ∙ (same ∙ event_over-parts g us (41 ∷ l))) in
+      let named : declared.Event e ≡ declared.Event g = one_name P names (declared.Event e) (declared.Event g) (event_word P e) (event_word P g) (event_named P e (length ts) is_e) (event_named P g (length us) is_g) parts.run in
+      let tails = tails_apart ts us k l are_t are_u parts.rest in
+      record { event = cc; arguments = tails.thing; rest = tails.rest }
+
+  -- Facts.
+
+  third_byte : (f : Fact X) (k : List ℕ) → get_or (fact_over one P f k) 2 0 ≡ third f
+  unfolding third
+  third_byte (Att t) k = refl
+  third_byte (Mess t u) k = refl
+  third_byte (Ev e ts) k = refl
+  third_byte (Mev e ts) k = refl
+  third_byte (Bad ts) k = refl
+
+  facts_apart : (f g : Fact X) (k l : List ℕ) → third f ≡ third g → IsFactOver Is P f → IsFactOver Is P g → fact_over one P f k ≡ fact_over one P g l → Same f g k l
+  unfolding third
+  facts_apart (Att t) (Att u) k l thirds is_f is_g e =
+      let inside = terms_apart (t ∷ []) (u ∷ []) k l is_f.1 is_g.1 (append_cancel_left (codes "att(") (terms_text one P (t ∷ []) (41 ∷ k)) (terms_text one P (u ∷ []) (41 ∷ l)) e) in
+      let items : t ∷ [] ≡ u ∷ [] = inside.thing in
+      record { thing = cc; rest = inside.rest }
+  facts_apart (Mess t u) (Mess v w) k l thirds is_f is_g e =
+      let inside = terms_apart (t ∷ u ∷ []) (v ∷ w ∷ []) k l is_f.1 is_g.1 (append_cancel_left (codes "mess(") (terms_text one P (t ∷ u ∷ []) (41 ∷ k)) (terms_text one P (v ∷ w ∷ []) (41 ∷ l)) e) in
+      let items : t ∷ u ∷ [] ≡ v ∷ w ∷ [] = inside.thing in
+      record { thing = cc; rest = inside.rest }
+  facts_apart (Ev n ts) (Ev m us) k l thirds is_f is_g e =
+      let inside = events_apart n m ts us k l is_f.0 is_g.0 is_f.1 is_g.1 (append_cancel_left (codes "ev(") (event_over one P n ts (41 ∷ k)) (event_over one P m us (41 ∷ l)) e) in
+      record { thing = ap (λ i. Ev i ts) inside.event ∙ ap (Ev m) inside.arguments; rest = inside.rest }
+  facts_apart (Mev n ts) (Mev m us) k l thirds is_f is_g e =
+      let inside = events_apart n m ts us k l is_f.0 is_g.0 is_f.1 is_g.1 (append_cancel_left (codes "mev(") (event_over one P n ts (41 ∷ k)) (event_over one P m us (41 ∷ l)) e) in
+      record { thing = ap (λ i. Mev i ts) inside.event ∙ ap (Mev m) inside.arguments; rest = inside.rest }
+  facts_apart (Bad ts) (Bad us) k l thirds is_f is_g e =
+      let inside = terms_apart ts us k l is_f.1 is_g.1 (append_cancel_left (codes "bad(") (terms_text one P ts (41 ∷ k)) (terms_text one P us (41 ∷ l)) e) in
+      record { thing = ap Bad inside.thing; rest = inside.rest }
+  facts_apart _ _ k l thirds is_f is_g e = absurd (omega (arith, thirds))
+
+  fact_apart : (f g : Fact X) (k l : List ℕ) → IsFactOver Is P f → IsFactOver Is P g → fact_over one P f k ≡ fact_over one P g l → Same f g k l
+  fact_apart f g k l is_f is_g e = facts_apart f g k l (sym (third_byte f k) ∙ (ap (λ bytes. get_or bytes 2 0) e ∙ third_byte g l)) is_f is_g e
+
+  no_fact_begins : (f : Fact X) (x y : List ℕ) → fact_over one P f x ≡ 61 ∷ y → ⊥
+  no_fact_begins (Att t) x y e = differ 97 61 _ y refl e
+  no_fact_begins (Mess t u) x y e = differ 109 61 _ y refl e
+  no_fact_begins (Ev n ts) x y e = differ 101 61 _ y refl e
+  no_fact_begins (Mev n ts) x y e = differ 109 61 _ y refl e
+  no_fact_begins (Bad ts) x y e = differ 98 61 _ y refl e
+
+  -- Clauses.
+
+  later_apart : (hs gs : List (Fact X)) (k l : List ℕ) → AllByRecursion (IsFactOver Is P) hs → AllByRecursion (IsFactOver Is P) gs → later_hypotheses one P hs k ≡ later_hypotheses one P gs l → Same hs gs k l
+  later_apart [] [] k l are_h are_g e = record { thing = refl; rest = later_same 32 32 k l e }
+  later_apart [] (g ∷ gs) k l are_h are_g e = absurd (differ 32 44 k (32 ∷ fact_over one P g (later_hypotheses one P gs l)) refl e)
+  later_apart (h ∷ hs) [] k l are_h are_g e = absurd (differ 44 32 (32 ∷ fact_over one P h (later_hypotheses one P hs k)) l refl e)
+  later_apart (h ∷ hs) (g ∷ gs) k l are_h are_g e =
+      let x = fact_over one P h (later_hypotheses one P hs k) in
+      let y = fact_over one P g (later_hypotheses one P gs l) in
+      let first = fact_apart h g (later_hypotheses one P hs k) (later_hypotheses one P gs l) are_h.0 are_g.0 (later_same 32 32 x y (later_same 44 44 (32 ∷ x) (32 ∷ y) e)) in
+      let later = later_apart hs gs k l are_h.1 are_g.1 first.rest in
+      record { thing = ap (λ f. f ∷ hs) first.thing ∙ ap (λ fs. g ∷ fs) later.thing; rest = later.rest }
+
+  hypotheses_apart : (hs gs : List (Fact X)) (k l : List ℕ) → AllByRecursion (IsFactOver Is P) hs → AllByRecursion (IsFactOver Is P) gs → hypotheses_over one P hs (61 ∷ k) ≡ hypotheses_over one P gs (61 ∷ l) → Same hs gs k l
+  hypotheses_apart [] [] k l are_h are_g e = record { thing = refl; rest = later_same 61 61 k l e }
+  hypotheses_apart [] (g ∷ gs) k l are_h are_g e = absurd (no_fact_begins g (later_hypotheses one P gs (61 ∷ l)) k (sym e))
+  hypotheses_apart (h ∷ hs) [] k l are_h are_g e = absurd (no_fact_begins h (later_hypotheses one P hs (61 ∷ k)) l e)
+  hypotheses_apart (h ∷ hs) (g ∷ gs) k l are_h are_g e =
+      let first = fact_apart h g (later_hypotheses one P hs (61 ∷ k)) (later_hypotheses one P gs (61 ∷ l)) are_h.0 are_g.0 e in
+      let later = later_apart hs gs (61 ∷ k) (61 ∷ l) are_h.1 are_g.1 first.rest in
+      record { thing = ap (λ f. f ∷ hs) first.thing ∙ ap (λ fs. g ∷ fs) later.thing; rest = later_same 61 61 k l later.rest }
+
+  clause_apart : (c d : Clause X) (k l : List ℕ) → IsClauseOver Is P c → IsClauseOver Is P d → clause_over one P c k ≡ clause_over one P d l → Same c d k l
+  clause_apart c d k l is_c is_d e =
+      let x = fact_over one P c.conclusion k in
+      let y = fact_over one P d.conclusion l in
+      let hypotheses = hypotheses_apart c.hypotheses d.hypotheses (62 ∷ 32 ∷ x) (62 ∷ 32 ∷ y) is_c.hypotheses is_d.hypotheses e in
+      let conclusions = fact_apart c.conclusion d.conclusion k l is_c.conclusion is_d.conclusion (later_same 32 32 x y (later_same 62 62 (32 ∷ x) (32 ∷ y) hypotheses.rest)) in
+      let first = hypotheses.thing in
+      let last = conclusions.thing in
+      record { thing = λ i. record { hypotheses = first i; conclusion = last i }; rest = conclusions.rest }
+
+  pub clause_lines_apart : (cs ds : List (Clause X)) (k l : List ℕ) → AllByRecursion (IsClauseOver Is P) cs → AllByRecursion (IsClauseOver Is P) ds → Stops (is_letter 99) k → Stops (is_letter 99) l → clause_lines_over one P cs k ≡ clause_lines_over one P ds l → Same cs ds k l
+  clause_lines_apart [] [] k l are_c are_d stops_k stops_l e = record { thing = refl; rest = e }
+  clause_lines_apart [] (d ∷ ds) k l are_c are_d stops_k stops_l e = absurd (begins_with 99 k (32 ∷ clause_over one P d (10 ∷ clause_lines_over one P ds l)) refl stops_k e)
+  clause_lines_apart (c ∷ cs) [] k l are_c are_d stops_k stops_l e = absurd (begins_with 99 l (32 ∷ clause_over one P c (10 ∷ clause_lines_over one P cs k)) refl stops_l (sym e))
+  clause_lines_apart (c ∷ cs) (d ∷ ds) k l are_c are_d stops_k stops_l e =
+      let x = clause_over one P c (10 ∷ clause_lines_over one P cs k) in
+      let y = clause_over one P d (10 ∷ clause_lines_over one P ds l) in
+      let first = clause_apart c d (10 ∷ clause_lines_over one P cs k) (10 ∷ clause_lines_over one P ds l) are_c.0 are_d.0 (later_same 32 32 x y (later_same 99 99 (32 ∷ x) (32 ∷ y) e)) in
+      let later = clause_lines_apart cs ds k l are_c.1 are_d.1 stops_k stops_l (later_same 10 10 (clause_lines_over one P cs k) (clause_lines_over one P ds l) first.rest) in
+      record { thing = ap (λ b. b ∷ cs) first.thing ∙ ap (λ bs. d ∷ bs) later.thing; rest = later.rest }

@@ -1,0 +1,9 @@
+mod Worked
+mod Walks
+mod Numbers
+mod Back
+mod Alike
+mod Lines
+mod Facts
+mod Certificates
+mod Sizes

@@ -1,0 +1,31 @@
+-- What is of a protocol, by numbers: each symbol and event is there and has its number of arguments, and each number is within the limit
+-- of digits.
+use Rattle.std.specs.Prelude.{length}
+use Rattle.std.specs.List.{AllByRecursion}
+use Rattle.spec_calculus.specs.Syntax.{Protocol}
+use Rattle.spec_clauses.specs.Fact.{Fact, Ev, Mev, Clause, terms_of}
+use Rattle.spec_certificate_text.specs.OfProtocol.{IsShort, IsSymbolOf, IsEvent}
+use Rattle.spec_node_tables.specs.Nodes.{TableNode, Variable, Over, NodeCertificate}
+
+abbrev pub IsNodeOf : Protocol → TableNode → Type 0
+IsNodeOf P (Variable x) = IsShort x
+IsNodeOf P (Over f ns) = IsSymbolOf P f (length ns) × AllByRecursion IsShort ns
+
+-- the event of a fact, where it speaks of one, takes as many arguments
+abbrev pub HasEvent : {X : Type 0} → Protocol → Fact X → Type 0
+HasEvent P (Ev e ts) = IsEvent P e (length ts)
+HasEvent P (Mev e ts) = IsEvent P e (length ts)
+HasEvent P _ = Unit {0}
+
+abbrev pub IsFactOver : {X : Type 0} → (X → Type 0) → Protocol → Fact X → Type 0
+IsFactOver Is P f = HasEvent P f × AllByRecursion Is (terms_of f)
+
+pub record IsClauseOver {X : Type 0} (Is : X → Type 0) (P : Protocol) (c : Clause X) : Type 0 where
+  pub hypotheses : AllByRecursion (IsFactOver Is P) c.hypotheses
+  pub conclusion : IsFactOver Is P c.conclusion
+
+pub record IsNodeCertificateOf (P : Protocol) (c : NodeCertificate) : Type 0 where
+  pub nodes : AllByRecursion (IsNodeOf P) c.nodes
+  pub clauses : AllByRecursion (IsClauseOver IsShort P) c.clauses
+  pub rows : AllByRecursion (AllByRecursion IsShort) c.rows
+  pub goals : AllByRecursion (AllByRecursion IsShort) c.goals
