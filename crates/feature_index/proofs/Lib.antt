@@ -1,0 +1,5 @@
+pub mod Counting
+pub mod Weighing
+pub mod Comparing
+pub mod Placing
+pub mod Holding

@@ -1,0 +1,5 @@
+use Rattle.feature_index.proofs.Placing.{candidates_ascend}
+use Rattle.feature_index.proofs.index.Index.candidates.Goals as goal
+
+pub returns-clause-ascending : goal.returns-clause-ascending
+returns-clause-ascending c = candidates_ascend c.args.features.lanes c.self.inside.items.items c.deref-item-items.result.now c.loop-item.item-index c.loop-item.found.items c.loop-item-test.false c.deref-item-items.ensures.value c.self.invariant c.loop-item.invariant
