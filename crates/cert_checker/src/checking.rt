@@ -30,7 +30,8 @@ use clause_translate::{Translated, translate};
 use pi_tree::Protocol;
 use spec_soundness::accepted_queries_hold;
 use std::alloc::{AllocError, Global};
-use term_tree::{Bank, TreeBank};
+use term_store::SharedBank;
+use term_tree::Bank;
 
 /// What is ruled behind the shapes: the protocol and the query are translated, never the certificate's clauses taken for it.
 /// The bank is as before.
@@ -154,6 +155,6 @@ pub fn check_cert(
     ensures holds { IfOk result (λ ruling. ruling ≡ Accepted →
         OfQuery (protocol_of protocol.now) query (λ q. Holds (protocol_of protocol.now) q)) }
 {
-    let mut bank = TreeBank::new(alloc)?;
+    let mut bank = SharedBank::new(alloc)?;
     check_cert_in(alloc, &mut bank, protocol, query, cert)
 }

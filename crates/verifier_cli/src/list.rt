@@ -21,7 +21,8 @@ use hv_io::Files;
 use pi_tree::{Kind, Protocol};
 use spec_protocol_scope::{never_both, one_protocol, one_refusal};
 use std::alloc::{AllocError, Global};
-use term_tree::{Bank, TreeBank};
+use term_store::SharedBank;
+use term_tree::Bank;
 
 /// The clauses of the bank, over trees of their own.
 fn read_all<B: Bank>(alloc: Global, bank: &B, clauses: &Clauses) -> Result<PlainClauses, AllocError>
@@ -42,7 +43,7 @@ fn translated(alloc: Global, protocol: &Protocol, query: u32) -> Result<Outcome,
     ensures { IfOk result (λ outcome. IsListOf (protocol_of protocol.now) query
         (outcome_of outcome)) }
 {
-    let mut bank = TreeBank::new(alloc)?;
+    let mut bank = SharedBank::new(alloc)?;
     match translate(alloc, &mut bank, protocol, query)? {
         Translated::Clauses(clauses) => Ok(Outcome::Listed(read_all(alloc, &bank, &clauses)?)),
         Translated::Large(point) => Ok(Outcome::ListLarge(point)),

@@ -21,7 +21,7 @@ use spec_read_protocols::queries_of_read_protocols;
 use spec_ring_text::ring_translations;
 use spec_verdicts::proved_queries_hold;
 use std::alloc::{AllocError, Global};
-use term_tree::TreeBank;
+use term_store::SharedBank;
 
 /// How many entries the log of a ring's query may have.
 const BUDGET: u64 = 10_000;
@@ -39,7 +39,7 @@ fn summary(alloc: Global, protocol: &Protocol, stages: u64, text: &[u8]) -> Resu
     ensures { IfOk result (λ ring. IsSummaryOf (protocol_of protocol.now) stages ring) }
 {
     ring_translations();
-    let mut bank = TreeBank::new(alloc)?;
+    let mut bank = SharedBank::new(alloc)?;
     let verdict = verdict(alloc, &mut bank, protocol, 1, BUDGET)?;
     Ok(Ring {
         stages,

@@ -20,7 +20,7 @@ use spec_protocol_scope::{never_both, one_protocol, one_refusal};
 use spec_read_protocols::queries_of_read_protocols;
 use spec_verdicts::proved_queries_hold;
 use std::alloc::{AllocError, Global};
-use term_tree::TreeBank;
+use term_store::SharedBank;
 
 /// The verdicts of the queries of the protocol with the budget, over a bank of their own.
 fn all_verdicts(alloc: Global, protocol: &Protocol, budget: u64) -> Result<Verdicts, AllocError>
@@ -29,7 +29,7 @@ fn all_verdicts(alloc: Global, protocol: &Protocol, budget: u64) -> Result<Verdi
     ensures { let P = protocol_of protocol.now in
         IfOk result (λ answers. AnswerQueries P budget P.queries answers) }
 {
-    let mut bank = TreeBank::new(alloc)?;
+    let mut bank = SharedBank::new(alloc)?;
     verdicts(alloc, &mut bank, protocol, budget)
 }
 
