@@ -1,10 +1,19 @@
 -- What lists of entries hold, once one was put in or taken out, and what their candidates are.
-use Rattle.std.proofs.Common.{◌≡◌, ◌↔◌, ◌⊎◌, ◌∙◌, ℕ, Bool, true, false, not, ◌||◌, cond, List, [], ◌∷◌, filter, refl, ap, sym, subst, inl, inr, eq-eqb, eqb-true}
+use Rattle.std.proofs.Common.{◌≡◌, ◌↔◌, ◌⊎◌, ◌∙◌, ℕ, Bool, true, false, not, ◌||◌, cond, List, [], ◌∷◌, map, filter, take, length, ◌≤◌, refl, ap, sym, subst, inl, inr, eq-eqb, eqb-true}
 use Rattle.std.specs.Prelude.{nat_lt, nat_eq}
 use Rattle.std.proofs.lemmas.Bool.{ne_eqb}
+use Rattle.std.specs.List.{list_all}
+use Rattle.std.proofs.lemmas.List.{take_all}
+use Rattle.spec_terms.specs.Term.{Term}
+use Rattle.spec_clauses.specs.Fact.{Clause}
+use Rattle.spec_clauses.specs.Flat.{is_flat}
+use Rattle.spec_clauses.specs.Subsumption.{Subsumes}
 use Rattle.spec_clauses.specs.Inclusion.{Picks, here, there, Has, IsWithin}
 use Rattle.spec_clauses.proofs.Inclusion.{within_self, Has-append, Has-one, Has-within, Has-filter, Has-filter_source, Has-map, Has-map_source}
-use Rattle.spec_features.specs.Features.{are_at_most}
+use Rattle.spec_features.specs.Features.{features_of, are_at_most}
+use Rattle.spec_features.proofs.Growing.{subsuming_at_most}
+use Rattle.feature_index.specs.declared.index.Item.{Item}
+use Rattle.feature_index.specs.Items.{listed_of}
 use Rattle.feature_index.specs.Listed.{Listed, entries_of, is_listed, with_entry, without_entry, candidates_of, IsCandidate}
 
 -- with one entry more the list is the entry and the list, in some order
@@ -83,3 +92,11 @@ there_listed e (l ∷ ls) h = elim ((Has-append (l.entry ∷ []) (entries_of ls)
 
 pub listed_holds : (e : ℕ) (ls : List Listed) → (is_listed e ls ≡ true) ↔ Has (entries_of ls) e
 listed_holds e ls = (listed_there e ls, there_listed e ls)
+
+-- Among the candidates that are found is each entry whose clause subsumes the clause with these features.
+pub subsuming_found : (features : List ℕ) (items seen : List Item) (now : List Listed) (i : ℕ) (found : List ℕ) → length seen ≤ i → seen ≡ items → map listed_of items ≡ now → found ≡ candidates_of features (map listed_of (take i seen))
+    → (e : ℕ) (c d : Clause Term) → Has now (record { entry = e; features = features_of c }) → features ≡ features_of d → list_all is_flat c.hypotheses ≡ true → Subsumes c d → Has found e
+subsuming_found features items seen now i found past same view is e c d listed same_features flats h =
+    let whole : found ≡ candidates_of features now = is ∙ (ap (λ l. candidates_of features (map listed_of l)) (take_all i seen past ∙ same) ∙ ap (candidates_of features) view) in
+    let passes : are_at_most (features_of c) features ≡ true = ap (are_at_most (features_of c)) same_features ∙ subsuming_at_most c d flats h in
+    subst (λ l. Has l e) (sym whole) ((candidate_holds features e now).1 (record { listed = record { entry = e; features = features_of c }; there = listed; entry = refl; passes = passes }))

@@ -1,6 +1,13 @@
 //! The index: entries with their features, in ascending order.
 
-ghost use Rattle.std.specs.Prelude.{◌≡◌, ◌≤◌, length, false, IfOk, OnOk, OnErr};
+ghost use Rattle.std.specs.Prelude.{◌≡◌, ℕ, ◌≤◌, length, true, false, IfOk, OnOk, OnErr};
+ghost use Rattle.std.specs.List.{list_all};
+ghost use Rattle.spec_terms.specs.Term.{Term};
+ghost use Rattle.spec_clauses.specs.Fact.{Clause};
+ghost use Rattle.spec_clauses.specs.Flat.{is_flat};
+ghost use Rattle.spec_clauses.specs.Inclusion.{Has};
+ghost use Rattle.spec_clauses.specs.Subsumption.{Subsumes};
+ghost use Rattle.spec_features.specs.Features.{features_of};
 ghost use Rattle.feature_index.specs.Listed.{is_listed, with_entry, without_entry, candidates_of, IsAscending};
 ghost use Rattle.feature_index.specs.Items.{place_in, stands_at};
 
@@ -19,7 +26,9 @@ struct Item {
 /// features, which ascend.
 ///
 /// It is a plain list, all of which is looked through: an entry's eight lanes are compared at once, at some 1.5 nanoseconds an
-/// entry. The place of an entry is found by a binary search, and what stands behind it moves as it is put in or taken out.
+/// entry. A tree by lanes takes three times as long or more (a trial in C, over 100 to 20,000 entries): few of its branches can
+/// be passed over, and what is found has to be sorted. The place of an entry is found by a binary search, and what stands
+/// behind it moves as it is put in or taken out.
 #[derive(Drop)]
 pub struct Index {
     items: Vec<Item>,
@@ -109,6 +118,12 @@ impl Index {
     pub fn candidates(&self, features: Features) -> Result<Vec<usize>, AllocError>
         ensures exact { IfOk result (λ found. found.items ≡ candidates_of features.lanes self.now) }
         ensures ascending { IfOk result (λ found. IsAscending 0 found.items) }
+
+        // None is left out whose clause, of flat hypotheses, subsumes the clause with these features.
+        ensures subsuming { IfOk result (λ found. (e : ℕ) (c d : Clause Term) →
+            Has self.now record { entry = e; features = features_of c } →
+            features.lanes ≡ features_of d → list_all is_flat c.hypotheses ≡ true →
+            Subsumes c d → Has found.items e) }
     {
         let mut found = Vec::new(self.alloc);
         for item in &self.items {
