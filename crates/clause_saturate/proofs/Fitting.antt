@@ -1,9 +1,8 @@
 -- The clauses of a log are normal and within the limit of size, and stay so as the bank grows.
-use Rattle.std.proofs.Common.{◌≡◌, ◌∙◌, ℕ, zero, suc, ◌-◌, ◌<◌, ◌≤◌, ◌^◌, Some, List, [], ◌∷◌, length, map, get_or, ap, sym, subst, inl, inr, arith}
+use Rattle.std.proofs.Common.{◌≡◌, ◌∙◌, ℕ, zero, suc, ◌-◌, ◌<◌, ◌≤◌, ◌^◌, Bool, true, false, cond, Some, List, [], ◌∷◌, length, map, get_or, ap, sym, subst, inl, inr, arith}
 use Rattle.std.proofs.lemmas.List.{length-map}
 use Rattle.spec_terms.specs.Term.{Term}
 use Rattle.spec_calculus.specs.Bounds.{most_symbols}
-use Rattle.spec_calculus.specs.Points.{numbered}
 use Rattle.spec_clauses.specs.Fact.{Clause, clause_terms, clause_size}
 use Rattle.spec_clauses.specs.Variables.{leaves, IsBelow}
 use Rattle.spec_clauses.specs.Norm.{IsNormal}
@@ -14,7 +13,7 @@ use Rattle.spec_clauses.proofs.Lists.{all_weaker}
 use Rattle.spec_clauses.proofs.NormNumbers.{norm-below}
 use Rattle.spec_saturation.specs.Key.{Key, below}
 use Rattle.spec_saturation.specs.Key as offered
-use Rattle.spec_saturation.specs.Log.{IsOffered}
+use Rattle.spec_saturation.specs.Log.{IsOffered, goal_key}
 use Rattle.spec_saturation.proofs.Pairs.{has_numbered, offers_normal}
 use Rattle.term_tree.specs.Bank.{Grows}
 use Rattle.term_tree.specs.declared.bank.Id.{Id}
@@ -26,15 +25,9 @@ use Rattle.clause_form.specs.Fit.{IsFit, AreFit}
 use Rattle.clause_saturate.specs.Logs.{TellEntries, TellLog}
 use Rattle.clause_saturate.specs.Beating.{clauses_of}
 use Rattle.clause_saturate.specs.Live.{AreListed}
-use Rattle.clause_saturate.specs.Walked.{Task, IsTask, IsWalked}
+use Rattle.clause_saturate.specs.Walked.{Task, IsTask, IsWalked, behind_goal, turn_end}
 use Rattle.clause_saturate.proofs.Listing.{listed_grows, listed_back}
 use Rattle.clause_saturate.proofs.Telling.{TellLog-grows, TellLog-back, log_length}
-
--- the clause at a place has the number behind it
-pub numbered_given : (all : List Term) (cs : List (Clause Id)) (i : ℕ) (c : Clause Id) → c ≡ get_or cs i c → i < length cs → numbered (map (clause_at all) cs) (suc i) ≡ Some (clause_at all c)
-numbered_given all [] i c is within = absurd (omega arith)
-numbered_given all (d ∷ cs) zero c is within = ap (λ x. Some (clause_at all x)) (sym is)
-numbered_given all (d ∷ cs) (suc i) c is within = numbered_given all cs i c is (omega arith)
 
 -- what is offered is within the limit
 offers_small : (task : Task) → IsTask task → (log : List offered.Entry) (e : offered.Entry) → IsOffered task.given log e → IsWithinLimit e.clause
@@ -105,19 +98,20 @@ walked_back a b task old new from at grows same (log, was) (after, w) = (
   },
 )
 
--- given clauses that are fit make a task
-pub fit_task : (all : List Term) (cs : List (Clause Id)) (budget : ℕ) → 0 < length cs → AreFit all cs → IsTask (record { given = map (clause_at all) cs; budget = budget })
-fit_task all cs budget some fit = record { some = omega (arith, some, length-map cs (clause_at all)); normal = normal cs fit; small = small cs fit }
-  where
-    normal : (cs : List (Clause Id)) → AreFit all cs → (c : Clause Term) → Has (map (clause_at all) cs) c → IsNormal c
-    normal [] fit c h = elim h.1 [ ]
-    normal (d ∷ cs) fit c (rest, here) = fit.0.normal
-    normal (d ∷ cs) fit c (rest, there p) = normal cs fit.1 c (_, p)
+-- fit clauses are normal and within the limit
+pub fit_normal : (all : List Term) (cs : List (Clause Id)) → AreFit all cs → (c : Clause Term) → Has (map (clause_at all) cs) c → IsNormal c
+fit_normal all [] fit c h = elim h.1 [ ]
+fit_normal all (d ∷ cs) fit c (rest, here) = fit.0.normal
+fit_normal all (d ∷ cs) fit c (rest, there p) = fit_normal all cs fit.1 c (_, p)
 
-    small : (cs : List (Clause Id)) → AreFit all cs → (c : Clause Term) → Has (map (clause_at all) cs) c → IsWithinLimit c
-    small [] fit c h = elim h.1 [ ]
-    small (d ∷ cs) fit c (rest, here) = fit.0.small
-    small (d ∷ cs) fit c (rest, there p) = small cs fit.1 c (_, p)
+pub fit_small : (all : List Term) (cs : List (Clause Id)) → AreFit all cs → (c : Clause Term) → Has (map (clause_at all) cs) c → IsWithinLimit c
+fit_small all [] fit c h = elim h.1 [ ]
+fit_small all (d ∷ cs) fit c (rest, here) = fit.0.small
+fit_small all (d ∷ cs) fit c (rest, there p) = fit_small all cs fit.1 c (_, p)
+
+-- given clauses that are fit make a task
+pub fit_task : (all : List Term) (cs : List (Clause Id)) (budget : ℕ) → 0 < length cs → AreFit all cs → IsTask (record { given = map (clause_at all) cs; budget = budget; asked = false })
+fit_task all cs budget some fit = record { some = omega (arith, some, length-map cs (clause_at all)); normal = fit_normal all cs fit; small = fit_small all cs fit }
 
 -- fit clauses have low variables
 pub fit_low : (all : List Term) (c : Clause Id) → IsFit all c → HasLowVariables (clause_at all c)
@@ -130,24 +124,14 @@ fit_low all c fit =
 pub fit_size : (all : List Term) (c : Clause Id) → IsFit all c → clause_size (clause_at all c) < 2 ^ 63
 fit_size all c fit = let small = fit.small in omega (arith, small)
 
--- given clause number k, and the goal
-pub number_given : (all : List Term) (cs : List (Clause Id)) (given : List (Clause Term)) (k : ℕ) (c : Clause Id) → map (clause_at all) cs ≡ given → c ≡ get_or cs (k - 1) c → 0 < k → k ≤ length cs → numbered given k ≡ Some (clause_at all c)
-number_given all cs given zero c are is some within = absurd (omega arith)
-number_given all cs given (suc k) c are is some within =
-    let same : suc k - 1 ≡ k = omega arith in
-    subst (λ l. numbered l (suc k) ≡ Some (clause_at all c)) are (numbered_given all cs k c (subst (λ j. c ≡ get_or cs j c) same is) (omega arith))
-
-pub given_length : (all : List Term) (cs : List (Clause Id)) (given : List (Clause Term)) → map (clause_at all) cs ≡ given → length given ≡ length cs
-given_length all cs given are = sym (ap length are) ∙ length-map cs (clause_at all)
-
-pub given_some : (all : List Term) (task : Task) (walk : Walk) (at : Key) → IsWalked all task walk at → 0 < length task.given
-given_some all task walk at (log, w) = w.is_task.some
-
 pub turn_within : (all : List Term) (task : Task) (walk : Walk) (at : Key) → IsWalked all task walk at → length walk.items.items ≤ task.budget
 turn_within all task walk at (log, w) =
     let count = log_length all walk.items.items log w.tell in let within = w.within in omega (arith, count, within)
 
-pub last_given : (all : List Term) (cs : List (Clause Id)) (given : List (Clause Term)) (c : Clause Id) → map (clause_at all) cs ≡ given → c ≡ get_or cs (length cs - 1) c → 0 < length given → numbered given (length given) ≡ Some (clause_at all c)
-last_given all cs given c are is some =
-    let size = given_length all cs given are in
-    subst (λ n. numbered given n ≡ Some (clause_at all c)) (sym size) (number_given all cs given (length cs) c are is (omega (arith, size, some)) (omega arith))
+-- a turn that the walk has come to is no more than there are entries
+pub turn_reached : (all : List Term) (task : Task) (walk : Walk) (turn : ℕ) → IsWalked all task walk (turn_end task turn) → turn ≤ length walk.items.items
+turn_reached all task walk turn w = go task.asked w
+  where
+    go : (b : Bool) → IsWalked all task walk (cond b (behind_goal task.given turn) (goal_key task.given turn)) → turn ≤ length walk.items.items
+    go true w = walked_reached all task walk (behind_goal task.given turn) w
+    go false w = walked_reached all task walk (goal_key task.given turn) w

@@ -8,3 +8,5 @@ pub mod Found
 pub mod Living
 pub mod Listing
 pub mod Partners
+pub mod Giving
+pub mod Commons

@@ -14,7 +14,7 @@ use Rattle.spec_saturation.specs.Log.{IsBeaten, IsLive, IsDue, Gives, IsOffered,
 use Rattle.spec_saturation.specs.End.{IsLogUpTo}
 use Rattle.spec_saturation.proofs.Keys.{parts_of_key}
 use Rattle.spec_saturation.proofs.Pairs.{live_behind}
-use Rattle.spec_saturation.proofs.Moving.{next, below_all, self_not_before}
+use Rattle.spec_saturation.proofs.Moving.{below_all, self_not_before}
 use Rattle.spec_saturation.proofs.Turns.{pair_undue, pair_apart, pair_offered, gives_push}
 use Rattle.term_tree.specs.Bank.{Grows}
 use Rattle.term_tree.specs.declared.bank.Id.{Id}
@@ -26,16 +26,16 @@ use Rattle.clause_saturate.specs.declared.log.Origin.{Origin}
 use Rattle.clause_saturate.specs.declared.log.Origin.TheVariants.{Resolvent}
 use Rattle.clause_saturate.specs.declared.walk.Walk.{Walk}
 use Rattle.clause_saturate.specs.declared.walk.Pair.{Pair}
-use Rattle.clause_saturate.specs.Logs.{IsSolvedAt, IsOrigin, TellEntries, TellLog, IsSpentLog, IsLargeLog}
+use Rattle.clause_saturate.specs.Logs.{IsSolvedAt, IsOrigin, TellEntries, TellLog}
 use Rattle.clause_form.specs.Fit.{AreFit}
 use Rattle.clause_saturate.specs.Beating.{clauses_of, IsOfferMade}
 use Rattle.clause_saturate.proofs.Fitting.{walked_grows}
 use Rattle.clause_saturate.specs.Live.{AreListed}
 use Rattle.clause_saturate.specs.Pairs.{major, minor, IsDuePair, NoDuePair, NoDuePairs, IsFirstPair, GivesAnswer, IsMadeBy, IsFoundFor, AreSameOrMore}
-use Rattle.clause_saturate.specs.Walked.{Task, IsAsked, IsAt, IsWalked}
+use Rattle.clause_saturate.specs.Walked.{Task, IsAsked, IsAt, IsWalked, HasSpent, HasLarge}
 use Rattle.clause_saturate.proofs.Listing.{same_clause}
 use Rattle.clause_saturate.proofs.Telling.{log_length, unbeaten_none, none_unbeaten, IsSolvedAt-push, TellLog-grows}
-use Rattle.clause_saturate.proofs.Stepping.{IsNextLog, asked_on, asked_moved, offer_step, due_step}
+use Rattle.clause_saturate.proofs.Stepping.{IsNextLog, asked_on, asked_moved, asked_early, offer_step, due_step}
 
 -- the entry that tells what is live in the log
 record LiveEntry (all : List Term) (entries : List Entry) (number : ℕ) (c : Clause Term) : Type 0 where
@@ -159,7 +159,7 @@ moved all task walk m i n log order at up_to = (
     up_to = up_to;
     within = at.within;
     reached = at.reached;
-    asked = asked_next task.given m i n log walk.asked at.is_task.some order at.asked;
+    asked = asked_next task.given m i n log task.asked at.is_task.some order at.asked;
   },
 )
 
@@ -205,17 +205,26 @@ apart_step all task walk pair g (log, w) =
     let i = minor pair in
     behind all task walk m i (moved all task walk m i 0 log g.due.order w (pair_apart task.given w.is_task.some log m i g.due.order w.up_to (found_gives task.given all log walk.items.items pair NoUnifier w.up_to w.tell g)))
 
+-- no goal has the key of a resolvent
+not_goal : (given : List (Clause Term)) (m i k : ℕ) → i < m → (t : ℕ) → goal_key given t ≡ key m i k → ⊥
+not_goal given m i k order t same =
+    let p = parts_of_key (goal_key given t) (key m i k) same in
+    let major = p.0 in let minor = p.1 in omega (arith, major, minor, order)
+
 -- one that is too large ends the walk
-pub large_step : (all : List Term) (task : Task) (walk : Walk) (pair : Pair) → GivesAnswer all walk.items.items pair Large → IsWalked all task walk (key (major pair) (minor pair) 1) → IsLargeLog all task.given task.budget walk.items.items pair.solved pair.unsolved
+pub large_step : (all : List Term) (task : Task) (walk : Walk) (pair : Pair) → GivesAnswer all walk.items.items pair Large → IsWalked all task walk (key (major pair) (minor pair) 1) → HasLarge all task walk.items.items pair.solved pair.unsolved
 large_step all task walk pair g (log, w) = record {
-  log = log;
-  tell = w.tell;
-  is_solved = found_solved all log walk.items.items (major pair) (minor pair) pair w.tell g.due;
-  is_log = record {
-    up_to = w.up_to;
-    within = w.within;
-    cause = found_gives task.given all log walk.items.items pair Large w.up_to w.tell g;
+  large = record {
+    log = log;
+    tell = w.tell;
+    is_solved = found_solved all log walk.items.items (major pair) (minor pair) pair w.tell g.due;
+    is_log = record {
+      up_to = w.up_to;
+      within = w.within;
+      cause = found_gives task.given all log walk.items.items pair Large w.up_to w.tell g;
+    };
   };
+  early = asked_early task.given log (key (major pair) (minor pair) 1) task.asked (not_goal task.given (major pair) (minor pair) 1 g.due.order) w.asked;
 }
 
 -- the resolvent of a number is offered
@@ -257,7 +266,7 @@ abbrev pub resolvent_origin : Pair → ℕ → Origin
 resolvent_origin pair k = Resolvent (k + 1) pair.solved pair.unsolved
 
 -- one more is offered
-pub offering_step : (all : List Term) (task : Task) (old new : Walk) (pair : Pair) (clauses : List (Clause Id)) (k : ℕ) (c : Clause Id) → IsOffering all task old pair clauses k → c ≡ get_or clauses k c → k < length clauses → (new.budget ≡ old.budget) × (new.asked ≡ old.asked)
+pub offering_step : (all : List Term) (task : Task) (old new : Walk) (pair : Pair) (clauses : List (Clause Id)) (k : ℕ) (c : Clause Id) → IsOffering all task old pair clauses k → c ≡ get_or clauses k c → k < length clauses → new.budget ≡ old.budget
     → AreListed all new.items.items new.live → ((log : List offered.Entry) (at : Key) → TellLog all old.items.items log → IsOrigin log (resolvent_origin pair k) at → IsOfferMade all log old.items.items new.items.items old.budget (record { key = at; clause = clause_at all c }) None) → IsOffering all task new pair clauses (k + 1)
 offering_step all task old new pair clauses k c o is within kept listed made =
     let m = major pair in
@@ -266,8 +275,8 @@ offering_step all task old new pair clauses k c o is within kept listed made =
     let number : suc k ≡ k + 1 = omega arith in
     let origin : IsOrigin o.log (resolvent_origin pair k) (key m i (suc k)) = (ap (λ j. key m i j) number, o.solved) in
     let offered_there = resolvent_offered task.given o.log m i (suc k) o.resolvents (clause_at all c) o.gives (named_number all clauses o.resolvents k c o.name.are is within) in
-    let went = offer_step all task old new o.log e o.at offered_there kept.0 listed
-    (λ after n. subst (IsAsked task.given (next e.key) after) (sym kept.1) (asked_on task.given o.log after e old.asked (λ t same. no_goal t o.order (parts_of_key (goal_key task.given t) (key m i (suc k)) same)) n o.at.asked)) (made o.log (key m i (suc k)) o.at.tell origin) in
+    let went = offer_step all task task.asked old new o.log e o.at offered_there kept listed
+    (λ after n. asked_on task.given o.log after e task.asked (not_goal task.given m i (suc k) o.order) n o.at.asked) (made o.log (key m i (suc k)) o.at.tell origin) in
     record {
       log = went.0;
       resolvents = o.resolvents;
@@ -278,9 +287,6 @@ offering_step all task old new pair clauses k c o is within kept listed made =
       name = o.name;
     }
   where
-    no_goal : (t : ℕ) → minor pair < major pair → (t ≡ major pair) × (t ≡ minor pair) × (length task.given ≡ suc k) → ⊥
-    no_goal t order p = let a = p.0 in let b = p.1 in omega (arith, a, b, order)
-
     gives_after : (after : List offered.Entry) (e : offered.Entry) → IsNextLog o.log e after → e.key ≡ key (major pair) (minor pair) (suc k) → Gives o.log (major pair) (minor pair) (Resolvents o.resolvents) → Gives after (major pair) (minor pair) (Resolvents o.resolvents)
     gives_after after e (inl same) at g = subst (λ l. Gives l (major pair) (minor pair) (Resolvents o.resolvents)) (sym same) g
     gives_after after e (inr more) at g = subst (λ l. Gives l (major pair) (minor pair) (Resolvents o.resolvents)) (sym more) (gives_push o.log e (major pair) (minor pair) k (Resolvents o.resolvents) at g)
@@ -291,12 +297,13 @@ offering_step all task old new pair clauses k c o is within kept listed made =
 
 -- or is due
 pub offering_due : (all : List Term) (task : Task) (old new : Walk) (pair : Pair) (clauses : List (Clause Id)) (k : ℕ) (c : Clause Id) (due : Entry) → IsOffering all task old pair clauses k → c ≡ get_or clauses k c → k < length clauses
-    → ((log : List offered.Entry) (at : Key) → TellLog all old.items.items log → IsOrigin log (resolvent_origin pair k) at → IsOfferMade all log old.items.items new.items.items old.budget (record { key = at; clause = clause_at all c }) (Some due)) → IsSpentLog all task.given task.budget new.items.items due
+    → ((log : List offered.Entry) (at : Key) → TellLog all old.items.items log → IsOrigin log (resolvent_origin pair k) at → IsOfferMade all log old.items.items new.items.items old.budget (record { key = at; clause = clause_at all c }) (Some due)) → HasSpent all task new.items.items due
 offering_due all task old new pair clauses k c due o is within made =
     let m = major pair in
     let i = minor pair in
     let number : suc k ≡ k + 1 = omega arith in
-    due_step all task old new o.log (record { key = key m i (suc k); clause = clause_at all c }) due o.at (resolvent_offered task.given o.log m i (suc k) o.resolvents (clause_at all c) o.gives (named_number all clauses o.resolvents k c o.name.are is within))
+    due_step all task task.asked old new o.log (record { key = key m i (suc k); clause = clause_at all c }) due o.at (resolvent_offered task.given o.log m i (suc k) o.resolvents (clause_at all c) o.gives (named_number all clauses o.resolvents k c o.name.are is within))
+    (asked_early task.given o.log (key m i (suc k)) task.asked (not_goal task.given m i (suc k) o.order) o.at.asked)
     (made o.log (key m i (suc k)) o.at.tell (ap (λ j. key m i j) number, o.solved))
 
 -- all are offered
@@ -347,12 +354,15 @@ same_if_no_more a b (inl p) few = p
 same_if_no_more a b (inr p) few = absurd (omega (arith, p, few))
 
 -- as the bank grows, a log with a pair that is too large stays one
-pub large_grows : (a b : List Term) (given : List (Clause Term)) (budget : ℕ) (entries : List Entry) (solved unsolved : ℕ) → Grows a b → IsLargeLog a given budget entries solved unsolved → IsLargeLog b given budget entries solved unsolved
-large_grows a b given budget entries solved unsolved grows large = record {
-  log = large.log;
-  tell = TellLog-grows a b entries large.log grows large.tell;
-  is_solved = large.is_solved;
-  is_log = large.is_log;
+pub large_grows : (a b : List Term) (task : Task) (entries : List Entry) (solved unsolved : ℕ) → Grows a b → HasLarge a task entries solved unsolved → HasLarge b task entries solved unsolved
+large_grows a b task entries solved unsolved grows h = record {
+  large = record {
+    log = h.large.log;
+    tell = TellLog-grows a b entries h.large.log grows h.large.tell;
+    is_solved = h.large.is_solved;
+    is_log = h.large.is_log;
+  };
+  early = h.early;
 }
 
 -- what was found of a pair of the same entries
@@ -394,10 +404,10 @@ no_unifier_step all now task walk pair xs found is grows same h w =
     let g : GivesAnswer all walk.items.items pair NoUnifier = subst (λ (f : Resolved). IsFoundFor all now walk.items.items pair f) is (found_same all now xs walk.items.items pair found same h) in
     walked_grows all now task walk (key (major pair) (minor pair + 1) 1) grows (apart_step all task walk pair g w)
 
-pub too_large_step : (all now : List Term) (task : Task) (walk : Walk) (pair : Pair) (xs : List Entry) (found : Resolved) → found ≡ resolving.Large → Grows all now → xs ≡ walk.items.items → IsFoundFor all now xs pair found → IsWalked all task walk (key (major pair) (minor pair) 1) → IsLargeLog now task.given task.budget walk.items.items pair.solved pair.unsolved
+pub too_large_step : (all now : List Term) (task : Task) (walk : Walk) (pair : Pair) (xs : List Entry) (found : Resolved) → found ≡ resolving.Large → Grows all now → xs ≡ walk.items.items → IsFoundFor all now xs pair found → IsWalked all task walk (key (major pair) (minor pair) 1) → HasLarge now task walk.items.items pair.solved pair.unsolved
 too_large_step all now task walk pair xs found is grows same h w =
     let g : GivesAnswer all walk.items.items pair Large = subst (λ (f : Resolved). IsFoundFor all now walk.items.items pair f) is (found_same all now xs walk.items.items pair found same h) in
-    large_grows all now task.given task.budget walk.items.items pair.solved pair.unsolved grows (large_step all task walk pair g w)
+    large_grows all now task walk.items.items pair.solved pair.unsolved grows (large_step all task walk pair g w)
 
 pub made_step : (all now : List Term) (pair : Pair) (xs ys : List Entry) (found : Resolved) (clauses : List (Clause Id)) → found ≡ resolving.Clauses clauses → xs ≡ ys → IsFoundFor all now xs pair found → IsMadeBy all now ys pair clauses
 made_step all now pair xs ys found clauses is same h = subst (λ (f : Resolved). IsFoundFor all now ys pair f) is (found_same all now xs ys pair found same h)

@@ -1,5 +1,5 @@
 -- A walk goes on: with an offer, and from pair to pair and turn to turn.
-use Rattle.std.proofs.Common.{◌≡◌, ◌⊎◌, ◌∙◌, ℕ, suc, ◌+◌, ◌<◌, ◌≤◌, Bool, true, false, Option, Some, None, List, [], ◌∷◌, ◌++◌, length, refl, ap, sym, subst, inl, inr, length-append, arith}
+use Rattle.std.proofs.Common.{◌≡◌, ◌⊎◌, ◌∙◌, ℕ, suc, ◌+◌, ◌<◌, ◌≤◌, Bool, true, false, cond, Option, Some, None, List, [], ◌∷◌, ◌++◌, length, refl, ap, sym, subst, inl, inr, length-append, arith}
 use Rattle.std.proofs.lemmas.Bool.Decides.{nat_tests}
 use Rattle.spec_terms.specs.Term.{Term}
 use Rattle.spec_calculus.specs.Points.{numbered}
@@ -7,17 +7,18 @@ use Rattle.spec_clauses.specs.Fact.{Clause}
 use Rattle.spec_saturation.specs.Key.{Key, key, is_before, below}
 use Rattle.spec_saturation.specs.Key as offered
 use Rattle.spec_saturation.specs.Log.{IsCoveredBy, IsOffered, goal_key, EndsAt}
-use Rattle.spec_saturation.proofs.Keys.{before_trans, parts_of_key}
+use Rattle.spec_saturation.proofs.Keys.{before_trans, compared, parts_of_key}
 use Rattle.spec_saturation.proofs.Moving.{next, before_next, next_least, below_push, below_all, self_not_before, skipped, pushed}
 use Rattle.spec_saturation.proofs.Turns.{begun, turn_ends, turn_begins, closed, goal_passed, goal_offered}
 use Rattle.clause_saturate.specs.declared.log.Entry.{Entry}
 use Rattle.clause_saturate.specs.declared.log.Origin.TheVariants.{Given}
 use Rattle.clause_saturate.specs.declared.walk.Walk.{Walk}
 use Rattle.clause_saturate.specs.declared.walk.Stop.{Stop}
-use Rattle.clause_saturate.specs.Logs.{IsOrigin, TellLog, IsClosedLog, IsSpentLog}
+use Rattle.clause_saturate.specs.declared.walk.Stop.TheVariants.{Spent, Large}
+use Rattle.clause_saturate.specs.Logs.{IsOrigin, TellLog, IsClosedLog}
 use Rattle.clause_saturate.specs.Beating.{IsOfferMade}
 use Rattle.clause_saturate.specs.Live.{AreListed}
-use Rattle.clause_saturate.specs.Walked.{Task, IsTask, IsAsked, IsAt, IsWalked, HasOffered, HasPassed, behind_goal}
+use Rattle.clause_saturate.specs.Walked.{Task, with_asked, IsTask, IsAsked, IsAt, IsWalked, IsEarly, HasSpent, HasStopped, HasOffered, HasPassed, HasArrived, HasEnded, behind_goal, turn_end}
 use Rattle.clause_saturate.proofs.Telling.{log_length}
 
 -- The log after an offer: the same, or with the offer at its end.
@@ -52,14 +53,29 @@ pub asked_moved : (given : List (Clause Term)) (from to : Key) (log : List offer
 asked_moved given from to log true ascends none was = (was.0, ascends (goal_key given was.0) was.1, was.2)
 asked_moved given from to log false ascends none was = λ t h ends. was t (none t h) ends
 
+-- a task stays one when the goal is offered
+pub asked_task : (task : Task) (asked : Bool) → IsTask task → IsTask (with_asked task asked)
+asked_task task asked t = record { some = t.some; normal = t.normal; small = t.small }
+
+-- a stop with an offer that isn't the goal's comes before the goal
+pub asked_early : (given : List (Clause Term)) (log : List offered.Entry) (at : Key) (asked : Bool) → ((t : ℕ) → goal_key given t ≡ at → ⊥) → IsAsked given at log asked → IsEarly given log at asked
+asked_early given log at true no_goal was = tt
+asked_early given log at false no_goal was = λ t ends. elim (compared at (goal_key given t)) as (λ _. is_before at (goal_key given t) ≡ true) [
+  | inl before ↦ before
+  | inr o ↦ elim o as (λ _. is_before at (goal_key given t) ≡ true) [
+    | inl same ↦ absurd (no_goal t (sym same))
+    | inr after ↦ absurd (was t after ends)
+  ]
+]
+
 -- one offer of the walk
-pub offer_step : (all : List Term) (task : Task) (old new : Walk) (log : List offered.Entry) (e : offered.Entry) → IsAt all task old e.key log → IsOffered task.given log e → new.budget ≡ old.budget → AreListed all new.items.items new.live → ((after : List offered.Entry) → IsNextLog log e after → IsAsked task.given (next e.key) after new.asked)
-    → IsOfferMade all log old.items.items new.items.items old.budget e None → (after : List offered.Entry) × IsNextLog log e after × IsAt all task new (next e.key) after
-offer_step all task old new log e at offered same listed asked (inl covered) = (
+pub offer_step : (all : List Term) (task : Task) (later : Bool) (old new : Walk) (log : List offered.Entry) (e : offered.Entry) → IsAt all task old e.key log → IsOffered task.given log e → new.budget ≡ old.budget → AreListed all new.items.items new.live → ((after : List offered.Entry) → IsNextLog log e after → IsAsked task.given (next e.key) after later)
+    → IsOfferMade all log old.items.items new.items.items old.budget e None → (after : List offered.Entry) × IsNextLog log e after × IsAt all (with_asked task later) new (next e.key) after
+offer_step all task later old new log e at offered same listed asked (inl covered) = (
   log,
   inl refl,
   record {
-    is_task = at.is_task;
+    is_task = asked_task task later at.is_task;
     budget = same ∙ at.budget;
     tell = subst (λ (xs : List Entry). TellLog all xs log) (sym covered.1) at.tell;
     listed = listed;
@@ -69,11 +85,11 @@ offer_step all task old new log e at offered same listed asked (inl covered) = (
     asked = asked log (inl refl);
   },
 )
-offer_step all task old new log e at offered same listed asked (inr added) = (
+offer_step all task later old new log e at offered same listed asked (inr added) = (
   log ++ e ∷ [],
   inr refl,
   record {
-    is_task = at.is_task;
+    is_task = asked_task task later at.is_task;
     budget = same ∙ at.budget;
     tell = added.tell;
     listed = listed;
@@ -85,30 +101,33 @@ offer_step all task old new log e at offered same listed asked (inr added) = (
 )
 
 -- an offer that is due where the budget is spent
-pub due_step : (all : List Term) (task : Task) (old new : Walk) (log : List offered.Entry) (e : offered.Entry) (due : Entry) → IsAt all task old e.key log → IsOffered task.given log e → IsOfferMade all log old.items.items new.items.items old.budget e (Some due) → IsSpentLog all task.given task.budget new.items.items due
-due_step all task old new log e due at offered made =
+pub due_step : (all : List Term) (task : Task) (asked : Bool) (old new : Walk) (log : List offered.Entry) (e : offered.Entry) (due : Entry) → IsAt all task old e.key log → IsOffered task.given log e → IsEarly task.given log e.key asked → IsOfferMade all log old.items.items new.items.items old.budget e (Some due) → HasSpent all (with_asked task asked) new.items.items due
+due_step all task asked old new log e due at offered early made =
     let whole = below_all task.given e.key e.key log at.up_to (self_not_before e.key) in
     record {
-      log = log;
-      due = e;
-      tell = subst (λ (xs : List Entry). TellLog all xs log) (sym made.same) at.tell;
-      tells_due = made.tells;
-      unbeaten = made.unbeaten;
-      is_log = record {
-        up_to = at.up_to;
-        within = at.within;
-        cause = (
-          made.full ∙ at.budget,
-          record {
-            offered = subst (λ es. IsOffered task.given es e) (sym whole) offered;
-            uncovered = subst (λ es. IsCoveredBy es e.clause → ⊥) (sym whole) made.uncovered;
-          },
-        );
+      spent = record {
+        log = log;
+        due = e;
+        tell = subst (λ (xs : List Entry). TellLog all xs log) (sym made.same) at.tell;
+        tells_due = made.tells;
+        unbeaten = made.unbeaten;
+        is_log = record {
+          up_to = at.up_to;
+          within = at.within;
+          cause = (
+            made.full ∙ at.budget,
+            record {
+              offered = subst (λ es. IsOffered task.given es e) (sym whole) offered;
+              uncovered = subst (λ es. IsCoveredBy es e.clause → ⊥) (sym whole) made.uncovered;
+            },
+          );
+        };
       };
+      early = early;
     }
 
 -- the walk begins before the first given clause
-pub walk_begins : (all : List Term) (task : Task) (walk : Walk) → IsTask task → walk.items.items ≡ [] → walk.budget ≡ task.budget → walk.asked ≡ false → AreListed all walk.items.items walk.live → IsWalked all task walk (key 0 0 1)
+pub walk_begins : (all : List Term) (task : Task) (walk : Walk) → IsTask task → walk.items.items ≡ [] → walk.budget ≡ task.budget → task.asked ≡ false → AreListed all walk.items.items walk.live → IsWalked all task walk (key 0 0 1)
 walk_begins all task walk is_task none budget asked listed = (
   [],
   record {
@@ -126,22 +145,24 @@ walk_begins all task walk is_task none budget asked listed = (
     early : (t K : ℕ) → 0 < K → is_before (key t t K) (key 0 0 1) ≡ true → ⊥
     early t K some h = grind (arith, nat_tests)
 
+-- no goal has the key of another given clause
+not_goal : (given : List (Clause Term)) (k : ℕ) → k < length given → (t : ℕ) → goal_key given t ≡ key 0 0 k → ⊥
+not_goal given k few t same = let number = (parts_of_key (goal_key given t) (key 0 0 k) same).2 in omega (arith, few, number)
+
 -- a given clause but the last is offered
-pub given_step : (all : List Term) (task : Task) (old new : Walk) (k : ℕ) (c : Clause Term) (due : Option Entry) → IsWalked all task old (key 0 0 k) → k < length task.given → numbered task.given k ≡ Some c → (new.budget ≡ old.budget) × (new.asked ≡ old.asked)
+pub given_step : (all : List Term) (task : Task) (old new : Walk) (k : ℕ) (c : Clause Term) (due : Option Entry) → IsWalked all task old (key 0 0 k) → k < length task.given → numbered task.given k ≡ Some c → new.budget ≡ old.budget
     → AreListed all new.items.items new.live → ((log : List offered.Entry) → TellLog all old.items.items log → IsOfferMade all log old.items.items new.items.items old.budget (record { key = key 0 0 k; clause = c }) due) → HasOffered all task new (key 0 0 (suc k)) due
 given_step all task old new k c None (log, at) few is kept listed made =
     let e : offered.Entry = record { key = key 0 0 k; clause = c } in
-    let went = offer_step all task old new log e at (inl (record { number = k; no_goal = few; at = refl; clause = is })) kept.0 listed
-    (λ after n. subst (IsAsked task.given (key 0 0 (suc k)) after) (sym kept.1) (asked_on task.given log after e old.asked (λ t same. apart t few (parts_of_key (goal_key task.given t) (key 0 0 k) same).2) n at.asked)) (made log at.tell) in
+    let went = offer_step all task task.asked old new log e at (inl (record { number = k; no_goal = few; at = refl; clause = is })) kept listed
+    (λ after n. asked_on task.given log after e task.asked (not_goal task.given k few) n at.asked) (made log at.tell) in
     (went.0, went.2)
-  where
-    apart : (t : ℕ) → k < length task.given → length task.given ≡ k → ⊥
-    apart t few same = omega (arith, few, same)
 given_step all task old new k c (Some due) (log, at) few is kept listed made =
-    due_step all task old new log (record { key = key 0 0 k; clause = c }) due at (inl (record { number = k; no_goal = few; at = refl; clause = is })) (made log at.tell)
+    due_step all task task.asked old new log (record { key = key 0 0 k; clause = c }) due at (inl (record { number = k; no_goal = few; at = refl; clause = is }))
+    (asked_early task.given log (key 0 0 k) task.asked (not_goal task.given k few) at.asked) (made log at.tell)
 
 -- the goal is passed by, where it was due before or the entries don't end
-pub goal_step_past : (all : List Term) (task : Task) (walk : Walk) (turn : ℕ) → IsWalked all task walk (goal_key task.given turn) → (walk.asked ≡ true) ⊎ (turn < length walk.items.items) → IsWalked all task walk (behind_goal task.given turn)
+pub goal_step_past : (all : List Term) (task : Task) (walk : Walk) (turn : ℕ) → IsWalked all task walk (goal_key task.given turn) → (task.asked ≡ true) ⊎ (turn < length walk.items.items) → IsWalked all task walk (behind_goal task.given turn)
 goal_step_past all task walk turn (log, at) why = (
   log,
   record {
@@ -152,7 +173,7 @@ goal_step_past all task walk turn (log, at) why = (
     up_to = goal_passed task.given at.is_task.some log turn (not_first why) at.up_to;
     within = at.within;
     reached = at.reached;
-    asked = go walk.asked refl at.asked;
+    asked = go task.asked refl at.asked;
   },
 )
   where
@@ -168,13 +189,13 @@ goal_step_past all task walk turn (log, at) why = (
     no_end : turn < length walk.items.items → EndsAt task.given log turn → ⊥
     no_end more ends = let same = ap length whole in omega (arith, more, ends, count, same)
 
-    not_first : (walk.asked ≡ true) ⊎ (turn < length walk.items.items) → EndsAt task.given log turn → ((t : ℕ) → t < turn → EndsAt task.given log t → ⊥) → ⊥
+    not_first : (task.asked ≡ true) ⊎ (turn < length walk.items.items) → EndsAt task.given log turn → ((t : ℕ) → t < turn → EndsAt task.given log t → ⊥) → ⊥
     not_first (inl asked) ends first = (
         let was : IsAsked task.given (goal_key task.given turn) log true = subst (IsAsked task.given (goal_key task.given turn) log) asked at.asked in
         first was.0 (turns was.0 was.1) was.2)
     not_first (inr more) ends first = no_end more ends
 
-    go : (b : Bool) → walk.asked ≡ b → IsAsked task.given (goal_key task.given turn) log b → IsAsked task.given (behind_goal task.given turn) log b
+    go : (b : Bool) → task.asked ≡ b → IsAsked task.given (goal_key task.given turn) log b → IsAsked task.given (behind_goal task.given turn) log b
     go true e was = (was.0, before_trans (goal_key task.given was.0) (goal_key task.given turn) (behind_goal task.given turn) was.1 (before_next (goal_key task.given turn)), was.2)
     go false e was = λ t h ends. at_or_before t h ends (is_before (goal_key task.given t) (goal_key task.given turn)) refl
       where
@@ -184,7 +205,7 @@ goal_step_past all task walk turn (log, at) why = (
             let same : t ≡ turn = (parts_of_key (goal_key task.given t) (goal_key task.given turn) (next_least (goal_key task.given t) (goal_key task.given turn) h p)).0 in
             not_now why (subst (EndsAt task.given log) same ends)
           where
-            not_now : (walk.asked ≡ true) ⊎ (turn < length walk.items.items) → EndsAt task.given log turn → ⊥
+            not_now : (task.asked ≡ true) ⊎ (turn < length walk.items.items) → EndsAt task.given log turn → ⊥
             not_now (inl asked) ends = (let wrong : true ≡ false = sym asked ∙ e in cc)
             not_now (inr more) ends = no_end more ends
 
@@ -195,7 +216,7 @@ record GoalDue (all : List Term) (task : Task) (walk : Walk) (turn : ℕ) (goal 
   offered_there : IsOffered task.given log (record { key = goal_key task.given turn; clause = goal })
   ends : (after : List offered.Entry) → IsNextLog log (record { key = goal_key task.given turn; clause = goal }) after → EndsAt task.given after turn
 
-goal_due : (all : List Term) (task : Task) (walk : Walk) (turn : ℕ) (goal : Clause Term) → IsWalked all task walk (goal_key task.given turn) → walk.asked ≡ false → length walk.items.items ≤ turn → numbered task.given (length task.given) ≡ Some goal → GoalDue all task walk turn goal
+goal_due : (all : List Term) (task : Task) (walk : Walk) (turn : ℕ) (goal : Clause Term) → IsWalked all task walk (goal_key task.given turn) → task.asked ≡ false → length walk.items.items ≤ turn → numbered task.given (length task.given) ≡ Some goal → GoalDue all task walk turn goal
 goal_due all task walk turn goal (log, at) unasked few is_goal =
     let count = log_length all walk.items.items log at.tell in
     let reached = at.reached in
@@ -218,16 +239,16 @@ goal_due all task walk turn goal (log, at) unasked few is_goal =
         ap (λ l. length (below (goal_key task.given turn) l)) more
         ∙ (ap length (below_push (goal_key task.given turn) log (record { key = goal_key task.given turn; clause = goal }) (self_not_before (goal_key task.given turn))) ∙ (ap length whole ∙ size))
 
-pub goal_step : (all : List Term) (task : Task) (old new : Walk) (turn : ℕ) (goal : Clause Term) (due : Option Entry) → IsWalked all task old (goal_key task.given turn) → old.asked ≡ false → length old.items.items ≤ turn → numbered task.given (length task.given) ≡ Some goal → new.budget ≡ old.budget → new.asked ≡ true
-    → AreListed all new.items.items new.live → ((log : List offered.Entry) → TellLog all old.items.items log → IsOfferMade all log old.items.items new.items.items old.budget (record { key = goal_key task.given turn; clause = goal }) due) → HasOffered all task new (behind_goal task.given turn) due
-goal_step all task old new turn goal None w unasked few is_goal budget asked listed made =
+pub goal_step : (all : List Term) (task : Task) (old new : Walk) (turn : ℕ) (goal : Clause Term) (due : Option Entry) → IsWalked all task old (goal_key task.given turn) → task.asked ≡ false → length old.items.items ≤ turn → numbered task.given (length task.given) ≡ Some goal → new.budget ≡ old.budget → AreListed all new.items.items new.live
+    → ((log : List offered.Entry) → TellLog all old.items.items log → IsOfferMade all log old.items.items new.items.items old.budget (record { key = goal_key task.given turn; clause = goal }) due) → HasOffered all (with_asked task true) new (behind_goal task.given turn) due
+goal_step all task old new turn goal None w unasked few is_goal budget listed made =
     let g = goal_due all task old turn goal w unasked few is_goal in
     let e : offered.Entry = record { key = goal_key task.given turn; clause = goal } in
-    let went = offer_step all task old new g.log e g.at g.offered_there budget listed (λ after n. subst (IsAsked task.given (behind_goal task.given turn) after) (sym asked) (turn, before_next (goal_key task.given turn), g.ends after n)) (made g.log g.at.tell) in
+    let went = offer_step all task true old new g.log e g.at g.offered_there budget listed (λ after n. (turn, before_next (goal_key task.given turn), g.ends after n)) (made g.log g.at.tell) in
     (went.0, went.2)
-goal_step all task old new turn goal (Some due) w unasked few is_goal budget asked listed made =
+goal_step all task old new turn goal (Some due) w unasked few is_goal budget listed made =
     let g = goal_due all task old turn goal w unasked few is_goal in
-    due_step all task old new g.log (record { key = goal_key task.given turn; clause = goal }) due g.at g.offered_there (made g.log g.at.tell)
+    due_step all task true old new g.log (record { key = goal_key task.given turn; clause = goal }) due g.at g.offered_there tt (made g.log g.at.tell)
 
 -- from the last pair of a turn to its goal's key
 pub turn_ends_step : (all : List Term) (task : Task) (walk : Walk) (turn earlier : ℕ) → 0 < turn → earlier ≡ turn → IsWalked all task walk (key turn earlier 1) → IsWalked all task walk (goal_key task.given turn)
@@ -244,7 +265,7 @@ turn_ends_step all task walk turn earlier some last w = go (subst (λ i. IsWalke
         up_to = turn_ends task.given at.is_task.some log turn some at.up_to;
         within = at.within;
         reached = at.reached;
-        asked = asked_moved task.given (key turn turn 1) (goal_key task.given turn) log walk.asked (λ k h. ascends k (length task.given) at.is_task.some h) (λ t h. none t (length task.given) h) at.asked;
+        asked = asked_moved task.given (key turn turn 1) (goal_key task.given turn) log task.asked (λ k h. ascends k (length task.given) at.is_task.some h) (λ t h. none t (length task.given) h) at.asked;
       },
     )
       where
@@ -268,7 +289,7 @@ turn_begins_step all task walk turn more (log, at) =
         up_to = turn_begins task.given at.is_task.some log turn at.up_to;
         within = at.within;
         reached = (let count = log_length all walk.items.items log at.tell in omega (arith, count, more));
-        asked = asked_moved task.given (behind_goal task.given turn) (key (suc turn) 1 1) log walk.asked (λ k h. ascends k (length task.given) h) (λ t h. none t (length task.given) at.is_task.some h) at.asked;
+        asked = asked_moved task.given (behind_goal task.given turn) (key (suc turn) 1 1) log task.asked (λ k h. ascends k (length task.given) h) (λ t h. none t (length task.given) at.is_task.some h) at.asked;
       },
     )
   where
@@ -277,6 +298,22 @@ turn_begins_step all task walk turn more (log, at) =
 
     none : (t K : ℕ) → 0 < K → is_before (key t t K) (key (suc turn) 1 1) ≡ true → is_before (key t t K) (key turn turn (suc K)) ≡ true
     none t K some h = grind (arith, nat_tests)
+
+-- from the end of a turn that isn't the last entry's to the next turn
+pub next_turn_step : (all : List Term) (task : Task) (walk : Walk) (turn : ℕ) → turn < length walk.items.items → IsWalked all task walk (turn_end task turn) → IsWalked all task walk (key (turn + 1) 1 1)
+next_turn_step all task walk turn more w = turn_begins_step all task walk turn more (go task.asked refl w)
+  where
+    go : (b : Bool) → task.asked ≡ b → IsWalked all task walk (cond b (behind_goal task.given turn) (goal_key task.given turn)) → IsWalked all task walk (behind_goal task.given turn)
+    go true is w = w
+    go false is w = goal_step_past all task walk turn w (inr more)
+
+-- from the goal's key to the end of the turn, where the goal isn't due there
+pub turn_end_step : (all : List Term) (task : Task) (walk : Walk) (turn : ℕ) → IsWalked all task walk (goal_key task.given turn) → IsWalked all task walk (turn_end task turn)
+turn_end_step all task walk turn w = go task.asked refl
+  where
+    go : (b : Bool) → task.asked ≡ b → IsWalked all task walk (cond b (behind_goal task.given turn) (goal_key task.given turn))
+    go true is = goal_step_past all task walk turn w (inl is)
+    go false is = w
 
 -- where no entry is left the log is closed
 pub walk_closed : (all : List Term) (task : Task) (walk : Walk) (turn : ℕ) → turn ≡ length walk.items.items → IsWalked all task walk (behind_goal task.given turn) → IsClosedLog all task.given task.budget walk.items.items
@@ -311,3 +348,19 @@ gone_on all task walk at due none h = subst (λ (o : Option Entry). HasOffered a
 
 pub gone_by : (all : List Term) (task : Task) (walk : Walk) (at : Key) (stop : Option Stop) → stop ≡ None → HasPassed all task walk at stop → IsWalked all task walk at
 gone_by all task walk at stop none h = subst (λ (o : Option Stop). HasPassed all task walk at o) none h
+
+-- a walk that arrives at the end of a turn where the goal wasn't offered stands at the goal's key
+pub arrived_unasked : (all : List Term) (task : Task) (walk : Walk) (stop : Option Stop) → task.asked ≡ false → HasArrived all task walk stop → HasPassed all task walk (goal_key task.given (length walk.items.items)) stop
+arrived_unasked all task walk stop unasked h =
+    subst (λ (b : Bool). HasPassed all task walk (cond b (behind_goal task.given (length walk.items.items)) (goal_key task.given (length walk.items.items))) stop) unasked h
+
+-- where the goal was offered it is at the end of the log
+pub arrived_asked : (all : List Term) (task : Task) (walk : Walk) (stop : Option Stop) → task.asked ≡ true → HasArrived all task walk stop → HasEnded all task walk stop
+arrived_asked all task walk None asked h =
+    walk_closed all task walk (length walk.items.items) refl (subst (λ (b : Bool). IsWalked all task walk (cond b (behind_goal task.given (length walk.items.items)) (goal_key task.given (length walk.items.items)))) asked h)
+arrived_asked all task walk (Some stop) asked h = h
+
+-- a stop before the goal is one of the whole walk
+pub stopped_early : (all : List Term) (task : Task) (entries : List Entry) (stop : Stop) → HasStopped all task entries stop → HasStopped all (with_asked task true) entries stop
+stopped_early all task entries (Spent due) h = record { spent = h.spent; early = tt }
+stopped_early all task entries (Large solved unsolved) h = record { large = h.large; early = tt }

@@ -237,7 +237,7 @@ fn add<B: Bank>(
     requires entries { AreFit (B.trees bank.now) (clauses_of walk.old.items.items) }
     requires listed { AreListed (B.trees bank.now) walk.old.items.items walk.old.live }
     requires clause { IsFit (B.trees bank.now) clause.now }
-    ensures kept { (walk.new.budget ≡ walk.old.budget) × (walk.new.asked ≡ walk.old.asked) }
+    ensures kept { walk.new.budget ≡ walk.old.budget }
     ensures pushed { OnOk result (IsPushed (B.trees bank.now) walk.old.items.items record
         { clause = clause.now; origin = origin; by = None } walk.new.items.items) }
     ensures listed { OnOk result (AreListed (B.trees bank.now) walk.new.items.items
@@ -268,7 +268,7 @@ pub(crate) fn offer<B: Bank>(
     requires listed { AreListed (B.trees bank.now) walk.old.items.items walk.old.live }
     requires clause { IsFit (B.trees bank.now) clause.now }
     requires within { length walk.old.items.items ≤ walk.old.budget }
-    ensures kept { (walk.new.budget ≡ walk.old.budget) × (walk.new.asked ≡ walk.old.asked) }
+    ensures kept { walk.new.budget ≡ walk.old.budget }
     ensures made { (log : List EntryOf) (at : Key) →
         TellLog (B.trees bank.now) walk.old.items.items log → IsOrigin log origin at →
         IfOk result (λ due. IsOfferMade (B.trees bank.now) log walk.old.items.items

@@ -70,7 +70,7 @@ nothing_less : (m : ℕ) → m < 0 → ⊥
 nothing_less m lt = omega (arith, lt)
 
 -- the goal's key of a turn is before that of a later turn
-goal_before : (given : List (Clause Term)) (n m : ℕ) → n < m → is_before (goal_key given n) (goal_key given m) ≡ true
+pub goal_before : (given : List (Clause Term)) (n m : ℕ) → n < m → is_before (goal_key given n) (goal_key given m) ≡ true
 goal_before given n m lt = grind (arith, nat_tests)
 
 goal_later : (given : List (Clause Term)) (n : ℕ) → is_before (goal_key given n) (goal_key given (suc n)) ≡ true

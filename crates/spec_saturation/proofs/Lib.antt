@@ -7,3 +7,4 @@ pub mod Closing
 pub mod Pairs
 pub mod Moving
 pub mod Turns
+pub mod Common

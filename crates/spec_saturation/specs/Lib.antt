@@ -1,4 +1,5 @@
 pub mod Key
 pub mod Log
 pub mod End
+pub mod Common
 pub mod Live

@@ -2,7 +2,8 @@ use Rattle.std.proofs.Common.{◌-◌, Some, None, arith}
 use Rattle.spec_saturation.specs.Key.{key}
 use Rattle.clause_form.specs.Seen.{clause_at}
 use Rattle.clause_form.proofs.Fit.{clause_fit_at}
-use Rattle.clause_saturate.proofs.Fitting.{number_given, given_length, walked_fit, walked_listed, walked_within}
+use Rattle.clause_saturate.proofs.Fitting.{walked_fit, walked_listed, walked_within}
+use Rattle.clause_saturate.proofs.Giving.{given_count, given_number}
 use Rattle.clause_saturate.proofs.Stepping.{given_step, given_next, given_done, given_made}
 use Rattle.clause_saturate.proofs.saturating.offer_given.Goals as goal
 
@@ -21,23 +22,23 @@ offer-requires-clause-within g c = walked_within (g.B.Bank.trees c.args.bank.now
 pub returns-in-Some : goal.returns-in-Some
 returns-in-Some g c =
     let all = g.B.Bank.trees c.args.bank.now in
-    let size = given_length all c.args.given.now g.task.given c.requires.1.0 in
-    given_step all g.task c.each.walk c.offer.new.walk c.each.k (clause_at all c.index-given-k.result) (Some c.in-Some.due) c.each.invariant.walked (omega (arith, size)) (number_given all c.args.given.now g.task.given c.each.k c.index-given-k.result c.requires.1.0 c.index-given-k.is c.each.invariant.some (omega arith)) c.in_ok-due.ensures.kept c.in_ok-due.ensures.listed
+    let size = given_count all c.args.given.now g.task c.requires.1.0 in
+    given_step all g.task c.each.walk c.offer.new.walk c.each.k (clause_at all c.index-given-k.result) (Some c.in-Some.due) c.each.invariant.walked (omega (arith, size)) (given_number all c.args.given.now g.task c.each.k c.index-given-k.result c.requires.1.0 c.index-given-k.is c.each.invariant.some (omega arith)) c.in_ok-due.ensures.kept c.in_ok-due.ensures.listed
     (given_made all c.each.walk c.offer.new.walk c.each.k (clause_at all c.index-given-k.result) c.in_ok-due.field-0 (Some c.in-Some.due) c.in-Some.is c.in_ok-due.ensures.made)
 
 pub each-preserved : goal.each-preserved
 each-preserved g c =
     let all = g.B.Bank.trees c.args.bank.now in
-    let size = given_length all c.args.given.now g.task.given c.requires.1.0 in
+    let size = given_count all c.args.given.now g.task c.requires.1.0 in
     record {
       some = omega arith;
       within = omega arith;
-      walked = given_next all g.task c.offer.new.walk c.each.k (given_step all g.task c.each.walk c.offer.new.walk c.each.k (clause_at all c.index-given-k.result) None c.each.invariant.walked (omega (arith, size)) (number_given all c.args.given.now g.task.given c.each.k c.index-given-k.result c.requires.1.0 c.index-given-k.is c.each.invariant.some (omega arith)) c.in_ok-due.ensures.kept c.in_ok-due.ensures.listed
+      walked = given_next all g.task c.offer.new.walk c.each.k (given_step all g.task c.each.walk c.offer.new.walk c.each.k (clause_at all c.index-given-k.result) None c.each.invariant.walked (omega (arith, size)) (given_number all c.args.given.now g.task c.each.k c.index-given-k.result c.requires.1.0 c.index-given-k.is c.each.invariant.some (omega arith)) c.in_ok-due.ensures.kept c.in_ok-due.ensures.listed
           (given_made all c.each.walk c.offer.new.walk c.each.k (clause_at all c.index-given-k.result) c.in_ok-due.field-0 None c.in-None.is c.in_ok-due.ensures.made));
     }
 
 pub returns : goal.returns
 returns g c =
     let all = g.B.Bank.trees c.args.bank.now in
-    let size = given_length all c.args.given.now g.task.given c.requires.1.0 in
+    let size = given_count all c.args.given.now g.task c.requires.1.0 in
     given_done all g.task c.each.walk c.each.k (omega (arith, size, c.each.invariant.within)) c.each.invariant.walked

@@ -1,4 +1,4 @@
-use Rattle.std.proofs.Common.{◌-◌, ◌<◌, ◌≤◌, length}
+use Rattle.std.proofs.Common.{◌+◌, ◌-◌, ◌<◌, ◌≤◌, length}
 use Rattle.spec_saturation.specs.Key.{key}
 use Rattle.clause_saturate.specs.Walked.{IsWalked}
 use Rattle.clause_saturate.proofs.saturating.offer_given.Given as goal
@@ -6,9 +6,9 @@ use Rattle.clause_saturate.proofs.saturating.offer_given.Given as goal
 abbrev pub invariant-each : goal.invariant-each
 invariant-each g l = record {
   some : 0 < l.k;
-  within : l.k ≤ length l.given;
+  within : l.k ≤ length l.given + 1;
   walked : IsWalked (g.B.Bank.trees l.bank) g.task l.walk (key 0 0 l.k);
 }
 
 abbrev pub decreases-each : goal.decreases-each
-decreases-each g l = length l.given - l.k
+decreases-each g l = length l.given + 1 - l.k

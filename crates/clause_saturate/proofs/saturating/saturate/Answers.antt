@@ -1,6 +1,7 @@
-use Rattle.std.proofs.Common.{◌≡◌, [], false, map, refl, rules, arith}
+use Rattle.std.proofs.Common.{◌≡◌, [], true, false, map, refl, rules, arith}
 use Rattle.clause_form.specs.Seen.{clause_at}
-use Rattle.clause_saturate.specs.Walked.{Task}
+use Rattle.clause_saturate.specs.declared.walk.Walk.{Walk}
+use Rattle.clause_saturate.specs.Walked.{Task, with_asked}
 use Rattle.clause_saturate.proofs.Fitting.{fit_task}
 use Rattle.clause_saturate.proofs.Listing.{none_listed}
 use Rattle.clause_saturate.proofs.Stepping.{walk_begins}
@@ -11,17 +12,16 @@ use Rattle.clause_saturate.proofs.saturating.saturate.Goals as goal
 pub run-requires : goal.run-requires
 run-requires g c = λ κs h. (
     let all = g.B.Bank.trees c.args.bank.now in
-    let task : Task = record { given = map (clause_at all) c.args.given.now; budget = c.args.budget } in
+    let task : Task = record { given = map (clause_at all) c.args.given.now; budget = c.args.budget; asked = false } in
     let none : c.new.result.items ≡ [] = search rules in
-    let first : c.new-2.result.items ≡ [] = search rules in
-    let second : c.new-3.result.items ≡ [] = search rules in
-    (h, (refl, (c.requires.fit, walk_begins all task (record { alloc = c.args.alloc; items = c.new.result; live = record { solved = c.new-2.result; unsolved = c.new-3.result }; budget = c.args.budget; asked = false }) (fit_task all c.args.given.now c.args.budget c.requires.some c.requires.fit) none refl refl (none_listed all c.new.result.items (record { solved = c.new-2.result; unsolved = c.new-3.result }) none first second)))))
+    let walk : Walk = record { alloc = c.args.alloc; items = c.new.result; live = c.none.result; budget = c.args.budget } in
+    (h, (c.requires.some, (refl, (c.requires.fit, (refl, walk_begins all task walk (fit_task all c.args.given.now c.args.budget c.requires.some c.requires.fit) none refl refl (none_listed all c.new.result.items c.none.result none c.none.ensures.solved c.none.ensures.unsolved)))))))
 
 pub returns-in-Ok-clause-log : goal.returns-in-Ok-clause-log
 returns-in-Ok-clause-log g c =
     let all = g.B.Bank.trees c.args.bank.now in
-    let task : Task = record { given = map (clause_at all) c.args.given.now; budget = c.args.budget } in
-    c.ended.ensures (g.B.Bank.trees c.run.new.bank) task c.in-Ok.ensures.ended
+    let task : Task = record { given = map (clause_at all) c.args.given.now; budget = c.args.budget; asked = false } in
+    c.ended.ensures (g.B.Bank.trees c.run.new.bank) (with_asked task true) c.in-Ok.ensures.ended
 
 pub back-requires : goal.back-requires
 back-requires g c = omega (arith, c.mark-mark.ensures, Grows-length (g.B.Bank.trees c.args.bank.now) (g.B.Bank.trees c.run.new.bank) c.run.ensures.grows)
