@@ -23,7 +23,7 @@ same_shape = (shape_eq.ghosts).eq
 abbrev pub trees_of : List Shape → List Term
 trees_of shapes = built [] (map root_of shapes)
 
--- each shape's arguments stand before it, no two shapes are equal, and of each tree is told what is so
+-- each shape's arguments stand before it, no two shapes are equal, and what is told of each tree is so
 pub record IsWell (shapes : List Shape) (measures : List Measure) : Type 0 where
   pub args : HaveArgs [] (map root_of shapes)
   pub distinct : IsDistinct same_shape shapes
@@ -31,7 +31,8 @@ pub record IsWell (shapes : List Shape) (measures : List Measure) : Type 0 where
 
 -- equal trees have equal ids
 abbrev pub AreShared : List Term → Type 0
-AreShared all = (a b : Id) → a.index < length all → b.index < length all → tree_at all a ≡ tree_at all b → a ≡ b
+AreShared all = (a b : Id) → a.index < length all → b.index < length all
+    → tree_at all a ≡ tree_at all b → a ≡ b
 
 -- the id is that which the tree has already, and the bank stays as it is
 abbrev pub Finds : List Term → List Term → Term → Id → Type 0

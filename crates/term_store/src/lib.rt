@@ -3,7 +3,7 @@
 
 pub mod shared_bank;
 
-pub use shared_bank::SharedBank;
+pub use shared_bank::{INLINE_ARGS, SharedBank};
 
 #[cfg(test)]
 mod tests;

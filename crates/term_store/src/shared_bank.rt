@@ -8,12 +8,14 @@ use std::alloc::{AllocError, Global};
 use std::marker::Model;
 use term_tree::{Bank, Id, Mark, Node, SIZE_LIMIT, Sym};
 
-/// What stands at a place of the bank: a variable, or a symbol over earlier places. Four arguments stand
-/// in the shape itself, and more of them in memory of their own.
+/// How many arguments stand in a shape itself. More of them stand in memory of their own.
+pub const INLINE_ARGS: usize = 4;
+
+/// What stands at a place of the bank: a variable, or a symbol over earlier places.
 #[derive(PartialEq, Eq, Hash, Drop)]
 pub enum Shape {
     Var(u32),
-    App(Sym, SmallVec<Id, 4>),
+    App(Sym, SmallVec<Id, INLINE_ARGS>),
 }
 
 /// What is told of the tree of a place: its size, and whether it has no variable.
@@ -75,7 +77,8 @@ impl SharedBank {
     /// The id of the shape's tree, which is added at the end where it isn't there.
     fn add(&mut self, shape: Shape, measure: Measure) -> Result<Id, AllocError>
         requires args { HasArgs self.old (root_of shape) }
-        requires tells { (measure.size, measure.is_ground) ≡ told (tree_of self.old (root_of shape)) }
+        requires tells { (measure.size, measure.is_ground) ≡
+            told (tree_of self.old (root_of shape)) }
         ensures names { IfOk result (λ id. Names self.new id (tree_of self.old (root_of shape))) }
         ensures grows { Grows self.old self.new }
         ensures found { IfOk result (Finds self.old self.new (tree_of self.old (root_of shape))) }
@@ -162,7 +165,7 @@ impl Bank for SharedBank {
             (node (symbol_of symbol) (map (tree_at self.old) args.now))) }
         ensures added { OnOk result (AddsNew self.old self.new
             (node (symbol_of symbol) (map (tree_at self.old) args.now))) }
-        ensures no_memory { length args.now ≤ 4 → IsKnown self.old
+        ensures no_memory { length args.now ≤ INLINE_ARGS → IsKnown self.old
             (node (symbol_of symbol) (map (tree_at self.old) args.now)) → IsOk result }
     {
         let measure = self.measure_over(args);

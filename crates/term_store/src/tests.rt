@@ -27,7 +27,7 @@ fn is_over(bank: &SharedBank, id: Id, constructor: u32, arg: Id) -> bool
     }
 }
 
-/// Whether a term that is made twice has one id, before and after the bank is cut back to where it was.
+/// Whether a term that is made twice has one id, before and after the bank is cut back.
 fn made_twice(bank: &mut SharedBank) -> Result<bool, AllocError> {
     let x = bank.var(0)?;
     let first = over(bank, 1, x)?;

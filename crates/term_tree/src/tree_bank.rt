@@ -65,7 +65,8 @@ impl TreeBank {
     /// One more entry, at the end.
     fn add(&mut self, entry: Entry) -> Result<Id, AllocError>
         requires args { HasArgs self.old (root_of entry.shape) }
-        requires tells { (entry.size, entry.ground) ≡ told (tree_of self.old (root_of entry.shape)) }
+        requires tells { (entry.size, entry.ground) ≡
+            told (tree_of self.old (root_of entry.shape)) }
         ensures ok { IfOk result (λ id. (id.index ≡ length self.old) ×
             (self.new ≡ self.old ++ tree_of self.old (root_of entry.shape) ∷ [])) }
         ensures err { OnErr result (self.new ≡ self.old) }
