@@ -16,7 +16,7 @@ use Rattle.clause_form.specs.Fit.{AreFit}
 use Rattle.clause_saturate.specs.Walked.{Task, IsTask, AreGivenOf}
 
 -- the clause at a place has the number behind it
-numbered_given : (all : List Term) (cs : List (Clause Id)) (i : ℕ) (c : Clause Id) → c ≡ get_or cs i c → i < length cs → numbered (map (clause_at all) cs) (suc i) ≡ Some (clause_at all c)
+pub numbered_given : (all : List Term) (cs : List (Clause Id)) (i : ℕ) (c : Clause Id) → c ≡ get_or cs i c → i < length cs → numbered (map (clause_at all) cs) (suc i) ≡ Some (clause_at all c)
 numbered_given all [] i c is within = absurd (omega arith)
 numbered_given all (d ∷ cs) zero c is within = ap (λ x. Some (clause_at all x)) (sym is)
 numbered_given all (d ∷ cs) (suc i) c is within = numbered_given all cs i c is (omega arith)

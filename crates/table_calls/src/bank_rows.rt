@@ -11,7 +11,7 @@ use limits::MOST_KEYS;
 use pi_tree::Protocol;
 use query_verify::{Verdict, verdicts};
 use ring_writer::make_ring;
-use spec_protocol_scope::{proper_queries, proper_rules, well_scoped, within_limits};
+use spec_protocol_scope::{proper_rules, query_leaves, well_scoped, within_limits};
 use std::alloc::{AllocError, Global};
 use table_protocols::spelled;
 use table_rows::{Line, compared, named, unknown};
@@ -85,7 +85,7 @@ fn read(alloc: Global, bytes: &[u8]) -> Option<Protocol>
     within_limits();
     proper_rules();
     well_scoped();
-    proper_queries();
+    query_leaves();
     let protocol = spelled(alloc, bytes)?;
     Some(protocol)
 }

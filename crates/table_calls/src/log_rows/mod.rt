@@ -2,4 +2,4 @@
 
 pub mod rows;
 mod saturated;
-mod texts;
+pub mod texts;
