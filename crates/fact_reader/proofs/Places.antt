@@ -1,5 +1,5 @@
 -- Bytes at a place.
-use Rattle.std.proofs.Common.{◌≡◌, ℕ, zero, suc, ◌+◌, ◌-◌, ◌<◌, ◌≤◌, ◌==◌, if◌then◌else◌, ◌≢◌, true, false, List, [], ◌∷◌, Option, length, take, drop, get_or, refl, sym, ◌∙◌, ap, arith, add-one}
+use Rattle.std.proofs.Common.{◌≡◌, ℕ, zero, suc, ◌+◌, ◌-◌, ◌<◌, ◌≤◌, ◌==◌, if◌then◌else◌, ◌≢◌, true, false, List, [], ◌∷◌, Option, length, take, drop, get_or, refl, sym, ◌∙◌, ap, arith}
 use Rattle.std.specs.List.{prefix_len}
 use Rattle.std.proofs.lemmas.Bool.Decides.{nat_tests}
 use Rattle.std.proofs.lemmas.List.{drop-drop}
@@ -9,17 +9,7 @@ use Rattle.spec_protocol_tokens.specs.Bytes.{begins_word, is_in_word}
 use Rattle.spec_certificate_reading.specs.Names.{CalledEvent, event_called}
 use Rattle.spec_certificate_reading.specs.Outcomes.{Found, Faulty, front, ended, read_fixed}
 use Rattle.spec_certificate_reading.specs.Facts.{event_named, read_event}
-
-pub next_byte : (bytes : List ℕ) (place : ℕ) → place < length bytes → drop place bytes ≡ get_or bytes place 0 ∷ drop (place + 1) bytes
-next_byte [] place below = absurd (omega (arith, below))
-next_byte (b ∷ bytes) zero below = refl
-next_byte (b ∷ bytes) (suc place) below = rw add-one (rw add-one at (next_byte bytes place (omega (arith, below))))
-
-pub all_dropped : (bytes : List ℕ) (place : ℕ) → length bytes ≤ place → drop place bytes ≡ []
-all_dropped [] zero past = refl
-all_dropped [] (suc place) past = refl
-all_dropped (b ∷ bytes) zero past = absurd (omega (arith, past))
-all_dropped (b ∷ bytes) (suc place) past = all_dropped bytes place (omega (arith, past))
+use Rattle.term_reader.proofs.Walk.{next_byte, all_dropped}
 
 pub some_left : (bytes : List ℕ) (place : ℕ) → place < length bytes → drop place bytes ≢ []
 some_left [] place below e = absurd (omega (arith, below))

@@ -23,14 +23,14 @@ use Rattle.spec_certificate_reading.proofs.Called.{event_called_is}
 use Rattle.spec_certificate_reading.proofs.Parts.{IsThere, Sound, Parts, parts, chosen, equal_byte, front_is, fixed_there, ended_found}
 use Rattle.spec_certificate_reading.proofs.Things.{things_text, IsOne, things_there}
 
-done : (o : Read) (t : Term) (p : ℕ) (r : List ℕ) → term_outcome o ≡ Found t p r → o ≡ Done t p r
-done (Done u q s) t p r e = cc
-done (Refused q c) t p r e = absurd (cc)
+pub as_done : (o : Read) (t : Term) (p : ℕ) (r : List ℕ) → term_outcome o ≡ Found t p r → o ≡ Done t p r
+as_done (Done u q s) t p r e = cc
+as_done (Refused q c) t p r e = absurd (cc)
 
 -- a term that was read before a byte
 term_there : (P : Protocol) (bytes : List ℕ) (at : ℕ) (t : Term) (p b : ℕ) (k r : List ℕ) → one_term P bytes at ≡ Found t p k → k ≡ b ∷ r → IsThere (term_text P) (MayStand P) bytes t (b ∷ r)
 term_there P bytes at t p b k r e is =
-    let read : read_term P bytes at ≡ Done t p (b ∷ r) = done (read_term P bytes at) t p (b ∷ r) (e ∙ ap (Found t p) is) in
+    let read : read_term P bytes at ≡ Done t p (b ∷ r) = as_done (read_term P bytes at) t p (b ∷ r) (e ∙ ap (Found t p) is) in
     record { text = read_term-sound P bytes at t p (b ∷ r) read; is = read_term-kept P bytes at t p (b ∷ r) read }
 
 -- a term was read, and then these bytes

@@ -8,7 +8,7 @@ use Rattle.spec_clauses.specs.Fact.{Clause}
 use Rattle.spec_certificates.specs.Certificate.{Certificate}
 use Rattle.spec_certificate_text.specs.OfProtocol.{HasNames}
 use Rattle.spec_certificate_reading.specs.Terms.{Code, Syntax}
-use Rattle.spec_certificate_reading.specs.Outcomes.{Outcome, Found, Faulty, next, front, read_fixed, read_number, things}
+use Rattle.spec_certificate_reading.specs.Outcomes.{Found, Faulty, next, front, read_fixed, read_number, things}
 use Rattle.spec_certificate_reading.specs.Facts.{read_hypothesis, read_conclusion}
 use Rattle.spec_certificate_reading.specs.Clauses.{one_hypothesis, read_hypotheses, read_clause}
 use Rattle.spec_certificate_reading.specs.Certificates.{clause_line, one_number, row_line, read_rows, certificate_end, read_certificate}
@@ -26,7 +26,7 @@ use Rattle.spec_first_faults.proofs.OneOf.{IsToldBy, told_by_front, told_by_fixe
 use Rattle.spec_first_faults.proofs.Closed.{closed_by, closed_tells, behind_fixed, closed_thing}
 use Rattle.spec_first_faults.proofs.Many.{AreLines, MayFollow, lines_then, lines_tell, at_most-tells}
 use Rattle.spec_first_faults.proofs.Numbers.{numbers_tell}
-use Rattle.spec_first_faults.proofs.Rows.{separated, next_same, row_tells}
+use Rattle.spec_first_faults.proofs.Rows.{separated, found_one, next_same, row_tells}
 use Rattle.spec_first_faults.proofs.Facts.{front_tells, hypotheses_tell, conclusions_tell, hypothesis_front}
 
 -- Clauses.
@@ -57,9 +57,6 @@ clause_line-tells : (P : Protocol) → HasNames P → Tells ⊥ (clause_lines P)
 clause_line-tells P names =
     behind_fixed (codes "c ") (behind (clauses P) (fixed (codes "\n"))) Anything (λ _ _. then_read (read_clause P) (λ at c. closed_by (codes "\n") c))
     (λ at u. closed_thing (clauses P) Anything (codes "\n") (read_clause P) (λ c. c) (clauses_tell P names) (λ rest. tt))
-
-abbrev found_one : ℕ → Bool → ℕ → List ℕ → Outcome (ℕ × Bool)
-found_one n more place rest = Found (n, more) place rest
 
 one_number-as : (bytes : List ℕ) (at : ℕ) → one_number bytes at ≡ separated read_number 32 [] (10 ∷ []) bytes at
 unfolding read_fixed

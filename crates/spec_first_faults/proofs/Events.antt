@@ -1,7 +1,9 @@
 -- Events: a reader of them tells their first fault.
-use Rattle.std.proofs.Common.{◌≡◌, ◌≢◌, ℕ, ◌+◌, ◌==◌, ◌||◌, ◌⊎◌, inl, inr, if◌then◌else◌, Bool, true, false, List, [], ◌∷◌, ◌++◌, length, take, drop, Option, Some, None, codes, refl, sym, ◌∙◌, ap, subst, arith}
+use Rattle.std.proofs.Common.{◌≡◌, ◌≢◌, ℕ, ◌+◌, ◌==◌, ◌⊎◌, inl, inr, if◌then◌else◌, Bool, true, false, List, [], ◌∷◌, ◌++◌, length, take, drop, Option, Some, None, codes, refl, sym, ◌∙◌, ap, subst, arith}
 use Rattle.std.specs.List.{AllByRecursion, prefix_len}
 use Rattle.spec_trees.specs.Tree.{trees}
+use Rattle.spec_trees.proofs.Occurrence.{or_false}
+use Rattle.spec_calculus.proofs.Leaves.{or_false-both}
 use Rattle.spec_calculus.specs.Syntax.{Protocol}
 use Rattle.spec_protocol_tokens.specs.Bytes.{begins_word, is_in_word}
 use Rattle.spec_protocol_tokens.proofs.Sizes.{begins_word-in_word}
@@ -34,12 +36,9 @@ use Rattle.spec_first_faults.proofs.Small.{AreTests, EndsWord, nothing_tells, ru
 use Rattle.spec_first_faults.proofs.Closed.{behind_fixed}
 use Rattle.spec_first_faults.proofs.Marked.{judged, checked, IsJudged, Judges, marked_tells}
 use Rattle.spec_first_faults.proofs.Numbers.{run_long, run_past}
-use Rattle.spec_first_faults.proofs.Rows.{separated, next_same, row_tells}
+use Rattle.spec_first_faults.proofs.Rows.{separated, found_one, next_same, row_tells}
 
 -- Rows of terms.
-
-abbrev found_one : Term → Bool → ℕ → List ℕ → Outcome (Term × Bool)
-found_one t more place rest = Found (t, more) place rest
 
 argument_as : (P : Protocol) (bytes : List ℕ) (at : ℕ) → argument P bytes at ≡ separated (one_term P) 44 [] (41 ∷ []) bytes at
 unfolding read_fixed
@@ -142,29 +141,17 @@ word_tells P names = marked_tells words Anything (EndsAt is_in_word) (run_read b
 
 -- What stands behind it.
 
-neither : (a b : Bool) → a ≡ false → b ≡ false → (a || b) ≡ false
-neither true b e f = absurd (cc)
-neither false b e f = f
-
-first_false : (a b : Bool) → (a || b) ≡ false → a ≡ false
-first_false true b e = absurd (cc)
-first_false false b e = refl
-
-second_false : (a b : Bool) → (a || b) ≡ false → b ≡ false
-second_false true b e = absurd (cc)
-second_false false b e = e
-
 stands_alone : (bytes : List ℕ) → EndsAt is_in_word bytes → (front bytes == 40) ≡ false → EndsAt event_goes_on bytes
 stands_alone [] ends other = absurd ends
-stands_alone (b ∷ bytes) ends other = neither (is_in_word b) (b == 40) ends other
+stands_alone (b ∷ bytes) ends other = or_false-both (is_in_word b) (b == 40) ends other
 
 not_applied : (bytes : List ℕ) → EndsAt event_goes_on bytes → (front bytes == 40) ≡ false
 not_applied [] ends = refl
-not_applied (b ∷ bytes) ends = second_false (is_in_word b) (b == 40) ends
+not_applied (b ∷ bytes) ends = (or_false (is_in_word b) (b == 40) ends).1
 
 ends_word : (bytes : List ℕ) → EndsAt event_goes_on bytes → EndsAt is_in_word bytes
 ends_word [] ends = absurd ends
-ends_word (b ∷ bytes) ends = first_false (is_in_word b) (b == 40) ends
+ends_word (b ∷ bytes) ends = (or_false (is_in_word b) (b == 40) ends).0
 
 may_follow : (P : Protocol) (bytes rest : List ℕ) → (applications P).Text bytes rest → EndsAt is_in_word bytes
 may_follow P bytes rest (inl (mid, text, more)) = subst (EndsAt is_in_word) (sym text) refl

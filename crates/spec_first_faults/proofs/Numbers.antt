@@ -62,7 +62,7 @@ ended_as at place w (b ∷ rest) = by (numeral w)
     by None = refl
     by (Some n) = refl
 
-none_left : (k : ℕ) → (1 + k == 0) ≡ false
+pub none_left : (k : ℕ) → (1 + k == 0) ≡ false
 none_left k = grind (arith, nat_tests)
 
 number_as : (bytes : List ℕ) (at : ℕ) → read_number bytes at ≡ checked judge_number (run_read is_ascii_digit is_ascii_digit) bytes at

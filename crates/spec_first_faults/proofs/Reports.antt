@@ -1,6 +1,5 @@
 -- Reports: a reader of them tells their first fault.
 use Rattle.std.proofs.Common.{◌≡◌, ◌≢◌, ℕ, zero, suc, ◌+◌, ◌≤◌, ◌==◌, ◌⊎◌, inl, inr, if◌then◌else◌, cond, Bool, not, true, false, List, [], ◌∷◌, ◌++◌, length, take, drop, codes, refl, sym, ◌∙◌, ap, subst, arith}
-use Rattle.std.proofs.lemmas.Bool.Decides.{nat_tests}
 use Rattle.std.proofs.Math.Seq.{drop-length}
 use Rattle.std.proofs.lemmas.List.{append-nil}
 use Rattle.std.specs.Char.{is_ascii_digit}
@@ -29,7 +28,7 @@ use Rattle.spec_first_faults.proofs.Small.{AreTests, fixed_tells, nothing_tells,
 use Rattle.spec_first_faults.proofs.Closed.{behind_fixed}
 use Rattle.spec_first_faults.proofs.Marked.{judged, checked, IsJudged, Judges, marked_tells}
 use Rattle.spec_first_faults.proofs.Many.{next_twice, behind_told, count_local}
-use Rattle.spec_first_faults.proofs.Numbers.{run_long, digits_past, numbers_tell, number_found_so, number_of_digits}
+use Rattle.spec_first_faults.proofs.Numbers.{run_long, digits_past, numbers_tell, number_found_so, number_of_digits, none_left}
 use Rattle.spec_first_faults.proofs.Rows.{next_same}
 use Rattle.spec_first_faults.proofs.Clauses.{certificates_tell}
 
@@ -42,9 +41,6 @@ line_as : (at place : ℕ) (w rest : List ℕ) → read_fixed (codes "\n") rest 
 unfolding read_fixed
 line_as at place w [] = refl
 line_as at place w (b ∷ rest) = refl
-
-none_left : (k : ℕ) → (1 + k == 0) ≡ false
-none_left k = grind (arith, nat_tests)
 
 text_as : (bytes : List ℕ) (at : ℕ) → read_text bytes at ≡ then_read (run_read in_line in_line) (λ _ _. read_fixed (codes "\n")) bytes at
 text_as [] at = let same : at ≡ at + 0 = omega arith in ap (λ p. Faulty p Syntax) same

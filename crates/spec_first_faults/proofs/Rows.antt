@@ -19,6 +19,10 @@ abbrev pub separated : {A : Type 0} → Reader A → ℕ → List ℕ → List �
 separated item c cs close bytes at =
     next (item bytes at) (λ t p k. if front k == c then next (read_fixed (c ∷ cs) k p) (λ _ q r. Found (t, true) q r) else next (read_fixed close k p) (λ _ q r. Found (t, false) q r))
 
+-- it was found, and this says whether another follows
+abbrev pub found_one : {A : Type 0} → A → Bool → ℕ → List ℕ → Outcome (A × Bool)
+found_one t more place rest = Found (t, more) place rest
+
 -- A thing, and then a comma and a row, or the end.
 
 abbrev ended_or_more : Kind → List ℕ → List ℕ → Kind

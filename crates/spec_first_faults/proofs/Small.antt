@@ -15,9 +15,10 @@ use Rattle.spec_certificate_reading.specs.Outcomes.{Outcome, Found, Faulty, next
 use Rattle.spec_certificate_reading.specs.Facts.{term_outcome, one_term}
 use Rattle.spec_certificate_reading.proofs.Complete.{reading}
 use Rattle.spec_certificate_reading.proofs.Runs.{read_on-place}
+use Rattle.spec_certificate_reading.proofs.FactsThere.{as_done}
 use Rattle.spec_certificate_reading.proofs.Parts.{equal_byte, fixed_there, fixed_found, run_stops}
 use Rattle.spec_reading_faults.proofs.Shared.{IsLocal, next_local, choice_local, found_local, never_local, ended_local}
-use Rattle.spec_reading_faults.proofs.Terms.{as_refused, as_done, term_local}
+use Rattle.spec_reading_faults.proofs.Terms.{as_refused, term_local}
 use Rattle.spec_reading_faults.proofs.Parts.{fixed_local, run, run_local}
 use Rattle.spec_certificate_faults.specs.Grammar.{IsInGrammar, EndsAt, EndsBefore}
 use Rattle.spec_certificate_faults.specs.TermFaults.{StandsInTerm}

@@ -63,7 +63,7 @@ PastFault code bytes = ⊥
 abbrev pub AtEnd : List ℕ → Type 0
 AtEnd bytes = bytes ≡ []
 
--- what stands behind the number of a query past the last is not looked at
+-- what stands behind the number of a query past the last: it is not looked at
 abbrev pub anything_else : Kind
 anything_else = record { Text = λ bytes rest. EndsAt is_ascii_digit bytes × AtEnd rest; Fault = λ code bytes there. ⊥ }
 
@@ -72,8 +72,8 @@ abbrev pub LeftFault : Code → List ℕ → Type 0
 LeftFault Count bytes = AtEnd bytes
 LeftFault code bytes = ⊥
 
--- the claims about so many queries, the first of which has the number: what the grammar has, whatever the queries are, are claims up to the
--- end of all bytes
+-- the claims about so many queries, the first of which has the number, and the end of all bytes: the grammar has claims up to there,
+-- whatever their numbers are and however many
 abbrev pub claims_of : Protocol → ℕ → ℕ → Kind
 claims_of P zero number = one_of (behind (fixed (codes "query ")) (behind (marked numbers PastFault) anything_else)) (nothing_before AtEnd)
 claims_of P (suc left) number = one_of (behind (claims_about P number) (claims_of P left (number + 1))) (marked (nothing_before AtEnd) LeftFault)

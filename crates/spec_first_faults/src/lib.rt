@@ -34,7 +34,7 @@ ghost use Rattle.spec_first_faults.specs.Numbers.{numbers};
 ghost use Rattle.spec_first_faults.specs.Facts.{known, sent, events, hypotheses, conclusions};
 ghost use Rattle.spec_first_faults.specs.Clauses.{clauses, certificates};
 ghost use Rattle.spec_first_faults.specs.Reports.{reports};
-ghost use Rattle.spec_first_faults.specs.Told.{IsToldFirst, HasNoFault, IsFaultless};
+ghost use Rattle.spec_first_faults.specs.Told.{IsToldFirst, IsFaultless};
 
 use spec_certificate_reading::certificates_are_read;
 use spec_report_text::reports_are_read;
@@ -66,15 +66,16 @@ pub fn the_first_fault_of_a_clause_is_told()
     ensures clauses { (P : Protocol) → HasNames P → IsToldFirst (clauses P) (read_clause P) }
 {}
 
-/// Of a certificate the first fault is told, exactly where there is one; where a certificate is read there is none. There is
-/// one first fault at most.
+/// Of a certificate the first fault is told, exactly where there is one. Bytes begin with a certificate exactly where they begin
+/// with a text of the grammar and no fault stands in them. There is one first fault at most.
 pub fn the_first_fault_of_a_certificate_is_told()
     ensures told { (P : Protocol) → HasNames P →
         IsToldFirst (certificates P) (read_certificate P) }
-    ensures none { (P : Protocol) → HasNames P →
-        HasNoFault (certificates P) (read_certificate P) }
-    ensures text { (P : Protocol) (c : Certificate) (rest : List ℕ) → HasNames P →
-        IsReadableCertificate P c → (certificates P).Text (certificate_text P c rest) rest }
+    ensures spelled { (P : Protocol) (c : Certificate) (rest : List ℕ) → HasNames P →
+        IsReadableCertificate P c → IsFaultless (certificates P) (certificate_text P c rest) rest }
+    ensures faultless { (P : Protocol) (bytes rest : List ℕ) → HasNames P →
+        IsFaultless (certificates P) bytes rest →
+        (c : Certificate) × IsReadableCertificate P c × (bytes ≡ certificate_text P c rest) }
     ensures one { (P : Protocol) (bytes : List ℕ) (at place other : ℕ) (code another : Code) →
         IsFirstFault (certificates P) bytes at place code →
         IsFirstFault (certificates P) bytes at other another → (place ≡ other) × (code ≡ another) }
@@ -88,9 +89,9 @@ pub fn the_first_fault_of_a_report_is_told()
     ensures told { (P : Protocol) (bytes : List ℕ) (place : ℕ) (code : Code) → HasNames P →
         (read_report P bytes ≡ Faulty place code) ↔ IsFirstFault (reports P) bytes 0 place code }
     ensures spelled { (P : Protocol) (bytes : List ℕ) (claims : List Claim) → HasNames P →
-        IsShort (length P.queries) → SpellsReport P bytes claims → IsFaultless (reports P) bytes }
+        IsShort (length P.queries) → SpellsReport P bytes claims → IsFaultless (reports P) bytes [] }
     ensures faultless { (P : Protocol) (bytes : List ℕ) → HasNames P →
-        IsFaultless (reports P) bytes → (claims : List Claim) × SpellsReport P bytes claims }
+        IsFaultless (reports P) bytes [] → (claims : List Claim) × SpellsReport P bytes claims }
     ensures one { (P : Protocol) (bytes : List ℕ) (place other : ℕ) (code another : Code) →
         IsFirstFault (reports P) bytes 0 place code →
         IsFirstFault (reports P) bytes 0 other another → (place ≡ other) × (code ≡ another) }

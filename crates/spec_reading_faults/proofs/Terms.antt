@@ -11,9 +11,10 @@ use Rattle.spec_certificate_reading.specs.Names.{Named, symbol_called, name_call
 use Rattle.spec_certificate_reading.specs.Terms.{Code, Syntax, Number, Symbol, Arity, Count, Open, Mode, Begins, InWord, InDigits, AtBracket, Ended, Reading, Step, Goes, Ends, Fault}
 use Rattle.spec_certificate_reading.specs.Steps.{is_deep, goes, unless_deep, opened, with_parts, has_arity, closed, closing_byte, may_close, may_go_on, may_be_empty, after_term, begin_term, at_begin, after_variable, after_name, after_word, apply, in_word, after_point, after_number, after_digits, step_in, step}
 use Rattle.spec_certificate_reading.specs.Runs.{Read, Done, Refused, followed, cut_off, at_end, read_on, read_term}
-use Rattle.spec_certificate_reading.specs.Outcomes.{Found, Faulty}
+use Rattle.spec_certificate_reading.specs.Outcomes.{Faulty}
 use Rattle.spec_certificate_reading.specs.Facts.{term_outcome, one_term}
 use Rattle.spec_certificate_reading.proofs.Runs.{none_at_end}
+use Rattle.spec_certificate_reading.proofs.FactsThere.{as_done}
 use Rattle.spec_reading_faults.proofs.Shared.{Shares, Passed, IsLocal}
 
 -- a fault of syntax stands at the byte that is looked at
@@ -237,14 +238,6 @@ as_refused (Refused p c) place code e =
     let places : p ≡ place = cc in
     let codes : c ≡ code = cc in
     ap (λ q. Refused q c) places ∙ ap (Refused place) codes
-
-pub as_done : (o : Read) (t : Term) (place : ℕ) (rest : List ℕ) → term_outcome o ≡ Found t place rest → o ≡ Done t place rest
-as_done (Done u p k) t place rest e =
-    let same : u ≡ t = cc in
-    let places : p ≡ place = cc in
-    let rests : k ≡ rest = cc in
-    ap (λ v. Done v p k) same ∙ (ap (λ q. Done t q k) places ∙ ap (Done t place) rests)
-as_done (Refused p c) t place rest e = absurd (cc)
 
 pub term_local : (P : Protocol) → IsLocal (one_term P)
 term_local P = record {

@@ -6,7 +6,7 @@ use Rattle.spec_certificate_reading.specs.Terms.{Code, Reading, Goes, Ends, Faul
 use Rattle.spec_certificate_reading.specs.Steps.{step}
 use Rattle.spec_certificate_reading.specs.Runs.{Read, Done, Refused, followed, at_end, read_on}
 
-next_byte : (bytes : List ℕ) (place : ℕ) → place < length bytes → drop place bytes ≡ get_or bytes place 0 ∷ drop (place + 1) bytes
+pub next_byte : (bytes : List ℕ) (place : ℕ) → place < length bytes → drop place bytes ≡ get_or bytes place 0 ∷ drop (place + 1) bytes
 next_byte [] place below = absurd (omega (arith, below))
 next_byte (b ∷ bytes) zero below = refl
 next_byte (b ∷ bytes) (suc place) below = rw add-one (rw add-one at (next_byte bytes place (omega (arith, below))))

@@ -16,8 +16,8 @@ returns-clause-spelled c = λ P bytes claims names short is.
 
 pub returns-clause-faultless : goal.returns-clause-faultless
 returns-clause-faultless c = λ P bytes names is.
-    let found = faultless_found (reports P) AtEnd (claims_from P (length P.queries) 1 []) (report_tells P names) bytes is in
-    (found.0, c.reports_are_read.ensures.there P bytes found.0 found.1 found.2 found.3)
+    let found = faultless_found (reports P) AtEnd (claims_from P (length P.queries) 1 []) (report_tells P names) bytes [] is in
+    (found.0, c.reports_are_read.ensures.there P bytes found.0 found.1 [] found.2)
 
 pub returns-clause-one : goal.returns-clause-one
 returns-clause-one c = λ P bytes place other code another one two. first_is_one (reports P) bytes 0 place other code another one two
