@@ -12,7 +12,7 @@ use Rattle.spec_verdicts.proofs.Building.{numbers_length}
 use Rattle.term_tree.specs.declared.bank.Id.{Id}
 use Rattle.clause_form.specs.Seen.{clause_at}
 use Rattle.clause_form.specs.Fit.{AreFit, clauses_at}
-use Rattle.clause_saturate.proofs.Giving.{numbered_given}
+use Rattle.clause_saturate.proofs.Fitting.{numbered_given}
 
 module _ (all : List Term) (cs : List (Clause Id)) where
   pub item_at : (i : ℕ) (c : Clause Id) → c ≡ get_or cs i c → i < length cs → slice_get (clauses_at all cs) i ≡ Some (clause_at all c)

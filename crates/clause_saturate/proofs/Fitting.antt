@@ -3,6 +3,7 @@ use Rattle.std.proofs.Common.{◌≡◌, ◌∙◌, ℕ, zero, suc, ◌-◌, ◌
 use Rattle.std.proofs.lemmas.List.{length-map}
 use Rattle.spec_terms.specs.Term.{Term}
 use Rattle.spec_calculus.specs.Bounds.{most_symbols}
+use Rattle.spec_calculus.specs.Points.{numbered}
 use Rattle.spec_clauses.specs.Fact.{Clause, clause_terms, clause_size}
 use Rattle.spec_clauses.specs.Variables.{leaves, IsBelow}
 use Rattle.spec_clauses.specs.Norm.{IsNormal}
@@ -28,6 +29,12 @@ use Rattle.clause_saturate.specs.Live.{AreListed}
 use Rattle.clause_saturate.specs.Walked.{Task, IsTask, IsWalked, behind_goal, turn_end}
 use Rattle.clause_saturate.proofs.Listing.{listed_grows, listed_back}
 use Rattle.clause_saturate.proofs.Telling.{TellLog-grows, TellLog-back, log_length}
+
+-- the clause at a place has the number behind it
+pub numbered_given : (all : List Term) (cs : List (Clause Id)) (i : ℕ) (c : Clause Id) → c ≡ get_or cs i c → i < length cs → numbered (map (clause_at all) cs) (suc i) ≡ Some (clause_at all c)
+numbered_given all [] i c is within = absurd (omega arith)
+numbered_given all (d ∷ cs) zero c is within = ap (λ x. Some (clause_at all x)) (sym is)
+numbered_given all (d ∷ cs) (suc i) c is within = numbered_given all cs i c is (omega arith)
 
 -- what is offered is within the limit
 offers_small : (task : Task) → IsTask task → (log : List offered.Entry) (e : offered.Entry) → IsOffered task.given log e → IsWithinLimit e.clause

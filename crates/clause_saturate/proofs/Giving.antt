@@ -14,13 +14,9 @@ use Rattle.term_tree.proofs.BankLaws.{slice_get-append, slice_get-next}
 use Rattle.clause_form.specs.Seen.{clause_at}
 use Rattle.clause_form.specs.Fit.{AreFit}
 use Rattle.clause_saturate.specs.Walked.{Task, IsTask, AreGivenOf}
+use Rattle.clause_saturate.proofs.Fitting.{numbered_given}
 
--- the clause at a place has the number behind it
-pub numbered_given : (all : List Term) (cs : List (Clause Id)) (i : ℕ) (c : Clause Id) → c ≡ get_or cs i c → i < length cs → numbered (map (clause_at all) cs) (suc i) ≡ Some (clause_at all c)
-numbered_given all [] i c is within = absurd (omega arith)
-numbered_given all (d ∷ cs) zero c is within = ap (λ x. Some (clause_at all x)) (sym is)
-numbered_given all (d ∷ cs) (suc i) c is within = numbered_given all cs i c is (omega arith)
-
+-- the clause at a place, counted from 1
 pub number_given : (all : List Term) (cs : List (Clause Id)) (k : ℕ) (c : Clause Id) → c ≡ get_or cs (k - 1) c → 0 < k → k ≤ length cs → numbered (map (clause_at all) cs) k ≡ Some (clause_at all c)
 number_given all cs zero c is some within = absurd (omega arith)
 number_given all cs (suc k) c is some within =

@@ -1,5 +1,5 @@
 -- The translation, by the attacker's clauses, those of the visits, and the goal.
-use Rattle.std.proofs.Common.{◌≡◌, ℕ, zero, suc, ◌<◌, ◌≤◌, Some, None, true, List, [], ◌∷◌, ◌++◌, length, get_or, map, refl, ap, sym, subst, ◌∙◌, arith}
+use Rattle.std.proofs.Common.{◌≡◌, ℕ, zero, suc, ◌<◌, ◌≤◌, Some, None, true, List, [], ◌∷◌, ◌++◌, length, get_or, map, refl, ap, sym, subst, append_assoc, arith}
 use Rattle.std.proofs.lemmas.Option.{slice_get-get_or}
 use Rattle.spec_calculus.specs.Syntax.{Query, Protocol}
 use Rattle.spec_calculus.specs.Points.{numbered}
@@ -11,14 +11,13 @@ use Rattle.term_tree.specs.declared.bank.Id.{Id}
 use Rattle.spec_translation.specs.Visit.{first_visit}
 use Rattle.spec_translation.specs.Course.{Done, TooLarge}
 use Rattle.spec_translation.specs.Visited.{Visited}
-use Rattle.spec_translation.specs.Translation.{attacker_clauses, goal_clauses}
+use Rattle.spec_translation.specs.Translation.{Clauses, LargeAt, attacker_clauses, goal_clauses, IsTranslation}
 use Rattle.clause_form.specs.Seen.{clause_at, AreClausesIn, NameClauses}
 use Rattle.query_derive.specs.GoalRows.{OfQuery}
 use Rattle.clause_translate.specs.declared.listing.Listing.{Listing}
 use Rattle.clause_translate.specs.Jobs.{Once, Ends}
-use Rattle.clause_translate.specs.Whole.{TranslatesTo, EndsAt, AddsVisits}
+use Rattle.clause_translate.specs.Whole.{TranslatesTo, EndsAt, AddsVisits, IsLargeAt, IsCommonTo}
 use Rattle.clause_translate.proofs.Adding.{clauses_later}
-use Rattle.clause_translate.proofs.Courses.{appended_twice}
 use Rattle.clause_translate.proofs.Listings.{NameClauses-append}
 
 there : (items : List Query) (number : ℕ) → 0 < number → number ≤ length items → (q : Query) × (numbered items number ≡ Some q)
@@ -41,20 +40,28 @@ visits_added P old new before after left keeps grows known h = record {
       (NameClauses-append new before.clauses h.lists.made (map (clause_at old) before.clauses) h.more (clauses_later old new before.clauses grows known) (h.lists.names keeps));
 }
 
-pub ends_at : (P : Protocol) (number point : ℕ) → (0 < number) × (number ≤ length P.queries) → Visited P P.main 1 first_visit most_visits (TooLarge point) → EndsAt P number point
-ends_at P number point is h = let q = query_there P number is in record { query = q.0; is = q.1; translates = (TooLarge point, h, refl) }
+-- all but the goal of each translation, by the attacker's clauses and those of the visits
+pub common_to : (P : Protocol) (first mid : List Term) (known visited : List (Clause Id)) → NameClauses first known (attacker_clauses P) → AddsVisits P first mid known visited → IsCommonTo P mid visited
+common_to P first mid known visited attacker adds = record {
+  list = attacker_clauses P ++ adds.more;
+  names = subst (λ l. NameClauses mid visited (l ++ adds.more)) attacker.are adds.names;
+  translates = λ q. (Done adds.more adds.left, adds.runs, ap Clauses (append_assoc (attacker_clauses P) adds.more (goal_clauses P q)));
+}
 
-pub translates_to : (P : Protocol) (number : ℕ) (first mid last : List Term) (known visited all : List (Clause Id)) → (0 < number) × (number ≤ length P.queries) → NameClauses first known (attacker_clauses P) → AddsVisits P first mid known visited
-    → OfQuery P number (λ q. NameClauses last all (map (clause_at mid) visited ++ goal_clauses P q)) → TranslatesTo P number last all
-translates_to P number first mid last known visited all is attacker adds goal =
+pub all_end_at : (P : Protocol) (point : ℕ) → IsLargeAt P point → (q : Query) → IsTranslation P q (LargeAt point)
+all_end_at P point h q = (TooLarge point, h, refl)
+
+-- one query's translation by what is so of all
+pub ends_at : (P : Protocol) (number point : ℕ) → (0 < number) × (number ≤ length P.queries) → ((q : Query) → IsTranslation P q (LargeAt point)) → EndsAt P number point
+ends_at P number point is h = let q = query_there P number is in record { query = q.0; is = q.1; translates = h q.0 }
+
+pub translates_to : (P : Protocol) (number : ℕ) (mid last : List Term) (common all : List (Clause Id)) → (0 < number) × (number ≤ length P.queries) → IsCommonTo P mid common → OfQuery P number (λ q. NameClauses last all (map (clause_at mid) common ++ goal_clauses P q)) → TranslatesTo P number last all
+translates_to P number mid last common all is whole goal =
     let q = query_there P number is in
-    let list = attacker_clauses P ++ (adds.more ++ goal_clauses P q.0) in
-    let same : map (clause_at mid) visited ++ goal_clauses P q.0 ≡ list =
-    ap (λ l. l ++ goal_clauses P q.0) (adds.names.are ∙ ap (λ l. l ++ adds.more) attacker.are) ∙ appended_twice (attacker_clauses P) adds.more (goal_clauses P q.0) in
     record {
       query = q.0;
       is = q.1;
-      list = list;
-      names = subst (λ l. NameClauses last all l) same (goal q.0 q.1);
-      translates = (Done adds.more adds.left, adds.runs, refl);
+      list = whole.list ++ goal_clauses P q.0;
+      names = subst (λ l. NameClauses last all (l ++ goal_clauses P q.0)) whole.names.are (goal q.0 q.1);
+      translates = whole.translates q.0;
     }

@@ -9,7 +9,7 @@ use Rattle.term_tree.specs.declared.bank.Id.{Id}
 use Rattle.spec_translation.specs.Visit.{first_visit}
 use Rattle.spec_translation.specs.Course.{Done, TooLarge}
 use Rattle.spec_translation.specs.Visited.{Visited}
-use Rattle.spec_translation.specs.Translation.{Clauses, LargeAt, IsTranslation}
+use Rattle.spec_translation.specs.Translation.{Clauses, LargeAt, IsTranslation, goal_clauses}
 use Rattle.clause_form.specs.Seen.{clause_at, NameClauses}
 use Rattle.clause_translate.specs.declared.whole.Translated.{Translated}
 use Rattle.clause_translate.specs.declared.whole.Translated.TheVariants as made
@@ -31,6 +31,17 @@ pub record EndsAt (P : Protocol) (number point : ℕ) : Type 0 where
 abbrev pub Translates : Protocol → ℕ → List Term → Translated → Type 0
 Translates P number all (made.Clauses clauses) = TranslatesTo P number all clauses
 Translates P number all (made.Large point) = EndsAt P number point
+
+-- The clauses name what the translation of each query begins with: all of it but the goal.
+pub record IsCommonTo (P : Protocol) (all : List Term) (clauses : List (Clause Id)) : Type 0 where
+  pub list : List (Clause Term)
+  pub names : NameClauses all clauses list
+  pub translates : (q : Query) → IsTranslation P q (Clauses (list ++ goal_clauses P q))
+
+-- what is so of the translations of all queries: they begin with such clauses, or end at the point
+abbrev pub TranslatesAll : Protocol → List Term → Translated → Type 0
+TranslatesAll P all (made.Clauses clauses) = IsCommonTo P all clauses
+TranslatesAll P all (made.Large point) = (q : Query) → IsTranslation P q (LargeAt point)
 
 -- where a visit is too large, the bank is as before
 abbrev pub IsKept : List Term → List Term → Translated → Type 0

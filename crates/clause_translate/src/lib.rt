@@ -26,4 +26,4 @@ mod visits;
 mod whole;
 
 pub use crate::runs::translations_abstract_runs;
-pub use crate::whole::{Translated, translate};
+pub use crate::whole::{Translated, translate, translate_common, with_goal};

@@ -16,7 +16,7 @@ ghost use Rattle.query_derive.specs.GoalRows.{OfQuery};
 ghost use Rattle.clause_translate.specs.Places.{HasFewPoints};
 ghost use Rattle.clause_translate.specs.Short.{IsShortProcess, HasFitRules};
 ghost use Rattle.clause_translate.specs.Jobs.{Once, Ends};
-ghost use Rattle.clause_translate.specs.Whole.{IsLargeAt, IsVisited, Translates, IsKept};
+ghost use Rattle.clause_translate.specs.Whole.{IsLargeAt, IsVisited, Translates, TranslatesTo, TranslatesAll, IsCommonTo, IsKept};
 ghost use Rattle.clause_translate.specs.Soundness.{IsSound};
 
 use crate::listing::Listing;
@@ -121,8 +121,9 @@ fn visited<B: Bank>(
     }
 }
 
-/// The clauses with the goal. On `Err` the bank may have grown.
-fn with_goal<B: Bank>(
+/// The clauses of `translate_common` with the goal of the query of that number behind them: the query's translation. On
+/// `Err`, which is want of memory, the bank may have grown.
+pub fn with_goal<B: Bank>(
     alloc: Global,
     bank: &mut B,
     protocol: &Protocol,
@@ -132,8 +133,10 @@ fn with_goal<B: Bank>(
     requires limits { IsWithinLimits (protocol_of protocol.now) }
     requires queries { HasProperQueries (protocol_of protocol.now) }
     requires there { IsThere (protocol_of protocol.now) OfQueries query }
-    requires clauses { AreClausesIn (B.trees bank.old) clauses }
+    requires common { IsCommonTo (protocol_of protocol.now) (B.trees bank.old) clauses }
     ensures grows { Grows (B.trees bank.old) (B.trees bank.new) }
+    ensures translates { IfOk result (λ all. TranslatesTo (protocol_of protocol.now) query
+        (B.trees bank.new) all) }
     ensures names { IfOk result (λ all. OfQuery (protocol_of protocol.now) query
         (λ q. NameClauses (B.trees bank.new) all (map (clause_at (B.trees bank.old)) clauses
         ++ goal_clauses (protocol_of protocol.now) q))) }
@@ -141,6 +144,61 @@ fn with_goal<B: Bank>(
     let mut goal = goal_clause(alloc, bank, protocol, query)?;
     clauses.items.append(&mut goal.items)?;
     Ok(clauses)
+}
+
+/// All of the translation but the goal. On `Err`, and where a visit is too large, the bank may have grown.
+fn common_grown<B: Bank>(
+    alloc: Global,
+    bank: &mut B,
+    protocol: &Protocol,
+) -> Result<Translated, AllocError>
+    requires limits { IsWithinLimits (protocol_of protocol.now) }
+    requires rules { HasProperRules (protocol_of protocol.now) }
+    requires scoped { IsWellScoped (protocol_of protocol.now) }
+    ensures grows { Grows (B.trees bank.old) (B.trees bank.new) }
+    ensures translates { IfOk result (λ found. TranslatesAll (protocol_of protocol.now)
+        (B.trees bank.new) found) }
+{
+    let clauses = attacker_list(alloc, bank, protocol)?;
+    match visited(alloc, bank, protocol, clauses)? {
+        Translated::Large(point) => Ok(Translated::Large(point)),
+        Translated::Clauses(common) => Ok(Translated::Clauses(common)),
+    }
+}
+
+/// What the protocol and each of its queries are translated into, but for the goal: the attacker's clauses and those of the
+/// visits of the main process in pre-order; or the point of the first visit that is too large. With the query's goal
+/// clause behind them they are the query's translation.
+///
+/// The conditions hold of each protocol that is read. `Err` comes for want of memory, and, as if for that, where the new
+/// variables of a pattern would lead past 2^31, as they do in no protocol that is read. On `Err`, and where a visit is too
+/// large, the bank is as before.
+pub fn translate_common<B: Bank>(
+    alloc: Global,
+    bank: &mut B,
+    protocol: &Protocol,
+) -> Result<Translated, AllocError>
+    requires limits { IsWithinLimits (protocol_of protocol.now) }
+    requires rules { HasProperRules (protocol_of protocol.now) }
+    requires scoped { IsWellScoped (protocol_of protocol.now) }
+    ensures grows { Grows (B.trees bank.old) (B.trees bank.new) }
+    ensures translates { IfOk result (λ found. TranslatesAll (protocol_of protocol.now)
+        (B.trees bank.new) found) }
+    ensures large { IfOk result (λ found. IsKept (B.trees bank.old) (B.trees bank.new) found) }
+    ensures err { OnErr result (B.trees bank.new ≡ B.trees bank.old) }
+{
+    let mark = bank.mark();
+    match common_grown(alloc, bank, protocol) {
+        Ok(Translated::Clauses(all)) => Ok(Translated::Clauses(all)),
+        Ok(Translated::Large(point)) => {
+            bank.back(mark);
+            Ok(Translated::Large(point))
+        }
+        Err(error) => {
+            bank.back(mark);
+            Err(error)
+        }
+    }
 }
 
 /// The translation. On `Err`, and where a visit is too large, the bank may have grown.
@@ -159,8 +217,7 @@ fn translate_grown<B: Bank>(
     ensures translates { IfOk result (λ found. Translates (protocol_of protocol.now) query
         (B.trees bank.new) found) }
 {
-    let clauses = attacker_list(alloc, bank, protocol)?;
-    match visited(alloc, bank, protocol, clauses)? {
+    match common_grown(alloc, bank, protocol)? {
         Translated::Large(point) => Ok(Translated::Large(point)),
         Translated::Clauses(known) => {
             let all = with_goal(alloc, bank, protocol, query, known)?;

@@ -1,46 +1,21 @@
 use Rattle.std.proofs.Common.{subst}
 use Rattle.pi_tree.specs.Protocols.{protocol_of}
 use Rattle.clause_translate.specs.declared.whole.Translated.{Translated}
-use Rattle.clause_translate.specs.Whole.{IsVisited}
-use Rattle.clause_translate.proofs.FewPoints.{first_few}
-use Rattle.clause_translate.proofs.Reading.{main_short, has_fit_rules}
-use Rattle.clause_translate.proofs.Translating.{ends_at, translates_to}
+use Rattle.clause_translate.specs.Whole.{TranslatesAll}
+use Rattle.clause_translate.proofs.Translating.{ends_at}
 use Rattle.term_tree.proofs.BankLaws.{Grows_trans}
 use Rattle.clause_translate.proofs.whole.translate_grown.Goals as goal
 
-pub visited-requires-clause-short : goal.visited-requires-clause-short
-visited-requires-clause-short g c = main_short (protocol_of c.args.protocol.now) c.requires.scoped
-
-pub visited-requires-clause-rules : goal.visited-requires-clause-rules
-visited-requires-clause-rules g c = has_fit_rules (protocol_of c.args.protocol.now) c.requires.rules c.requires.limits c.requires.scoped
-
-pub visited-requires-clause-points : goal.visited-requires-clause-points
-visited-requires-clause-points g c = first_few (protocol_of c.args.protocol.now).main c.requires.limits.points
-
 pub returns-in-Large-clause-translates : goal.returns-in-Large-clause-translates
 returns-in-Large-clause-translates g c =
-    let first = g.B.Bank.trees c.attacker_list.new.bank in
-    let mid = g.B.Bank.trees c.visited.new.bank in
     let P = protocol_of c.args.protocol.now in
-    ends_at P c.args.query c.in-Large.point c.requires.there (subst (λ (t : Translated). IsVisited P first mid c.in_ok-clauses.clauses t) c.in-Large.is c.in_ok-point.ensures.visits)
+    ends_at P c.args.query c.in-Large.point c.requires.there (subst (λ (t : Translated). TranslatesAll P (g.B.Bank.trees c.common_grown.new.bank) t) c.in-Large.is c.in_ok-point.ensures.translates)
 
-pub returns-in_ok-all-in-Clauses-clause-translates : goal.returns-in_ok-all-in-Clauses-clause-translates
-returns-in_ok-all-in-Clauses-clause-translates g c =
-    let first = g.B.Bank.trees c.attacker_list.new.bank in
-    let mid = g.B.Bank.trees c.visited.new.bank in
-    let last = g.B.Bank.trees c.with_goal.new.bank in
-    let P = protocol_of c.args.protocol.now in
-    translates_to P c.args.query first mid last c.in_ok-clauses.clauses c.in-Clauses.known c.in_ok-all-in-Clauses.all c.requires.there c.in_ok-clauses.ensures.names
-    (subst (λ (t : Translated). IsVisited P first mid c.in_ok-clauses.clauses t) c.in-Clauses.is c.in_ok-point.ensures.visits) c.in_ok-all-in-Clauses.ensures.names
-
-pub returns-in_err-point-clause-grows : goal.returns-in_err-point-clause-grows
-returns-in_err-point-clause-grows g c = Grows_trans (g.B.Bank.trees c.args.bank.now) (g.B.Bank.trees c.attacker_list.new.bank) (g.B.Bank.trees c.visited.new.bank) c.attacker_list.ensures.grows c.visited.ensures.grows
-
-pub returns-in-Large-clause-grows : goal.returns-in-Large-clause-grows
-returns-in-Large-clause-grows g c = Grows_trans (g.B.Bank.trees c.args.bank.now) (g.B.Bank.trees c.attacker_list.new.bank) (g.B.Bank.trees c.visited.new.bank) c.attacker_list.ensures.grows c.visited.ensures.grows
+pub with_goal-requires-clause-common : goal.with_goal-requires-clause-common
+with_goal-requires-clause-common g c = subst (λ (t : Translated). TranslatesAll (protocol_of c.args.protocol.now) (g.B.Bank.trees c.common_grown.new.bank) t) c.in-Clauses.is c.in_ok-point.ensures.translates
 
 pub returns-in_err-all-in-Clauses-clause-grows : goal.returns-in_err-all-in-Clauses-clause-grows
-returns-in_err-all-in-Clauses-clause-grows g c = Grows_trans (g.B.Bank.trees c.args.bank.now) (g.B.Bank.trees c.visited.new.bank) (g.B.Bank.trees c.with_goal.new.bank) (Grows_trans (g.B.Bank.trees c.args.bank.now) (g.B.Bank.trees c.attacker_list.new.bank) (g.B.Bank.trees c.visited.new.bank) c.attacker_list.ensures.grows c.visited.ensures.grows) c.with_goal.ensures.grows
+returns-in_err-all-in-Clauses-clause-grows g c = Grows_trans (g.B.Bank.trees c.args.bank.now) (g.B.Bank.trees c.common_grown.new.bank) (g.B.Bank.trees c.with_goal.new.bank) c.common_grown.ensures.grows c.with_goal.ensures.grows
 
 pub returns-in_ok-all-in-Clauses-clause-grows : goal.returns-in_ok-all-in-Clauses-clause-grows
-returns-in_ok-all-in-Clauses-clause-grows g c = Grows_trans (g.B.Bank.trees c.args.bank.now) (g.B.Bank.trees c.visited.new.bank) (g.B.Bank.trees c.with_goal.new.bank) (Grows_trans (g.B.Bank.trees c.args.bank.now) (g.B.Bank.trees c.attacker_list.new.bank) (g.B.Bank.trees c.visited.new.bank) c.attacker_list.ensures.grows c.visited.ensures.grows) c.with_goal.ensures.grows
+returns-in_ok-all-in-Clauses-clause-grows g c = Grows_trans (g.B.Bank.trees c.args.bank.now) (g.B.Bank.trees c.common_grown.new.bank) (g.B.Bank.trees c.with_goal.new.bank) c.common_grown.ensures.grows c.with_goal.ensures.grows

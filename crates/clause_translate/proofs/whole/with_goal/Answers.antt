@@ -6,6 +6,7 @@ use Rattle.spec_translation.specs.Translation.{goal_clauses}
 use Rattle.clause_form.specs.Seen.{clause_at, NameClauses}
 use Rattle.clause_translate.proofs.Adding.{clauses_later}
 use Rattle.clause_translate.proofs.Listings.{NameClauses-append}
+use Rattle.clause_translate.proofs.Translating.{translates_to}
 use Rattle.clause_translate.proofs.whole.with_goal.Goals as goal
 
 pub returns-clause-names : goal.returns-clause-names
@@ -15,4 +16,15 @@ returns-clause-names g c = λ q is.
     let before = map (clause_at old) c.args.clauses in
     let goal = goal_clauses (protocol_of c.args.protocol.now) q in
     subst (λ (cs : List (Clause Id)). NameClauses new cs (before ++ goal)) (sym (c.in_ok-append.ensures.items ∙ (λ i. c.clauses.view_is i ++ c.goal.view_is i)))
-    (NameClauses-append new c.args.clauses c.in_ok-goal.goal before goal (clauses_later old new c.args.clauses c.goal_clause.ensures.grows c.requires.clauses) (c.in_ok-goal.ensures.names q is))
+    (NameClauses-append new c.args.clauses c.in_ok-goal.goal before goal (clauses_later old new c.args.clauses c.goal_clause.ensures.grows c.requires.common.names.known) (c.in_ok-goal.ensures.names q is))
+
+pub returns-clause-translates : goal.returns-clause-translates
+returns-clause-translates g c =
+    let old = g.B.Bank.trees c.args.bank.now in
+    let new = g.B.Bank.trees c.goal_clause.new.bank in
+    let P = protocol_of c.args.protocol.now in
+    translates_to P c.args.query old new c.args.clauses _ c.requires.there c.requires.common (λ q is.
+    let before = map (clause_at old) c.args.clauses in
+    let goal = goal_clauses P q in
+    subst (λ (cs : List (Clause Id)). NameClauses new cs (before ++ goal)) (sym (c.in_ok-append.ensures.items ∙ (λ i. c.clauses.view_is i ++ c.goal.view_is i)))
+    (NameClauses-append new c.args.clauses c.in_ok-goal.goal before goal (clauses_later old new c.args.clauses c.goal_clause.ensures.grows c.requires.common.names.known) (c.in_ok-goal.ensures.names q is)))
