@@ -25,11 +25,11 @@ term_back : (ts us : List Term) (t : Term) → Has ts t → term_at ts (number_i
 term_back ts us t h =
     ap (λ n. unwrap_or (slice_get ts n) (Leaf 0)) (place_before ts us t h) ∙ ap (λ o. unwrap_or o (Leaf 0)) (at_place ts t h)
 
-mapped_back : {X Y : Type 0} (g : Y → X) (f : X → Y) (xs : List X) → AllByRecursion (λ x. g (f x) ≡ x) xs → map g (map f xs) ≡ xs
+pub mapped_back : {X Y : Type 0} (g : Y → X) (f : X → Y) (xs : List X) → AllByRecursion (λ x. g (f x) ≡ x) xs → map g (map f xs) ≡ xs
 mapped_back g f [] all = refl
 mapped_back g f (x ∷ xs) all = let first = all.0 in let later = mapped_back g f xs all.1 in cc
 
-node_back : (before ts : List Term) (t : Term) → AllByRecursion (Has before) (arguments_of t) → term_of before (node_of (before ++ ts) t) ≡ t
+pub node_back : (before ts : List Term) (t : Term) → AllByRecursion (Has before) (arguments_of t) → term_of before (node_of (before ++ ts) t) ≡ t
 node_back before ts (Leaf x) stand = refl
 node_back before ts (Node f args) stand =
     let numbers = all_weaker (Has before) (λ u. term_at before (number_in (before ++ ts) u) ≡ u) (λ u h. term_back before ts u h) (items_of args) stand in

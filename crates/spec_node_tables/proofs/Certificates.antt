@@ -107,7 +107,7 @@ numbered_apart P names c d k l is_c is_d e =
 
 -- What is made of a protocol's certificate is of the protocol.
 
-mapped_all : {X Y : Type 0} (Q : X → Type 0) (R : Y → Type 0) (f : X → Y) → ((x : X) → Q x → R (f x)) → (xs : List X) → AllByRecursion Q xs → AllByRecursion R (map f xs)
+pub mapped_all : {X Y : Type 0} (Q : X → Type 0) (R : Y → Type 0) (f : X → Y) → ((x : X) → Q x → R (f x)) → (xs : List X) → AllByRecursion Q xs → AllByRecursion R (map f xs)
 mapped_all Q R f gives [] all = tt
 mapped_all Q R f gives (x ∷ xs) all = (gives x all.0, mapped_all Q R f gives xs all.1)
 
@@ -151,7 +151,7 @@ deeper : {t u v : Term} → Has (arguments_of t) u → IsSubterm t v → IsSubte
 deeper argument itself = of_argument argument itself
 deeper argument (of_argument has below) = of_argument has (deeper argument below)
 
-argument_stands : (cs : List (Clause Term)) (t u : Term) → Has (table cs) t → Has (arguments_of t) u → Has (table cs) u
+pub argument_stands : (cs : List (Clause Term)) (t u : Term) → Has (table cs) t → Has (arguments_of t) u → Has (table cs) u
 argument_stands cs t u h argument =
     let (v, has, within) = (table_has cs t).0 h in
     (table_has cs u).1 (v, has, deeper argument within)
@@ -160,7 +160,7 @@ module _ (P : Protocol) (cs : List (Clause Term)) (are : AllByRecursion (IsClaus
   number_short : (t : Term) → Has (table cs) t → IsShort (number_in (table cs) t)
   number_short t h = let below = place_within (table cs) t h in omega arith
 
-  node_is : (t : Term) → Has (table cs) t → IsNodeOf P (node_of (table cs) t)
+  pub node_is : (t : Term) → Has (table cs) t → IsNodeOf P (node_of (table cs) t)
   node_is (Leaf x) h = table_term_is P cs are (Leaf x) h
   node_is (Node f args) h =
       let is = table_term_is P cs are (Node f args) h in
@@ -184,7 +184,7 @@ module _ (P : Protocol) (cs : List (Clause Term)) (are : AllByRecursion (IsClaus
   facts_are [] is stand = tt
   facts_are (f ∷ fs) is stand = (fact_is f is.0 stand.0, facts_are fs is.1 stand.1)
 
-  clauses_are : (ds : List (Clause Term)) → AllByRecursion (IsClauseOf P) ds → AllByRecursion (λ c. AllByRecursion (λ f. AllByRecursion (Has (table cs)) (terms_of f)) (facts_in_order c)) ds → AllByRecursion (IsClauseOver IsShort P) (map (map_clause (number_in (table cs))) ds)
+  pub clauses_are : (ds : List (Clause Term)) → AllByRecursion (IsClauseOf P) ds → AllByRecursion (λ c. AllByRecursion (λ f. AllByRecursion (Has (table cs)) (terms_of f)) (facts_in_order c)) ds → AllByRecursion (IsClauseOver IsShort P) (map (map_clause (number_in (table cs))) ds)
   clauses_are [] is stand = tt
   clauses_are (d ∷ ds) is stand = (
     record {

@@ -1,9 +1,10 @@
 mod Worked
-mod Walks
-mod Numbers
-mod Back
-mod Alike
-mod Lines
-mod Facts
-mod Certificates
-mod Sizes
+pub mod Walks
+pub mod Numbers
+pub mod Back
+pub mod Alike
+pub mod Lines
+pub mod Facts
+pub mod Certificates
+pub mod Sizes
+pub mod Ordered

@@ -38,10 +38,10 @@ place_before (u ∷ ts) us t h = same_or_not t u (λ b. cond b 0 (suc (place_in 
     (λ other. ap suc (place_before ts us t (later_has u ts t other h)))
 
 -- no term of the list is this one
-abbrev Lacks : List Term → Term → Type 0
+abbrev pub Lacks : List Term → Term → Type 0
 Lacks ts t = AllByRecursion (λ u. same_term t u ≡ false) ts
 
-place_of_new : (ts us : List Term) (t : Term) → Lacks ts t → place_in (ts ++ (t ∷ us)) t ≡ length ts
+pub place_of_new : (ts us : List Term) (t : Term) → Lacks ts t → place_in (ts ++ (t ∷ us)) t ≡ length ts
 place_of_new [] us t lacks =
     let same : same_term t t ≡ true = (same_term-decides t t).1 refl in
     ap (λ b. cond b 0 (suc (place_in us t))) same

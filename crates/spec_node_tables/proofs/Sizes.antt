@@ -35,7 +35,7 @@ terms_total : (fs : List (Fact Term)) → total size (flat_map terms_of fs) ≤ 
 terms_total [] = omega arith
 terms_total (f ∷ fs) = omega (arith, total-append size (terms_of f) (flat_map terms_of fs), terms_total fs, fact_size-parts f)
 
-ordered_total : (c : Clause Term) → total fact_size (facts_in_order c) ≡ clause_size c
+pub ordered_total : (c : Clause Term) → total fact_size (facts_in_order c) ≡ clause_size c
 ordered_total c = omega (arith, total-append fact_size c.hypotheses (c.conclusion ∷ []))
 
 -- Few nodes.

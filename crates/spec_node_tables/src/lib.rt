@@ -26,6 +26,7 @@ ghost use Rattle.spec_node_tables.specs.Table.{terms_in_order, table, number_in,
 ghost use Rattle.spec_node_tables.specs.Nodes.{NodeCertificate, with_nodes, without_nodes};
 ghost use Rattle.spec_node_tables.specs.Text.{clause_over, numbered_text, text_with_nodes};
 ghost use Rattle.spec_node_tables.specs.OfProtocol.{IsNodeCertificateOf};
+ghost use Rattle.spec_node_tables.specs.Order.{IsInOrder};
 ghost use Rattle.spec_node_tables.specs.Large.{most_certificate_symbols, FitsInNodes, is_large_in_nodes};
 ghost use Rattle.spec_node_tables.specs.Examples.{silent, s, silent_clauses, silent_certificate, paired};
 
@@ -101,4 +102,9 @@ pub fn what_fits_in_nodes()
     ensures decided { (cs : List (Clause Term)) → (is_large_in_nodes cs ≡ false) ↔ FitsInNodes cs }
     ensures within { (cs : List (Clause Term)) → AllByRecursion IsWithinLimit cs →
         total clause_size cs ≤ most_certificate_symbols → FitsInNodes cs }
+{}
+
+/// A certificate by numbers is made of the certificate that it means exactly where its nodes stand in the order of the walk.
+pub fn ordered_numbers_are_of_certificates()
+    ensures { (c : NodeCertificate) → IsInOrder c ↔ (with_nodes (without_nodes c) ≡ c) }
 {}

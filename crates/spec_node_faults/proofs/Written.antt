@@ -1,0 +1,75 @@
+-- A certificate by numbers, written with the words of a protocol, has the text that the protocol gives it.
+use Rattle.std.proofs.Common.{◌≡◌, ℕ, List, [], ◌∷◌, ◌++◌, map, refl, ap, ◌∙◌}
+use Rattle.std.specs.Prelude.{codes}
+use Rattle.std.specs.Fmt.{decimal}
+use Rattle.spec_calculus.specs.Syntax.{Protocol}
+use Rattle.spec_clauses.specs.Fact.{Fact, Att, Mess, Ev, Mev, Bad, Clause}
+use Rattle.spec_certificate_text.specs.Words.{event_word}
+use Rattle.spec_certificate_text.specs.Text.{numbers_text, row_lines}
+use Rattle.spec_node_tables.specs.Nodes.{TableNode, NodeCertificate}
+use Rattle.spec_node_tables.specs.Text as short
+use Rattle.spec_node_tables.specs.Text.{number_text, node_head, head_text, node_numbers, terms_text, event_over, fact_over, hypotheses_over, clause_over, clause_lines_over, numbered_text}
+use Rattle.spec_node_faults.specs.Loose.{spaced, later_numbers, commas, node_line, event_onto, fact_onto, later_onto, hypotheses_onto, clause_line, row_line, lines, certificate_onto, written_node, written_fact, written_clause, written}
+
+numbers_spaced : (ns : List ℕ) (k : List ℕ) → spaced (map decimal ns) k ≡ numbers_text ns k
+numbers_spaced [] k = refl
+numbers_spaced (n ∷ ns) k = ap (λ r. 32 ∷ (decimal n ++ r)) (numbers_spaced ns k)
+
+module _ (P : Protocol) where
+  later_same : (ns : List ℕ) (k : List ℕ) → later_numbers (map decimal ns) k ≡ short.later_terms number_text P ns k
+  later_same [] k = refl
+  later_same (n ∷ ns) k = ap (λ r. 44 ∷ (decimal n ++ r)) (later_same ns k)
+
+  commas_same : (ns : List ℕ) (k : List ℕ) → commas (map decimal ns) k ≡ terms_text number_text P ns k
+  commas_same [] k = refl
+  commas_same (n ∷ ns) k = ap (λ r. decimal n ++ r) (later_same ns k)
+
+  event_same : (e : ℕ) (ns : List ℕ) (k : List ℕ) → event_onto (event_word P e) (map decimal ns) k ≡ event_over number_text P e ns k
+  event_same e [] k = refl
+  event_same e (n ∷ ns) k = ap (λ r. event_word P e ++ (40 ∷ r)) (commas_same (n ∷ ns) (41 ∷ k))
+
+  fact_same : (f : Fact ℕ) (k : List ℕ) → fact_onto (written_fact P f) k ≡ fact_over number_text P f k
+  fact_same (Att n) k = refl
+  fact_same (Mess m n) k = refl
+  fact_same (Ev e ns) k = ap (λ r. codes "ev(" ++ r) (event_same e ns (41 ∷ k))
+  fact_same (Mev e ns) k = ap (λ r. codes "mev(" ++ r) (event_same e ns (41 ∷ k))
+  fact_same (Bad ns) k = ap (λ r. codes "bad(" ++ r) (commas_same ns (41 ∷ k))
+
+  later_facts_same : (hs : List (Fact ℕ)) (k : List ℕ) → later_onto (map (written_fact P) hs) k ≡ short.later_hypotheses number_text P hs k
+  later_facts_same [] k = refl
+  later_facts_same (h ∷ hs) k = ap (λ r. 44 ∷ 32 ∷ fact_onto (written_fact P h) r) (later_facts_same hs k) ∙ ap (λ r. 44 ∷ 32 ∷ r) (fact_same h (short.later_hypotheses number_text P hs k))
+
+  hypotheses_same : (hs : List (Fact ℕ)) (k : List ℕ) → hypotheses_onto (map (written_fact P) hs) k ≡ hypotheses_over number_text P hs k
+  hypotheses_same [] k = refl
+  hypotheses_same (h ∷ hs) k = ap (λ r. fact_onto (written_fact P h) r) (later_facts_same hs k) ∙ fact_same h (short.later_hypotheses number_text P hs k)
+
+  clause_same : (c : Clause ℕ) (k : List ℕ) → clause_line (written_clause P c) k ≡ 99 ∷ 32 ∷ clause_over number_text P c (10 ∷ k)
+  clause_same c k =
+      ap (λ r. 99 ∷ 32 ∷ hypotheses_onto (map (written_fact P) c.hypotheses) (61 ∷ 62 ∷ 32 ∷ r)) (fact_same c.conclusion (10 ∷ k))
+      ∙ ap (λ r. 99 ∷ 32 ∷ r) (hypotheses_same c.hypotheses (61 ∷ 62 ∷ 32 ∷ fact_over number_text P c.conclusion (10 ∷ k)))
+
+  clauses_same : (cs : List (Clause ℕ)) (k : List ℕ) → lines clause_line (map (written_clause P) cs) k ≡ clause_lines_over number_text P cs k
+  clauses_same [] k = refl
+  clauses_same (c ∷ cs) k = ap (λ r. clause_line (written_clause P c) r) (clauses_same cs k) ∙ clause_same c (clause_lines_over number_text P cs k)
+
+  node_same : (n : TableNode) (k : List ℕ) → node_line (written_node P n) k ≡ 110 ∷ 32 ∷ short.node_text P n (10 ∷ k)
+  node_same n k = ap (λ r. 110 ∷ 32 ∷ head_text (node_head P n) r) (numbers_spaced (node_numbers n) (10 ∷ k))
+
+  nodes_same : (ns : List TableNode) (k : List ℕ) → lines node_line (map (written_node P) ns) k ≡ short.node_lines P ns k
+  nodes_same [] k = refl
+  nodes_same (n ∷ ns) k = ap (λ r. node_line (written_node P n) r) (nodes_same ns k) ∙ node_same n (short.node_lines P ns k)
+
+rows_same : (letter : ℕ) (rows : List (List ℕ)) (k : List ℕ) → lines (row_line letter) (map (map decimal) rows) k ≡ row_lines letter rows k
+rows_same letter [] k = refl
+rows_same letter (r ∷ rows) k = ap (λ s. letter ∷ spaced (map decimal r) (10 ∷ s)) (rows_same letter rows k) ∙ ap (λ s. letter ∷ s) (numbers_spaced r (10 ∷ row_lines letter rows k))
+
+pub certificate_same : (P : Protocol) (c : NodeCertificate) (k : List ℕ) → certificate_onto (written P c) k ≡ numbered_text P c k
+certificate_same P c k =
+    let e = codes "end\n" ++ k in
+    let goals = row_lines 103 c.goals e in
+    let rows = row_lines 114 c.rows goals in
+    let start : List ℕ → List ℕ = λ r. codes "cert 2\n" ++ lines node_line (map (written_node P) c.nodes) r in
+    ap (λ r. start (lines clause_line (map (written_clause P) c.clauses) (lines (row_line 114) (map (map decimal) c.rows) r))) (rows_same 103 c.goals e)
+    ∙ (ap (λ r. start (lines clause_line (map (written_clause P) c.clauses) r)) (rows_same 114 c.rows goals)
+    ∙ (ap start (clauses_same P c.clauses rows)
+    ∙ ap (λ r. codes "cert 2\n" ++ r) (nodes_same P c.nodes (clause_lines_over number_text P c.clauses rows))))

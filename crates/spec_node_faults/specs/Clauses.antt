@@ -1,0 +1,136 @@
+-- The faults of clauses by numbers: where each code stands.
+use Rattle.std.specs.Prelude.{ℕ, ◌+◌, ◌==◌, nat_le, Bool, true, false, not, ◌&&◌, ◌||◌, List, [], ◌∷◌, ◌++◌, map, flat_map, length, take, drop}
+use Rattle.std.specs.Option.{is_none, option_map_or}
+use Rattle.std.specs.List.{list_any}
+use Rattle.spec_trees.specs.Tree.{size}
+use Rattle.spec_calculus.specs.Bounds.{most_symbols, most_clauses}
+use Rattle.spec_calculus.specs.Syntax.{Protocol}
+use Rattle.spec_run_text.specs.Reading.{numeral}
+use Rattle.spec_terms.specs.Term.{Term}
+use Rattle.spec_clauses.specs.Fact.{same_term}
+use Rattle.spec_clauses.specs.Norm.{distinct}
+use Rattle.spec_certificate_reading.specs.Names.{event_called}
+use Rattle.spec_node_tables.specs.Table.{walk}
+use Rattle.spec_node_tables.specs.Nodes.{term_at}
+use Rattle.spec_node_tables.specs.Large.{is_over, most_certificate_symbols}
+use Rattle.spec_node_faults.specs.Loose.{Predicate, Att, Mess, Ev, Mev, Bad, LooseFact, LooseClause, fact_onto, clause_line}
+use Rattle.spec_node_faults.specs.Nodes.{Placed, placed, place_if, no_number}
+
+-- What stands in clauses, in order, each with its place.
+pub data Item : Type 0 where
+  -- a clause begins
+  Begins : (place : ℕ) → Item
+  -- a predicate, and an event's name where it has one: so many symbols
+  Signs : (symbols : ℕ) → Item
+  -- the word of an event over so many numbers
+  Event : (place : ℕ) → (word : List ℕ) → (arguments : ℕ) → Item
+  -- a number
+  Number : (at : Placed) → Item
+
+abbrev pub number_items : ℕ → List (List ℕ) → List Item
+number_items at ds = map Number (placed at ds)
+
+abbrev pub event_items : ℕ → List ℕ → List (List ℕ) → List Item
+event_items at word ds = Signs 2 ∷ Event at word (length ds) ∷ number_items (at + length word + 1) ds
+
+abbrev pub predicate_items : ℕ → Predicate → List (List ℕ) → List Item
+predicate_items at Att ds = Signs 1 ∷ number_items (at + 4) ds
+predicate_items at Mess ds = Signs 1 ∷ number_items (at + 5) ds
+predicate_items at (Ev word) ds = event_items (at + 3) word ds
+predicate_items at (Mev word) ds = event_items (at + 4) word ds
+predicate_items at Bad ds = Signs 1 ∷ number_items (at + 4) ds
+
+abbrev pub fact_items : ℕ → LooseFact → List Item
+fact_items at f = predicate_items at f.predicate f.numbers
+
+-- behind a hypothesis: a further one behind a comma and a space, or the conclusion behind ` => `
+abbrev pub later_items : ℕ → List LooseFact → LooseFact → List Item
+later_items at [] conclusion = fact_items (at + 4) conclusion
+later_items at (h ∷ hs) conclusion = fact_items (at + 2) h ++ later_items (at + 2 + length (fact_onto h [])) hs conclusion
+
+abbrev pub facts_items : ℕ → List LooseFact → LooseFact → List Item
+facts_items at [] conclusion = fact_items (at + 3) conclusion
+facts_items at (h ∷ hs) conclusion = fact_items at h ++ later_items (at + length (fact_onto h [])) hs conclusion
+
+-- clauses from a place on, each on a line behind `c `
+abbrev pub clause_items : ℕ → List LooseClause → List Item
+clause_items at [] = []
+clause_items at (c ∷ cs) = Begins at ∷ (facts_items (at + 2) c.hypotheses c.conclusion ++ clause_items (at + length (clause_line c [])) cs)
+
+-- Number
+abbrev pub item_numbers : Item → List ℕ
+item_numbers (Number p) = no_number p
+item_numbers _ = []
+
+-- Symbol: no event has the word
+abbrev pub item_symbols : Protocol → Item → List ℕ
+item_symbols P (Event place word arguments) = place_if (is_none (event_called P word)) place
+item_symbols P _ = []
+
+-- Count: a clause begins that is one too many
+abbrev pub item_begins : Item → List ℕ
+item_begins (Begins place) = place ∷ []
+item_begins _ = []
+
+abbrev pub clause_counts : List Item → List ℕ
+clause_counts items = take 1 (drop most_clauses (flat_map item_begins items))
+
+-- NodeOrder: the walk through the terms up to and with this one doesn't complete the first nodes of the table and no others.
+
+abbrev pub is_front : List Term → List Term → Bool
+is_front [] us = true
+is_front (t ∷ ts) [] = false
+is_front (t ∷ ts) (u ∷ us) = same_term t u && is_front ts us
+
+-- what the walk through these terms completes, each the first time
+abbrev pub completed : List Term → List Term
+completed ts = distinct same_term (flat_map walk ts)
+
+abbrev pub is_out_of_order : List Term → List Term → ℕ → Bool
+is_out_of_order table ts n = (n == 0) || not (nat_le n (length table)) || not (is_front (completed (ts ++ (term_at table n ∷ []))) table)
+
+abbrev pub item_orders : List Term → List Term → List Item → List ℕ
+item_orders table ts [] = []
+item_orders table ts (Begins place ∷ items) = item_orders table ts items
+item_orders table ts (Signs symbols ∷ items) = item_orders table ts items
+item_orders table ts (Event place word arguments ∷ items) = item_orders table ts items
+item_orders table ts (Number p ∷ items) =
+    option_map_or (λ n. place_if (is_out_of_order table ts n) p.place ++ item_orders table (ts ++ (term_at table n ∷ [])) items)
+    (numeral p.digits) (item_orders table ts items)
+
+-- the terms of the numbers in clauses
+abbrev pub item_terms : List Term → Item → List Term
+item_terms table (Number p) = option_map_or (λ n. term_at table n ∷ []) (numeral p.digits) []
+item_terms table _ = []
+
+-- some node was never reached
+abbrev pub has_unreached : List Term → List Item → Bool
+has_unreached table items = not (is_front table (completed (flat_map (item_terms table) items)))
+
+-- NodeLarge: the symbols of the clause, or of all clauses, up to and with the number's term are over their limits.
+abbrev pub item_larges : List Term → ℕ → ℕ → List Item → List ℕ
+item_larges table clause all [] = []
+item_larges table clause all (Begins place ∷ items) = item_larges table 0 all items
+item_larges table clause all (Signs symbols ∷ items) = item_larges table (clause + symbols) (all + symbols) items
+item_larges table clause all (Event place word arguments ∷ items) = item_larges table clause all items
+item_larges table clause all (Number p ∷ items) =
+    option_map_or (λ n.
+    let symbols = size (term_at table n) in
+    place_if (is_over most_symbols (clause + symbols) || is_over most_certificate_symbols (all + symbols)) p.place
+    ++ item_larges table (clause + symbols) (all + symbols) items)
+    (numeral p.digits) (item_larges table clause all items)
+
+-- Arity, at an event: it takes another number of arguments, and at none of these does another fault stand.
+
+abbrev pub stands_at : List ℕ → Item → Bool
+stands_at places (Number p) = list_any (λ place. place == p.place) places
+stands_at places _ = false
+
+abbrev pub item_arities : Protocol → List ℕ → List Item → List ℕ
+item_arities P others [] = []
+item_arities P others (Event place word arguments ∷ items) =
+    place_if (option_map_or (λ called. not (called.arity == arguments)) (event_called P word) false && not (list_any (stands_at others) (take arguments items))) place
+    ++ item_arities P others items
+item_arities P others (Begins place ∷ items) = item_arities P others items
+item_arities P others (Signs symbols ∷ items) = item_arities P others items
+item_arities P others (Number p ∷ items) = item_arities P others items

@@ -1,0 +1,6 @@
+-- Certificates by numbers as they stand in a text, and the places of their faults, each code by itself.
+pub mod Loose
+pub mod Nodes
+pub mod Clauses
+pub mod Faults
+pub mod Examples

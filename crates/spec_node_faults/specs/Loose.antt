@@ -1,0 +1,125 @@
+-- Certificates by numbers as they stand in a text: their words and digits, and how many numbers stand where, are left open.
+use Rattle.std.specs.Prelude.{ℕ, List, [], ◌∷◌, ◌++◌, map, codes}
+use Rattle.std.specs.Fmt.{decimal}
+use Rattle.spec_calculus.specs.Syntax.{Protocol}
+use Rattle.spec_clauses.specs.Fact.{Fact, Clause, terms_of}
+use Rattle.spec_clauses.specs.Fact as fact
+use Rattle.spec_certificate_text.specs.Loose.{Head}
+use Rattle.spec_certificate_text.specs.Words.{event_word}
+use Rattle.spec_node_tables.specs.Nodes.{TableNode, NodeCertificate}
+use Rattle.spec_node_tables.specs.Text.{node_head, head_text, node_numbers}
+
+-- a node: its head, and the digits of each number behind it
+pub record LooseNode : Type 0 where
+  pub head : Head
+  pub numbers : List (List ℕ)
+
+-- a predicate; one of an event has the event's word
+pub data Predicate : Type 0 where
+  Att : Predicate
+  Mess : Predicate
+  Ev : (word : List ℕ) → Predicate
+  Mev : (word : List ℕ) → Predicate
+  Bad : Predicate
+
+pub record LooseFact : Type 0 where
+  pub predicate : Predicate
+  pub numbers : List (List ℕ)
+
+pub record LooseClause : Type 0 where
+  pub hypotheses : List LooseFact
+  pub conclusion : LooseFact
+
+pub record LooseCertificate : Type 0 where
+  pub nodes : List LooseNode
+  pub clauses : List LooseClause
+  pub rows : List (List (List ℕ))
+  pub goals : List (List (List ℕ))
+
+-- Each text is a function of what follows it.
+
+-- digits, a space before each
+abbrev pub spaced : List (List ℕ) → List ℕ → List ℕ
+spaced [] rest = rest
+spaced (d ∷ ds) rest = 32 ∷ (d ++ spaced ds rest)
+
+-- digits, a comma before each; and a comma between each two
+abbrev pub later_numbers : List (List ℕ) → List ℕ → List ℕ
+later_numbers [] rest = rest
+later_numbers (d ∷ ds) rest = 44 ∷ (d ++ later_numbers ds rest)
+
+abbrev pub commas : List (List ℕ) → List ℕ → List ℕ
+commas [] rest = rest
+commas (d ∷ ds) rest = d ++ later_numbers ds rest
+
+abbrev pub node_onto : LooseNode → List ℕ → List ℕ
+node_onto n rest = head_text n.head (spaced n.numbers rest)
+
+-- a line: its letter, a space and the node
+abbrev pub node_line : LooseNode → List ℕ → List ℕ
+node_line n rest = 110 ∷ 32 ∷ node_onto n (10 ∷ rest)
+
+-- an event over numbers: without any, its word stands alone
+abbrev pub event_onto : List ℕ → List (List ℕ) → List ℕ → List ℕ
+event_onto word [] rest = word ++ rest
+event_onto word (d ∷ ds) rest = word ++ (40 ∷ commas (d ∷ ds) (41 ∷ rest))
+
+abbrev pub predicate_onto : Predicate → List (List ℕ) → List ℕ → List ℕ
+predicate_onto Att ds rest = codes "att(" ++ commas ds (41 ∷ rest)
+predicate_onto Mess ds rest = codes "mess(" ++ commas ds (41 ∷ rest)
+predicate_onto (Ev word) ds rest = codes "ev(" ++ event_onto word ds (41 ∷ rest)
+predicate_onto (Mev word) ds rest = codes "mev(" ++ event_onto word ds (41 ∷ rest)
+predicate_onto Bad ds rest = codes "bad(" ++ commas ds (41 ∷ rest)
+
+abbrev pub fact_onto : LooseFact → List ℕ → List ℕ
+fact_onto f rest = predicate_onto f.predicate f.numbers rest
+
+-- hypotheses behind the first, and what stands before the conclusion
+abbrev pub later_onto : List LooseFact → List ℕ → List ℕ
+later_onto [] rest = 32 ∷ rest
+later_onto (h ∷ hs) rest = 44 ∷ 32 ∷ fact_onto h (later_onto hs rest)
+
+abbrev pub hypotheses_onto : List LooseFact → List ℕ → List ℕ
+hypotheses_onto [] rest = rest
+hypotheses_onto (h ∷ hs) rest = fact_onto h (later_onto hs rest)
+
+abbrev pub clause_line : LooseClause → List ℕ → List ℕ
+clause_line c rest = 99 ∷ 32 ∷ hypotheses_onto c.hypotheses (61 ∷ 62 ∷ 32 ∷ fact_onto c.conclusion (10 ∷ rest))
+
+abbrev pub row_line : ℕ → List (List ℕ) → List ℕ → List ℕ
+row_line letter ds rest = letter ∷ spaced ds (10 ∷ rest)
+
+-- lines of one kind
+abbrev pub lines : {A : Type 0} → (A → List ℕ → List ℕ) → List A → List ℕ → List ℕ
+lines line [] rest = rest
+lines line (x ∷ xs) rest = line x (lines line xs rest)
+
+abbrev pub certificate_onto : LooseCertificate → List ℕ → List ℕ
+certificate_onto c rest =
+    codes "cert 2\n" ++ lines node_line c.nodes (lines clause_line c.clauses (lines (row_line 114) c.rows (lines (row_line 103) c.goals (codes "end\n" ++ rest))))
+
+-- A certificate by numbers, written so with the words of a protocol.
+
+abbrev pub written_node : Protocol → TableNode → LooseNode
+written_node P n = record { head = node_head P n; numbers = map decimal (node_numbers n) }
+
+abbrev pub predicate_of : Protocol → Fact ℕ → Predicate
+predicate_of P (fact.Att n) = Att
+predicate_of P (fact.Mess m n) = Mess
+predicate_of P (fact.Ev e ns) = Ev (event_word P e)
+predicate_of P (fact.Mev e ns) = Mev (event_word P e)
+predicate_of P (fact.Bad ns) = Bad
+
+abbrev pub written_fact : Protocol → Fact ℕ → LooseFact
+written_fact P f = record { predicate = predicate_of P f; numbers = map decimal (terms_of f) }
+
+abbrev pub written_clause : Protocol → Clause ℕ → LooseClause
+written_clause P c = record { hypotheses = map (written_fact P) c.hypotheses; conclusion = written_fact P c.conclusion }
+
+abbrev pub written : Protocol → NodeCertificate → LooseCertificate
+written P c = record {
+  nodes = map (written_node P) c.nodes;
+  clauses = map (written_clause P) c.clauses;
+  rows = map (map decimal) c.rows;
+  goals = map (map decimal) c.goals;
+}
