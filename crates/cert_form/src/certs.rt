@@ -110,7 +110,7 @@ fn put_rows(out: &mut Vec<u8>, letter: u8, rows: &Rows) -> Result<(), AllocError
 
 /// Puts the text of a certificate at the end, each line ended by LF.
 ///
-/// `Err` comes only for want of memory; what was put till then stays.
+/// `Err` is want of memory. Nothing is said of the text then: it is to be let go.
 pub fn put_cert(out: &mut Vec<u8>, protocol: &Protocol, cert: &Cert) -> Result<(), AllocError>
     ensures onto { OnOk result (Appends (certificate_text (protocol_of protocol.now) cert.now)
         out.old.items out.new.items) }

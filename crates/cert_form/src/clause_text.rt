@@ -87,7 +87,7 @@ fn put_hypotheses(
 
 /// Puts the text of a clause at the end, without a line feed.
 ///
-/// `Err` comes only for want of memory; what was put till then stays.
+/// `Err` is want of memory. Nothing is said of the text then: it is to be let go.
 pub fn put_clause(
     out: &mut Vec<u8>,
     protocol: &Protocol,

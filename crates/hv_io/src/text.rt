@@ -10,7 +10,7 @@ use std::io::Write;
 
 /// Puts words at the end of a text.
 ///
-/// `Err` comes only for want of memory; what was put till then stays.
+/// `Err` is want of memory, or that the words' own `fmt` fails. Nothing is said of the text then: it is to be let go.
 pub fn put_words<D: Display + Drop>(text: &mut Vec<u8>, words: D) -> Result<(), AllocError>
     ensures { OnOk result (AppendsText text.old.items text.new.items (D.output words)) }
 {

@@ -2,6 +2,7 @@
 use Rattle.std.proofs.Common.{◌≡◌, ℕ, List, ◌++◌, codes, decimal, ap, ◌∙◌, append_assoc}
 use Rattle.verifier_cli.specs.Text.{line}
 
+-- words, and others behind them
 pub two_put : (start one two a b : List ℕ) → one ≡ start ++ a → two ≡ one ++ b → two ≡ start ++ (a ++ b)
 two_put start one two a b first second = second ∙ (ap (λ w. w ++ b) first ∙ append_assoc start a b)
 
