@@ -48,7 +48,7 @@ named_some all cs list before goal names is =
     let many : length (map (clause_at all) cs) ≡ length before + 1 = ap length (names.are ∙ is) ∙ length-append before (goal ∷ []) in
     omega (arith, many, length-map cs (clause_at all))
 
-known_later : (old new : List Term) (cs : List (Clause Id)) → Grows old new → AreClausesIn old cs → AreClausesIn new cs
+pub known_later : (old new : List Term) (cs : List (Clause Id)) → Grows old new → AreClausesIn old cs → AreClausesIn new cs
 known_later old new [] grows known = tt
 known_later old new (c ∷ cs) grows known =
     let first = NamesClause-grows old new c (clause_at old c) grows (record { known = known.0; is = refl }) in

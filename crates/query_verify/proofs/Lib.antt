@@ -2,3 +2,5 @@ pub mod Telling
 pub mod Fitting
 pub mod Answering
 pub mod Each
+pub mod Settling
+pub mod Commons

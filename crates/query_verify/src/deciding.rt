@@ -16,12 +16,13 @@ ghost use Rattle.query_verify.specs.Asked.{CanBeAsked, AreAskedOf, Answers};
 ghost use Rattle.query_verify.specs.Told.{IsAnswer, AnswerQueries};
 
 use crate::answers::{Verdict, Verdicts};
-use crate::question::Question;
+use crate::question::{Asking, Question};
+use crate::sharing::all_verdicts;
 use cert_writer::{Certified, certify};
 use clause_form::Clause;
 use clause_saturate::{Log, Saturated, entries_tell_logs, read_entry, read_log, saturate};
 use clause_translate::{Translated, translate};
-use pi_tree::{Kind, Protocol};
+use pi_tree::Protocol;
 use spec_translation::{
     translations_are_normal, translations_are_within_the_limit, translations_have_one_goal,
 };
@@ -29,7 +30,7 @@ use std::alloc::{AllocError, Global};
 use term_tree::Bank;
 
 /// The verdict where the log is closed.
-fn closed<B: Bank>(
+pub(crate) fn closed<B: Bank>(
     question: &Question<'_>,
     bank: &mut B,
     given: &[Clause],
@@ -170,7 +171,7 @@ pub fn verdict<B: Bank>(
 /// The verdicts of all queries with the budget, one for each, in order. The bank is as before.
 ///
 /// The conditions hold of each protocol that is read, and of each budget that a command may name. `Err` comes for want of
-/// memory, and where `translate` answers it since a number doesn't fit.
+/// memory, and where `translate_common` answers it since a number doesn't fit.
 pub fn verdicts<B: Bank>(
     alloc: Global,
     bank: &mut B,
@@ -186,10 +187,13 @@ pub fn verdicts<B: Bank>(
         IfOk result (λ answers. AnswerQueries P budget P.queries answers) }
     ensures bank { B.trees bank.new ≡ B.trees bank.old }
 {
-    let mut items = Vec::new(alloc);
-    'each: for index in 0..protocol.count(Kind::Query) {
-        let answer = verdict(alloc, bank, protocol, index + 1, budget)?;
-        items.push(answer)?;
-    }
-    Ok(Verdicts { items })
+    let mark = bank.mark();
+    let asking = Asking {
+        alloc,
+        protocol,
+        budget,
+    };
+    let answers = all_verdicts(&asking, bank);
+    bank.back(mark);
+    answers
 }

@@ -5,6 +5,8 @@
 pub mod answers;
 mod deciding;
 mod question;
+mod settled;
+mod sharing;
 
 pub use crate::answers::{Verdict, Verdicts};
 pub use crate::deciding::{verdict, verdicts};

@@ -11,3 +11,11 @@ pub struct Question<'a> {
     pub query: u32,
     pub budget: u64,
 }
+
+/// All queries of a protocol, and how many entries the log of each may have.
+#[derive(Clone, Copy)]
+pub struct Asking<'a> {
+    pub alloc: Global,
+    pub protocol: &'a Protocol,
+    pub budget: u64,
+}

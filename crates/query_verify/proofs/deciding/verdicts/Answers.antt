@@ -1,19 +1,10 @@
-use Rattle.std.proofs.Common.{◌∙◌, ◌<◌, ◌≤◌, length, arith}
-use Rattle.pi_tree.specs.Protocols.{protocol_of}
-use Rattle.query_verify.proofs.Each.{one_more, all_answered}
+use Rattle.std.proofs.Common.{◌∙◌, ap}
+use Rattle.std.specs.Prelude.{take}
+use Rattle.term_tree.proofs.BankLaws.{take-grows}
 use Rattle.query_verify.proofs.deciding.verdicts.Goals as goal
 
-pub each-preserved : goal.each-preserved
-each-preserved g c =
-    let P = protocol_of c.args.protocol.now in
-    let within : c.each.index < length P.queries = omega (arith, c.each-test.true, c.count-index-end.ensures) in
-    record {
-      bank = c.verdict.ensures.bank ∙ c.each.invariant.bank;
-      answered = one_more P c.args.budget P.queries c.each.index c.each.items.items c.push.new.self.items c.in_ok-answer.answer within c.in_ok-push.ensures.items c.each.invariant.answered c.in_ok-answer.ensures.answers;
-    }
-
-pub returns-clause-answers : goal.returns-clause-answers
-returns-clause-answers g c =
-    let P = protocol_of c.args.protocol.now in
-    let past : length P.queries ≤ c.each.index = omega (arith, c.each-test.false, c.count-index-end.ensures, c.requires.limits.queries) in
-    all_answered P c.args.budget P.queries c.each.index c.each.items.items past c.each.invariant.answered
+pub returns-clause-bank : goal.returns-clause-bank
+returns-clause-bank g c =
+    let old = g.B.Bank.trees c.args.bank.now in
+    let new = g.B.Bank.trees c.all_verdicts-answers.new.bank in
+    c.back.ensures ∙ (ap (λ n. take n new) c.mark-mark.ensures ∙ take-grows old new c.all_verdicts-answers.ensures.grows)

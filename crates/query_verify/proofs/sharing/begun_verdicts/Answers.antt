@@ -1,0 +1,44 @@
+use Rattle.std.proofs.Common.{map, sym, subst}
+use Rattle.pi_tree.specs.Protocols.{protocol_of}
+use Rattle.clause_form.specs.Seen.{clause_at}
+use Rattle.clause_saturate.specs.declared.common.Begun.{Begun}
+use Rattle.clause_saturate.specs.Common.{IsBegun, IsFreshCommon}
+use Rattle.query_verify.specs.Settled.{shared_by, shared_of}
+use Rattle.query_verify.proofs.Commons.{common_later, common_fit, named_common}
+use Rattle.query_verify.proofs.Fitting.{same_later}
+use Rattle.query_verify.proofs.sharing.begun_verdicts.Goals as goal
+
+pub begin-requires : goal.begin-requires
+begin-requires g c =
+    let P = protocol_of c.args.asking.now.protocol.now in
+    record {
+      fit = common_fit P (g.B.Bank.trees c.args.bank.now) c.args.given.now c.requires.limits c.requires.given (λ q cs d t has. c.translations_are_normal.ensures.normal P q cs d t has)
+          (λ q cs d limits small t has. c.translations_are_within_the_limit.ensures.all P q cs d limits small t has);
+    }
+
+pub shared_verdicts-answers-requires-clause-given : goal.shared_verdicts-answers-requires-clause-given
+shared_verdicts-answers-requires-clause-given g c =
+    common_later (protocol_of c.args.asking.now.protocol.now) (g.B.Bank.trees c.args.bank.now) (g.B.Bank.trees c.begin.new.bank) c.args.given.now c.begin.ensures.grows c.requires.given
+
+pub shared_verdicts-answers-requires-clause-common : goal.shared_verdicts-answers-requires-clause-common
+shared_verdicts-answers-requires-clause-common g c =
+    let old = g.B.Bank.trees c.args.bank.now in
+    let new = g.B.Bank.trees c.begin.new.bank in
+    let given = c.args.given.now in
+    let budget = c.args.asking.now.budget in
+    let begun : IsFreshCommon new (shared_of old given budget) c.in-Ready.common = subst (λ (b : Begun). IsBegun new (shared_of old given budget) b) c.in-Ready.is c.in_ok-common.ensures.begun in
+    subst (λ cs. IsFreshCommon new (shared_by cs budget) c.in-Ready.common) (sym (same_later old new given c.begin.ensures.grows c.requires.given.names.known)) begun
+
+pub settled_verdicts-requires-clause-settled : goal.settled_verdicts-requires-clause-settled
+settled_verdicts-requires-clause-settled g c =
+    let old = g.B.Bank.trees c.args.bank.now in
+    let new = g.B.Bank.trees c.begin.new.bank in
+    let given = c.args.given.now in
+    (map (clause_at old) given, named_common (protocol_of c.args.asking.now.protocol.now) old given c.requires.given, subst (λ (b : Begun). IsBegun new (shared_of old given c.args.asking.now.budget) b) c.in-Spent.is c.in_ok-common.ensures.begun)
+
+pub settled_verdicts-requires-in-Large-clause-settled : goal.settled_verdicts-requires-in-Large-clause-settled
+settled_verdicts-requires-in-Large-clause-settled g c =
+    let old = g.B.Bank.trees c.args.bank.now in
+    let new = g.B.Bank.trees c.begin.new.bank in
+    let given = c.args.given.now in
+    (map (clause_at old) given, named_common (protocol_of c.args.asking.now.protocol.now) old given c.requires.given, subst (λ (b : Begun). IsBegun new (shared_of old given c.args.asking.now.budget) b) c.in-Large.is c.in_ok-common.ensures.begun)

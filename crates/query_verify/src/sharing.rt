@@ -1,0 +1,243 @@
+//! All queries decided by one saturation: up to the goal it is done once, and from there for each query's goal.
+
+ghost use Rattle.std.specs.Prelude.{◌≡◌, ◌<◌, ◌^◌, map, IfOk};
+ghost use Rattle.spec_well_formed.specs.Limits.{IsWithinLimits};
+ghost use Rattle.spec_well_formed.specs.Rules.{HasProperRules};
+ghost use Rattle.spec_well_formed.specs.Queries.{HasProperQueries};
+ghost use Rattle.spec_well_formed.specs.WellFormed.{IsWellScoped};
+ghost use Rattle.pi_tree.specs.Protocols.{protocol_of};
+ghost use Rattle.term_tree.specs.Bank.{Grows};
+ghost use Rattle.clause_form.specs.Seen.{clause_at};
+ghost use Rattle.clause_saturate.specs.Logs.{IsLogOf};
+ghost use Rattle.clause_saturate.specs.Common.{Shared, saturated, begun_log, begun_size, IsCommonOf, IsFreshCommon};
+ghost use Rattle.clause_translate.specs.Whole.{IsCommonTo};
+ghost use Rattle.query_verify.specs.Asked.{CanBeAsked, AreAskedOf, Answers, protocol_at};
+ghost use Rattle.query_verify.specs.Settled.{shared_of, AreGoalBehind};
+ghost use Rattle.query_verify.specs.Told.{AnswerQueries};
+
+use crate::answers::{Verdict, Verdicts};
+use crate::deciding::closed;
+use crate::question::{Asking, Question};
+use crate::settled::{Settled, settled_verdicts};
+use clause_form::{Clause, Clauses};
+use clause_saturate::common::log;
+use clause_saturate::{
+    Begun, Common, End, Log, begin, commons_serve_each_goal, entries_tell_logs, finish, read_entry,
+    read_log, rewind,
+};
+use clause_translate::{Translated, translate_common, with_goal};
+use pi_tree::Kind;
+use spec_translation::{
+    translations_are_normal, translations_are_within_the_limit, translations_have_one_goal,
+};
+use std::alloc::{AllocError, Global};
+use term_tree::Bank;
+
+/// The verdict by the log of the given clauses, and its end.
+fn told<B: Bank>(
+    question: &Question<'_>,
+    bank: &mut B,
+    given: &[Clause],
+    log: &Log,
+    end: &End,
+) -> Result<Verdict, AllocError>
+    requires question { CanBeAsked question.now }
+    requires given { AreAskedOf question.now (B.trees bank.old) given.now }
+    requires log { let all = B.trees bank.old in IsLogOf all (map (clause_at all) given.now)
+        question.now.budget (saturated log.now end.now) }
+    ensures answers { IfOk result (λ answer. Answers question.now answer) }
+    ensures bank { B.trees bank.new ≡ B.trees bank.old }
+{
+    entries_tell_logs();
+    match end {
+        End::Closed => closed(question, bank, given, log),
+        End::Spent(due) => {
+            let entries = read_log(question.alloc, bank, log)?;
+            let entry = read_entry(question.alloc, bank, due)?;
+            Ok(Verdict::Budget(entries, entry))
+        }
+        End::Large(solved, unsolved) => {
+            let entries = read_log(question.alloc, bank, log)?;
+            Ok(Verdict::SizePair(entries, *solved, *unsolved))
+        }
+    }
+}
+
+/// Copies of clauses.
+fn copies(alloc: Global, clauses: &[Clause]) -> Result<Clauses, AllocError>
+    ensures { IfOk result (λ copied. copied ≡ clauses.now) }
+{
+    let mut items = Vec::with_capacity(alloc, clauses.len())?;
+    'each: for clause in clauses {
+        items.push(clause.copy(alloc)?)?;
+    }
+    Ok(Clauses { items })
+}
+
+/// The verdict by the log that goes on with the last of the clauses that the query is translated into, its goal.
+fn gone_on<B: Bank>(
+    question: &Question<'_>,
+    bank: &mut B,
+    given: &[Clause],
+    common: &mut Common,
+) -> Result<Verdict, AllocError>
+    ghost shared: { Shared }
+    requires question { CanBeAsked question.now }
+    requires given { AreAskedOf question.now (B.trees bank.old) given.now }
+    requires goal { AreGoalBehind (B.trees bank.old) shared given.now }
+    requires budget { shared.budget ≡ question.now.budget }
+    requires common { IsCommonOf (B.trees bank.old) shared common.old }
+    ensures answers { IfOk result (λ answer. Answers question.now answer) }
+    ensures grows { Grows (B.trees bank.old) (B.trees bank.new) }
+    ensures common { IsCommonOf (B.trees bank.new) shared common.new }
+    ensures begun { begun_log common.new ≡ begun_log common.old }
+    ensures size { begun_size common.new ≡ begun_size common.old }
+{
+    translations_are_normal();
+    translations_are_within_the_limit();
+    let goal = given[given.len() - 1].copy(question.alloc)?;
+    let end = finish(bank, common, goal)?;
+    let answer = told(question, bank, given, log(common), &end);
+    drop(end);
+    answer
+}
+
+/// The verdict of a query by the log that goes on with its goal from the common part. On `Err` the bank may have grown.
+fn finished<B: Bank>(
+    question: &Question<'_>,
+    bank: &mut B,
+    given: &[Clause],
+    common: &mut Common,
+) -> Result<Verdict, AllocError>
+    ghost shared: { Shared }
+    requires question { CanBeAsked question.now }
+    requires queries { HasProperQueries (protocol_at question.now) }
+    requires given { IsCommonTo (protocol_at question.now) (B.trees bank.old) given.now }
+    requires shared { shared ≡ shared_of (B.trees bank.old) given.now question.now.budget }
+    requires common { IsCommonOf (B.trees bank.old) shared common.old }
+    ensures answers { IfOk result (λ answer. Answers question.now answer) }
+    ensures grows { Grows (B.trees bank.old) (B.trees bank.new) }
+    ensures common { IsCommonOf (B.trees bank.new) shared common.new }
+    ensures begun { begun_log common.new ≡ begun_log common.old }
+    ensures size { begun_size common.new ≡ begun_size common.old }
+{
+    commons_serve_each_goal();
+    translations_have_one_goal();
+    let copied = copies(question.alloc, given)?;
+    let all = with_goal(
+        question.alloc,
+        bank,
+        question.protocol,
+        question.query,
+        copied,
+    )?;
+    let answer = gone_on(question, bank, &all.items, common);
+    drop(all);
+    answer
+}
+
+/// The verdict of a query by the log that goes on with its goal from the common part; log and bank are as before.
+fn decided_by<B: Bank>(
+    question: &Question<'_>,
+    bank: &mut B,
+    given: &[Clause],
+    common: &mut Common,
+) -> Result<Verdict, AllocError>
+    requires question { CanBeAsked question.now }
+    requires queries { HasProperQueries (protocol_at question.now) }
+    requires given { IsCommonTo (protocol_at question.now) (B.trees bank.old) given.now }
+    requires common { IsFreshCommon (B.trees bank.old)
+        (shared_of (B.trees bank.old) given.now question.now.budget) common.old }
+    ensures answers { IfOk result (λ answer. Answers question.now answer) }
+    ensures bank { B.trees bank.new ≡ B.trees bank.old }
+    ensures common { IsFreshCommon (B.trees bank.new)
+        (shared_of (B.trees bank.new) given.now question.now.budget) common.new }
+{
+    let answer = finished(question, bank, given, common);
+    rewind(bank, common);
+    answer
+}
+
+/// The verdicts of all queries, one for each, by the logs that go on with their goals from the common part.
+fn shared_verdicts<B: Bank>(
+    asking: &Asking<'_>,
+    bank: &mut B,
+    given: &[Clause],
+    common: &mut Common,
+) -> Result<Verdicts, AllocError>
+    requires limits { IsWithinLimits (protocol_of asking.now.protocol.now) }
+    requires queries { HasProperQueries (protocol_of asking.now.protocol.now) }
+    requires budget { asking.now.budget < 2 ^ 32 }
+    requires given { IsCommonTo (protocol_of asking.now.protocol.now) (B.trees bank.old) given.now }
+    requires common { IsFreshCommon (B.trees bank.old)
+        (shared_of (B.trees bank.old) given.now asking.now.budget) common.old }
+    ensures answers { let P = protocol_of asking.now.protocol.now in
+        IfOk result (λ answers. AnswerQueries P asking.now.budget P.queries answers) }
+    ensures bank { B.trees bank.new ≡ B.trees bank.old }
+{
+    let mut items = Vec::new(asking.alloc);
+    'each: for index in 0..asking.protocol.count(Kind::Query) {
+        let question = Question {
+            alloc: asking.alloc,
+            protocol: asking.protocol,
+            query: index + 1,
+            budget: asking.budget,
+        };
+        let answer = decided_by(&question, bank, given, common)?;
+        items.push(answer)?;
+    }
+    Ok(Verdicts { items })
+}
+
+/// The verdicts of all queries by the clauses that stand before each goal.
+fn begun_verdicts<B: Bank>(
+    asking: &Asking<'_>,
+    bank: &mut B,
+    given: &[Clause],
+) -> Result<Verdicts, AllocError>
+    requires limits { IsWithinLimits (protocol_of asking.now.protocol.now) }
+    requires queries { HasProperQueries (protocol_of asking.now.protocol.now) }
+    requires budget { asking.now.budget < 2 ^ 32 }
+    requires given { IsCommonTo (protocol_of asking.now.protocol.now) (B.trees bank.old) given.now }
+    ensures answers { let P = protocol_of asking.now.protocol.now in
+        IfOk result (λ answers. AnswerQueries P asking.now.budget P.queries answers) }
+    ensures grows { Grows (B.trees bank.old) (B.trees bank.new) }
+{
+    translations_are_normal();
+    translations_are_within_the_limit();
+    match begin(asking.alloc, bank, given, asking.budget)? {
+        Begun::Ready(mut common) => {
+            let answers = shared_verdicts(asking, bank, given, &mut common);
+            drop(common);
+            answers
+        }
+        Begun::Spent(log, due) => settled_verdicts(asking, bank, &Settled::Spent(log, due)),
+        Begun::Large(log, solved, unsolved) => {
+            settled_verdicts(asking, bank, &Settled::Large(log, solved, unsolved))
+        }
+    }
+}
+
+/// The verdicts of all queries, one for each, in order. On `Err` the bank may have grown.
+pub(crate) fn all_verdicts<B: Bank>(
+    asking: &Asking<'_>,
+    bank: &mut B,
+) -> Result<Verdicts, AllocError>
+    requires limits { IsWithinLimits (protocol_of asking.now.protocol.now) }
+    requires rules { HasProperRules (protocol_of asking.now.protocol.now) }
+    requires scoped { IsWellScoped (protocol_of asking.now.protocol.now) }
+    requires queries { HasProperQueries (protocol_of asking.now.protocol.now) }
+    requires budget { asking.now.budget < 2 ^ 32 }
+    ensures answers { let P = protocol_of asking.now.protocol.now in
+        IfOk result (λ answers. AnswerQueries P asking.now.budget P.queries answers) }
+    ensures grows { Grows (B.trees bank.old) (B.trees bank.new) }
+{
+    match translate_common(asking.alloc, bank, asking.protocol)? {
+        Translated::Large(point) => settled_verdicts(asking, bank, &Settled::TooLarge(point)),
+        Translated::Clauses(given) => {
+            let answers = begun_verdicts(asking, bank, &given.items);
+            drop(given);
+            answers
+        }
+    }
+}
