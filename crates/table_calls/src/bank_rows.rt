@@ -102,8 +102,10 @@ fn over_both(alloc: Global, file: &[u8]) -> Result<String, AllocError> {
 fn words_over_both(alloc: Global, protocol: &Protocol) -> Result<String, AllocError>
     requires { CanBeVerified (protocol_of protocol.now) }
 {
-    let plain = told(alloc, &mut TreeBank::new(alloc)?, protocol)?;
-    let shared = told(alloc, &mut SharedBank::new(alloc)?, protocol)?;
+    let mut trees = TreeBank::new(alloc)?;
+    let plain = verdicts_told(alloc, &mut trees, protocol)?;
+    let mut terms = SharedBank::new(alloc)?;
+    let shared = verdicts_told(alloc, &mut terms, protocol)?;
     if plain.whole.as_str() != shared.whole.as_str() {
         return String::from_str(alloc, "the banks differ");
     }
@@ -118,7 +120,11 @@ struct Told {
 }
 
 /// The verdicts over a bank.
-fn told<B: Bank>(alloc: Global, bank: &mut B, protocol: &Protocol) -> Result<Told, AllocError>
+fn verdicts_told<B: Bank>(
+    alloc: Global,
+    bank: &mut B,
+    protocol: &Protocol,
+) -> Result<Told, AllocError>
     requires { CanBeVerified (protocol_of protocol.now) }
 {
     let all = verdicts(alloc, bank, protocol, BUDGET)?;
