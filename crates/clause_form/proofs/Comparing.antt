@@ -2,18 +2,14 @@
 use Rattle.std.proofs.Common.{◌≡◌, ◌↔◌, ℕ, ◌+◌, ◌<◌, ◌≤◌, Bool, true, false, ◌&&◌, ◌||◌, List, [], ◌∷◌, length, map, drop, get_or, ap, sym, ◌∙◌, add-one, drop-cons, drop_of_length-le}
 use Rattle.std.proofs.lemmas.List.{length-map}
 use Rattle.std.specs.List.{list_any, list_all}
-use Rattle.spec_trees.specs.Tree.{size}
 use Rattle.spec_terms.specs.Term.{Term}
 use Rattle.spec_clauses.specs.Fact.{same_term, same_terms}
 use Rattle.spec_clauses.proofs.Equality.{tests_same, same_term-decides, same_terms-decides}
-use Rattle.term_tree.specs.Bank.{tree_at, capped}
+use Rattle.term_tree.specs.Bank.{tree_at}
 use Rattle.term_tree.specs.declared.bank.Id.{Id}
 
 pub told_same : (b : Bool) (t u : Term) → (b ≡ true) ↔ (t ≡ u) → b ≡ same_term t u
 told_same b t u told = tests_same b (same_term t u) (λ e. (same_term-decides t u).1 (told.0 e)) (λ e. told.1 ((same_term-decides t u).0 e))
-
-pub sizes_differ : (t u : Term) → (capped (size t) ≡ capped (size u) → ⊥) → false ≡ same_term t u
-sizes_differ t u differ = tests_same false (same_term t u) (λ e. cc) (λ e. absurd (differ (ap (λ v. capped (size v)) ((same_term-decides t u).0 e))))
 
 -- what is left of a list from the item at i on, under a function
 pub map_drop : {X Y : Type 0} (f : X → Y) (xs : List X) (i : ℕ) (d : X) → i < length xs → map f (drop i xs) ≡ f (get_or xs i d) ∷ map f (drop (i + 1) xs)

@@ -8,19 +8,15 @@ ghost use Rattle.clause_form.specs.Seen.{fact_at, IsFactIn, AreFactsIn};
 
 use crate::facts::Fact;
 use term_tree::{Bank, Id};
-use unify_match::same_term;
 
-/// Whether two terms are the same: sizes are compared before symbols.
+/// Whether two terms are the same.
 fn is_same_term<B: Bank>(bank: &B, left: Id, right: Id) -> bool
     requires left { left.index < length (B.trees bank.now) }
     requires right { right.index < length (B.trees bank.now) }
     ensures { result ≡ is_same_tree (tree_at (B.trees bank.now) left)
         (tree_at (B.trees bank.now) right) }
 {
-    if bank.size(left) != bank.size(right) {
-        return false;
-    }
-    same_term(bank, left, right)
+    bank.same(left, right)
 }
 
 /// Whether two lists of terms are the same.

@@ -4,8 +4,10 @@ use Rattle.std.specs.Prelude.{slice_get}
 use Rattle.std.proofs.lemmas.List.{length-map}
 use Rattle.std.proofs.lemmas.Option.{slice_get_within}
 use Rattle.std.proofs.lemmas.Simd.{map-map}
-use Rattle.spec_trees.specs.Tree.{bind, node}
-use Rattle.spec_terms.specs.Term.{Sym, Term, Subst}
+use Rattle.spec_trees.specs.Tree.{bind, node, size}
+use Rattle.spec_trees.proofs.Measures.{size-le-bind}
+use Rattle.spec_terms.specs.Term.{Sym, Term, Subst, is_ground}
+use Rattle.spec_terms.proofs.Ground.{ground-bind}
 use Rattle.spec_clauses.specs.Fact as horn
 use Rattle.spec_clauses.specs.Fact.{Clause, terms_of, fact_under, is_variable_known}
 use Rattle.spec_clauses.specs.Inclusion.{Picks, here, there, IsWithin}
@@ -13,7 +15,7 @@ use Rattle.spec_clauses.specs.Subsumption.{firm, RowHolds}
 use Rattle.spec_clauses.proofs.Inclusion.{Has-filter, Has-map, Has-within, Has-from_Contains, Contains-from_Has}
 use Rattle.spec_clauses.proofs.Parts.{terms_of-map}
 use Rattle.spec_clauses.proofs.Rows.{takes_within}
-use Rattle.term_tree.specs.Bank.{tree_at}
+use Rattle.term_tree.specs.Bank.{tree_at, capped}
 use Rattle.term_tree.specs.declared.bank.Id.{Id}
 use Rattle.unify_match.proofs.Matchings.{match_applications_fail}
 use Rattle.clause_form.specs.declared.facts.Fact.{Fact}
@@ -27,6 +29,14 @@ use Rattle.multiset_subsume.proofs.Putting.{there_at}
 pub roots_apart : (all : List Term) (general special : Id) (f g : Sym) (xs ys : List Id) → tree_at all general ≡ node f (map (tree_at all) xs) → tree_at all special ≡ node g (map (tree_at all) ys) → ((f ≡ g) × (length xs ≡ length ys) → ⊥)
     → (s : Subst) → bind s (tree_at all general) ≡ tree_at all special → ⊥
 roots_apart all general special f g xs ys is_general is_special never s e = match_applications_fail all [] general special f g xs ys is_general is_special (λ r agrees parts. never (parts.0, parts.2)) s tt e
+
+-- a term without variables, and another one
+pub ground_apart : (all : List Term) (general special : Id) → is_ground (tree_at all general) ≡ true → (tree_at all general ≡ tree_at all special → ⊥) → (s : Subst) → bind s (tree_at all general) ≡ tree_at all special → ⊥
+ground_apart all general special ground differ s e = differ (sym (ground-bind s (tree_at all general) ground) ∙ e)
+
+-- a term of more symbols
+pub larger_apart : (all : List Term) (general special : Id) → capped (size (tree_at all special)) < capped (size (tree_at all general)) → (s : Subst) → bind s (tree_at all general) ≡ tree_at all special → ⊥
+larger_apart all general special larger s e = absurd (omega (arith, larger, size-le-bind s (tree_at all general), ap size e))
 
 -- lists with such terms at a place, and facts with such lists of terms
 pub lists_apart_at : (all : List Term) (xs ys : List Id) (i : ℕ) (d : Id) → i < length xs → i < length ys → ((s : Subst) → bind s (tree_at all (get_or xs i d)) ≡ tree_at all (get_or ys i d) → ⊥) → (s : Subst) → map (bind s) (map (tree_at all) xs) ≡ map (tree_at all) ys → ⊥

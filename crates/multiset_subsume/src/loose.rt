@@ -19,7 +19,7 @@ use crate::placing::Placing;
 use clause_form::{Fact, is_data_symbol};
 use std::alloc::AllocError;
 use term_tree::{Bank, Id, Node};
-use unify_match::{Binds, same_term};
+use unify_match::Binds;
 
 /// Whether the fact is `att` of the term.
 fn is_known<B: Bank>(bank: &B, fact: &Fact, term: Id) -> bool
@@ -29,7 +29,7 @@ fn is_known<B: Bank>(bank: &B, fact: &Fact, term: Id) -> bool
         (tree_at (B.trees bank.now) term)) }
 {
     match fact {
-        Fact::Att(known) => same_term(bank, *known, term),
+        Fact::Att(known) => bank.same(*known, term),
         _ => false,
     }
 }

@@ -15,13 +15,20 @@ ghost use Rattle.multiset_subsume.specs.Apart.{AreApart, StandsNowhere, CannotAl
 use clause_form::{Clause, Fact, is_variable_known};
 use term_tree::{Bank, Id, Node};
 
-/// Whether a substitution may make the general term the special one, by what is at their roots.
+/// Whether a substitution may make the general term the special one: by their sizes, since no substitution makes a term
+/// smaller, and by what is at their roots. A term without variables has to be the special one.
 fn roots_match<B: Bank>(bank: &B, general: Id, special: Id) -> bool
     requires general { general.index < length (B.trees bank.now) }
     requires special { special.index < length (B.trees bank.now) }
     ensures { let all = B.trees bank.now in
         result ≡ false → (s : Subst) → bind s (tree_at all general) ≡ tree_at all special → ⊥ }
 {
+    if bank.is_ground(general) {
+        return bank.same(general, special);
+    }
+    if bank.size(general) > bank.size(special) {
+        return false;
+    }
     match bank.node(general) {
         Node::Var(_) => true,
         Node::App(f, xs) => match bank.node(special) {

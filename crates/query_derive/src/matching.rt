@@ -17,7 +17,7 @@ use crate::wanted::Event;
 use clause_form::{Fact, Tree, Trees};
 use std::alloc::AllocError;
 use term_tree::{Bank, Id, Node};
-use unify_match::{Binds, same_term};
+use unify_match::Binds;
 
 /// Binds a variable to a term, or compares it with what the variable is bound to.
 fn match_variable<B: Bank>(
@@ -36,7 +36,7 @@ fn match_variable<B: Bank>(
         (λ s. s number ≡ tree_at (B.trees bank.now) id)) }
 {
     match binds.look(number) {
-        Some(bound) => Ok(same_term(bank, bound, id)),
+        Some(bound) => Ok(bank.same(bound, id)),
         None => {
             binds.reserve(1)?;
             binds.bind(number, id);

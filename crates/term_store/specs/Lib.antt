@@ -1,1 +1,2 @@
 pub mod SharedBank
+pub mod Hashing

@@ -5,6 +5,7 @@ ghost use Rattle.std.specs.Prelude.{◌≡◌, ◌≤◌, ◌<◌, ◌+◌, List
 use indexmap::IndexSet;
 use smallvec::SmallVec;
 use std::alloc::{AllocError, Global};
+use std::hash::{Hash, Hasher};
 use std::marker::Model;
 use term_tree::{Bank, Id, Mark, Node, SIZE_LIMIT, Sym};
 
@@ -12,10 +13,29 @@ use term_tree::{Bank, Id, Mark, Node, SIZE_LIMIT, Sym};
 pub const INLINE_ARGS: usize = 4;
 
 /// What stands at a place of the bank: a variable, or a symbol over earlier places.
-#[derive(PartialEq, Eq, Hash, Drop)]
+#[derive(PartialEq, Eq, Drop)]
 pub enum Shape {
     Var(u32),
     App(Sym, SmallVec<Id, INLINE_ARGS>),
+}
+
+/// Hashes the symbol and the arguments: fewer words than a derived `Hash` feeds.
+impl Hash for Shape {
+    ghost use Rattle.term_store.specs.Hashing.{hashed, hashed_alike};
+
+    ghost hash_input = { hashed };
+
+    ghost respects_eq = { hashed_alike };
+
+    fn hash<H: Hasher>(&self, state: &mut H) {
+        match self {
+            Shape::Var(number) => state.write_u32(*number),
+            Shape::App(symbol, args) => {
+                symbol.hash(state);
+                Hash::hash_slice(args.as_slice(), state);
+            }
+        }
+    }
 }
 
 /// What is told of the tree of a place: its size, and whether it has no variable.
@@ -186,6 +206,11 @@ impl Bank for SharedBank {
 
     fn is_ground(&self, id: Id) -> bool {
         self.measure(id).is_ground
+    }
+
+    fn same(&self, left: Id, right: Id) -> bool {
+        self.equal_trees_have_equal_ids();
+        left.index == right.index
     }
 
     fn mark(&self) -> Mark {

@@ -1,5 +1,5 @@
 -- Laws of banks as lists of trees: an id keeps its tree as the bank grows, and below a mark.
-use Rattle.std.proofs.Common.{◌≡◌, ℕ, zero, suc, ◌≤◌, ◌<◌, Some, List, [], ◌∷◌, ◌++◌, length, take, map, slice_get, unwrap_or, refl, sym, ap, ◌∙◌, subst, arith, append_assoc, append-nil, length-append}
+use Rattle.std.proofs.Common.{◌≡◌, ℕ, zero, suc, ◌+◌, ◌≤◌, ◌<◌, Some, List, [], ◌∷◌, ◌++◌, length, take, drop, map, slice_get, get_or, unwrap_or, refl, sym, ap, ◌∙◌, subst, arith, append_assoc, append-nil, length-append, drop-cons, drop_of_length-le, add-one}
 use Rattle.std.proofs.lemmas.List.{length-take}
 use Rattle.spec_trees.specs.Tree.{Leaf}
 use Rattle.spec_terms.specs.Term.{Term}
@@ -85,6 +85,18 @@ AreKnown-at all (x ∷ xs) (suc k) id h e = AreKnown-at all xs k id h.1 e
 pub AreKnown-append : (all : List Term) (ids : List Id) (id : Id) → AreKnown all ids → id.index < length all → AreKnown all (ids ++ id ∷ [])
 AreKnown-append all [] id h k = (k, tt)
 AreKnown-append all (x ∷ xs) id h k = (h.0, AreKnown-append all xs id h.1 k)
+
+-- what is left of a list of ids from the one at i on
+pub ids_at : (ids : List Id) (i : ℕ) (d : Id) → i < length ids → drop i ids ≡ get_or ids i d ∷ drop (i + 1) ids
+ids_at ids i d h = drop-cons ids i d h ∙ ap (λ n. get_or ids i d ∷ drop n ids) (sym (add-one i))
+
+-- nothing is left past the end
+pub ids_past : (ids : List Id) (i : ℕ) → length ids ≤ i → drop i ids ≡ []
+ids_past ids i h = drop_of_length-le ids h
+
+-- the id at i is known, and those after it
+pub known-at : (all : List Term) (ids : List Id) (i : ℕ) (d : Id) → i < length ids → AreKnown all (drop i ids) → ((get_or ids i d).index < length all) × AreKnown all (drop (i + 1) ids)
+known-at all ids i d less known = let both = subst (λ (l : List Id). AreKnown all l) (ids_at ids i d less) known in (both.0, both.1)
 
 -- the symbol of terms tells the bank's symbol
 abbrev back_from : term.Sym → Sym

@@ -1,3 +1,4 @@
 pub mod BankLaws
 pub mod Roots
 mod Entries
+mod Comparing

@@ -91,6 +91,13 @@ pub trait Bank {
         requires { id.index < length (trees self.now) }
         ensures { result ≡ is_ground (tree_at (trees self.now) id) };
 
+    /// Whether two terms are the same tree. Takes no memory.
+    fn same(&self, left: Id, right: Id) -> bool
+        requires left_known { left.index < length (trees self.now) }
+        requires right_known { right.index < length (trees self.now) }
+        ensures { IsTrue result ↔
+            (tree_at (trees self.now) left ≡ tree_at (trees self.now) right) };
+
     /// The present state, for `back`. Takes no memory.
     fn mark(&self) -> Mark
         ensures { result.len ≡ length (trees self.now) };

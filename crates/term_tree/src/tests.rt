@@ -48,6 +48,22 @@ fn an_earlier_id_keeps_its_node(rt: HostRuntime) -> Result<(), Fail> {
     Ok(())
 }
 
+/// Whether two terms that are made alike are the same, and one of another symbol is another.
+fn terms_are_told_apart(bank: &mut TreeBank) -> Result<bool, AllocError> {
+    let x = bank.var(0)?;
+    let first = doubled(bank, 1, x)?;
+    let again = doubled(bank, 1, x)?;
+    let other = doubled(bank, 2, x)?;
+    Ok(bank.same(first, again) && !bank.same(first, other) && !bank.same(first, x))
+}
+
+#[test]
+fn terms_that_are_made_alike_are_the_same(rt: HostRuntime) -> Result<(), Fail> {
+    let mut bank = TreeBank::new(rt.alloc())?;
+    assert!(rt; terms_are_told_apart(&mut bank)?);
+    Ok(())
+}
+
 /// A variable doubled so many times: k times give 2^(k+1) - 1 symbols.
 fn tower(bank: &mut TreeBank, times: usize) -> Result<Id, AllocError>
     ensures { IfOk result (λ id. id.index < length bank.new) }

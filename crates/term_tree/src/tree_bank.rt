@@ -45,7 +45,7 @@ impl Model for TreeBank {
 }
 
 impl TreeBank {
-    ghost use Rattle.std.specs.Prelude.{◌≡◌, ◌+◌, [], ◌∷◌, ◌++◌, length, map, IfOk, OnErr};
+    ghost use Rattle.std.specs.Prelude.{◌≡◌, ◌+◌, ◌<◌, ◌↔◌, IsTrue, [], ◌∷◌, ◌++◌, length, map, IfOk, OnErr};
     ghost use Rattle.spec_trees.specs.Tree.{node, trees, sizes};
     ghost use Rattle.spec_terms.specs.Term.{is_ground as is_ground_term};
     ghost use Rattle.term_tree.specs.Bank.{symbol_of, tree_at, AreKnown, capped};
@@ -103,6 +103,40 @@ impl TreeBank {
         }
         true
     }
+
+    /// Whether two terms are the same tree, at once where their ids are the same.
+    fn is_same_tree(&self, left: Id, right: Id) -> bool
+        requires left_known { left.index < length self.now }
+        requires right_known { right.index < length self.now }
+        ensures { IsTrue result ↔ (tree_at self.now left ≡ tree_at self.now right) }
+    {
+        if left.index == right.index {
+            return true;
+        }
+        match self.node(left) {
+            Node::Var(x) => match self.node(right) {
+                Node::Var(y) => x == y,
+                Node::App(_, _) => false,
+            },
+            Node::App(f, xs) => match self.node(right) {
+                Node::Var(_) => false,
+                Node::App(g, ys) => {
+                    if !f.is_same(g) {
+                        return false;
+                    }
+                    if xs.len() != ys.len() {
+                        return false;
+                    }
+                    'each: for (i, x) in xs.iter().enumerate() {
+                        if !self.is_same_tree(*x, ys[i]) {
+                            return false;
+                        }
+                    }
+                    true
+                }
+            },
+        }
+    }
 }
 
 impl Bank for TreeBank {
@@ -145,6 +179,13 @@ impl Bank for TreeBank {
 
     fn is_ground(&self, id: Id) -> bool {
         self.entries[id.index].ground
+    }
+
+    fn same(&self, left: Id, right: Id) -> bool {
+        if self.size(left) != self.size(right) {
+            return false;
+        }
+        self.is_same_tree(left, right)
     }
 
     fn mark(&self) -> Mark {

@@ -6,11 +6,12 @@ use Rattle.spec_terms.specs.Binding.{resolved}
 use Rattle.spec_terms.specs.Rank.{height, ranks}
 use Rattle.term_tree.specs.Bank.{tree_at, AreKnown, capped}
 use Rattle.term_tree.specs.declared.bank.Id.{Id}
+use Rattle.term_tree.proofs.BankLaws.{known-at, ids_at, ids_past}
 use Rattle.spec_trees.proofs.Measures.{size-positive}
 use Rattle.spec_terms.proofs.Ground.{ground-bind}
 use Rattle.unify_match.specs.declared.bound.Bound.{Bound}
 use Rattle.unify_match.specs.Seen.{seen, IsReady, IsWalked}
-use Rattle.unify_match.proofs.Walking.{heights_of, height-at, known-at, ids_at, ids_past, args-lower, walked-resolved, walked-variable}
+use Rattle.unify_match.proofs.Walking.{heights_of, height-at, args-lower, walked-resolved, walked-variable}
 use Rattle.unify_match.proofs.Pairs.{under, bind-application}
 
 -- the symbols of what the ids stand for

@@ -1,7 +1,8 @@
--- The steps of matching, and of comparing two terms.
-use Rattle.std.proofs.Common.{◌≡◌, ℕ, ◌+◌, ◌≤◌, ◌<◌, Bool, true, false, ◌||◌, cond, nat_eq, is_some, Some, List, [], ◌∷◌, length, map, drop, get_or, refl, sym, ap, ◌∙◌, arith, eqb-true}
+-- The steps of matching.
+use Rattle.std.proofs.Common.{◌≡◌, ◌↔◌, ℕ, IsTrue, MatchBool, ◌+◌, ◌≤◌, ◌<◌, Bool, true, false, ◌||◌, cond, nat_eq, is_some, Some, List, [], ◌∷◌, length, map, drop, get_or, refl, sym, ap, ◌∙◌, arith, eqb-true}
 use Rattle.std.specs.List.{list_any}
 use Rattle.std.proofs.Math.Bool.{or_assoc, or-false}
+use Rattle.std.proofs.lemmas.Bool.{false≢true}
 use Rattle.spec_trees.specs.Tree.{Leaf, node}
 use Rattle.spec_terms.specs.Term.{Sym, Term, Subst, has_var, is_ground}
 use Rattle.spec_terms.specs.Binding.{Agrees, replaced_once}
@@ -10,6 +11,7 @@ use Rattle.spec_terms.proofs.Matches.{Agrees-at, replaced-agrees}
 use Rattle.spec_terms.proofs.Ground.{ground-has_var, ground-bind}
 use Rattle.term_tree.specs.Bank.{tree_at, AreKnown}
 use Rattle.term_tree.specs.declared.bank.Id.{Id}
+use Rattle.term_tree.proofs.BankLaws.{known-at, ids_at, ids_past}
 use Rattle.unify_match.specs.declared.bound.Bound.{Bound}
 use Rattle.unify_match.specs.Trail.{id_of, Extends}
 use Rattle.unify_match.specs.Seen.{seen, AreBindings}
@@ -17,7 +19,7 @@ use Rattle.unify_match.specs.Outcome.{Matched, NoMatch, MatchedAll, NoMatchOfAll
 use Rattle.unify_match.specs.Progress.{HasMatches, HasAllMatches}
 use Rattle.unify_match.proofs.SeenLemmas.{bound_to-seen}
 use Rattle.unify_match.proofs.Trails.{Extends-refl, Extends-trans}
-use Rattle.unify_match.proofs.Walking.{heights_of, height-at, known-at, ids_at, ids_past}
+use Rattle.unify_match.proofs.Walking.{heights_of, height-at}
 use Rattle.unify_match.proofs.Pairs.{AreOne, under, Remains, remains_begins, remains_next, remains_fails, remains_ends, node_one, one_node, matched_lists, lists_matched, bind-application}
 
 -- the height where each variable counts one
@@ -36,14 +38,14 @@ is_bound pairs b x = go (nat_eq x b.var) refl (is_some (id_of pairs x)) refl whe
 pub matches_bind : (all : List Term) (pairs : List Bound) (b : Bound) → HasMatches all pairs (b ∷ pairs) (Leaf b.var) (tree_at all b.id)
 matches_bind all pairs b = record { exactly = is_bound pairs b; only = λ s. (λ h. (h.1, h.0), λ h. (h.1, h.0)) }
 
--- a term without variables, to itself
-pub matches_itself : (all : List Term) (pairs : List Bound) (general special : Id) → general.index ≡ special.index → is_ground (tree_at all general) ≡ true → HasMatches all pairs pairs (tree_at all general) (tree_at all special)
-matches_itself all pairs general special same ground =
-    let one : tree_at all general ≡ tree_at all special = ap (λ i. tree_at all record { index = i }) same in
-    record {
-      exactly = λ x. sym (ap (λ b. is_some (id_of pairs x) || b) (ground-has_var (tree_at all general) ground x) ∙ or-false (is_some (id_of pairs x)));
-      only = λ s. (λ h. (h, ground-bind s (tree_at all general) ground ∙ one), λ h. h.0);
-    }
+-- a term without variables, which is the special one or not
+pub matches_ground : (all : List Term) (pairs : List Bound) (general special : Id) (same : Bool) → is_ground (tree_at all general) ≡ true → IsTrue same ↔ (tree_at all general ≡ tree_at all special)
+    → MatchBool same (HasMatches all pairs pairs (tree_at all general) (tree_at all special)) (NoMatch all pairs (tree_at all general) (tree_at all special))
+matches_ground all pairs general special true ground told = record {
+  exactly = λ x. sym (ap (λ b. is_some (id_of pairs x) || b) (ground-has_var (tree_at all general) ground x) ∙ or-false (is_some (id_of pairs x)));
+  only = λ s. (λ h. (h, ground-bind s (tree_at all general) ground ∙ told.0 refl), λ h. h.0);
+}
+matches_ground all pairs general special false ground told = λ s agrees e. false≢true (told.1 (sym (ground-bind s (tree_at all general) ground) ∙ e))
 
 -- a variable that is bound already, to the special term
 pub matches_bound : (all : List Term) (pairs : List Bound) (x : ℕ) (id special : Id) → id_of pairs x ≡ Some id → tree_at all id ≡ tree_at all special → HasMatches all pairs pairs (Leaf x) (tree_at all special)
@@ -170,36 +172,3 @@ matched all old new general special bindings extends h = record {
   only = h.only;
   is_match = ((h.only (replaced_once (seen all new))).0 (replaced-agrees (seen all new) bindings.once)).1;
 }
-
--- how far the comparison of two lists of arguments has come
-pub record IsComparing (all : List Term) (left : Id) (xs ys : List Id) (i : ℕ) : Type 0 where
-  pub lefts : AreKnown all (drop i xs)
-  pub rights : AreKnown all (drop i ys)
-  pub lower : heights_of (λ x. 1) all (drop i xs) < levels (tree_at all left)
-  pub remains : Remains (λ s. Unit {0}) (λ s. Unit {0}) (λ s. tree_at all) (λ s. tree_at all) xs ys i
-
-pub comparing_begins : (all : List Term) (left : Id) (xs ys : List Id) → AreKnown all xs → AreKnown all ys → heights_of (λ x. 1) all xs < levels (tree_at all left) → IsComparing all left xs ys 0
-comparing_begins all left xs ys lefts rights lower = record { lefts = lefts; rights = rights; lower = lower; remains = remains_begins (λ s. tree_at all) (λ s. tree_at all) (λ s. Unit {0}) xs ys }
-
-pub comparing_on : (all : List Term) (left : Id) (xs ys : List Id) (i : ℕ) (d : Id) → IsComparing all left xs ys i → i < length xs → i < length ys → tree_at all (get_or xs i d) ≡ tree_at all (get_or ys i d) → IsComparing all left xs ys (i + 1)
-comparing_on all left xs ys i d was in_xs in_ys same = record {
-  lefts = (known-at all xs i d in_xs was.lefts).1;
-  rights = (known-at all ys i d in_ys was.rights).1;
-  lower = let at = height-at (λ x. 1) all xs i d in_xs in let less = at.1 in let lower = was.lower in omega arith;
-  remains = remains_next (λ s. tree_at all) (λ s. tree_at all) (λ s. Unit {0}) (λ s. Unit {0}) (λ s. Unit {0}) xs ys i d in_xs in_ys (λ s. (λ h. (tt, same), λ h. tt)) was.remains;
-}
-
-pub comparing_fails : (all : List Term) (left a b : Id) (f g : Sym) (xs ys : List Id) (i : ℕ) (d : Id) → tree_at all a ≡ node f (map (tree_at all) xs) → tree_at all b ≡ node g (map (tree_at all) ys)
-    → IsComparing all left xs ys i → i < length xs → i < length ys → (tree_at all (get_or xs i d) ≡ tree_at all (get_or ys i d) → ⊥) → tree_at all a ≡ tree_at all b → ⊥
-comparing_fails all left a b f g xs ys i d is_a is_b was in_xs in_ys differ e =
-    remains_fails (λ s. tree_at all) (λ s. tree_at all) (λ s. Unit {0}) (λ s. Unit {0}) xs ys i d in_xs in_ys (λ s h. differ) was.remains Leaf tt (node_one (tree_at all) (tree_at all) f g xs ys (sym is_a ∙ (e ∙ is_b))).1
-
-pub comparing_ends : (all : List Term) (left a b : Id) (f g : Sym) (xs ys : List Id) (i : ℕ) → tree_at all a ≡ node f (map (tree_at all) xs) → tree_at all b ≡ node g (map (tree_at all) ys) → f ≡ g → length xs ≡ length ys
-    → IsComparing all left xs ys i → length xs ≤ i → tree_at all a ≡ tree_at all b
-comparing_ends all left a b f g xs ys i is_a is_b same even was past =
-    let one = ((remains_ends (λ s. tree_at all) (λ s. tree_at all) (λ s. Unit {0}) (λ s. Unit {0}) xs ys i past (omega arith) was.remains Leaf).0 tt).1 in
-    is_a ∙ (one_node (tree_at all) (tree_at all) f xs ys one ∙ (ap (λ h. node h (map (tree_at all) ys)) same ∙ sym is_b))
-
--- symbols or lengths that differ
-pub roots_differ : (all : List Term) (a b : Id) (f g : Sym) (xs ys : List Id) → tree_at all a ≡ node f (map (tree_at all) xs) → tree_at all b ≡ node g (map (tree_at all) ys) → tree_at all a ≡ tree_at all b → (f ≡ g) × (length xs ≡ length ys)
-roots_differ all a b f g xs ys is_a is_b e = let parts = node_one (tree_at all) (tree_at all) f g xs ys (sym is_a ∙ (e ∙ is_b)) in (parts.0, parts.2)

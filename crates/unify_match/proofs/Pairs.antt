@@ -4,7 +4,7 @@ use Rattle.spec_trees.specs.Tree.{Node, more, trees, node, bind, binds}
 use Rattle.spec_terms.specs.Term.{Sym, Term, Subst}
 use Rattle.term_tree.specs.Bank.{tree_at}
 use Rattle.term_tree.specs.declared.bank.Id.{Id}
-use Rattle.unify_match.proofs.Walking.{ids_at, ids_past}
+use Rattle.term_tree.proofs.BankLaws.{ids_at, ids_past}
 
 -- each two items become one
 abbrev pub AreOne : (F G : Id → Term) → List Id → List Id → Type 0

@@ -12,7 +12,7 @@ use Rattle.spec_terms.proofs.Replace.{eqb_self}
 use Rattle.spec_terms.proofs.Resolve.{resolved-unbound, resolved-free}
 use Rattle.term_tree.specs.Bank.{tree_at, AreKnown, Grows, Names}
 use Rattle.term_tree.specs.declared.bank.Id.{Id}
-use Rattle.term_tree.proofs.BankLaws.{Grows_refl, Grows_trans, Grows-length, tree_at-grows, AreKnown-append, AreKnown-grows, trees_at-grow}
+use Rattle.term_tree.proofs.BankLaws.{Grows_refl, Grows_trans, Grows-length, tree_at-grows, AreKnown-append, AreKnown-grows, trees_at-grow, known-at}
 use Rattle.unify_match.specs.declared.bound.Bound.{Bound}
 use Rattle.unify_match.specs.declared.substitute.Substitution.{Substitution}
 use Rattle.unify_match.specs.declared.substitute.Substitution.TheVariants.{Bindings, Offset, Numbers}
@@ -20,7 +20,6 @@ use Rattle.unify_match.specs.Trail.{id_of}
 use Rattle.unify_match.specs.Seen.{seen, IsReady, IsWalked}
 use Rattle.unify_match.specs.Substitution.{subst_of, CanChange, Fits, rank_of, arguments}
 use Rattle.unify_match.proofs.SeenLemmas.{seen-grows, IsReady-grows, IsReady-sound, bound_to-seen, bound_to-seen_none}
-use Rattle.unify_match.proofs.Walking.{known-at}
 
 pub arguments-node : (f : Sym) (ts : List Term) → arguments (node f ts) ≡ ts
 arguments-node f ts = items_of-trees ts

@@ -1,14 +1,17 @@
 -- The steps of unification.
-use Rattle.std.proofs.Common.{◌≡◌, ℕ, ◌+◌, ◌≤◌, ◌<◌, Bool, true, false, nat_eq, ◌⊎◌, inl, inr, List, [], ◌∷◌, ◌++◌, length, map, drop, get_or, refl, sym, ap, ◌∙◌, subst, arith, eqb-true, Result, Ok, Err, IfOk, MatchBool}
+use Rattle.std.proofs.Common.{◌≡◌, ◌↔◌, ℕ, IsTrue, ◌+◌, ◌≤◌, ◌<◌, Bool, true, false, nat_eq, ◌⊎◌, inl, inr, List, [], ◌∷◌, ◌++◌, length, map, drop, get_or, refl, sym, ap, ◌∙◌, subst, arith, eqb-true, Result, Ok, Err, IfOk, MatchBool}
+use Rattle.std.proofs.lemmas.Bool.{false≢true}
 use Rattle.spec_trees.specs.Tree.{Leaf, Node, node, bind, binds, size}
 use Rattle.spec_trees.proofs.Occurrence.{leaf_below}
-use Rattle.spec_terms.specs.Term.{Sym, Term, Subst, has_var}
+use Rattle.spec_terms.specs.Term.{Sym, Term, Subst, has_var, is_ground}
 use Rattle.spec_terms.specs.Unifier.{Unifies, UnifiesAll}
 use Rattle.spec_terms.specs.Binding.{Solves, resolved}
 use Rattle.spec_terms.specs.Rank.{ranks}
+use Rattle.spec_terms.proofs.Ground.{ground-bind}
 use Rattle.spec_terms.proofs.Resolve.{resolved-unbound, bind-resolved, resolved-most_general}
 use Rattle.term_tree.specs.Bank.{tree_at, AreKnown}
 use Rattle.term_tree.specs.declared.bank.Id.{Id}
+use Rattle.term_tree.proofs.BankLaws.{known-at}
 use Rattle.unify_match.specs.declared.bound.Bound.{Bound}
 use Rattle.unify_match.specs.declared.memo.Memo.{Memo}
 use Rattle.unify_match.specs.Trail.{Extends}
@@ -17,7 +20,7 @@ use Rattle.unify_match.specs.Outcome.{Unified, NoUnifier, UnifiedAll, NoUnifierO
 use Rattle.unify_match.specs.Memo.{is_remembered, AreMade}
 use Rattle.unify_match.specs.Progress.{Grown, HasSolutions, HasAllSolutions, IsApart}
 use Rattle.unify_match.proofs.SeenLemmas.{IsReady-sound, bound_to-seen_none}
-use Rattle.unify_match.proofs.Walking.{heights_of, height-at, known-at}
+use Rattle.unify_match.proofs.Walking.{heights_of, height-at}
 use Rattle.unify_match.proofs.Effort.{Grown-refl, Grown-trans}
 use Rattle.unify_match.proofs.Pairs.{AreOne, under, Remains, remains_begins, remains_next, remains_fails, remains_ends, node_one, one_node, one_lists, lists_one, bind-application}
 
@@ -69,6 +72,14 @@ solutions_walked all old new left right a b from_left from_right h s = (
 
 pub failure_walked : (all : List Term) (old : List Bound) (left right a b : Id) → IsWalked all old left a → IsWalked all old right b → NoUnifier all old (tree_at all a) (tree_at all b) → NoUnifier all old (tree_at all left) (tree_at all right)
 failure_walked all old left right a b from_left from_right h s solves e = h s solves (from_left.same s solves ∙ (e ∙ sym (from_right.same s solves)))
+
+-- terms without variables, which are the same or not
+pub ground_unified : (all : List Term) (pairs : List Bound) (left right a b : Id) (same : Bool) → IsWalked all pairs left a → IsWalked all pairs right b → is_ground (tree_at all a) ≡ true → is_ground (tree_at all b) ≡ true
+    → IsTrue same ↔ (tree_at all a ≡ tree_at all b) → MatchBool same (HasSolutions all pairs pairs (tree_at all left) (tree_at all right)) (NoUnifier all pairs (tree_at all left) (tree_at all right))
+ground_unified all pairs left right a b true from_left from_right ground_a ground_b told =
+    solutions_walked all pairs pairs left right a b from_left from_right (λ s. (λ solves. (solves, ap (bind s) (told.0 refl)), λ both. both.0))
+ground_unified all pairs left right a b false from_left from_right ground_a ground_b told =
+    failure_walked all pairs left right a b from_left from_right (λ s solves e. false≢true (told.1 (sym (ground-bind s (tree_at all a) ground_a) ∙ (e ∙ ground-bind s (tree_at all b) ground_b))))
 
 -- the two terms exchanged
 pub solutions_flip : (all : List Term) (old new : List Bound) (a b : Term) → HasSolutions all old new a b → HasSolutions all old new b a

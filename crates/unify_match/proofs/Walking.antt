@@ -1,5 +1,5 @@
 -- Following the bindings of variables.
-use Rattle.std.proofs.Common.{◌≡◌, ℕ, ◌+◌, ◌≤◌, ◌<◌, max, Bool, true, false, ◌||◌, ◌⊎◌, inl, inr, Some, None, List, [], ◌∷◌, map, drop, length, get_or, nat_eq, drop-cons, drop_of_length-le, add-one, subst, refl, sym, ap, ◌∙◌, arith}
+use Rattle.std.proofs.Common.{◌≡◌, ℕ, ◌+◌, ◌≤◌, ◌<◌, max, Bool, true, false, ◌||◌, ◌⊎◌, inl, inr, Some, None, List, [], ◌∷◌, map, drop, length, get_or, nat_eq, refl, sym, ap, ◌∙◌, arith}
 use Rattle.spec_trees.specs.Tree.{Leaf, node, bind}
 use Rattle.spec_terms.specs.Term.{Sym, Term, Subst, has_var}
 use Rattle.spec_terms.specs.Binding.{Solves, resolved}
@@ -7,8 +7,9 @@ use Rattle.spec_terms.specs.Rank.{height, ranks}
 use Rattle.spec_terms.proofs.Resolve.{Solves-at, resolved-unbound}
 use Rattle.spec_terms.proofs.Ranks.{ranks-fall}
 use Rattle.spec_terms.proofs.Replace.{some_none}
-use Rattle.term_tree.specs.Bank.{tree_at, AreKnown}
+use Rattle.term_tree.specs.Bank.{tree_at}
 use Rattle.term_tree.specs.declared.bank.Id.{Id}
+use Rattle.term_tree.proofs.BankLaws.{ids_at, ids_past}
 use Rattle.unify_match.specs.declared.bound.Bound.{Bound}
 use Rattle.unify_match.specs.Trail.{id_of}
 use Rattle.unify_match.specs.Seen.{seen, IsReady, IsWalked}
@@ -73,14 +74,6 @@ heights_of-node h all f (id ∷ ids) = let others = heights_of-node h all f ids 
 pub some_has-at : (s : Subst) (x : ℕ) (all : List Term) (ids : List Id) (i : ℕ) (id : Id) → drop i ids ≡ id ∷ drop (i + 1) ids → some_has s x all (drop i ids) ≡ (has_var x (bind s (tree_at all id)) || some_has s x all (drop (i + 1) ids))
 some_has-at s x all ids i id e = ap (some_has s x all) e
 
--- what is left of a list of ids from the one at i on
-pub ids_at : (ids : List Id) (i : ℕ) (d : Id) → i < length ids → drop i ids ≡ get_or ids i d ∷ drop (i + 1) ids
-ids_at ids i d h = drop-cons ids i d h ∙ ap (λ n. get_or ids i d ∷ drop n ids) (sym (add-one i))
-
--- nothing is left past the end
-pub ids_past : (ids : List Id) (i : ℕ) → length ids ≤ i → drop i ids ≡ []
-ids_past ids i h = drop_of_length-le ids h
-
 pub walked-has : (all : List Term) (pairs : List Bound) (from to : Id) (x : ℕ) → IsReady all pairs → IsWalked all pairs from to
     → has_var x (bind (resolved (seen all pairs)) (tree_at all to)) ≡ has_var x (bind (resolved (seen all pairs)) (tree_at all from))
 walked-has all pairs from to x ready walked = ap (has_var x) (walked-resolved all pairs from to ready walked)
@@ -96,9 +89,6 @@ args-lower h all end f ids is = omega (arith, ap (height h) is, heights_of-node 
 -- the height of the id at i is within that of the rest
 pub height-at : (h : ℕ → ℕ) (all : List Term) (ids : List Id) (i : ℕ) (d : Id) → i < length ids → (height h (tree_at all (get_or ids i d)) ≤ heights_of h all (drop i ids)) × (heights_of h all (drop (i + 1) ids) ≤ heights_of h all (drop i ids))
 height-at h all ids i d less = let e = ap (heights_of h all) (ids_at ids i d less) in (omega arith, omega arith)
-
-pub known-at : (all : List Term) (ids : List Id) (i : ℕ) (d : Id) → i < length ids → AreKnown all (drop i ids) → ((get_or ids i d).index < length all) × AreKnown all (drop (i + 1) ids)
-known-at all ids i d less known = let both = subst (λ (l : List Id). AreKnown all l) (ids_at ids i d less) known in (both.0, both.1)
 
 -- nothing is remembered at first
 pub AreClear-none : (all : List Term) (pairs : List Bound) (x : ℕ) (memo : Memo) → ((q : ℕ × ℕ) → is_remembered memo q ≡ false) → AreClear all pairs x memo

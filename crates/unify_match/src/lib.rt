@@ -25,7 +25,7 @@ mod walk;
 pub use apply::{apply_bound, apply_unlimited};
 pub use binds::Binds;
 pub use bound::Bound;
-pub use matching::{match_all_onto, match_onto, same_term};
+pub use matching::{match_all_onto, match_onto};
 pub use rename::{renumbered, shifted};
 pub use substitute::argument;
 pub use unification::{unify, unify_all};

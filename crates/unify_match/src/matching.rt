@@ -1,6 +1,6 @@
 //! Matching: a general term is made the special one, whose variables stand for themselves.
 
-ghost use Rattle.std.specs.Prelude.{◌≡◌, ◌<◌, ◌↔◌, IsTrue, false, length, map, IfOk, OnErr, MatchBool};
+ghost use Rattle.std.specs.Prelude.{◌≡◌, ◌<◌, false, length, map, IfOk, OnErr, MatchBool};
 ghost use Rattle.term_tree.specs.Bank.{tree_at, AreKnown};
 ghost use Rattle.unify_match.specs.Trail.{Extends};
 ghost use Rattle.unify_match.specs.Seen.{AreBindings};
@@ -11,42 +11,7 @@ use crate::binds::Binds;
 use std::alloc::AllocError;
 use term_tree::{Bank, Id, Node};
 
-/// Whether two terms are the same tree, at once where their ids are the same. Takes no memory.
-#[inline(never)]
-pub fn same_term<B: Bank>(bank: &B, left: Id, right: Id) -> bool
-    requires left_known { left.index < length (B.trees bank.now) }
-    requires right_known { right.index < length (B.trees bank.now) }
-    ensures { IsTrue result ↔ (tree_at (B.trees bank.now) left ≡ tree_at (B.trees bank.now) right) }
-{
-    if left.index == right.index {
-        return true;
-    }
-    match bank.node(left) {
-        Node::Var(x) => match bank.node(right) {
-            Node::Var(y) => x == y,
-            Node::App(_, _) => false,
-        },
-        Node::App(f, xs) => match bank.node(right) {
-            Node::Var(_) => false,
-            Node::App(g, ys) => {
-                if !f.is_same(g) {
-                    return false;
-                }
-                if xs.len() != ys.len() {
-                    return false;
-                }
-                'each: for (i, x) in xs.iter().enumerate() {
-                    if !same_term(bank, *x, ys[i]) {
-                        return false;
-                    }
-                }
-                true
-            }
-        },
-    }
-}
-
-/// Extends the bindings until the general term is the special one: at once where it is that, without a variable.
+/// Extends the bindings until the general term is the special one. One without a variable is compared.
 fn match_from<B: Bank>(
     bank: &B,
     binds: &mut Binds,
@@ -64,13 +29,13 @@ fn match_from<B: Bank>(
         (NoMatch (B.trees bank.now) binds.old.pairs (tree_at (B.trees bank.now) general)
         (tree_at (B.trees bank.now) special))) }
 {
-    if general.index == special.index && bank.is_ground(general) {
-        return Ok(true);
+    if bank.is_ground(general) {
+        return Ok(bank.same(general, special));
     }
     match bank.node(general) {
         Node::Var(x) => match binds.look(x) {
             Some(bound) => {
-                if !same_term(bank, bound, special) {
+                if !bank.same(bound, special) {
                     return Ok(false);
                 }
                 Ok(true)

@@ -90,6 +90,9 @@ fn unify_from<B: Bank>(
     if a.index == b.index {
         return Ok(true);
     }
+    if bank.is_ground(a) && bank.is_ground(b) {
+        return Ok(bank.same(a, b));
+    }
     match (bank.node(a), bank.node(b)) {
         (Node::Var(x), Node::Var(y)) if x == y => Ok(true),
         (Node::Var(x), _) => bind_apart(bank, binds, a, x, b),

@@ -7,17 +7,17 @@ use Rattle.query_derive.specs.Narrowing.{Narrows}
 use Rattle.query_derive.proofs.Narrowing.{narrows_bound, excludes_bound, narrows_bind}
 use Rattle.query_derive.proofs.matching.match_variable.Goals as goal
 
-pub same_term-requires-clause-left_known : goal.same_term-requires-clause-left_known
-same_term-requires-clause-left_known g c = AreInBank-at (g.B.Bank.trees c.args.bank.now) c.args.binds.now.pairs c.args.number c.in-Some.bound c.requires.bindings.known (sym c.in-Some.ensures)
+pub same-requires-clause-left_known : goal.same-requires-clause-left_known
+same-requires-clause-left_known g c = AreInBank-at (g.B.Bank.trees c.args.bank.now) c.args.binds.now.pairs c.args.number c.in-Some.bound c.requires.bindings.known (sym c.in-Some.ensures)
 
 pub returns-in-Some-clause-yes : goal.returns-in-Some-clause-yes
 returns-in-Some-clause-yes g c = λ e.
-    let all = g.B.Bank.trees c.args.bank.now in narrows_bound all c.args.binds.now.pairs c.args.number c.in-Some.bound (tree_at all c.args.id) (sym c.in-Some.ensures) (c.same_term.ensures.0 e)
+    let all = g.B.Bank.trees c.args.bank.now in narrows_bound all c.args.binds.now.pairs c.args.number c.in-Some.bound (tree_at all c.args.id) (sym c.in-Some.ensures) (c.same.ensures.0 e)
 
 pub returns-in-Some-clause-no : goal.returns-in-Some-clause-no
 returns-in-Some-clause-no g c = λ e.
     let all = g.B.Bank.trees c.args.bank.now in
-    excludes_bound all c.args.binds.now.pairs c.args.number c.in-Some.bound (tree_at all c.args.id) (sym c.in-Some.ensures) (λ same. false≢true (sym e ∙ c.same_term.ensures.1 same))
+    excludes_bound all c.args.binds.now.pairs c.args.number c.in-Some.bound (tree_at all c.args.id) (sym c.in-Some.ensures) (λ same. false≢true (sym e ∙ c.same.ensures.1 same))
 
 pub returns-in_ok-reserve-in-None-clause-extends : goal.returns-in_ok-reserve-in-None-clause-extends
 returns-in_ok-reserve-in-None-clause-extends g c =

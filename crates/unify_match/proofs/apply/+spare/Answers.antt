@@ -4,8 +4,9 @@ use Rattle.spec_terms.specs.Term.{is_ground}
 use Rattle.spec_terms.specs.Binding.{resolved}
 use Rattle.spec_terms.specs.Rank.{ranks}
 use Rattle.term_tree.specs.Bank.{symbol_of, tree_at}
+use Rattle.term_tree.proofs.BankLaws.{known-at}
 use Rattle.unify_match.specs.Seen.{seen}
-use Rattle.unify_match.proofs.Walking.{height-at, known-at}
+use Rattle.unify_match.proofs.Walking.{height-at}
 use Rattle.unify_match.proofs.Applying.{counting_begins, counted_variable, symbols_of_ground}
 use Rattle.unify_match.proofs.apply.+spare.Goals as goal
 

@@ -2,13 +2,14 @@ use Rattle.std.proofs.Common.{◌≡◌, ◌<◌, true, ◌∙◌, List, [], ◌
 use Rattle.std.proofs.lemmas.Bool.{MatchBool-at_true, MatchBool-at_false, false≢true}
 use Rattle.spec_terms.specs.Term.{Term, is_ground}
 use Rattle.term_tree.specs.Bank.{tree_at, symbol_of}
+use Rattle.term_tree.proofs.BankLaws.{known-at}
 use Rattle.unify_match.specs.declared.bound.Bound.{Bound}
 use Rattle.unify_match.specs.Seen.{AreBindings}
 use Rattle.unify_match.specs.Outcome.{NoMatch}
 use Rattle.unify_match.specs.Progress.{HasMatches}
 use Rattle.unify_match.proofs.SeenLemmas.{AreInBank-at, AreBindings-bind}
-use Rattle.unify_match.proofs.Walking.{args-lower, height-at, known-at}
-use Rattle.unify_match.proofs.Matchings.{levels, matches_itself, matches_bound, matches_other, matching_begins, matching_on, matching_fails, matching_ends, match_applications_fail}
+use Rattle.unify_match.proofs.Walking.{args-lower, height-at}
+use Rattle.unify_match.proofs.Matchings.{levels, matches_ground, matches_bound, matches_other, matching_begins, matching_on, matching_fails, matching_ends, match_applications_fail}
 use Rattle.unify_match.proofs.Trails.{Extends-trans}
 use Rattle.unify_match.proofs.matching.+match_from.Goals as goal
 
@@ -16,22 +17,22 @@ pub returns-then-is_ground-clause-outcome : goal.returns-then-is_ground-clause-o
 returns-then-is_ground-clause-outcome g t c =
     let all = g.B.Bank.trees c.args.bank.now in
     let ground : is_ground (tree_at all c.args.general) ≡ true = cc in
-    matches_itself all c.args.binds.now.pairs c.args.general c.args.special c.if-general-special.true ground
+    matches_ground all c.args.binds.now.pairs c.args.general c.args.special c.same.result ground c.same.ensures
 
-pub same_term-requires-clause-left_known : goal.same_term-requires-clause-left_known
-same_term-requires-clause-left_known g t c = AreInBank-at (g.B.Bank.trees c.args.bank.now) c.args.binds.now.pairs c.in-Var.x c.in-Some.bound c.requires.bindings.known (sym c.in-Some.ensures)
+pub same-requires-in-Some-clause-left_known : goal.same-requires-in-Some-clause-left_known
+same-requires-in-Some-clause-left_known g t c = AreInBank-at (g.B.Bank.trees c.args.bank.now) c.args.binds.now.pairs c.in-Var.x c.in-Some.bound c.requires.bindings.known (sym c.in-Some.ensures)
 
-pub returns-then-not-same_term-clause-outcome : goal.returns-then-not-same_term-clause-outcome
-returns-then-not-same_term-clause-outcome g t c =
+pub returns-then-not-same-clause-outcome : goal.returns-then-not-same-clause-outcome
+returns-then-not-same-clause-outcome g t c =
     let all = g.B.Bank.trees c.args.bank.now in
     subst (λ (u : Term). NoMatch all c.args.binds.now.pairs u (tree_at all c.args.special)) (sym c.in-Var.ensures)
-    (matches_other all c.args.binds.now.pairs c.in-Var.x c.in-Some.bound c.args.special (sym c.in-Some.ensures) (λ same. false≢true (c.if-not-same_term.ensures.1 same)))
+    (matches_other all c.args.binds.now.pairs c.in-Var.x c.in-Some.bound c.args.special (sym c.in-Some.ensures) (λ same. false≢true (c.if-not-same.ensures.1 same)))
 
-pub returns-else-not-same_term-clause-outcome : goal.returns-else-not-same_term-clause-outcome
-returns-else-not-same_term-clause-outcome g t c =
+pub returns-else-not-same-clause-outcome : goal.returns-else-not-same-clause-outcome
+returns-else-not-same-clause-outcome g t c =
     let all = g.B.Bank.trees c.args.bank.now in
     subst (λ (u : Term). HasMatches all c.args.binds.now.pairs c.args.binds.now.pairs u (tree_at all c.args.special)) (sym c.in-Var.ensures)
-    (matches_bound all c.args.binds.now.pairs c.in-Var.x c.in-Some.bound c.args.special (sym c.in-Some.ensures) (c.if-not-same_term.ensures.0 refl))
+    (matches_bound all c.args.binds.now.pairs c.in-Var.x c.in-Some.bound c.args.special (sym c.in-Some.ensures) (c.if-not-same.ensures.0 refl))
 
 pub returns-in_ok-reserve-in-None-clause-bindings : goal.returns-in_ok-reserve-in-None-clause-bindings
 returns-in_ok-reserve-in-None-clause-bindings g t c =

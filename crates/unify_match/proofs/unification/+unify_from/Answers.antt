@@ -1,15 +1,23 @@
-use Rattle.std.proofs.Common.{◌<◌, ap, subst, arith, length, get_or}
+use Rattle.std.proofs.Common.{◌≡◌, true, ◌<◌, ap, subst, arith, length, get_or}
 use Rattle.std.proofs.lemmas.Grind.{common_steps}
 use Rattle.std.proofs.lemmas.Bool.{MatchBool-at_true, MatchBool-at_false, false≢true}
+use Rattle.spec_terms.specs.Term.{is_ground}
 use Rattle.spec_terms.specs.Rank.{height, ranks}
 use Rattle.term_tree.specs.Bank.{tree_at, symbol_of, IsNodeOf}
 use Rattle.term_tree.specs.declared.bank.Node.{Node}
-use Rattle.term_tree.proofs.BankLaws.{symbol_of-injective}
+use Rattle.term_tree.proofs.BankLaws.{symbol_of-injective, known-at}
 use Rattle.unify_match.specs.Seen.{seen}
-use Rattle.unify_match.proofs.Walking.{args-lower, height-at, known-at}
+use Rattle.unify_match.proofs.Walking.{args-lower, height-at}
 use Rattle.unify_match.proofs.Effort.{effort-falls, Grown-trans}
-use Rattle.unify_match.proofs.Unifying.{solutions_walked, failure_walked, solutions_same, going_begins, going_on, going_fails, going_ends, applications_fail, AreMade-extends, AreMade-pass, variable_left, variable_right}
+use Rattle.unify_match.proofs.Unifying.{solutions_walked, failure_walked, ground_unified, solutions_same, going_begins, going_on, going_fails, going_ends, applications_fail, AreMade-extends, AreMade-pass, variable_left, variable_right}
 use Rattle.unify_match.proofs.unification.+unify_from.Goals as goal
+
+pub returns-then-is_ground-2-clause-outcome : goal.returns-then-is_ground-2-clause-outcome
+returns-then-is_ground-2-clause-outcome g t c =
+    let all = g.B.Bank.trees c.args.bank.now in
+    let ground_a : is_ground (tree_at all c.walk-a.result) ≡ true = cc in
+    let ground_b : is_ground (tree_at all c.walk-b.result) ≡ true = cc in
+    ground_unified all c.args.binds.now.pairs c.args.left c.args.right c.walk-a.result c.walk-b.result c.same.result c.walk-a.ensures c.walk-b.ensures ground_a ground_b c.same.ensures
 
 pub returns-then-has-clause-outcome : goal.returns-then-has-clause-outcome
 returns-then-has-clause-outcome g t c =

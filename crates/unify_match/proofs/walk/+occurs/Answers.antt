@@ -2,8 +2,9 @@ use Rattle.std.proofs.Common.{◌∙◌, sym, refl, arith, length, eqb-true}
 use Rattle.std.proofs.lemmas.Grind.{common_steps}
 use Rattle.spec_terms.specs.Rank.{ranks}
 use Rattle.term_tree.specs.Bank.{symbol_of}
+use Rattle.term_tree.proofs.BankLaws.{known-at}
 use Rattle.unify_match.specs.Seen.{seen}
-use Rattle.unify_match.proofs.Walking.{walked-has, args-lower, height-at, known-at, has-variable, has-found, has-none, AreClear-pass}
+use Rattle.unify_match.proofs.Walking.{walked-has, args-lower, height-at, has-variable, has-found, has-none, AreClear-pass}
 use Rattle.unify_match.proofs.walk.+occurs.Goals as goal
 
 pub returns-then-has-clause-found : goal.returns-then-has-clause-found

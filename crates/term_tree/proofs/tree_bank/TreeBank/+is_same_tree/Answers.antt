@@ -1,61 +1,57 @@
 use Rattle.std.proofs.Common.{◌<◌, ap, refl, arith, length}
 use Rattle.std.proofs.lemmas.Bool.{false≢true}
 use Rattle.term_tree.specs.Bank.{symbol_of}
-use Rattle.term_tree.proofs.BankLaws.{symbol_of-injective}
-use Rattle.unify_match.proofs.Walking.{args-lower, height-at, known-at}
-use Rattle.unify_match.proofs.Matchings.{comparing_begins, comparing_on, comparing_fails, comparing_ends, roots_differ}
-use Rattle.unify_match.proofs.matching.+same_term.Goals as goal
+use Rattle.term_tree.proofs.BankLaws.{symbol_of-injective, known-at}
+use Rattle.term_tree.proofs.Comparing.{argument_smaller, comparing_begins, comparing_on, comparing_fails, comparing_ends, roots_differ}
+use Rattle.term_tree.proofs.tree_bank.TreeBank.+is_same_tree.Goals as goal
 
 pub returns-then-not-is_same : goal.returns-then-not-is_same
-returns-then-not-is_same g t c =
-    let all = g.B.Bank.trees c.args.bank.now in (
+returns-then-not-is_same t c =
+    let all = c.args.self.now in (
       λ h. absurd (false≢true h),
       λ e. c.if-not-is_same.ensures.1 (symbol_of-injective c.in-App.f c.in-App-node-2.g
           (roots_differ all c.args.left c.args.right (symbol_of c.in-App.f) (symbol_of c.in-App-node-2.g) c.in-App.xs.now c.in-App-node-2.ys.now c.in-App.ensures.0 c.in-App-node-2.ensures.0 e).0),
     )
 
 pub returns-then-xs-ys : goal.returns-then-xs-ys
-returns-then-xs-ys g t c =
-    let all = g.B.Bank.trees c.args.bank.now in (
+returns-then-xs-ys t c =
+    let all = c.args.self.now in (
       λ h. absurd (false≢true h),
       λ e. let even = (roots_differ all c.args.left c.args.right (symbol_of c.in-App.f) (symbol_of c.in-App-node-2.g) c.in-App.xs.now c.in-App-node-2.ys.now c.in-App.ensures.0 c.in-App-node-2.ensures.0 e).1 in
           absurd (omega (arith, even, c.if-xs-ys.true)),
     )
 
 pub each-init : goal.each-init
-each-init g t c =
-    let all = g.B.Bank.trees c.args.bank.now in
-    comparing_begins all c.args.left c.in-App.xs.now c.in-App-node-2.ys.now c.in-App.ensures.1 c.in-App-node-2.ensures.1
-    (args-lower (λ x. 1) all c.args.left (symbol_of c.in-App.f) c.in-App.xs.now c.in-App.ensures.0)
+each-init t c = comparing_begins c.args.self.now c.args.left (symbol_of c.in-App.f) c.in-App.xs.now c.in-App-node-2.ys.now c.in-App.ensures.0 c.in-App.ensures.1 c.in-App-node-2.ensures.1
 
-pub same_term-requires : goal.same_term-requires
-same_term-requires g t c κs within =
-    let all = g.B.Bank.trees c.args.bank.now in
+pub is_same_tree-requires : goal.is_same_tree-requires
+is_same_tree-requires t c =
+    let all = c.args.self.now in
     let was = c.each.invariant in
     let even : c.each.i < length c.in-App-node-2.ys.now = omega (arith, c.each-test.true, c.if-xs-ys.false) in
     let left = known-at all c.in-App.xs.now c.each.i record { index = 0 } c.each-test.true was.lefts in
     let right = known-at all c.in-App-node-2.ys.now c.each.i record { index = 0 } even was.rights in
-    let at = height-at (λ x. 1) all c.in-App.xs.now c.each.i record { index = 0 } c.each-test.true in
-    (omega (arith, c.decreases, at.0, was.lower), (within, (left.0, right.0)))
+    let smaller = argument_smaller all c.args.left c.in-App.xs.now c.in-App-node-2.ys.now c.each.i record { index = 0 } was c.each-test.true in
+    (omega (arith, smaller), (left.0, right.0))
 
-pub returns-then-not-same_term : goal.returns-then-not-same_term
-returns-then-not-same_term g t c =
-    let all = g.B.Bank.trees c.args.bank.now in
+pub returns-then-not-is_same_tree : goal.returns-then-not-is_same_tree
+returns-then-not-is_same_tree t c =
+    let all = c.args.self.now in
     let even : c.each.i < length c.in-App-node-2.ys.now = omega (arith, c.each-test.true, c.if-xs-ys.false) in (
       λ h. absurd (false≢true h),
       λ e. absurd (comparing_fails all c.args.left c.args.left c.args.right (symbol_of c.in-App.f) (symbol_of c.in-App-node-2.g) c.in-App.xs.now c.in-App-node-2.ys.now c.each.i record { index = 0 }
-          c.in-App.ensures.0 c.in-App-node-2.ensures.0 c.each.invariant c.each-test.true even (λ same. false≢true (c.if-not-same_term.ensures.1 same)) e),
+          c.in-App.ensures.0 c.in-App-node-2.ensures.0 c.each.invariant c.each-test.true even (λ same. false≢true (c.if-not-is_same_tree.ensures.1 same)) e),
     )
 
 pub each-preserved : goal.each-preserved
-each-preserved g t c =
-    let all = g.B.Bank.trees c.args.bank.now in
+each-preserved t c =
+    let all = c.args.self.now in
     let even : c.each.i < length c.in-App-node-2.ys.now = omega (arith, c.each-test.true, c.if-xs-ys.false) in
-    comparing_on all c.args.left c.in-App.xs.now c.in-App-node-2.ys.now c.each.i record { index = 0 } c.each.invariant c.each-test.true even (c.if-not-same_term.ensures.0 refl)
+    comparing_on all c.args.left c.in-App.xs.now c.in-App-node-2.ys.now c.each.i record { index = 0 } c.each.invariant c.each-test.true even (c.if-not-is_same_tree.ensures.0 refl)
 
 pub returns-after-each : goal.returns-after-each
-returns-after-each g t c =
-    let all = g.B.Bank.trees c.args.bank.now in (
+returns-after-each t c =
+    let all = c.args.self.now in (
       λ h. comparing_ends all c.args.left c.args.left c.args.right (symbol_of c.in-App.f) (symbol_of c.in-App-node-2.g) c.in-App.xs.now c.in-App-node-2.ys.now c.each.i
           c.in-App.ensures.0 c.in-App-node-2.ensures.0 (ap symbol_of (c.if-not-is_same.ensures.0 refl)) (omega (arith, c.if-xs-ys.false)) c.each.invariant c.each-test.false,
       λ e. refl,
