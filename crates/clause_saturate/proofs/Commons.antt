@@ -1,5 +1,6 @@
 -- The walk up to the goal is the common part of the logs, and from there the walk goes on with each goal.
 use Rattle.std.proofs.Common.{◌≡◌, ◌∙◌, ℕ, zero, suc, ◌≤◌, min, max, true, false, Option, Some, List, [], ◌∷◌, ◌++◌, length, take, map, refl, ap, sym, subst, arith}
+use Rattle.std.proofs.lemmas.List.{take-take, length-take-le}
 use Rattle.spec_terms.specs.Term.{Term}
 use Rattle.spec_calculus.specs.Points.{numbered}
 use Rattle.spec_clauses.specs.Fact.{Clause, Bad}
@@ -22,7 +23,7 @@ use Rattle.clause_saturate.specs.declared.walk.Live.{Live}
 use Rattle.clause_saturate.specs.declared.walk.Walk.{Walk}
 use Rattle.clause_saturate.specs.declared.common.Common.{Common}
 use Rattle.clause_saturate.specs.Logs.{TellLog, IsSpentLog, IsLargeLog}
-use Rattle.clause_saturate.specs.Live.{AreNumbersOf, AreListed}
+use Rattle.clause_saturate.specs.Live.{AreNumbersOf, kept_lanes, AreListed}
 use Rattle.clause_saturate.specs.Walked.{IsTask, IsWalked, HasSpent, HasLarge}
 use Rattle.clause_saturate.specs.Common.{Shared, task_of, AreProper, begun_log, begun_size, IsCommonOf, IsSpentCommon, IsLargeCommon}
 use Rattle.clause_saturate.proofs.Fitting.{fit_normal, fit_small, walked_grows}
@@ -109,9 +110,9 @@ large_common all shared goal entries solved unsolved h = record {
 }
 
 -- from the common part the walk goes on with each goal
-pub walk_goes_on : (all : List Term) (shared : Shared) (goal : Clause Term) (common : Common) (walk : Walk) → IsCommonOf all shared common → IsNormal goal → IsWithinLimit goal → walk.items.items ≡ begun_log common → walk.live.solved.items ≡ common.live.solved.items → walk.live.unsolved.items ≡ common.live.unsolved.items → walk.budget ≡ common.budget
+pub walk_goes_on : (all : List Term) (shared : Shared) (goal : Clause Term) (common : Common) (walk : Walk) → IsCommonOf all shared common → IsNormal goal → IsWithinLimit goal → walk.items.items ≡ begun_log common → walk.live.solved.items ≡ common.live.solved.items → walk.live.unsolved.items ≡ common.live.unsolved.items → walk.live.features.items ≡ common.live.features.items → walk.budget ≡ common.budget
     → IsWalked all (task_of shared goal) walk (goal_key (with_goal shared.clauses goal) (length walk.items.items))
-walk_goes_on all shared goal common walk h own within items solved unsolved budget =
+walk_goes_on all shared goal common walk h own within items solved unsolved features budget =
     walked_grows before all (task_of shared goal) walk (goal_key given (length walk.items.items)) (front_grows (begun_size common) all) (
       h.log,
       record {
@@ -121,6 +122,7 @@ walk_goes_on all shared goal common walk h own within items solved unsolved budg
         listed = record {
           solved = subst (λ numbers. AreNumbersOf before walk.items.items true numbers) (sym solved) listed.solved;
           unsolved = subst (λ numbers. AreNumbersOf before walk.items.items false numbers) (sym unsolved) listed.unsolved;
+          features = ap kept_lanes features ∙ listed.features;
         };
         up_to = subst (λ n. IsLogUpTo given (Some (goal_key given n)) h.log) turn ready.up_to;
         within = ready.within;
@@ -169,6 +171,13 @@ common_kept all now shared old new h within same begun live budget number size =
   where
     before : take (begun_size old) all ≡ take (begun_size new) now
     before = sym same ∙ ap (λ n. take n now) (sym size)
+
+-- with the trees that `begin` left, and no others
+pub common_cut : (all now : List Term) (shared : Shared) (old new : Common) → IsCommonOf all shared old → now ≡ take (begun_size old) all
+    → new.begun ≡ old.begun → new.live ≡ old.live → new.budget ≡ old.budget → new.number ≡ old.number → begun_size new ≡ begun_size old → IsCommonOf now shared new
+common_cut all now shared old new h cut =
+    let count = ap length cut ∙ length-take-le (begun_size old) all h.within in
+    common_kept all now shared old new h (omega (arith, count)) (ap (take (begun_size old)) cut ∙ take-take (begun_size old) (begun_size old) all (omega arith))
 
 -- as the bank grows, it keeps the trees that `begin` left
 pub take_front : (n : ℕ) (xs more : List Term) → n ≤ length xs → take n (xs ++ more) ≡ take n xs

@@ -1,5 +1,5 @@
 -- The clauses of a log are normal and within the limit of size, and stay so as the bank grows.
-use Rattle.std.proofs.Common.{◌≡◌, ◌∙◌, ℕ, zero, suc, ◌-◌, ◌<◌, ◌≤◌, ◌^◌, Bool, true, false, cond, Some, List, [], ◌∷◌, length, map, get_or, ap, sym, subst, inl, inr, arith}
+use Rattle.std.proofs.Common.{◌≡◌, ℕ, zero, suc, ◌<◌, ◌≤◌, ◌^◌, Bool, true, false, cond, Some, List, [], ◌∷◌, length, map, get_or, ap, sym, subst, inl, inr, arith}
 use Rattle.std.proofs.lemmas.List.{length-map}
 use Rattle.spec_terms.specs.Term.{Term}
 use Rattle.spec_calculus.specs.Bounds.{most_symbols}

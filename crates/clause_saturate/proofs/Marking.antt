@@ -1,5 +1,7 @@
 -- Walks over entries: which of them a clause beats.
-use Rattle.std.proofs.Common.{◌≡◌, ℕ, zero, suc, ◌+◌, ◌<◌, ◌≤◌, Bool, true, false, List, [], ◌∷◌, length, get_or, set, MatchBool, refl, ap, sym, subst, arith}
+use Rattle.std.proofs.Common.{◌≡◌, ◌∙◌, ◌||◌, ℕ, zero, suc, ◌+◌, ◌<◌, ◌≤◌, Bool, true, false, List, [], ◌∷◌, length, get_or, set, MatchBool, refl, ap, sym, subst, arith}
+use Rattle.std.proofs.lemmas.List.{set-get_or}
+use Rattle.spec_trees.proofs.Occurrence.{or_false}
 use Rattle.spec_terms.specs.Term.{Term}
 use Rattle.spec_clauses.specs.Fact.{Clause}
 use Rattle.clause_form.specs.Seen.{IsClauseIn, AreClausesIn}
@@ -63,6 +65,12 @@ pub marked_on : (all : List Term) (c : Clause Term) (number i : ℕ) (olds news 
 marked_on all c number i olds news d e within h m =
     let next : suc i ≡ i + 1 = omega arith in
     subst (λ k. MarkedTo all c number k olds (set news i e)) next (marked_next all c number i olds news d e within h m)
+
+-- where none is marked, none is changed
+pub none_marked : (es olds : List Entry) (i : ℕ) (d e : Entry) (some marked : Bool) → (marked ≡ false → e ≡ get_or es i d) → (some ≡ false → es ≡ olds) → (some || marked) ≡ false → set es i e ≡ olds
+none_marked es olds i d e some marked one before none =
+    let both = or_false some marked none in
+    ap (set es i) (one both.1) ∙ (set-get_or es i d ∙ before both.0)
 
 -- all of them
 pub marked_all : (all : List Term) (c : Clause Term) (number i : ℕ) (olds news : List Entry) → length news ≤ i → MarkedTo all c number i olds news → AreMarked all c number olds news

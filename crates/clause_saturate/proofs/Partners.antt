@@ -1,5 +1,5 @@
 -- What is found by the lists of live entries: a partner, a due pair, and what covers a clause.
-use Rattle.std.proofs.Common.{◌≡◌, ◌⊎◌, ◌∙◌, ℕ, zero, suc, ◌+◌, ◌<◌, ◌≤◌, Bool, true, false, not, true≢false, Some, None, List, [], ◌∷◌, length, drop, get_or, MatchBool, ltb, ltb-true, ltb-false, refl, ap, sym, subst, inl, inr, arith}
+use Rattle.std.proofs.Common.{◌≡◌, ◌⊎◌, ◌∙◌, ℕ, zero, suc, ◌+◌, ◌-◌, ◌<◌, ◌≤◌, Bool, true, false, not, true≢false, Some, None, List, [], ◌∷◌, length, drop, get_or, MatchBool, ltb, ltb-true, ltb-false, refl, ap, sym, subst, inl, inr, arith}
 use Rattle.std.specs.Prelude.{slice_get, is_some}
 use Rattle.std.specs.List.Sorted.{IsPartitionPoint}
 use Rattle.std.proofs.lemmas.Bool.{cases_lt}
@@ -13,9 +13,9 @@ use Rattle.clause_saturate.specs.declared.log.Entry.{Entry}
 use Rattle.clause_saturate.specs.declared.walk.Live.{Live}
 use Rattle.clause_saturate.specs.declared.walk.Pair.{Pair}
 use Rattle.clause_saturate.specs.Beating.{LiveCovers, SomeLiveCovers}
-use Rattle.clause_saturate.specs.Live.{IsAmong, IsAscending, IsLiveAt, AreNumbersOf, AreListed, CoversAmong, IsPartner}
+use Rattle.clause_saturate.specs.Live.{IsAmong, IsAscending, IsLiveAt, AreNumbersOf, AreListed, NumberCovers, CoversAmong, IsPartner}
 use Rattle.clause_saturate.specs.Pairs.{IsDuePair, NoDuePair, NoDuePairs, IsFirstPair}
-use Rattle.clause_saturate.proofs.Found.{one_entry, later_solved, earlier_solved}
+use Rattle.clause_saturate.proofs.Found.{numbered_at, one_entry, later_solved, earlier_solved}
 
 at_least : (least : ℕ) (ns : List ℕ) (j d : ℕ) → IsAscending least ns → j < length ns → least ≤ get_or ns j d
 at_least least [] j d up within = absurd (omega arith)
@@ -118,11 +118,11 @@ some_there all (e ∷ es) zero x c at h = let same : e ≡ x = cc in inl (subst 
 some_there all (e ∷ es) (suc k) x c at h = inr (some_there all es k x c at h)
 
 pub some_among : (all : List Term) (es : List Entry) (ns : List ℕ) (c : Clause Term) → CoversAmong all es ns c → SomeLiveCovers all es c
-some_among all es ns c h = go h.number h.at
+some_among all es ns c h = go h.number h.covers.at
   where
-    go : (n : ℕ) → numbered es n ≡ Some h.entry → SomeLiveCovers all es c
+    go : (n : ℕ) → numbered es n ≡ Some h.covers.entry → SomeLiveCovers all es c
     go zero at = cc
-    go (suc k) at = some_there all es k h.entry c at h.covers
+    go (suc k) at = some_there all es k h.covers.entry c at h.covers.covers
 
 -- what covers is listed as solved or as unsolved
 record CoversAt (all : List Term) (es : List Entry) (c : Clause Term) : Type 0 where
@@ -142,8 +142,8 @@ listed_covers all es live c listed h =
     go there.place there.entry there.at there.covers (is_solved (clause_at all there.entry.clause).hypotheses) refl
   where
     go : (place : ℕ) (x : Entry) → slice_get es place ≡ Some x → LiveCovers all x c → (b : Bool) → is_solved (clause_at all x.clause).hypotheses ≡ b → CoversAmong all es live.solved.items c ⊎ CoversAmong all es live.unsolved.items c
-    go place x at covers true kind = inl (record { number = suc place; entry = x; among = listed.solved.every (suc place) (record { entry = x; at = at; live = covers.0; kind = kind }); at = at; covers = covers })
-    go place x at covers false kind = inr (record { number = suc place; entry = x; among = listed.unsolved.every (suc place) (record { entry = x; at = at; live = covers.0; kind = kind }); at = at; covers = covers })
+    go place x at covers true kind = inl (record { number = suc place; among = listed.solved.every (suc place) (record { entry = x; at = at; live = covers.0; kind = kind }); covers = record { entry = x; at = at; covers = covers } })
+    go place x at covers false kind = inr (record { number = suc place; among = listed.unsolved.every (suc place) (record { entry = x; at = at; live = covers.0; kind = kind }); covers = record { entry = x; at = at; covers = covers } })
 
 -- what both lists tell
 pub covers_told : (all : List Term) (es : List Entry) (live : Live) (c : Clause Term) (found : Bool) → AreListed all es live → (CoversAmong all es live.solved.items c → ⊥) → MatchBool found (CoversAmong all es live.unsolved.items c) (CoversAmong all es live.unsolved.items c → ⊥) → MatchBool found (SomeLiveCovers all es c) (SomeLiveCovers all es c → ⊥)
@@ -153,19 +153,23 @@ covers_told all es live c false listed none h = λ some. elim (listed_covers all
   | inr second ↦ h second
 ]
 
--- what covers among the numbers from a place on covers behind it, where the entry of that number doesn't
-among_later : (all : List Term) (es : List Entry) (ns : List ℕ) (i : ℕ) (x : Entry) (c : Clause Term) → i < length ns → numbered es (get_or ns i 0) ≡ Some x → (LiveCovers all x c → ⊥) → (number : ℕ) (entry : Entry) → numbered es number ≡ Some entry → LiveCovers all entry c → IsAmong (drop i ns) number → IsAmong (drop (suc i) ns) number
-among_later all es [] i x c within at none number entry there covers among = absurd (omega arith)
-among_later all es (m ∷ ns) zero x c within at none number entry there covers (inl same) =
-    absurd (none (subst (λ (y : Entry). LiveCovers all y c) (one_entry es m entry x (subst (λ k. numbered es k ≡ Some entry) (sym same) there) at) covers))
-among_later all es (m ∷ ns) zero x c within at none number entry there covers (inr rest) = rest
-among_later all es (m ∷ ns) (suc i) x c within at none number entry there covers among = among_later all es ns i x c (omega arith) at none number entry there covers among
+-- the entry of a number covers where what stands at its place does
+pub number_covers : (all : List Term) (es : List Entry) (c : Clause Term) (number : ℕ) (x : Entry) (found : Bool) → x ≡ get_or es (number - 1) x → 0 < number → number ≤ length es → MatchBool found (LiveCovers all x c) (LiveCovers all x c → ⊥) → MatchBool found (NumberCovers all es c number) (NumberCovers all es c number → ⊥)
+number_covers all es c number x true is some within h = record { entry = x; at = numbered_at es number x is some within; covers = h }
+number_covers all es c number x false is some within h = λ k. h (subst (λ (y : Entry). LiveCovers all y c) (one_entry es number k.entry x k.at (numbered_at es number x is some within)) k.covers)
 
-pub covers_behind : (all : List Term) (es : List Entry) (ns : List ℕ) (i : ℕ) (x : Entry) (c : Clause Term) → i < length ns → numbered es (get_or ns i 0) ≡ Some x → (LiveCovers all x c → ⊥) → CoversAmong all es (drop i ns) c → CoversAmong all es (drop (i + 1) ns) c
-covers_behind all es ns i x c within at none h =
+-- what covers among the numbers from a place on covers behind it, where the entry of that number doesn't
+among_later : (all : List Term) (es : List Entry) (ns : List ℕ) (i : ℕ) (c : Clause Term) → i < length ns → (NumberCovers all es c (get_or ns i 0) → ⊥) → (number : ℕ) → NumberCovers all es c number → IsAmong (drop i ns) number → IsAmong (drop (suc i) ns) number
+among_later all es [] i c within none number covers among = absurd (omega arith)
+among_later all es (m ∷ ns) zero c within none number covers (inl same) = absurd (none (subst (λ k. NumberCovers all es c k) (sym same) covers))
+among_later all es (m ∷ ns) zero c within none number covers (inr rest) = rest
+among_later all es (m ∷ ns) (suc i) c within none number covers among = among_later all es ns i c (omega arith) none number covers among
+
+pub covers_behind : (all : List Term) (es : List Entry) (ns : List ℕ) (i : ℕ) (c : Clause Term) → i < length ns → (NumberCovers all es c (get_or ns i 0) → ⊥) → CoversAmong all es (drop i ns) c → CoversAmong all es (drop (i + 1) ns) c
+covers_behind all es ns i c within none h =
     let next : suc i ≡ i + 1 = omega arith in
     subst (λ k. CoversAmong all es (drop k ns) c) next
-    (record { number = h.number; entry = h.entry; among = among_later all es ns i x c within at none h.number h.entry h.at h.covers h.among; at = h.at; covers = h.covers })
+    (record { number = h.number; among = among_later all es ns i c within none h.number h.covers h.among; covers = h.covers })
 
 pub covers_none : (all : List Term) (es : List Entry) (ns : List ℕ) (i : ℕ) (c : Clause Term) → length ns ≤ i → CoversAmong all es (drop i ns) c → ⊥
 covers_none all es ns i c past h = go ns i past h.among
@@ -177,13 +181,11 @@ covers_none all es ns i c past h = go ns i past h.among
     go (m ∷ ns) (suc i) past among = go ns i (omega arith) among
 
 -- the numbers of the lists are those of entries
-pub listed_within : (all : List Term) (es fs : List Entry) (b : Bool) (ns ms : List ℕ) → fs ≡ es → ms ≡ ns → AreNumbersOf all es b ns → (n : ℕ) → IsAmong ms n → (0 < n) × (n ≤ length fs)
-listed_within all es fs b ns ms entries same numbers n among =
+pub listed_within : (all : List Term) (es : List Entry) (b : Bool) (ns ms : List ℕ) → ms ≡ ns → AreNumbersOf all es b ns → (n : ℕ) → IsAmong ms n → (0 < n) × (n ≤ length es)
+listed_within all es b ns ms same numbers n among =
     let there = numbers.live n (subst (λ (l : List ℕ). IsAmong l n) same among) in
-    subst (λ (l : List Entry). (0 < n) × (n ≤ length l)) (sym entries) (numbered_within es n there.entry there.at)
+    numbered_within es n there.entry there.at
 
--- what is told of the same entries and numbers
-pub covers_seen : (all : List Term) (es fs : List Entry) (ns ms : List ℕ) (c : Clause Term) (found : Bool) → fs ≡ es → ms ≡ ns → MatchBool found (CoversAmong all fs ms c) (CoversAmong all fs ms c → ⊥) → MatchBool found (CoversAmong all es ns c) (CoversAmong all es ns c → ⊥)
-covers_seen all es fs ns ms c found entries numbers h =
-    subst (λ (l : List ℕ). MatchBool found (CoversAmong all es l c) (CoversAmong all es l c → ⊥)) numbers
-    (subst (λ (l : List Entry). MatchBool found (CoversAmong all l ms c) (CoversAmong all l ms c → ⊥)) entries h)
+-- what is told of the same numbers
+pub covers_seen : (all : List Term) (es : List Entry) (ns ms : List ℕ) (c : Clause Term) (found : Bool) → ms ≡ ns → MatchBool found (CoversAmong all es ms c) (CoversAmong all es ms c → ⊥) → MatchBool found (CoversAmong all es ns c) (CoversAmong all es ns c → ⊥)
+covers_seen all es ns ms c found numbers h = subst (λ (l : List ℕ). MatchBool found (CoversAmong all es l c) (CoversAmong all es l c → ⊥)) numbers h

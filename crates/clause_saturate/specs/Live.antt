@@ -1,10 +1,13 @@
--- The lists of live entries: their numbers, and what covers a clause among them.
-use Rattle.std.specs.Prelude.{◌≡◌, ◌⊎◌, ℕ, suc, ◌<◌, ◌≤◌, Bool, true, false, Option, Some, None, List, [], ◌∷◌, ◌++◌}
+-- What is kept beside entries: the numbers of the live ones, the features of all; and what covers a clause among them.
+use Rattle.std.specs.Prelude.{◌≡◌, ◌⊎◌, ℕ, suc, ◌<◌, ◌≤◌, Bool, true, false, Option, Some, None, List, [], ◌∷◌, ◌++◌, map}
 use Rattle.spec_terms.specs.Term.{Term}
 use Rattle.spec_calculus.specs.Points.{numbered}
 use Rattle.spec_clauses.specs.Fact.{Clause}
 use Rattle.spec_clauses.specs.Selection.{is_solved}
+use Rattle.spec_features.specs.Features.{features_of}
+use Rattle.term_tree.specs.declared.bank.Id.{Id}
 use Rattle.clause_form.specs.Seen.{clause_at}
+use Rattle.feature_index.specs.declared.lanes.Features.{Features}
 use Rattle.clause_saturate.specs.declared.log.Entry.{Entry}
 use Rattle.clause_saturate.specs.declared.walk.Live.{Live}
 use Rattle.clause_saturate.specs.Logs.{is_unbeaten}
@@ -33,10 +36,22 @@ pub record AreNumbersOf (all : List Term) (entries : List Entry) (solved : Bool)
   pub live : (number : ℕ) → IsAmong numbers number → IsLiveAt all entries solved number
   pub every : (number : ℕ) → IsLiveAt all entries solved number → IsAmong numbers number
 
--- both lists are those of these entries
+-- the features of each entry's clause, and as they are kept
+abbrev pub lanes_of : List Term → List Entry → List (List ℕ)
+lanes_of all entries = map (λ entry. features_of (clause_at all entry.clause)) entries
+
+abbrev pub kept_lanes : List Features → List (List ℕ)
+kept_lanes features = map (λ f. f.lanes) features
+
+-- they are the clause's
+abbrev pub HasFeatures : List Term → Clause Id → Features → Type 0
+HasFeatures all clause features = features.lanes ≡ features_of (clause_at all clause)
+
+-- both lists are those of these entries, and so are the features
 pub record AreListed (all : List Term) (entries : List Entry) (live : Live) : Type 0 where
   pub solved : AreNumbersOf all entries true live.solved.items
   pub unsolved : AreNumbersOf all entries false live.unsolved.items
+  pub features : kept_lanes live.features.items ≡ lanes_of all entries
 
 -- whether there is an entry, and it is live
 abbrev pub is_live_entry : Option Entry → Bool
@@ -51,13 +66,17 @@ abbrev pub IsNumberListed : Bool → ℕ → Live → Live → Type 0
 IsNumberListed true number old new = (new.solved.items ≡ old.solved.items ++ number ∷ []) × (new.unsolved.items ≡ old.unsolved.items)
 IsNumberListed false number old new = (new.solved.items ≡ old.solved.items) × (new.unsolved.items ≡ old.unsolved.items ++ number ∷ [])
 
+-- the entry of that number is live and subsumes the clause
+pub record NumberCovers (all : List Term) (entries : List Entry) (c : Clause Term) (number : ℕ) : Type 0 where
+  pub entry : Entry
+  pub at : numbered entries number ≡ Some entry
+  pub covers : LiveCovers all entry c
+
 -- a live entry of these numbers subsumes the clause
 pub record CoversAmong (all : List Term) (entries : List Entry) (numbers : List ℕ) (c : Clause Term) : Type 0 where
   pub number : ℕ
-  pub entry : Entry
   pub among : IsAmong numbers number
-  pub at : numbered entries number ≡ Some entry
-  pub covers : LiveCovers all entry c
+  pub covers : NumberCovers all entries c number
 
 -- the first of the numbers from one on and before the later one, if there is one
 abbrev pub IsPartner : List ℕ → ℕ → ℕ → Option ℕ → Type 0

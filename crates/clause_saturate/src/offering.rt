@@ -1,6 +1,6 @@
 //! Clauses that are offered to a log.
 
-ghost use Rattle.std.specs.Prelude.{◌≡◌, ◌+◌, ◌<◌, ◌≤◌, ℕ, Some, None, List, length, filter, IfOk, OnOk, MatchBool};
+ghost use Rattle.std.specs.Prelude.{◌≡◌, ◌+◌, ◌<◌, ◌≤◌, ℕ, false, Some, None, List, [], ◌∷◌, ◌++◌, length, filter, IfOk, OnOk, MatchBool};
 ghost use Rattle.spec_clauses.specs.Selection.{is_solved as is_solved_list};
 ghost use Rattle.spec_clauses.specs.Subsumption.{Subsumes};
 ghost use Rattle.spec_saturation.specs.Key.{Key, Entry as EntryOf};
@@ -8,11 +8,12 @@ ghost use Rattle.clause_form.specs.Seen.{clause_at, IsClauseIn};
 ghost use Rattle.clause_form.specs.Fit.{IsFit, AreFit};
 ghost use Rattle.clause_saturate.specs.Logs.{TellLog, IsOrigin};
 ghost use Rattle.clause_saturate.specs.Beating.{clauses_of, LiveCovers, SomeLiveCovers, BeatsLive, IsMarked, AreMarked, IsPushed, IsOfferMade};
-ghost use Rattle.clause_saturate.specs.Live.{IsAmong, AreListed, is_live_at, IsNumberListed, CoversAmong};
+ghost use Rattle.clause_saturate.specs.Live.{IsAmong, HasFeatures, AreListed, is_live_at, IsNumberListed, NumberCovers, CoversAmong, kept_lanes, lanes_of};
 
 use crate::log::{Entry, Origin};
-use crate::walk::{Live, Walk};
+use crate::walk::{Live, Offer, Walk};
 use clause_form::Clause;
+use feature_index::{Features, features, may_cover};
 use literal_selection::is_solved;
 use multiset_subsume::cover_row;
 use std::alloc::{AllocError, Global};
@@ -56,26 +57,54 @@ fn covers<B: Bank>(
     }
 }
 
+/// Whether the entry of that number is live and subsumes the clause. Most that don't are told by their features.
+fn covers_at<B: Bank>(
+    walk: &Walk,
+    bank: &B,
+    number: usize,
+    offer: &Offer<'_>,
+) -> Result<bool, AllocError>
+    requires entries { AreFit (B.trees bank.now) (clauses_of walk.now.items.items) }
+    requires listed { AreListed (B.trees bank.now) walk.now.items.items walk.now.live }
+    requires some { 0 < number }
+    requires within { number ≤ length walk.now.items.items }
+    requires clause { IsFit (B.trees bank.now) offer.now.clause.now }
+    requires features { HasFeatures (B.trees bank.now) offer.now.clause.now offer.now.features }
+    ensures { IfOk result (λ yes. MatchBool yes
+        (NumberCovers (B.trees bank.now) walk.now.items.items
+        (clause_at (B.trees bank.now) offer.now.clause.now) number)
+        (NumberCovers (B.trees bank.now) walk.now.items.items
+        (clause_at (B.trees bank.now) offer.now.clause.now) number → ⊥)) }
+{
+    let kept = walk.live.features[number - 1];
+    if !may_cover(kept, offer.features) {
+        return Ok(false);
+    }
+    let yes = covers(walk.alloc, bank, &walk.items[number - 1], offer.clause)?;
+    Ok(yes)
+}
+
 /// Whether a live entry of these numbers subsumes the clause.
 fn covers_among<B: Bank>(
-    alloc: Global,
+    walk: &Walk,
     bank: &B,
-    entries: &[Entry],
     numbers: &[usize],
-    clause: &Clause,
+    offer: &Offer<'_>,
 ) -> Result<bool, AllocError>
-    requires entries { AreFit (B.trees bank.now) (clauses_of entries.now) }
+    requires entries { AreFit (B.trees bank.now) (clauses_of walk.now.items.items) }
+    requires listed { AreListed (B.trees bank.now) walk.now.items.items walk.now.live }
     requires numbers { (number : ℕ) → IsAmong numbers.now number →
-        (0 < number) × (number ≤ length entries.now) }
-    requires clause { IsFit (B.trees bank.now) clause.now }
+        (0 < number) × (number ≤ length walk.now.items.items) }
+    requires clause { IsFit (B.trees bank.now) offer.now.clause.now }
+    requires features { HasFeatures (B.trees bank.now) offer.now.clause.now offer.now.features }
     ensures { IfOk result (λ yes. MatchBool yes
-        (CoversAmong (B.trees bank.now) entries.now numbers.now
-        (clause_at (B.trees bank.now) clause.now))
-        (CoversAmong (B.trees bank.now) entries.now numbers.now
-        (clause_at (B.trees bank.now) clause.now) → ⊥)) }
+        (CoversAmong (B.trees bank.now) walk.now.items.items numbers.now
+        (clause_at (B.trees bank.now) offer.now.clause.now))
+        (CoversAmong (B.trees bank.now) walk.now.items.items numbers.now
+        (clause_at (B.trees bank.now) offer.now.clause.now) → ⊥)) }
 {
     'each: for number in numbers {
-        if covers(alloc, bank, &entries[*number - 1], clause)? {
+        if covers_at(walk, bank, *number, offer)? {
             return Ok(true);
         }
     }
@@ -83,20 +112,21 @@ fn covers_among<B: Bank>(
 }
 
 /// Whether a live entry subsumes the clause.
-fn is_covered<B: Bank>(walk: &Walk, bank: &B, clause: &Clause) -> Result<bool, AllocError>
+fn is_covered<B: Bank>(walk: &Walk, bank: &B, offer: &Offer<'_>) -> Result<bool, AllocError>
     requires entries { AreFit (B.trees bank.now) (clauses_of walk.now.items.items) }
     requires listed { AreListed (B.trees bank.now) walk.now.items.items walk.now.live }
-    requires clause { IsFit (B.trees bank.now) clause.now }
+    requires clause { IsFit (B.trees bank.now) offer.now.clause.now }
+    requires features { HasFeatures (B.trees bank.now) offer.now.clause.now offer.now.features }
     ensures { IfOk result (λ yes. MatchBool yes
         (SomeLiveCovers (B.trees bank.now) walk.now.items.items
-        (clause_at (B.trees bank.now) clause.now))
+        (clause_at (B.trees bank.now) offer.now.clause.now))
         (SomeLiveCovers (B.trees bank.now) walk.now.items.items
-        (clause_at (B.trees bank.now) clause.now) → ⊥)) }
+        (clause_at (B.trees bank.now) offer.now.clause.now) → ⊥)) }
 {
-    if covers_among(walk.alloc, bank, &walk.items, &walk.live.solved, clause)? {
+    if covers_among(walk, bank, &walk.live.solved, offer)? {
         return Ok(true);
     }
-    let found = covers_among(walk.alloc, bank, &walk.items, &walk.live.unsolved, clause)?;
+    let found = covers_among(walk, bank, &walk.live.unsolved, offer)?;
     Ok(found)
 }
 
@@ -119,61 +149,78 @@ fn beats<B: Bank>(
     }
 }
 
-/// Marks an entry, if it is live and the clause subsumes it, as subsumed by the entry of that number.
+/// Marks an entry with these features, if it is live and the clause subsumes it, as subsumed by the offer's entry. Whether it is marked.
 fn mark<B: Bank>(
     alloc: Global,
     bank: &B,
-    clause: &Clause,
-    number: usize,
+    offer: &Offer<'_>,
+    kept: Features,
     entry: &mut Entry,
-) -> Result<(), AllocError>
-    requires clause { IsFit (B.trees bank.now) clause.now }
+) -> Result<bool, AllocError>
+    requires clause { IsFit (B.trees bank.now) offer.now.clause.now }
+    requires features { HasFeatures (B.trees bank.now) offer.now.clause.now offer.now.features }
     requires entry { IsFit (B.trees bank.now) entry.old.clause }
-    ensures { OnOk result (IsMarked (B.trees bank.now) (clause_at (B.trees bank.now) clause.now)
-        number entry.old entry.new) }
+    requires kept { HasFeatures (B.trees bank.now) entry.old.clause kept }
+    ensures marked { OnOk result (IsMarked (B.trees bank.now)
+        (clause_at (B.trees bank.now) offer.now.clause.now) offer.now.number entry.old entry.new) }
+    ensures same { IfOk result (λ yes. yes ≡ false → entry.new ≡ entry.old) }
 {
-    if beats(alloc, bank, clause, entry)? {
-        entry.by = Some(number);
+    if !may_cover(offer.features, kept) {
+        return Ok(false);
     }
-    Ok(())
+    if beats(alloc, bank, offer.clause, entry)? {
+        entry.by = Some(offer.number);
+        return Ok(true);
+    }
+    Ok(false)
 }
 
-/// Marks each live entry that the clause subsumes as subsumed by the entry of that number.
+/// Marks each live entry that the clause subsumes as subsumed by the offer's entry. Whether some is.
 fn mark_all<B: Bank>(
     alloc: Global,
     bank: &B,
-    clause: &Clause,
-    number: usize,
+    offer: &Offer<'_>,
+    kept: &[Features],
     entries: &mut [Entry],
-) -> Result<(), AllocError>
-    requires clause { IsFit (B.trees bank.now) clause.now }
+) -> Result<bool, AllocError>
+    requires clause { IsFit (B.trees bank.now) offer.now.clause.now }
+    requires features { HasFeatures (B.trees bank.now) offer.now.clause.now offer.now.features }
     requires entries { AreFit (B.trees bank.now) (clauses_of entries.old) }
-    ensures { OnOk result (AreMarked (B.trees bank.now) (clause_at (B.trees bank.now) clause.now)
-        number entries.old entries.new) }
+    requires kept { kept_lanes kept.now ≡ lanes_of (B.trees bank.now) entries.old }
+    ensures marked { OnOk result (AreMarked (B.trees bank.now)
+        (clause_at (B.trees bank.now) offer.now.clause.now) offer.now.number entries.old
+        entries.new) }
+    ensures same { IfOk result (λ some. some ≡ false → entries.new ≡ entries.old) }
 {
+    let mut some = false;
     let mut i = 0;
     'each: while i < entries.len() {
-        mark(alloc, bank, clause, number, &mut entries[i])?;
+        let yes = mark(alloc, bank, offer, kept[i], &mut entries[i])?;
+        some = some | yes;
         i += 1;
     }
-    Ok(())
+    Ok(some)
 }
 
-/// Marks each live one of the entries that the clause subsumes as subsumed by the entry of that number.
+/// Marks each live one of the entries that the clause subsumes as subsumed by the offer's entry. Whether some is.
 fn mark_items<B: Bank>(
     alloc: Global,
     bank: &B,
-    clause: &Clause,
-    number: usize,
+    offer: &Offer<'_>,
+    kept: &[Features],
     items: &mut Vec<Entry>,
-) -> Result<(), AllocError>
-    requires clause { IsFit (B.trees bank.now) clause.now }
+) -> Result<bool, AllocError>
+    requires clause { IsFit (B.trees bank.now) offer.now.clause.now }
+    requires features { HasFeatures (B.trees bank.now) offer.now.clause.now offer.now.features }
     requires entries { AreFit (B.trees bank.now) (clauses_of items.old.items) }
-    ensures { OnOk result (AreMarked (B.trees bank.now) (clause_at (B.trees bank.now) clause.now)
-        number items.old.items items.new.items) }
+    requires kept { kept_lanes kept.now ≡ lanes_of (B.trees bank.now) items.old.items }
+    ensures marked { OnOk result (AreMarked (B.trees bank.now)
+        (clause_at (B.trees bank.now) offer.now.clause.now) offer.now.number items.old.items
+        items.new.items) }
+    ensures same { IfOk result (λ some. some ≡ false → items.new.items ≡ items.old.items) }
 {
-    mark_all(alloc, bank, clause, number, items)?;
-    Ok(())
+    let some = mark_all(alloc, bank, offer, kept, items)?;
+    Ok(some)
 }
 
 /// Whether there is an entry of that number, and it is live.
@@ -202,28 +249,53 @@ fn drop_all(entries: &[Entry], live: &mut Live)
         filter (is_live_at entries.now) live.old.solved.items }
     ensures unsolved { live.new.unsolved.items ≡
         filter (is_live_at entries.now) live.old.unsolved.items }
+    ensures features { live.new.features.items ≡ live.old.features.items }
 {
     drop_dead(entries, &mut live.solved);
     drop_dead(entries, &mut live.unsolved);
 }
 
-/// Puts the number of a new entry at the end of the list of its kind.
-fn list<B: Bank>(
-    live: &mut Live,
-    bank: &B,
-    clause: &Clause,
-    number: usize,
-) -> Result<(), AllocError>
-    requires { IsClauseIn (B.trees bank.now) clause.now }
-    ensures { OnOk result (IsNumberListed
-        (is_solved_list (clause_at (B.trees bank.now) clause.now).hypotheses) number
-        live.old live.new) }
+/// Puts the number of a new entry at the end of the list of its kind, and its features at the end of all.
+fn list<B: Bank>(live: &mut Live, bank: &B, offer: &Offer<'_>) -> Result<(), AllocError>
+    requires { IsClauseIn (B.trees bank.now) offer.now.clause.now }
+    ensures listed { OnOk result (IsNumberListed
+        (is_solved_list (clause_at (B.trees bank.now) offer.now.clause.now).hypotheses)
+        offer.now.number live.old live.new) }
+    ensures features { OnOk result
+        (live.new.features.items ≡ live.old.features.items ++ offer.now.features ∷ []) }
 {
-    if is_solved(bank, clause) {
-        live.solved.push(number)?;
+    live.features.push(offer.features)?;
+    if is_solved(bank, offer.clause) {
+        live.solved.push(offer.number)?;
         return Ok(());
     }
-    live.unsolved.push(number)?;
+    live.unsolved.push(offer.number)?;
+    Ok(())
+}
+
+/// Marks the live entries that the clause subsumes, and takes them off the lists.
+fn beat<B: Bank>(walk: &mut Walk, bank: &B, offer: &Offer<'_>) -> Result<(), AllocError>
+    requires entries { AreFit (B.trees bank.now) (clauses_of walk.old.items.items) }
+    requires listed { AreListed (B.trees bank.now) walk.old.items.items walk.old.live }
+    requires clause { IsFit (B.trees bank.now) offer.now.clause.now }
+    requires features { HasFeatures (B.trees bank.now) offer.now.clause.now offer.now.features }
+    ensures kept { walk.new.budget ≡ walk.old.budget }
+    ensures marked { OnOk result (AreMarked (B.trees bank.now)
+        (clause_at (B.trees bank.now) offer.now.clause.now) offer.now.number
+        walk.old.items.items walk.new.items.items) }
+    ensures listed { OnOk result (AreListed (B.trees bank.now) walk.new.items.items
+        walk.new.live) }
+{
+    if !mark_items(
+        walk.alloc,
+        bank,
+        offer,
+        &walk.live.features,
+        &mut walk.items,
+    )? {
+        return Ok(());
+    }
+    drop_all(&walk.items, &mut walk.live);
     Ok(())
 }
 
@@ -231,23 +303,23 @@ fn list<B: Bank>(
 fn add<B: Bank>(
     walk: &mut Walk,
     bank: &B,
-    clause: &Clause,
+    offer: &Offer<'_>,
     origin: Origin,
 ) -> Result<(), AllocError>
     requires entries { AreFit (B.trees bank.now) (clauses_of walk.old.items.items) }
     requires listed { AreListed (B.trees bank.now) walk.old.items.items walk.old.live }
-    requires clause { IsFit (B.trees bank.now) clause.now }
+    requires clause { IsFit (B.trees bank.now) offer.now.clause.now }
+    requires features { HasFeatures (B.trees bank.now) offer.now.clause.now offer.now.features }
+    requires number { offer.now.number ≡ length walk.old.items.items + 1 }
     ensures kept { walk.new.budget ≡ walk.old.budget }
     ensures pushed { OnOk result (IsPushed (B.trees bank.now) walk.old.items.items record
-        { clause = clause.now; origin = origin; by = None } walk.new.items.items) }
+        { clause = offer.now.clause.now; origin = origin; by = None } walk.new.items.items) }
     ensures listed { OnOk result (AreListed (B.trees bank.now) walk.new.items.items
         walk.new.live) }
 {
-    let number = walk.items.len() + 1;
-    mark_items(walk.alloc, bank, clause, number, &mut walk.items)?;
-    drop_all(&walk.items, &mut walk.live);
-    list(&mut walk.live, bank, clause, number)?;
-    let clause = clause.copy(walk.alloc)?;
+    beat(walk, bank, offer)?;
+    list(&mut walk.live, bank, offer)?;
+    let clause = offer.clause.copy(walk.alloc)?;
     walk.items.push(Entry {
         clause,
         origin,
@@ -277,7 +349,12 @@ pub(crate) fn offer<B: Bank>(
     ensures listed { OnOk result (AreListed (B.trees bank.now) walk.new.items.items
         walk.new.live) }
 {
-    if is_covered(walk, bank, clause)? {
+    let offer = Offer {
+        clause,
+        features: features(bank, clause),
+        number: walk.items.len() + 1,
+    };
+    if is_covered(walk, bank, &offer)? {
         return Ok(None);
     }
     if walk.items.len() as u64 == walk.budget {
@@ -288,6 +365,6 @@ pub(crate) fn offer<B: Bank>(
             by: None,
         }));
     }
-    add(walk, bank, clause, origin)?;
+    add(walk, bank, &offer, origin)?;
     Ok(None)
 }

@@ -3,13 +3,25 @@
 ghost use Rattle.std.specs.Prelude.{◌≡◌, [], IfOk};
 
 use crate::log::Entry;
+use clause_form::Clause;
+use feature_index::Features;
 use std::alloc::{AllocError, Global};
 
-/// The numbers of the live entries, ascending: of those that are solved, and of the others.
+/// What is kept beside the entries of a log: the numbers of the live ones, ascending, of those that are solved and of the
+/// others; and the features of each entry's clause, in order.
 #[derive(Drop)]
 pub(crate) struct Live {
     pub solved: Vec<usize>,
     pub unsolved: Vec<usize>,
+    pub features: Vec<Features>,
+}
+
+/// A clause that is offered, its features, and the number that its entry is to have.
+#[derive(Drop)]
+pub(crate) struct Offer<'a> {
+    pub clause: &'a Clause,
+    pub features: Features,
+    pub number: usize,
 }
 
 /// The log so far, its live entries, and how many entries it may have.
@@ -26,10 +38,12 @@ impl Live {
     pub fn none(alloc: Global) -> Self
         ensures solved { result.solved.items ≡ [] }
         ensures unsolved { result.unsolved.items ≡ [] }
+        ensures features { result.features.items ≡ [] }
     {
         Live {
             solved: Vec::new(alloc),
             unsolved: Vec::new(alloc),
+            features: Vec::new(alloc),
         }
     }
 
@@ -37,10 +51,16 @@ impl Live {
     pub fn copy(&self, alloc: Global) -> Result<Self, AllocError>
         ensures solved { IfOk result (λ copied. copied.solved.items ≡ self.now.solved.items) }
         ensures unsolved { IfOk result (λ copied. copied.unsolved.items ≡ self.now.unsolved.items) }
+        ensures features { IfOk result (λ copied. copied.features.items ≡ self.now.features.items) }
     {
         let solved = self.solved.to_vec(alloc)?;
         let unsolved = self.unsolved.to_vec(alloc)?;
-        Ok(Live { solved, unsolved })
+        let features = self.features.to_vec(alloc)?;
+        Ok(Live {
+            solved,
+            unsolved,
+            features,
+        })
     }
 }
 

@@ -5,4 +5,6 @@ use Rattle.clause_saturate.proofs.offering.covers_among.Given as goal
 
 abbrev pub invariant-each : goal.invariant-each
 invariant-each g l =
-    CoversAmong (g.B.Bank.trees l.bank) l.entries l.numbers (clause_at (g.B.Bank.trees l.bank) l.clause) → CoversAmong (g.B.Bank.trees l.bank) l.entries (drop l.number-index l.numbers) (clause_at (g.B.Bank.trees l.bank) l.clause)
+    let all = g.B.Bank.trees l.bank in
+    let clause = clause_at all l.offer.clause.now in
+    CoversAmong all l.walk.items.items l.numbers clause → CoversAmong all l.walk.items.items (drop l.number-index l.numbers) clause

@@ -1,0 +1,103 @@
+-- The features that are kept beside entries: as the bank grows, as entries are marked, with an entry more; what they tell.
+use Rattle.std.proofs.Common.{◌≡◌, ◌∙◌, ℕ, zero, suc, ◌-◌, ◌<◌, Bool, true, false, Some, List, [], ◌∷◌, ◌++◌, length, get_or, true≢false, refl, ap, sym, subst, arith}
+use Rattle.std.specs.Prelude.{slice_get}
+use Rattle.std.specs.List.{list_all}
+use Rattle.std.proofs.lemmas.List.{length-map}
+use Rattle.spec_terms.specs.Term.{Term}
+use Rattle.spec_calculus.specs.Points.{numbered}
+use Rattle.spec_trees.proofs.Equality.{and_true}
+use Rattle.spec_clauses.specs.Fact.{Clause}
+use Rattle.spec_clauses.specs.Flat.{is_flat}
+use Rattle.spec_clauses.specs.Subsumption.{Subsumes}
+use Rattle.spec_features.specs.Features.{features_of}
+use Rattle.term_tree.specs.Bank.{Grows}
+use Rattle.term_tree.specs.declared.bank.Id.{Id}
+use Rattle.clause_form.specs.Seen.{clause_at}
+use Rattle.clause_form.proofs.Copying.{NamesClause-grows}
+use Rattle.clause_form.specs.Fit.{IsFit, AreFit}
+use Rattle.feature_index.specs.declared.lanes.Features.{Features}
+use Rattle.clause_saturate.specs.declared.log.Entry.{Entry}
+use Rattle.clause_saturate.specs.Beating.{clauses_of, AreMarked}
+use Rattle.clause_saturate.proofs.Marking.{MarkedTo}
+use Rattle.clause_saturate.specs.Live.{lanes_of, kept_lanes, HasFeatures, NumberCovers}
+
+pub lanes_grow : (a b : List Term) (es : List Entry) → Grows a b → AreFit a (clauses_of es) → lanes_of b es ≡ lanes_of a es
+lanes_grow a b [] grows fit = refl
+lanes_grow a b (e ∷ es) grows fit =
+    let first : features_of (clause_at b e.clause) ≡ features_of (clause_at a e.clause) = ap features_of (NamesClause-grows a b e.clause (clause_at a e.clause) grows (record { known = fit.0.known; is = refl })).is in
+    ap (λ ls. ls ∷ lanes_of b es) first ∙ ap (λ rest. features_of (clause_at a e.clause) ∷ rest) (lanes_grow a b es grows fit.1)
+
+pub lanes_marked : (all : List Term) (c : Clause Term) (number : ℕ) (olds news : List Entry) → AreMarked all c number olds news → lanes_of all news ≡ lanes_of all olds
+lanes_marked all c number [] [] m = refl
+lanes_marked all c number [] (e ∷ es) m = absurd m
+lanes_marked all c number (d ∷ ds) [] m = absurd m
+lanes_marked all c number (d ∷ ds) (e ∷ es) m =
+    let first : features_of (clause_at all e.clause) ≡ features_of (clause_at all d.clause) = ap (λ (x : Clause Id). features_of (clause_at all x)) m.0.clause in
+    ap (λ ls. ls ∷ lanes_of all es) first ∙ ap (λ rest. features_of (clause_at all d.clause) ∷ rest) (lanes_marked all c number ds es m.1)
+
+pub lanes_pushed : (all : List Term) (es : List Entry) (fs : List Features) (e : Entry) (f : Features) → kept_lanes fs ≡ lanes_of all es → HasFeatures all e.clause f → kept_lanes (fs ++ f ∷ []) ≡ lanes_of all (es ++ e ∷ [])
+lanes_pushed all [] [] e f same has = ap (λ ls. ls ∷ []) has
+lanes_pushed all [] (g ∷ fs) e f same has = cc
+lanes_pushed all (d ∷ es) [] e f same has = cc
+lanes_pushed all (d ∷ es) (g ∷ fs) e f same has =
+    let first : g.lanes ≡ features_of (clause_at all d.clause) = cc in
+    let rest : kept_lanes fs ≡ lanes_of all es = cc in
+    ap (λ ls. ls ∷ kept_lanes (fs ++ f ∷ [])) first ∙ ap (λ ls. features_of (clause_at all d.clause) ∷ ls) (lanes_pushed all es fs e f rest has)
+
+-- the first i of them with their marks
+pub lanes_marked_to : (all : List Term) (c : Clause Term) (number i : ℕ) (olds news : List Entry) → MarkedTo all c number i olds news → lanes_of all news ≡ lanes_of all olds
+lanes_marked_to all c number zero olds news m = ap (lanes_of all) m
+lanes_marked_to all c number (suc i) [] [] m = refl
+lanes_marked_to all c number (suc i) [] (e ∷ es) m = absurd m
+lanes_marked_to all c number (suc i) (d ∷ ds) [] m = absurd m
+lanes_marked_to all c number (suc i) (d ∷ ds) (e ∷ es) m =
+    let first : features_of (clause_at all e.clause) ≡ features_of (clause_at all d.clause) = ap (λ (x : Clause Id). features_of (clause_at all x)) m.0.clause in
+    ap (λ ls. ls ∷ lanes_of all es) first ∙ ap (λ rest. features_of (clause_at all d.clause) ∷ rest) (lanes_marked_to all c number i ds es m.1)
+
+-- there are as many as entries
+pub lanes_length : (all : List Term) (es : List Entry) (fs : List Features) → kept_lanes fs ≡ lanes_of all es → length fs ≡ length es
+lanes_length all es fs same = sym (length-map fs (λ f. f.lanes)) ∙ (ap length same ∙ length-map es (λ e. features_of (clause_at all e.clause)))
+
+-- what stands beside an entry are its clause's
+pub kept_there : (all : List Term) (es : List Entry) (fs : List Features) (k : ℕ) (x : Entry) (f : Features) → kept_lanes fs ≡ lanes_of all es → slice_get es k ≡ Some x → f ≡ get_or fs k f → HasFeatures all x.clause f
+kept_there all [] fs k x f same at is = cc
+kept_there all (e ∷ es) [] k x f same at is = cc
+kept_there all (e ∷ es) (g ∷ fs) zero x f same at is =
+    let here : g.lanes ≡ features_of (clause_at all e.clause) = cc in
+    let first : e ≡ x = cc in
+    ap (λ (h : Features). h.lanes) is ∙ (here ∙ ap (λ (y : Entry). features_of (clause_at all y.clause)) first)
+kept_there all (e ∷ es) (g ∷ fs) (suc k) x f same at is = let rest : kept_lanes fs ≡ lanes_of all es = cc in kept_there all es fs k x f rest at is
+
+pub kept_got : (all : List Term) (es : List Entry) (fs : List Features) (i : ℕ) (x : Entry) (f : Features) → kept_lanes fs ≡ lanes_of all es → i < length es → HasFeatures all (get_or es i x).clause (get_or fs i f)
+kept_got all [] fs i x f same within = absurd (omega arith)
+kept_got all (e ∷ es) [] i x f same within = cc
+kept_got all (e ∷ es) (g ∷ fs) zero x f same within = cc
+kept_got all (e ∷ es) (g ∷ fs) (suc i) x f same within = let rest : kept_lanes fs ≡ lanes_of all es = cc in kept_got all es fs i x f rest (omega arith)
+
+-- an entry among fit ones is fit
+pub fit_there : (all : List Term) (es : List Entry) (k : ℕ) (x : Entry) → AreFit all (clauses_of es) → slice_get es k ≡ Some x → IsFit all x.clause
+fit_there all [] k x fit at = cc
+fit_there all (e ∷ es) zero x fit at = let first : e ≡ x = cc in subst (λ (y : Entry). IsFit all y.clause) first fit.0
+fit_there all (e ∷ es) (suc k) x fit at = fit_there all es k x fit.1 at
+
+-- what is told of features: wherever the general clause subsumes the special one
+abbrev pub IsTold : Features → Features → Bool → Type 0
+IsTold f g found = (c d : Clause Term) → f.lanes ≡ features_of c → g.lanes ≡ features_of d → list_all is_flat c.hypotheses ≡ true → Subsumes c d → found ≡ true
+
+-- where features tell that a clause doesn't subsume another, it doesn't
+pub told_apart : (all : List Term) (general special : Clause Id) (f g : Features) (found : Bool) → IsFit all general → HasFeatures all general f → HasFeatures all special g → IsTold f g found → found ≡ false → Subsumes (clause_at all general) (clause_at all special) → ⊥
+told_apart all general special f g found fit first second told none h =
+    let c = clause_at all general in
+    let flats = (and_true (is_flat c.conclusion) (list_all is_flat c.hypotheses) fit.normal.flat).1 in
+    true≢false (sym (told c (clause_at all special) first second flats h) ∙ none)
+
+-- nor does the entry of a number, where they are those that stand beside it
+pub number_apart : (all : List Term) (es : List Entry) (fs : List Features) (number : ℕ) (clause : Clause Id) (f g : Features) (found : Bool) → AreFit all (clauses_of es) → kept_lanes fs ≡ lanes_of all es → f ≡ get_or fs (number - 1) f → HasFeatures all clause g → IsTold f g found → found ≡ false → NumberCovers all es (clause_at all clause) number → ⊥
+number_apart all es fs number clause f g found fit same is has told none h = go number is h.at
+  where
+    go : (n : ℕ) → f ≡ get_or fs (n - 1) f → numbered es n ≡ Some h.entry → ⊥
+    go zero is at = cc
+    go (suc k) is at =
+        let place : suc k - 1 ≡ k = omega arith in
+        let stands = kept_there all es fs k h.entry f same at (subst (λ j. f ≡ get_or fs j f) place is) in
+        told_apart all h.entry.clause clause f g found (fit_there all es k h.entry fit at) stands has told none h.covers.1
