@@ -1,20 +1,12 @@
 -- What a pair's answer is to the stage of the pairs.
-use Rattle.std.proofs.Common.{ℕ, ◌<◌, List, refl, inl, arith}
+use Rattle.std.proofs.Common.{ℕ, List, refl, inl}
 use Rattle.spec_terms.specs.Term.{Term}
-use Rattle.spec_calculus.specs.Bounds.{most_symbols}
-use Rattle.spec_clauses.specs.Fact.{Clause, clause_terms, clause_size}
-use Rattle.spec_clauses.specs.Variables.{leaves, IsBelow}
-use Rattle.spec_clauses.proofs.Lists.{all_weaker}
-use Rattle.spec_clauses.proofs.NormNumbers.{norm-below}
+use Rattle.spec_clauses.specs.Fact.{Clause}
 use Rattle.spec_clauses.specs.Selection.{select}
 use Rattle.spec_clauses.specs.Resolvents.{NoUnifier, Large, Resolvents}
 use Rattle.spec_certificates.specs.Certificate.{CoverRowHolds, Numbered, numbered_from, Pair, pairs_with}
 use Rattle.spec_certificates.specs.Ruling.{Closure}
-use Rattle.term_tree.specs.declared.bank.Id.{Id}
-use Rattle.clause_form.specs.Seen.{clause_at}
-use Rattle.clause_resolve.specs.Low.{HasLowVariables}
 use Rattle.clause_resolve.specs.Answers.{Gives}
-use Rattle.clause_form.specs.Fit.{IsFit}
 use Rattle.cert_checker.specs.Stages.{AreShown, FirstUnshown, AreClosed, FirstOpen}
 
 module _ (clauses : List (Clause Term)) (i j : Numbered) where
@@ -33,11 +25,3 @@ module _ (clauses : List (Clause Term)) (i j : Numbered) where
 
   pub one_uncovered : (rows : List (List ℕ)) (cs : List (Clause Term)) (number : ℕ) → Gives i.clause j.clause (Resolvents cs) → FirstUnshown (CoverRowHolds clauses) (numbered_from 1 cs) rows number → FirstOpen clauses Two rows (Closure i.number j.number number)
   one_uncovered rows cs number g fails = rw g.is_selected (inl (number, record { answer = Resolvents cs; gives = g.gives; uncovered = fails }, refl))
-
--- fit clauses have low variables
-pub fit_low : (all : List Term) (c : Clause Id) → IsFit all c → HasLowVariables (clause_at all c)
-fit_low all c fit =
-    let small = fit.small in
-    all_weaker (IsBelow (clause_size (clause_at all c))) (IsBelow most_symbols)
-    (λ t b. all_weaker (λ x. x < clause_size (clause_at all c)) (λ x. x < most_symbols) (λ x h. omega (arith, h, small)) (leaves t) b)
-    (clause_terms (clause_at all c)) (norm-below (clause_at all c) (clause_at all c) fit.normal.own)

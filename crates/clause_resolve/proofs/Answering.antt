@@ -25,6 +25,7 @@ use Rattle.clause_form.specs.declared.normal.Normal.TheVariants as normal
 use Rattle.clause_form.specs.Facts.{fact_of}
 use Rattle.clause_form.specs.Normals.{NamesNorm}
 use Rattle.clause_form.specs.Seen.{fact_at, clause_at, IsClauseIn, AreClausesIn, NamesClause, NameClauses}
+use Rattle.clause_form.specs.Fit.{IsFit}
 use Rattle.clause_form.proofs.Flattening.{AreFactsIn-append}
 use Rattle.clause_form.proofs.Copying.{NameClauses-grow, NamesClause-grows}
 use Rattle.clause_resolve.specs.declared.apart.Apart.{Apart}
@@ -84,6 +85,10 @@ norms_all old now parts i made was past = subst (λ (l : List (Clause Id)). Name
 -- a clause that is its own norm within the limit
 pub normal_low : (c : Clause Term) → IsNormal c → IsWithinLimit c → HasLowVariables c
 normal_low c own small = all_weaker (IsBelow (clause_size c)) (IsBelow most_symbols) (λ t below. all_weaker (λ x. x < clause_size c) (λ x. x < most_symbols) (λ x h. omega arith) _ below) (clause_terms c) (norm-below c c own.own)
+
+-- and so one that is fit
+pub fit_low : (all : List Term) (c : Clause Id) → IsFit all c → HasLowVariables (clause_at all c)
+fit_low all c fit = normal_low (clause_at all c) fit.normal fit.small
 
 -- the ids of both clauses together
 pub together_known : (all : List Term) (solved rest : Clause Id) → IsClauseIn all solved → IsClauseIn all rest → IsClauseIn all (together solved rest)

@@ -2,16 +2,12 @@
 use Rattle.std.proofs.Common.{◌≡◌, ℕ, zero, suc, ◌<◌, ◌≤◌, ◌^◌, Bool, true, false, cond, Some, List, [], ◌∷◌, length, map, get_or, ap, sym, subst, inl, inr, arith}
 use Rattle.std.proofs.lemmas.List.{length-map}
 use Rattle.spec_terms.specs.Term.{Term}
-use Rattle.spec_calculus.specs.Bounds.{most_symbols}
 use Rattle.spec_calculus.specs.Points.{numbered}
-use Rattle.spec_clauses.specs.Fact.{Clause, clause_terms, clause_size}
-use Rattle.spec_clauses.specs.Variables.{leaves, IsBelow}
+use Rattle.spec_clauses.specs.Fact.{Clause, clause_size}
 use Rattle.spec_clauses.specs.Norm.{IsNormal}
 use Rattle.spec_clauses.specs.Limits.{IsWithinLimit}
 use Rattle.spec_clauses.specs.Inclusion.{here, there, Has}
 use Rattle.spec_clauses.proofs.Made.{made_small}
-use Rattle.spec_clauses.proofs.Lists.{all_weaker}
-use Rattle.spec_clauses.proofs.NormNumbers.{norm-below}
 use Rattle.spec_saturation.specs.Key.{Key, below}
 use Rattle.spec_saturation.specs.Key as offered
 use Rattle.spec_saturation.specs.Log.{IsOffered, goal_key}
@@ -19,7 +15,6 @@ use Rattle.spec_saturation.proofs.Pairs.{has_numbered, offers_normal}
 use Rattle.term_tree.specs.Bank.{Grows}
 use Rattle.term_tree.specs.declared.bank.Id.{Id}
 use Rattle.clause_form.specs.Seen.{clause_at}
-use Rattle.clause_resolve.specs.Low.{HasLowVariables}
 use Rattle.clause_saturate.specs.declared.log.Entry.{Entry}
 use Rattle.clause_saturate.specs.declared.walk.Walk.{Walk}
 use Rattle.clause_form.specs.Fit.{IsFit, AreFit}
@@ -119,14 +114,6 @@ fit_small all (d ∷ cs) fit c (rest, there p) = fit_small all cs fit.1 c (_, p)
 -- given clauses that are fit make a task
 pub fit_task : (all : List Term) (cs : List (Clause Id)) (budget : ℕ) → 0 < length cs → AreFit all cs → IsTask (record { given = map (clause_at all) cs; budget = budget; asked = false })
 fit_task all cs budget some fit = record { some = omega (arith, some, length-map cs (clause_at all)); normal = fit_normal all cs fit; small = fit_small all cs fit }
-
--- fit clauses have low variables
-pub fit_low : (all : List Term) (c : Clause Id) → IsFit all c → HasLowVariables (clause_at all c)
-fit_low all c fit =
-    let small = fit.small in
-    all_weaker (IsBelow (clause_size (clause_at all c))) (IsBelow most_symbols)
-    (λ t b. all_weaker (λ x. x < clause_size (clause_at all c)) (λ x. x < most_symbols) (λ x h. omega (arith, h, small)) (leaves t) b)
-    (clause_terms (clause_at all c)) (norm-below (clause_at all c) (clause_at all c) fit.normal.own)
 
 pub fit_size : (all : List Term) (c : Clause Id) → IsFit all c → clause_size (clause_at all c) < 2 ^ 63
 fit_size all c fit = let small = fit.small in omega (arith, small)

@@ -8,7 +8,7 @@ use Rattle.spec_certificate_text.specs.Loose.{Head, Applied, Tupled, Made, Attac
 use Rattle.spec_certificate_reading.proofs.Long.{behind_long}
 use Rattle.spec_certificate_faults.specs.Grammar.{IsWritten, MayHave, IsInGrammar, AreInGrammar, EndsBefore, with_commas, MayGoOn, IsOpen, MayBegin, whole, within}
 use Rattle.spec_certificate_faults.specs.First.{IsTermText}
-use Rattle.spec_certificate_faults.proofs.Followed.{opening_followed, onto_followed}
+use Rattle.spec_certificate_text.proofs.Followed.{opening_followed, onto_followed}
 use Rattle.spec_certificate_faults.proofs.Trees.{ends_behind}
 
 -- a word of one letter

@@ -21,7 +21,7 @@ use Rattle.spec_certificate_faults.specs.Grammar.{IsInGrammar, MayBegin}
 use Rattle.spec_certificate_faults.specs.First.{IsTermText}
 use Rattle.spec_certificate_faults.proofs.Standing.{ArePlaced, begins_there, written_in}
 use Rattle.spec_certificate_faults.proofs.Explained.{ModePlaced, IsPlaced, IsExplained, step-explained, start_placed, start_kept}
-use Rattle.spec_certificate_faults.proofs.Followed.{onto_followed}
+use Rattle.spec_certificate_text.proofs.Followed.{onto_followed}
 use Rattle.spec_certificate_faults.proofs.Completes.{simple, simple_in, completes}
 
 -- some text begins with these bytes up to the rest

@@ -27,7 +27,7 @@ use Rattle.spec_certificate_faults.proofs.Comes.{either, Stopped, EndedAt, none_
 use Rattle.spec_certificate_faults.proofs.Trees.{tree_read}
 use Rattle.spec_certificate_faults.proofs.AnyFault.{term_fault_told}
 use Rattle.spec_certificate_faults.proofs.Explained.{term_told_stands}
-use Rattle.spec_certificate_faults.proofs.Followed.{onto_followed}
+use Rattle.spec_certificate_text.proofs.Followed.{onto_followed}
 use Rattle.spec_certificate_faults.proofs.Completes.{one_letter}
 use Rattle.spec_certificate_faults.proofs.Shown.{fault_shown}
 use Rattle.spec_certificate_faults.proofs.GoesOn.{term_goes_on}

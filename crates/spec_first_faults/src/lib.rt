@@ -89,7 +89,8 @@ pub fn the_first_fault_of_a_report_is_told()
     ensures told { (P : Protocol) (bytes : List ℕ) (place : ℕ) (code : Code) → HasNames P →
         (read_report P bytes ≡ Faulty place code) ↔ IsFirstFault (reports P) bytes 0 place code }
     ensures spelled { (P : Protocol) (bytes : List ℕ) (claims : List Claim) → HasNames P →
-        IsShort (length P.queries) → SpellsReport P bytes claims → IsFaultless (reports P) bytes [] }
+        IsShort (length P.queries) →
+        SpellsReport P bytes claims → IsFaultless (reports P) bytes [] }
     ensures faultless { (P : Protocol) (bytes : List ℕ) → HasNames P →
         IsFaultless (reports P) bytes [] → (claims : List Claim) × SpellsReport P bytes claims }
     ensures one { (P : Protocol) (bytes : List ℕ) (place other : ℕ) (code another : Code) →

@@ -36,7 +36,7 @@ use Rattle.verifier_cli.specs.Command.{Becomes, Verifies}
 use Rattle.verifier_cli.specs.Checking.{IsFindingOf, AreFindingsOf, IsCheckOf}
 use Rattle.verifier_cli.specs.Text.{line, entry_text, verdict_text, verdict_lines, outcome_bytes}
 use Rattle.verifier_cli.specs.ReadBack.{finding_of, IsReadBack}
-use Rattle.verifier_cli.proofs.Followed.{certificate_followed}
+use Rattle.spec_certificate_text.proofs.Followed.{certificate_followed}
 use Rattle.verifier_cli.proofs.OneLine.{IsOneLine, joined, decimal_in_line, clause_in_line}
 use Rattle.verifier_cli.proofs.Verifying.{verdict_where_proved}
 

@@ -9,7 +9,7 @@ use Rattle.clause_form.specs.Fit.{AreFit, clauses_at}
 use Rattle.cert_checker.specs.Answers.{numbered_at, pair_at, IsShownSo, IsClosedSo}
 use Rattle.cert_checker.specs.declared.ruling.Closed as closed
 use Rattle.clause_form.proofs.Fit.{AreFit-grow, clauses_grow, fit_in}
-use Rattle.cert_checker.proofs.Pairing.{fit_low}
+use Rattle.clause_resolve.proofs.Answering.{fit_low}
 use Rattle.cert_checker.proofs.Passing.{selected_at, made_fit, pair_apart, pair_large, pair_shown}
 use Rattle.term_tree.proofs.BankLaws.{Grows-length}
 use Rattle.clause_resolve.proofs.Answering.{as_before}

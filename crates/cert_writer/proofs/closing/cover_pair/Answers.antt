@@ -8,7 +8,7 @@ use Rattle.term_tree.specs.declared.bank.Id.{Id}
 use Rattle.term_tree.proofs.BankLaws.{take-grows, Grows-length}
 use Rattle.clause_form.specs.Seen.{clause_at}
 use Rattle.clause_form.specs.Fit.{AreFit, clauses_at}
-use Rattle.clause_saturate.proofs.Fitting.{fit_low}
+use Rattle.clause_resolve.proofs.Answering.{fit_low}
 use Rattle.cert_writer.specs.Adding.{AddsRows, AddsPairs, pairs_of_two}
 use Rattle.cert_writer.proofs.Pairing.{found_apart, found_large, made_fit, made_covered, made_added}
 use Rattle.clause_resolve.specs.Answers.{LeavesBank}

@@ -1,6 +1,7 @@
 use Rattle.clause_saturate.specs.Pairs.{major, minor}
 use Rattle.clause_saturate.proofs.Found.{solved_fit, unsolved_fit, answer_found, never_none}
-use Rattle.clause_saturate.proofs.Fitting.{fit_low, fit_size}
+use Rattle.clause_resolve.proofs.Answering.{fit_low}
+use Rattle.clause_saturate.proofs.Fitting.{fit_size}
 use Rattle.std.proofs.Common.{arith}
 use Rattle.spec_saturation.proofs.Places.{numbered_within}
 use Rattle.term_tree.proofs.BankLaws.{Grows_refl}

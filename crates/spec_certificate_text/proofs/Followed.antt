@@ -1,4 +1,4 @@
--- What stands behind the text of a certificate may be written behind it afterwards.
+-- Texts with what follows them: the rest may stand behind.
 use Rattle.std.proofs.Common.{◌≡◌, ℕ, List, [], ◌∷◌, ◌++◌, ap, ◌∙◌, refl, append_assoc, codes}
 use Rattle.std.specs.Fmt.{decimal}
 use Rattle.spec_trees.specs.Tree.{Leaf, Node, none, more}
@@ -10,14 +10,14 @@ use Rattle.spec_certificate_text.specs.Loose.{Head, Applied, Tupled, Made, Attac
 use Rattle.spec_certificate_text.specs.Written.{written_fact}
 use Rattle.spec_certificate_text.specs.Text.{fact_text, later_hypotheses, hypotheses_text, clause_text, clause_lines, numbers_text, row_lines, certificate_text}
 
-opening_followed : (head : Head) (k rest : List ℕ) → opening head k ++ rest ≡ opening head (k ++ rest)
+pub opening_followed : (head : Head) (k rest : List ℕ) → opening head k ++ rest ≡ opening head (k ++ rest)
 opening_followed (Applied word) k rest = append_assoc word (40 ∷ k) rest
 opening_followed Tupled k rest = refl
 opening_followed (Made word digits) k rest = append_assoc word (64 ∷ (digits ++ (91 ∷ k))) rest ∙ ap (λ l. word ++ (64 ∷ l)) (append_assoc digits (91 ∷ k) rest)
 opening_followed Attackers k rest = refl
 
 mutual
-  onto_followed : (t : Loose) (k rest : List ℕ) → onto t k ++ rest ≡ onto t (k ++ rest)
+  pub onto_followed : (t : Loose) (k rest : List ℕ) → onto t k ++ rest ≡ onto t (k ++ rest)
   onto_followed (Leaf word) k rest = append_assoc word k rest
   onto_followed (Node head ts) k rest = opening_followed head (row ts (closing head ∷ k)) rest ∙ ap (opening head) (row_followed ts (closing head ∷ k) rest)
 
