@@ -51,10 +51,10 @@ pub const MOST_POINTS: usize = 4096;
 pub const MOST_POINTS_ABOVE: usize = 511;
 
 /// The most symbols of a clause or a bound term, and of a value in a replay.
-pub const MOST_SYMBOLS: u64 = 4096;
+pub const MOST_SYMBOLS: u64 = 16_384;
 
 /// The most levels of a term in the text of a certificate.
-pub const MOST_TERM_LEVELS: usize = 4096;
+pub const MOST_TERM_LEVELS: usize = 16_384;
 
 /// The most visits of one translation.
 pub const MOST_VISITS: u32 = 65_536;

@@ -63,11 +63,11 @@ most_points_above = 511
 
 -- symbols of a clause or of a bound term, and of a value in a replay
 abbrev pub most_symbols : ℕ
-most_symbols = 4096
+most_symbols = 16384
 
 -- levels of a term in the text of a certificate
 abbrev pub most_term_levels : ℕ
-most_term_levels = 4096
+most_term_levels = 16384
 
 -- visits of one translation
 abbrev pub most_visits : ℕ

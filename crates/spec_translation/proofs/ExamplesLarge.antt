@@ -95,13 +95,13 @@ module _ (P : Protocol) where
   last_term zero = refl
   last_term (suc i) = ap (λ o. unwrap_or o (free_term 0)) (found_bound i)
 
-term_small : (i : ℕ) → weight i ≤ 4096 → is_large_term (doubled i) ≡ false
-term_small i fits = let e = doubled-size i in let test : nat_le (size (doubled i)) 4096 ≡ true = grind (arith, nat_tests) in ap not test
+term_small : (i : ℕ) → weight i ≤ 16384 → is_large_term (doubled i) ≡ false
+term_small i fits = let e = doubled-size i in let test : nat_le (size (doubled i)) 16384 ≡ true = grind (arith, nat_tests) in ap not test
 
-term_large : (i : ℕ) → 4096 < weight i → is_large_term (doubled i) ≡ true
-term_large i over = let e = doubled-size i in let test : nat_le (size (doubled i)) 4096 ≡ false = grind (arith, nat_tests) in ap not test
+term_large : (i : ℕ) → 16384 < weight i → is_large_term (doubled i) ≡ true
+term_large i over = let e = doubled-size i in let test : nat_le (size (doubled i)) 16384 ≡ false = grind (arith, nat_tests) in ap not test
 
-scope_small : (i : ℕ) → weight i ≤ 4096 → list_any (λ (b : StandsFor). is_large_term b.term) (scope_behind i) ≡ false
+scope_small : (i : ℕ) → weight i ≤ 16384 → list_any (λ (b : StandsFor). is_large_term b.term) (scope_behind i) ≡ false
 scope_small zero fits = refl
 scope_small (suc i) fits =
     let others = scope_small i (omega arith) in
@@ -109,7 +109,7 @@ scope_small (suc i) fits =
     list_any-append (λ (b : StandsFor). is_large_term b.term) (scope_behind i) (record { name = Variable (suc i); term = doubled (suc i) } ∷ [])
     ∙ (λ k. others k || (first k || false))
 
-visit_small : (i : ℕ) → weight i ≤ 4096 → is_large_visit (behind i) ≡ false
+visit_small : (i : ℕ) → weight i ≤ 16384 → is_large_visit (behind i) ≡ false
 visit_small i fits = ap (λ b. b || false) (scope_small i fits)
 
 weight_grows : (count i : ℕ) → weight i ≤ weight (count + i)
@@ -126,7 +126,7 @@ own_norms (suc i) =
     let closed = doubled-closed (numbering (clause_variables (clause [] (Att (doubled (suc i)))))) (suc i) in
     λ k. clause [] (Att (closed k)) ∷ []
 
-raw_small : (i : ℕ) → weight i ≤ 4095 → is_large_raw (clause [] (Att (doubled i))) ≡ false
+raw_small : (i : ℕ) → weight i ≤ 16383 → is_large_raw (clause [] (Att (doubled i))) ≡ false
 raw_small zero fits = refl
 raw_small (suc i) fits =
     let c = clause [] (Att (doubled (suc i))) in
@@ -146,7 +146,7 @@ module _ (total : ℕ) where
   let_evaluates i next = ap (λ t. is_large_term t || false) (let_term i)
 
   -- one let that is within the limit
-  one_let : (i : ℕ) (next : Process) (point left : ℕ) (out : Outcome) → weight (suc i) ≤ 4096
+  one_let : (i : ℕ) (next : Process) (point left : ℕ) (out : Outcome) → weight (suc i) ≤ 16384
       → Then (Visited P next (point + 1) (behind (suc i))) (Visited P Nil (point_after (point + 1) next) (behind i)) left out
       → Visited P (Let (Leaf (Bind (suc i))) (Plain (apply 1 (last i ∷ last i ∷ []))) next Nil) point (behind i) (suc left) out
   one_let i next point left out fits below =
@@ -158,7 +158,7 @@ module _ (total : ℕ) where
       (subst (λ w. Then (Visited P next (point + 1) w) (Visited P Nil (point_after (point + 1) next) (behind i)) left out) (sym same) below)
 
   -- the output behind them
-  output_visited : (i point rest : ℕ) → weight i ≤ 4095 → Visited P (lets 0 i) point (behind i) (suc (suc rest)) (Done (clause [] (Att (doubled i)) ∷ []) rest)
+  output_visited : (i point rest : ℕ) → weight i ≤ 16383 → Visited P (lets 0 i) point (behind i) (suc (suc rest)) (Done (clause [] (Att (doubled i)) ∷ []) rest)
   output_visited i point rest fits =
       let e = last_term P i in
       let evaluated : evaluates_large P (behind i) (Output (name 1) (last i) Nil) ≡ false = ap (λ t. is_large_term t || false) e ∙ ap (λ b. b || false) (term_small i (omega arith)) in
@@ -176,14 +176,14 @@ module _ (total : ℕ) where
   lefts zero rest = suc (suc rest)
   lefts (suc count) rest = suc (lefts count (suc rest))
 
-  lets_visited : (count i point rest : ℕ) → weight (count + i) ≤ 4095 → Visited P (lets count i) point (behind i) (lefts count rest) (Done (clause [] (Att (doubled (count + i))) ∷ []) rest)
+  lets_visited : (count i point rest : ℕ) → weight (count + i) ≤ 16383 → Visited P (lets count i) point (behind i) (lefts count rest) (Done (clause [] (Att (doubled (count + i))) ∷ []) rest)
   lets_visited zero i point rest fits =
       let same : 0 + i ≡ i = omega arith in
-      let here : weight i ≤ 4095 = subst (λ n. weight n ≤ 4095) same fits in
+      let here : weight i ≤ 16383 = subst (λ n. weight n ≤ 16383) same fits in
       subst (λ n. Visited P (lets 0 i) point (behind i) (suc (suc rest)) (Done (clause [] (Att (doubled n)) ∷ []) rest)) (sym same) (output_visited i point rest here)
   lets_visited (suc count) i point rest fits =
       let same : count + suc i ≡ suc count + i = omega arith in
-      let there : weight (count + suc i) ≤ 4095 = subst (λ n. weight n ≤ 4095) (sym same) fits in
+      let there : weight (count + suc i) ≤ 16383 = subst (λ n. weight n ≤ 16383) (sym same) fits in
       let here = weight_grows count (suc i) in
       let added = clause [] (Att (doubled (count + suc i))) ∷ [] in
       let below = lets_visited count (suc i) (point + 1) (suc rest) there in
@@ -204,34 +204,34 @@ module _ (total : ℕ) where
   lets_behind zero more i = lets (suc more) i
   lets_behind (suc count) more i = Let (Leaf (Bind (suc i))) (Plain (apply 1 (last i ∷ last i ∷ []))) (lets_behind count more (suc i)) Nil
 
-  large_visited : (count more i point left : ℕ) → weight (count + i) ≤ 4096 → 4096 < weight (suc count + i) → Visited P (lets_behind count more i) point (behind i) (visits_behind count left) (TooLarge (point_behind count point))
+  large_visited : (count more i point left : ℕ) → weight (count + i) ≤ 16384 → 16384 < weight (suc count + i) → Visited P (lets_behind count more i) point (behind i) (visits_behind count left) (TooLarge (point_behind count point))
   large_visited zero more i point left fits over =
       let same : suc 0 + i ≡ suc i = omega arith in
-      let here : 4096 < weight (suc i) = subst (λ n. 4096 < weight n) same over in
+      let here : 16384 < weight (suc i) = subst (λ n. 16384 < weight n) same over in
       let next = lets more (suc i) in
       let evaluated : evaluates_large P (behind i) (Let (Leaf (Bind (suc i))) (Plain (apply 1 (last i ∷ last i ∷ []))) next Nil) ≡ true = let_evaluates i next ∙ ap (λ b. b || false) (term_large (suc i) here) in
       rw evaluated refl
   large_visited (suc count) more i point left fits over =
       let same : count + suc i ≡ suc count + i = omega arith in
       let next_same : suc count + suc i ≡ suc (suc count) + i = omega arith in
-      let there : weight (count + suc i) ≤ 4096 = subst (λ n. weight n ≤ 4096) (sym same) fits in
-      let beyond : 4096 < weight (suc count + suc i) = subst (λ n. 4096 < weight n) (sym next_same) over in
+      let there : weight (count + suc i) ≤ 16384 = subst (λ n. weight n ≤ 16384) (sym same) fits in
+      let beyond : 16384 < weight (suc count + suc i) = subst (λ n. 16384 < weight n) (sym next_same) over in
       let here = weight_grows count (suc i) in
       let below = large_visited count more (suc i) (point + 1) left there beyond in
       one_let i (lets_behind count more (suc i)) point (visits_behind count left) (TooLarge (point_behind count (point + 1))) (omega arith) (TooLarge (point_behind count (point + 1)), below, refl)
 
--- Of eleven lets the output's clause has 4,096 symbols.
-pub eleven_are_translated : IsTranslation (doubling 11) (Secret (name 2)) (Clauses (
+-- Of thirteen lets the output's clause has 16,384 symbols.
+pub thirteen_are_translated : IsTranslation (doubling 13) (Secret (name 2)) (Clauses (
     clause [] (Att (free 1)) ∷ own_names
     ∷ clause (Att (x 0) ∷ Att (x 1) ∷ []) (Att (node (Ctor 1) (x 0 ∷ x 1 ∷ [])))
     ∷ hears ∷ says
-    ∷ clause [] (Att (doubled 11))
+    ∷ clause [] (Att (doubled 13))
     ∷ clause (Att (free 2) ∷ []) (Bad []) ∷ []))
-eleven_are_translated = (Done (clause [] (Att (doubled 11)) ∷ []) 65512, lets_visited 11 11 0 1 65512 (omega arith), refl)
+thirteen_are_translated = (Done (clause [] (Att (doubled 13)) ∷ []) 65508, lets_visited 13 13 0 1 65508 (omega arith), refl)
 
-its_size : clause_size (clause [] (Att (doubled 11))) ≡ 4096
-its_size = ap (λ n. 1 + n + 0) (doubled-size 11)
+its_size : clause_size (clause [] (Att (doubled 13))) ≡ 16384
+its_size = ap (λ n. 1 + n + 0) (doubled-size 13)
 
--- With a twelfth the translation is large at the twelfth's point.
-pub twelve_are_large : IsTranslation (doubling 12) (Secret (name 2)) (LargeAt 12)
-twelve_are_large = (TooLarge 12, large_visited 12 11 0 0 1 65524 (omega arith) (omega arith), refl)
+-- With a fourteenth the translation is large at the fourteenth's point.
+pub fourteen_are_large : IsTranslation (doubling 14) (Secret (name 2)) (LargeAt 14)
+fourteen_are_large = (TooLarge 14, large_visited 14 13 0 0 1 65522 (omega arith) (omega arith), refl)

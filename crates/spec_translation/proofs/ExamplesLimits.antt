@@ -43,13 +43,13 @@ is_term i = Leaf (Equal (written i))
 abbrev nothing_new : Fresh
 nothing_new = record { base = 0; first = 0 }
 
--- in(c,(=t,=t,=t)) with t of 2,047 symbols: each is within the limit, and the message is not
-pub message_is_large : IsTranslation (file (Input (name 1) (compares (is_term 10 ∷ is_term 10 ∷ is_term 10 ∷ [])) Nil)) (Secret (name 2)) (LargeAt 1)
+-- in(c,(=t,=t,=t)) with t of 8,191 symbols: each is within the limit, and the message is not
+pub message_is_large : IsTranslation (file (Input (name 1) (compares (is_term 12 ∷ is_term 12 ∷ is_term 12 ∷ [])) Nil)) (Secret (name 2)) (LargeAt 1)
 message_is_large = (TooLarge 1, (nothing_new, record { is_new = tt; from_first = tt }, refl), refl)
 
--- in(c,=t); in(c,=t); in(c,=t); new n: the name has 6,142 symbols
+-- in(c,=t); in(c,=t); in(c,=t); new n: the name has 24,574 symbols
 abbrev three_inputs : Process → Process
-three_inputs next = Input (name 1) (is_term 10) (Input (name 1) (is_term 10) (Input (name 1) (is_term 10) next))
+three_inputs next = Input (name 1) (is_term 12) (Input (name 1) (is_term 12) (Input (name 1) (is_term 12) next))
 
 pub name_is_large : IsTranslation (file (three_inputs (New (110 ∷ []) Nil))) (Secret (name 2)) (LargeAt 4)
 name_is_large = (
@@ -66,8 +66,8 @@ name_is_large = (
   refl,
 )
 
--- in(c,=t); in(c,=t); out(c,c): two hypotheses of 2,048 symbols, and the conclusion
-pub clause_is_large : IsTranslation (file (Input (name 1) (is_term 10) (Input (name 1) (is_term 10) (Output (name 1) (name 1) Nil)))) (Secret (name 2)) (LargeAt 3)
+-- in(c,=t); in(c,=t); out(c,c): two hypotheses of 8,192 symbols, and the conclusion
+pub clause_is_large : IsTranslation (file (Input (name 1) (is_term 12) (Input (name 1) (is_term 12) (Output (name 1) (name 1) Nil)))) (Secret (name 2)) (LargeAt 3)
 clause_is_large = (
   TooLarge 3,
   (
@@ -78,11 +78,11 @@ clause_is_large = (
   refl,
 )
 
--- in(c,(=t,=u,=w,=w)); out(c,c): the raw clause has 4,096 symbols, and its flat part 4,098, one `att` for each part of the tuple
-pub flat_part_is_large : IsTranslation (file (Input (name 1) (compares (is_term 10 ∷ is_term 9 ∷ is_term 8 ∷ is_term 8 ∷ [])) (Output (name 1) (name 1) Nil))) (Secret (name 2)) (LargeAt 2)
+-- in(c,(=t,=u,=w,=w)); out(c,c): the raw clause has 16,384 symbols, and its flat part 16,386, one `att` for each part of the tuple
+pub flat_part_is_large : IsTranslation (file (Input (name 1) (compares (is_term 12 ∷ is_term 11 ∷ is_term 10 ∷ is_term 10 ∷ [])) (Output (name 1) (name 1) Nil))) (Secret (name 2)) (LargeAt 2)
 flat_part_is_large = (TooLarge 2, (nothing_new, record { is_new = tt; from_first = tt }, refl), refl)
 
-its_size : clause_size (clause (Att (node (terms.Tuple 4) (doubled 10 ∷ doubled 9 ∷ doubled 8 ∷ doubled 8 ∷ [])) ∷ []) (Att (free 1))) ≡ 4096
+its_size : clause_size (clause (Att (node (terms.Tuple 4) (doubled 12 ∷ doubled 11 ∷ doubled 10 ∷ doubled 10 ∷ [])) ∷ []) (Att (free 1))) ≡ 16384
 its_size = refl
 
 -- Two rules: d(x) -> x and d(x) -> g(x,x,x).
@@ -98,47 +98,47 @@ two_choices = record {
   destructors = record { word = 100 ∷ []; rules = same_rule ∷ tripled_rule ∷ [] } ∷ [];
   events = [];
   queries = Secret (name 2) ∷ [];
-  main = Let (Leaf (Bind 1)) (Call 1 (written 10 ∷ [])) (Output (name 1) (node Tuple (variable 1 ∷ variable 1 ∷ variable 1 ∷ [])) Nil) Nil;
+  main = Let (Leaf (Bind 1)) (Call 1 (written 12 ∷ [])) (Output (name 1) (node Tuple (variable 1 ∷ variable 1 ∷ variable 1 ∷ [])) Nil) Nil;
 }
 
 abbrev tripled : Term
-tripled = node (Ctor 2) (doubled 10 ∷ doubled 10 ∷ doubled 10 ∷ [])
+tripled = node (Ctor 2) (doubled 12 ∷ doubled 12 ∷ doubled 12 ∷ [])
 
 abbrev same_choice : Choice
-same_choice = rule_choice two_choices first_visit (Leaf (Bind 1)) (written 10 ∷ []) same_rule 0 next_variable
+same_choice = rule_choice two_choices first_visit (Leaf (Bind 1)) (written 12 ∷ []) same_rule 0 next_variable
 
 abbrev tripled_choice : Choice
-tripled_choice = rule_choice two_choices first_visit (Leaf (Bind 1)) (written 10 ∷ []) tripled_rule 0 next_variable
+tripled_choice = rule_choice two_choices first_visit (Leaf (Bind 1)) (written 12 ∷ []) tripled_rule 0 next_variable
 
 module _ (r : Subst) where
-  same_most : IsUnified (choice_under r same_choice) → (n : ℕ) → after r (two_terms (doubled 10) (doubled 10)) n ≡ r n
+  same_most : IsUnified (choice_under r same_choice) → (n : ℕ) → after r (two_terms (doubled 12) (doubled 12)) n ≡ r n
   same_most e zero = ap first_of e.0
   same_most e (suc zero) = ap first_of e.0 ∙ e.1
   same_most e (suc (suc n)) = refl
 
-  tripled_most : IsUnified (choice_under r tripled_choice) → (n : ℕ) → after r (two_terms (doubled 10) tripled) n ≡ r n
+  tripled_most : IsUnified (choice_under r tripled_choice) → (n : ℕ) → after r (two_terms (doubled 12) tripled) n ≡ r n
   tripled_most e zero = ap first_of e.0
   tripled_most e (suc zero) = let first = ap first_of e.0 in (λ i. node (Ctor 2) (first i ∷ first i ∷ first i ∷ [])) ∙ e.1
   tripled_most e (suc (suc n)) = refl
 
-same_goes : RuleGoesOn two_choices first_visit (Leaf (Bind 1)) (written 10 ∷ []) same_rule (Some (with_value (doubled 10)))
+same_goes : RuleGoesOn two_choices first_visit (Leaf (Bind 1)) (written 12 ∷ []) same_rule (Some (with_value (doubled 12)))
 same_goes = record {
   base = 0;
   at = next_variable;
   is_new = tt;
   is_apart = ((omega arith, tt), ((omega arith, tt), tt));
   is_fresh = record { is_new = tt; from_first = (omega arith, tt) };
-  goes_on = (two_terms (doubled 10) (doubled 10), record { accepted = (refl, refl); most = λ r e. (r, same_most r e) }, refl);
+  goes_on = (two_terms (doubled 12) (doubled 12), record { accepted = (refl, refl); most = λ r e. (r, same_most r e) }, refl);
 }
 
-tripled_goes : RuleGoesOn two_choices first_visit (Leaf (Bind 1)) (written 10 ∷ []) tripled_rule (Some (with_value tripled))
+tripled_goes : RuleGoesOn two_choices first_visit (Leaf (Bind 1)) (written 12 ∷ []) tripled_rule (Some (with_value tripled))
 tripled_goes = record {
   base = 0;
   at = next_variable;
   is_new = tt;
   is_apart = ((omega arith, (omega arith, (omega arith, tt))), ((omega arith, tt), tt));
   is_fresh = record { is_new = tt; from_first = (omega arith, tt) };
-  goes_on = (two_terms (doubled 10) tripled, record { accepted = (refl, refl); most = λ r e. (r, tripled_most r e) }, refl);
+  goes_on = (two_terms (doubled 12) tripled, record { accepted = (refl, refl); most = λ r e. (r, tripled_most r e) }, refl);
 }
 
 -- The second choice is large, which is found at the `let`, before the output of the first, which is large too.
@@ -146,8 +146,8 @@ pub choice_is_large : IsTranslation two_choices (Secret (name 2)) (LargeAt 1)
 choice_is_large = (
   TooLarge 1,
   (
-    Some (with_value (doubled 10)) ∷ Some (with_value tripled) ∷ [],
-    (Some (with_value (doubled 10)), Some (with_value tripled) ∷ [], same_goes, (Some (with_value tripled), [], tripled_goes, refl, refl), refl),
+    Some (with_value (doubled 12)) ∷ Some (with_value tripled) ∷ [],
+    (Some (with_value (doubled 12)), Some (with_value tripled) ∷ [], same_goes, (Some (with_value tripled), [], tripled_goes, refl, refl), refl),
     refl,
   ),
   refl,

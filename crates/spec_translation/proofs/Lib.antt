@@ -9,6 +9,7 @@ pub mod Placement
 pub mod Parts
 pub mod Goal
 pub mod Sizes
+pub mod Few
 pub mod Examples
 pub mod PlainLet
 pub mod ExampleWords

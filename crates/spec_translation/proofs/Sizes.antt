@@ -157,7 +157,7 @@ numbered_below : (bound : ℕ) → 0 < bound → (xs : List ℕ) → AllByRecurs
 numbered_below bound some xs all zero = some
 numbered_below bound some xs all (suc i) = got_below bound some xs all i
 
-arguments_few : (P : Protocol) (point : ℕ) → height P.main ≤ 1 + most_points_above → arguments_at P point < 1 + most_points_above
+pub arguments_few : (P : Protocol) (point : ℕ) → height P.main ≤ 1 + most_points_above → arguments_at P point < 1 + most_points_above
 arguments_few P point way = numbered_below (1 + most_points_above) (omega arith) (name_arguments 0 P.main) (arguments_below 0 (1 + most_points_above) P.main (omega arith)) point
 
 -- an event has no more variables than symbols
@@ -180,7 +180,7 @@ filter_map-length {X} {Y} h (x ∷ xs) = go (h x) (filter_map-length h xs) where
   go (Some y) few = omega arith
 
 mutual
-  leaves-length : {L S : Type 0} (t : Tree L S) → length (leaves t) ≤ size t
+  pub leaves-length : {L S : Type 0} (t : Tree L S) → length (leaves t) ≤ size t
   leaves-length (Leaf x) = omega arith
   leaves-length (Node f ts) = let below = row_leaves-length ts in omega arith
 

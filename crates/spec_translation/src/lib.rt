@@ -2,24 +2,26 @@
 //! have empty bodies, and say in their contracts what holds of the definitions.
 #![tactic(auto)]
 
-ghost use Rattle.std.specs.Prelude.{◌≡◌, ℕ, Some, List, ◌++◌, false, true, [], ◌∷◌};
+ghost use Rattle.std.specs.Prelude.{◌≡◌, ℕ, ◌≤◌, Some, List, ◌++◌, false, true, [], ◌∷◌, length};
 ghost use Rattle.std.specs.List.{AllByRecursion};
 ghost use Rattle.spec_trees.specs.Tree.{Leaf};
 ghost use Rattle.spec_calculus.specs.Syntax.{Bind, Query, Protocol};
 ghost use Rattle.spec_calculus.specs.Syntax as calculus;
+ghost use Rattle.spec_calculus.specs.Bounds.{most_symbols, most_points_above};
 ghost use Rattle.spec_well_formed.specs.Limits.{IsSmallQuery, IsWithinLimits};
 ghost use Rattle.spec_terms.specs.Term.{Term};
-ghost use Rattle.spec_clauses.specs.Fact.{Clause};
+ghost use Rattle.spec_clauses.specs.Fact.{Clause, clause_terms};
+ghost use Rattle.spec_clauses.specs.Variables.{leaves, fact_variables, AreBelow};
 ghost use Rattle.spec_clauses.specs.Norm.{IsNormal};
 ghost use Rattle.spec_clauses.specs.Limits.{is_large_raw, IsWithinLimit};
 ghost use Rattle.spec_clauses.specs.Inclusion.{Has};
-ghost use Rattle.spec_translation.specs.Conversion.{term_in};
-ghost use Rattle.spec_translation.specs.Visit.{Visit, bound};
+ghost use Rattle.spec_translation.specs.Conversion.{StandsFor, term_in};
+ghost use Rattle.spec_translation.specs.Visit.{Visit, bound, is_large_visit};
 ghost use Rattle.spec_translation.specs.Choice.{TermGoesOn};
 ghost use Rattle.spec_translation.specs.Translation.{Translated, Clauses, IsTranslation};
 ghost use Rattle.spec_translation.specs.Translation.{attacker_clauses, goal_clauses};
 ghost use Rattle.spec_translation.specs.Attacker.{attacker_raw};
-ghost use Rattle.spec_translation.specs.Goal.{goal_raw};
+ghost use Rattle.spec_translation.specs.Goal.{arguments_at, goal_raw};
 ghost use Rattle.spec_translation.specs.Satisfied.{is_bad};
 ghost use Rattle.spec_translation.specs.Placement.{IsWellPlaced};
 
@@ -78,4 +80,20 @@ pub fn translations_are_within_the_limit()
     ensures all { (P : Protocol) (q : Query) (all : List (Clause Term)) (c : Clause Term) →
         IsWithinLimits P → IsSmallQuery q → IsTranslation P q (Clauses all) →
         Has all c → IsWithinLimit c }
+{}
+
+/// There are few variables. A restricted name has an argument for each input and each copy above its restriction, and so
+/// no more than points may stand above one. Of a visit that isn't too large, each term that a variable stands for and each
+/// hypothesis has no more occurrences of variables than the limit of size has symbols. Variables of a translation's clauses
+/// have numbers below that limit.
+pub fn variables_are_few()
+    ensures names { (P : Protocol) (point : ℕ) → IsWithinLimits P →
+        arguments_at P point ≤ most_points_above }
+    ensures scope { (v : Visit) → is_large_visit v ≡ false →
+        AllByRecursion (λ (b : StandsFor). length (leaves b.term) ≤ most_symbols) v.scope }
+    ensures hypotheses { (v : Visit) → is_large_visit v ≡ false →
+        AllByRecursion (λ h. length (fact_variables h) ≤ most_symbols) v.hypotheses }
+    ensures clauses { (P : Protocol) (q : Query) (all : List (Clause Term)) (c : Clause Term) →
+        IsWithinLimits P → IsSmallQuery q → IsTranslation P q (Clauses all) →
+        Has all c → AreBelow most_symbols (clause_terms c) }
 {}
