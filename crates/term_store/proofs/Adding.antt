@@ -6,12 +6,12 @@ use Rattle.std.proofs.lemmas.Option.{slice_get-get_or, slice_get_within, slice_g
 use Rattle.indexmap.specs.IndexSet.{insert_key}
 use Rattle.spec_trees.specs.Tree.{Leaf}
 use Rattle.spec_terms.specs.Term.{Term}
-use Rattle.term_tree.specs.Bank.{tree_at, Names}
+use Rattle.term_tree.specs.Bank.{tree_at, Names, AreShared}
 use Rattle.term_tree.specs.declared.bank.Id.{Id}
 use Rattle.term_tree.specs.Roots.{tree_of, HasArgs, HaveArgs, told}
 use Rattle.term_tree.proofs.BankLaws.{Names-next, Names-grows, take-grown}
 use Rattle.term_tree.proofs.Roots.{IsPlace, IsPlace-tree, place_at, told_at, items-length, built-push, HaveArgs-push, told-push, built-cut, HaveArgs-cut, told-cut}
-use Rattle.term_store.specs.SharedBank.{root_of, same_shape, trees_of, IsWell, AreShared, Finds}
+use Rattle.term_store.specs.SharedBank.{root_of, same_shape, trees_of, IsWell, Finds}
 use Rattle.term_store.specs.declared.shared_bank.Shape.{Shape}
 use Rattle.term_store.specs.declared.shared_bank.Measure.{Measure}
 use Rattle.term_store.proofs.Shapes.{root_of-same}

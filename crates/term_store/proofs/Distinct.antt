@@ -6,12 +6,12 @@ use Rattle.std.proofs.lemmas.Map.Keys.{IsDistinct-head, IsDistinct-tail}
 use Rattle.std.proofs.lemmas.List.{length-take}
 use Rattle.spec_trees.proofs.Rows.{node-injective}
 use Rattle.spec_terms.specs.Term.{Term}
-use Rattle.term_tree.specs.Bank.{symbol_of, tree_at, AreKnown, Names}
+use Rattle.term_tree.specs.Bank.{symbol_of, tree_at, AreKnown, Names, AreShared}
 use Rattle.term_tree.specs.declared.bank.Id.{Id}
 use Rattle.term_tree.specs.Roots.{Root, Variable, Applied, tree_of, built, HasArgs, HaveArgs}
 use Rattle.term_tree.proofs.BankLaws.{symbol_of-injective}
 use Rattle.term_tree.proofs.Roots.{IsPlace, IsPlace-built, IsPlace-tree, built-length, items-length, place_at}
-use Rattle.term_store.specs.SharedBank.{root_of, same_shape, trees_of, IsWell, AreShared}
+use Rattle.term_store.specs.SharedBank.{root_of, same_shape, trees_of, IsWell}
 use Rattle.term_store.specs.declared.shared_bank.Shape.{Shape}
 use Rattle.term_store.specs.declared.shared_bank.Measure.{Measure}
 use Rattle.term_store.proofs.Shapes.{same_shape-root}

@@ -1,8 +1,8 @@
 -- The shared bank: no two of its trees are equal.
-use Rattle.std.specs.Prelude.{◌≡◌, ◌<◌, Bool, List, [], ◌∷◌, ◌++◌, length, map}
+use Rattle.std.specs.Prelude.{◌≡◌, Bool, List, [], ◌∷◌, ◌++◌, map}
 use Rattle.std.specs.List.{IsDistinct}
 use Rattle.spec_terms.specs.Term.{Term}
-use Rattle.term_tree.specs.Bank.{tree_at, Names}
+use Rattle.term_tree.specs.Bank.{Names}
 use Rattle.term_tree.specs.Roots.{Root, Variable, Applied, built, HaveArgs, told}
 use Rattle.term_tree.specs.declared.bank.Id.{Id}
 use Rattle.term_store.specs.declared.shared_bank.Shape.{Shape}
@@ -28,11 +28,6 @@ pub record IsWell (shapes : List Shape) (measures : List Measure) : Type 0 where
   pub args : HaveArgs [] (map root_of shapes)
   pub distinct : IsDistinct same_shape shapes
   pub tells : map (λ m. (m.size, m.is_ground)) measures ≡ map told (trees_of shapes)
-
--- equal trees have equal ids
-abbrev pub AreShared : List Term → Type 0
-AreShared all = (a b : Id) → a.index < length all → b.index < length all
-    → tree_at all a ≡ tree_at all b → a ≡ b
 
 -- the id is that which the tree has already, and the bank stays as it is
 abbrev pub Finds : List Term → List Term → Term → Id → Type 0

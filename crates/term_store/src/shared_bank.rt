@@ -72,9 +72,9 @@ impl SharedBank {
     ghost use Rattle.std.specs.Prelude.{◌≡◌, ◌<◌, [], length, map, IsOk, IfOk, OnOk, OnErr};
     ghost use Rattle.spec_trees.specs.Tree.{node};
     ghost use Rattle.spec_terms.specs.Term.{Sym as Symbol};
-    ghost use Rattle.term_tree.specs.Bank.{tree_at, AreKnown, Names, Grows};
+    ghost use Rattle.term_tree.specs.Bank.{tree_at, AreKnown, Names, Grows, AreShared};
     ghost use Rattle.term_tree.specs.Roots.{tree_of, HasArgs, told};
-    ghost use Rattle.term_store.specs.SharedBank.{root_of, AreShared, Finds, AddsNew, IsKnown};
+    ghost use Rattle.term_store.specs.SharedBank.{root_of, Finds, AddsNew, IsKnown};
 
     /// An empty bank.
     pub fn new(alloc: Global) -> Result<Self, AllocError>
@@ -150,10 +150,10 @@ impl SharedBank {
 }
 
 impl Bank for SharedBank {
-    ghost use Rattle.std.specs.Prelude.{List, ◌≡◌, ◌≤◌, length, map, IsOk, IfOk, OnOk, OnErr};
+    ghost use Rattle.std.specs.Prelude.{List, ◌≡◌, ◌≤◌, true, length, map, IsOk, IfOk, OnOk, OnErr};
     ghost use Rattle.spec_terms.specs.Term.{Term, is_ground};
     ghost use Rattle.spec_trees.specs.Tree.{Leaf, node, size};
-    ghost use Rattle.term_tree.specs.Bank.{symbol_of, tree_at, AreKnown, Names, Grows, IsNodeOf, capped};
+    ghost use Rattle.term_tree.specs.Bank.{symbol_of, tree_at, AreKnown, Names, Grows, IsNodeOf, AreShared, capped};
     ghost use Rattle.term_store.specs.SharedBank.{Finds, AddsNew, IsKnown};
 
     ghost trees = { λ b. b };
@@ -211,6 +211,14 @@ impl Bank for SharedBank {
     fn same(&self, left: Id, right: Id) -> bool {
         self.equal_trees_have_equal_ids();
         left.index == right.index
+    }
+
+    fn is_shared(&self) -> bool
+        ensures shared { result ≡ true → AreShared self.now }
+        ensures always { result ≡ true }
+    {
+        self.equal_trees_have_equal_ids();
+        true
     }
 
     fn mark(&self) -> Mark {

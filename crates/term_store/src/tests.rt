@@ -39,7 +39,8 @@ fn made_twice(bank: &mut SharedBank) -> Result<bool, AllocError> {
     let third = over(bank, 3, x)?;
     let is_third = is_over(bank, third, 3, x);
     let last = over(bank, 1, x)?;
-    Ok(first == again && was_there && is_third && last == first && is_over(bank, last, 1, x))
+    let is_shared = bank.is_shared() && first == again;
+    Ok(is_shared && was_there && is_third && last == first && is_over(bank, last, 1, x))
 }
 
 #[test]

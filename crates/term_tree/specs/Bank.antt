@@ -42,6 +42,11 @@ abbrev pub IsNodeOf : List Term → Node → Term → Type 0
 IsNodeOf all (Var x) t = t ≡ Leaf x
 IsNodeOf all (App f args) t = (t ≡ node (symbol_of f) (map (tree_at all) args.now)) × AreKnown all args.now
 
+-- equal trees have equal ids
+abbrev pub AreShared : List Term → Type 0
+AreShared all = (a b : Id) → a.index < length all → b.index < length all
+    → tree_at all a ≡ tree_at all b → a ≡ b
+
 -- a size as it is told: 2^63 where it is greater
 abbrev pub capped : ℕ → ℕ
 capped n = min n (2 ^ 63)

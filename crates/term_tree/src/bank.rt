@@ -1,6 +1,6 @@
 //! What a bank of terms is to its callers: a list of trees, in which an id names its place.
 
-ghost use Rattle.std.specs.Prelude.{◌≡◌, ◌↔◌, ◌≤◌, ◌<◌, IsTrue, List, length, take, map, IfOk, OnErr};
+ghost use Rattle.std.specs.Prelude.{◌≡◌, ◌↔◌, ◌≤◌, ◌<◌, true, IsTrue, List, length, take, map, IfOk, OnErr};
 
 use std::alloc::AllocError;
 
@@ -57,7 +57,7 @@ pub const SIZE_LIMIT: u64 = 0x8000_0000_0000_0000;
 pub trait Bank {
     ghost use Rattle.spec_trees.specs.Tree.{Leaf, node, size};
     ghost use Rattle.spec_terms.specs.Term.{Term, is_ground};
-    ghost use Rattle.term_tree.specs.Bank.{symbol_of, tree_at, AreKnown, Names, Grows, IsNodeOf, capped};
+    ghost use Rattle.term_tree.specs.Bank.{symbol_of, tree_at, AreKnown, Names, Grows, IsNodeOf, AreShared, capped};
 
     /// The trees of the bank.
     ghost trees: { Self → List Term };
@@ -97,6 +97,11 @@ pub trait Bank {
         requires right_known { right.index < length (trees self.now) }
         ensures { IsTrue result ↔
             (tree_at (trees self.now) left ≡ tree_at (trees self.now) right) };
+
+    /// Whether no two ids name the same tree; a bank that doesn't look for this answers false. Takes no
+    /// memory.
+    fn is_shared(&self) -> bool
+        ensures { result ≡ true → AreShared (trees self.now) };
 
     /// The present state, for `back`. Takes no memory.
     fn mark(&self) -> Mark

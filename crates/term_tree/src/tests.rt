@@ -54,7 +54,8 @@ fn terms_are_told_apart(bank: &mut TreeBank) -> Result<bool, AllocError> {
     let first = doubled(bank, 1, x)?;
     let again = doubled(bank, 1, x)?;
     let other = doubled(bank, 2, x)?;
-    Ok(bank.same(first, again) && !bank.same(first, other) && !bank.same(first, x))
+    let are_told_apart = !bank.same(first, other) && !bank.same(first, x);
+    Ok(!bank.is_shared() && bank.same(first, again) && are_told_apart)
 }
 
 #[test]

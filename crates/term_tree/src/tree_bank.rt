@@ -143,7 +143,7 @@ impl Bank for TreeBank {
     ghost use Rattle.std.specs.Prelude.{List};
     ghost use Rattle.spec_terms.specs.Term.{Term, is_ground};
     ghost use Rattle.spec_trees.specs.Tree.{Leaf, node, size};
-    ghost use Rattle.term_tree.specs.Bank.{symbol_of, tree_at, AreKnown, Names, Grows, IsNodeOf, capped};
+    ghost use Rattle.term_tree.specs.Bank.{symbol_of, tree_at, AreKnown, Names, Grows, IsNodeOf, AreShared, capped};
 
     ghost trees = { λ b. b };
 
@@ -186,6 +186,10 @@ impl Bank for TreeBank {
             return false;
         }
         self.is_same_tree(left, right)
+    }
+
+    fn is_shared(&self) -> bool {
+        false
     }
 
     fn mark(&self) -> Mark {
