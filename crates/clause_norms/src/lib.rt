@@ -74,6 +74,3 @@ pub fn norms_of<B: Bank>(
         }
     }
 }
-
-#[cfg(test)]
-mod tests;

@@ -28,6 +28,3 @@ pub fn indexes_hold_entries()
     ensures candidates { (features : List ℕ) (e : ℕ) (ls : List Listed) →
         Has (candidates_of features ls) e ↔ IsCandidate features ls e }
 {}
-
-#[cfg(test)]
-mod tests;

@@ -8,7 +8,6 @@ pub mod Misapplied
 pub mod AnyFault
 pub mod Standing
 pub mod Explained
-pub mod Followed
 pub mod Completes
 pub mod Shown
 pub mod GoesOn

@@ -4,6 +4,3 @@
 pub mod shared_bank;
 
 pub use shared_bank::{INLINE_ARGS, SharedBank};
-
-#[cfg(test)]
-mod tests;

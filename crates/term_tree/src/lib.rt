@@ -40,6 +40,3 @@ pub fn ids_keep_their_trees()
         Names all id t → Names (take n all) id t }
     ensures undone { (a b : List Term) → Grows a b → take (length a) b ≡ a }
 {}
-
-#[cfg(test)]
-mod tests;

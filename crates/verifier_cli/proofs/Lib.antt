@@ -1,7 +1,6 @@
 pub mod Checking
 pub mod Comes
 pub mod Complete
-pub mod Followed
 pub mod Found
 pub mod Files
 pub mod Limits
