@@ -4,7 +4,7 @@ use Rattle.std.proofs.lemmas.List.{map-append}
 use Rattle.spec_calculus.specs.Syntax.{Protocol}
 use Rattle.spec_certificate_reading.specs.Terms as terms
 use Rattle.spec_certificate_reading.specs.Outcomes.{Outcome, Found, Faulty, next, read_fixed, read_number}
-use Rattle.spec_certificate_reading.specs.Reports.{Claim, read_claim, behind_claims, claims_from}
+use Rattle.spec_certificate_reading.specs.Reports.{Claim, read_claim, behind_claims, claims_by, claims_from}
 use Rattle.fact_reader.specs.declared.error.CertError.{CertError}
 use Rattle.fact_reader.specs.Gives.{HasFault}
 use Rattle.cert_text.specs.Seen.{GivesClaims}
@@ -19,15 +19,15 @@ abbrev behind_claim : Protocol → ℕ → ℕ → List Claim → Claim → ℕ 
 behind_claim P left number claims c p r = claims_from P left (number + 1) (claims ++ c ∷ []) r p
 
 all_claimed : (P : Protocol) (number : ℕ) (claims : List Claim) (bytes : List ℕ) (at : ℕ) → claims_from P 0 number claims bytes at ≡ behind_claims claims at bytes
-unfolding claims_from
+unfolding claims_by
 all_claimed P number claims bytes at = refl
 
 cut_off : (P : Protocol) (left number : ℕ) (claims : List Claim) (at : ℕ) → claims_from P (suc left) number claims [] at ≡ Faulty at terms.Count
-unfolding claims_from
+unfolding claims_by
 cut_off P left number claims at = refl
 
 one_claim : (P : Protocol) (left number : ℕ) (claims : List Claim) (bytes : List ℕ) (at : ℕ) → bytes ≢ [] → claims_from P (suc left) number claims bytes at ≡ next (read_claim P number bytes at) (behind_claim P left number claims)
-unfolding claims_from
+unfolding claims_by
 one_claim P left number claims [] at some = absurd (some refl)
 one_claim P left number claims (b ∷ bytes) at some = refl
 

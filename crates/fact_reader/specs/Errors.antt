@@ -21,6 +21,8 @@ code_number terms.Number = 2
 code_number terms.Symbol = 3
 code_number terms.Arity = 4
 code_number terms.Count = 5
+code_number terms.NodeOrder = 7
+code_number terms.NodeLarge = 8
 
 abbrev pub in_numbers : Code × ℕ → ℕ × ℕ
 in_numbers refusal = (code_number refusal.0, refusal.1)

@@ -2,7 +2,7 @@
 use Rattle.std.proofs.Common.{ℕ, suc, ◌≤◌, inl, inr, List, [], ◌∷◌, length, sym, ap, subst, arith, length-append}
 use Rattle.spec_calculus.specs.Syntax.{Protocol}
 use Rattle.spec_certificate_text.specs.OfProtocol.{HasNames}
-use Rattle.spec_certificate_reading.specs.Terms.{Code, Syntax, Number, Symbol, Arity, Count, Open, Begins}
+use Rattle.spec_certificate_reading.specs.Terms.{Code, Syntax, Number, Symbol, Arity, Count, NodeOrder, NodeLarge, Open, Begins}
 use Rattle.spec_certificate_reading.proofs.Complete.{reading}
 use Rattle.spec_certificate_faults.specs.TermFaults.{TermFault, StandsInTerm}
 use Rattle.spec_certificate_faults.proofs.Comes.{either, StandsBefore}
@@ -19,6 +19,8 @@ there_within P level here Number there (inr fault) = omega (arith, ap length fau
 there_within P level here Symbol there fault = omega (arith, ap length fault.0)
 there_within P level here Arity there fault = omega (arith, ap length fault.0)
 there_within P level here Count there fault = omega (arith, ap length fault.0)
+there_within P level here NodeOrder there fault = absurd fault
+there_within P level here NodeLarge there fault = absurd fault
 
 -- at this reading
 told_here : (P : Protocol) → HasNames P → (here : List ℕ) (code : Code) (there : List ℕ) (heads : List Open) → TermFault P (suc (length heads)) here code there → (at from : ℕ) → StandsBefore heads at → IsTold P here at (reading heads Begins from) there code
@@ -27,6 +29,8 @@ told_here P names here Number there heads fault at from before = number_told P h
 told_here P names here Symbol there heads fault at from before = subst (λ k. IsTold P here at (reading heads Begins from) k Symbol) (sym fault.0) (symbol_told P here fault.1 at heads from before)
 told_here P names here Arity there heads fault at from before = subst (λ k. IsTold P here at (reading heads Begins from) k Arity) (sym fault.0) (misapplied_told P names here heads fault.1 at from before)
 told_here P names here Count there heads fault at from before = subst (λ k. IsTold P here at (reading heads Begins from) k Count) (sym fault.0) (count_told P here heads fault.1 at from before)
+told_here P names here NodeOrder there heads fault at from before = absurd fault
+told_here P names here NodeLarge there heads fault at from before = absurd fault
 
 pub term_fault_told : (P : Protocol) → HasNames P → (bytes : List ℕ) (at : ℕ) (there : List ℕ) (code : Code) → StandsInTerm P code bytes there → IsTold P bytes at (reading [] Begins at) there code
 term_fault_told P names bytes at there code is =

@@ -3,13 +3,14 @@ use Rattle.std.proofs.Common.{◌≡◌, ℕ, suc, ◌+◌, ◌<◌, ◌≤◌, 
 use Rattle.std.proofs.lemmas.Bool.Decides.{nat_tests}
 use Rattle.std.specs.Char.{is_ascii_digit}
 use Rattle.spec_trees.specs.Tree.{node}
+use Rattle.spec_calculus.specs.Bounds.{most_term_levels}
 use Rattle.spec_calculus.specs.Syntax.{Protocol}
 use Rattle.spec_protocol_tokens.specs.Bytes.{begins_word, is_in_word}
 use Rattle.spec_protocol_scope.specs.Names.{is_variable}
 use Rattle.spec_terms.specs.Term.{Tuple}
 use Rattle.spec_run_text.specs.Reading.{numeral}
 use Rattle.spec_certificate_reading.specs.Names.{Named, symbol_called, name_called}
-use Rattle.spec_certificate_reading.specs.Terms.{Code, Syntax, Number, Symbol, Arity, Count, Open, Begins, InWord, InDigits, AtBracket, Ended, Reading, Step, Goes, Fault}
+use Rattle.spec_certificate_reading.specs.Terms.{Code, Syntax, Symbol, Arity, Count, Open, Begins, InWord, InDigits, AtBracket, Ended, Reading, Step, Goes, Fault}
 use Rattle.spec_certificate_reading.specs.Steps.{is_deep, goes, unless_deep, opened, with_parts, has_arity, closed, may_be_empty, apply, after_term, after_variable, after_name, after_word, after_point, after_number, after_digits, begin_term, step}
 use Rattle.spec_certificate_reading.specs.Runs.{Refused, followed, cut_off, read_on}
 use Rattle.spec_certificate_reading.proofs.Complete.{reading, taken, head_over}
@@ -18,47 +19,49 @@ use Rattle.spec_certificate_faults.specs.First.{code_number}
 use Rattle.spec_certificate_faults.proofs.Comes.{either, StandsBefore, begins_no_bracket, begins_or}
 use Rattle.spec_certificate_faults.proofs.Told.{IsTold, told_before}
 
--- a fault is told at the place
+-- a fault of terms is told at the place
 record TellsAt (P : Protocol) (bytes : List ℕ) (at : ℕ) (r : Reading) (from : ℕ) : Type 0 where
   code : Code
   is : read_on P bytes at r ≡ Refused from code
+  least : code_number code ≤ 5
 
 -- so after a step
 record Tells (P : Protocol) (b : ℕ) (bytes : List ℕ) (at : ℕ) (s : Step) (from : ℕ) : Type 0 where
   code : Code
   is : followed (read_on P bytes (at + 1)) at (b ∷ bytes) s ≡ Refused from code
+  least : code_number code ≤ 5
 
-tells_fault : (P : Protocol) (b : ℕ) (bytes : List ℕ) (at from : ℕ) (code : Code) → Tells P b bytes at (Fault from code) from
-tells_fault P b bytes at from code = record { code = code; is = refl }
+tells_fault : (P : Protocol) (b : ℕ) (bytes : List ℕ) (at from : ℕ) (code : Code) → code_number code ≤ 5 → Tells P b bytes at (Fault from code) from
+tells_fault P b bytes at from code least = record { code = code; is = refl; least = least }
 
 tells_deep : (P : Protocol) (b : ℕ) (bytes : List ℕ) (at : ℕ) (heads : List Open) (from : ℕ) (s : Step) → is_deep heads ≡ true → Tells P b bytes at (unless_deep heads from s) from
-tells_deep P b bytes at heads from s deep = record { code = Count; is = ap (followed (read_on P bytes (at + 1)) at (b ∷ bytes)) (taken (is_deep heads) (Fault from Count) s _ deep refl) }
+tells_deep P b bytes at heads from s deep = record { code = Count; is = ap (followed (read_on P bytes (at + 1)) at (b ∷ bytes)) (taken (is_deep heads) (Fault from Count) s _ deep refl); least = omega arith }
 
 tells_either : (P : Protocol) (b : ℕ) (bytes : List ℕ) (at : ℕ) (test : Bool) (x y : Step) (from : ℕ) → Tells P b bytes at x from → Tells P b bytes at y from → Tells P b bytes at (if test then x else y) from
 tells_either P b bytes at true x y from first second = first
 tells_either P b bytes at false x y from first second = second
 
 tells_on : (P : Protocol) (b : ℕ) (bytes : List ℕ) (at : ℕ) (r : Reading) (from : ℕ) → TellsAt P bytes (at + 1) r from → Tells P b bytes at (Goes r) from
-tells_on P b bytes at r from later = record { code = later.code; is = later.is }
+tells_on P b bytes at r from later = record { code = later.code; is = later.is; least = later.least }
 
 tells_step : (P : Protocol) (b : ℕ) (bytes : List ℕ) (at : ℕ) (r : Reading) (from : ℕ) → Tells P b bytes at (step P at r b) from → TellsAt P (b ∷ bytes) at r from
-tells_step P b bytes at r from told = record { code = told.code; is = told.is }
+tells_step P b bytes at r from told = record { code = told.code; is = told.is; least = told.least }
 
 cut_deep : (at : ℕ) (heads : List Open) (from : ℕ) → is_deep heads ≡ true → cut_off at heads from ≡ Refused from Count
 cut_deep at heads from deep = ap (λ b. if b then Refused from Count else Refused at Syntax) deep
 
 -- within the arguments of a symbol that is too deep
 begins_deep : (P : Protocol) (bytes : List ℕ) (at : ℕ) (o : Open) (heads : List Open) (from : ℕ) → is_deep heads ≡ true → TellsAt P bytes at (reading (o ∷ heads) Begins from) o.place
-begins_deep P [] at o heads from deep = record { code = Count; is = cut_deep at heads o.place deep }
+begins_deep P [] at o heads from deep = record { code = Count; is = cut_deep at heads o.place deep; least = omega arith }
 begins_deep P (b ∷ bytes) at o heads from deep =
     let ended = goes heads (Ended (node (with_parts o.symbol 0) [])) o.place in
     tells_step P b bytes at (reading (o ∷ heads) Begins from) o.place
     (tells_either P b bytes at ((b == 93) && may_be_empty o.symbol o.arguments) (closed o heads []) (unless_deep heads o.place (begin_term at (o ∷ heads) b)) o.place
-    (tells_either P b bytes at (has_arity o.symbol o.arity 0) (unless_deep heads o.place ended) (Fault o.place Arity) o.place (tells_deep P b bytes at heads o.place ended deep) (tells_fault P b bytes at o.place Arity))
+    (tells_either P b bytes at (has_arity o.symbol o.arity 0) (unless_deep heads o.place ended) (Fault o.place Arity) o.place (tells_deep P b bytes at heads o.place ended deep) (tells_fault P b bytes at o.place Arity (omega arith)))
     (tells_deep P b bytes at heads o.place (begin_term at (o ∷ heads) b) deep))
 
 point_deep : (P : Protocol) (b : ℕ) (bytes : List ℕ) (at : ℕ) (heads : List Open) (from : ℕ) (found : Option Named) → is_deep heads ≡ true → Tells P b bytes at (after_point at heads from found b) from
-point_deep P b bytes at heads from None deep = tells_fault P b bytes at from Symbol
+point_deep P b bytes at heads from None deep = tells_fault P b bytes at from Symbol (omega arith)
 point_deep P b bytes at heads from (Some named) deep =
     tells_either P b bytes at (b == 91) (opened heads named from) (unless_deep heads from (Fault at Syntax)) from
     (tells_on P b bytes at (reading (head_over named from [] ∷ heads) Begins from) from (begins_deep P bytes (at + 1) (head_over named from []) heads from deep))
@@ -73,7 +76,7 @@ after_digits_deep P b bytes at heads from word [] deep = tells_deep P b bytes at
 after_digits_deep P b bytes at heads from word (d ∷ ds) deep = number_deep P b bytes at heads from word (d ∷ ds) (numeral (d ∷ ds)) deep
 
 digits_deep : (P : Protocol) (bytes : List ℕ) (at : ℕ) (heads : List Open) (from : ℕ) (word digits : List ℕ) → is_deep heads ≡ true → TellsAt P bytes at (reading heads (InDigits word digits) from) from
-digits_deep P [] at heads from word digits deep = record { code = Count; is = cut_deep at heads from deep }
+digits_deep P [] at heads from word digits deep = record { code = Count; is = cut_deep at heads from deep; least = omega arith }
 digits_deep P (b ∷ bytes) at heads from word digits deep =
     let longer = reading heads (InDigits word (digits ++ b ∷ [])) from in
     tells_step P b bytes at (reading heads (InDigits word digits) from) from
@@ -82,17 +85,17 @@ digits_deep P (b ∷ bytes) at heads from word digits deep =
     (after_digits_deep P b bytes at heads from word digits deep))
 
 apply_deep : (P : Protocol) (b : ℕ) (bytes : List ℕ) (at : ℕ) (heads : List Open) (from : ℕ) (found : Option Named) → is_deep heads ≡ true → Tells P b bytes at (apply heads from found) from
-apply_deep P b bytes at heads from None deep = tells_fault P b bytes at from Symbol
+apply_deep P b bytes at heads from None deep = tells_fault P b bytes at from Symbol (omega arith)
 apply_deep P b bytes at heads from (Some named) deep = tells_deep P b bytes at heads from (opened heads named from) deep
 
 name_deep : (P : Protocol) (b : ℕ) (bytes : List ℕ) (at : ℕ) (heads : List Open) (from : ℕ) (found : Option Named) → is_deep heads ≡ true → Tells P b bytes at (after_name at heads from found b) from
-name_deep P b bytes at heads from None deep = tells_fault P b bytes at from Symbol
+name_deep P b bytes at heads from None deep = tells_fault P b bytes at from Symbol (omega arith)
 name_deep P b bytes at heads from (Some named) deep =
     let ended = after_term at (node named.symbol []) heads from b in
-    tells_either P b bytes at (named.arity == 0) (unless_deep heads from ended) (Fault from Arity) from (tells_deep P b bytes at heads from ended deep) (tells_fault P b bytes at from Arity)
+    tells_either P b bytes at (named.arity == 0) (unless_deep heads from ended) (Fault from Arity) from (tells_deep P b bytes at heads from ended deep) (tells_fault P b bytes at from Arity (omega arith))
 
 word_deep : (P : Protocol) (bytes : List ℕ) (at : ℕ) (heads : List Open) (from : ℕ) (word : List ℕ) → is_deep heads ≡ true → TellsAt P bytes at (reading heads (InWord word) from) from
-word_deep P [] at heads from word deep = record { code = Count; is = cut_deep at heads from deep }
+word_deep P [] at heads from word deep = record { code = Count; is = cut_deep at heads from deep; least = omega arith }
 word_deep P (b ∷ bytes) at heads from word deep =
     let longer = reading heads (InWord (word ++ b ∷ [])) from in
     let behind = reading heads (InDigits word []) from in
@@ -118,16 +121,9 @@ first_deep P b bytes at heads deep =
     (tells_on P b bytes at in_word at (word_deep P bytes (at + 1) heads at (b ∷ []) deep))
     (tells_either P b bytes at (b == 40) (unless_deep heads at tuple) (if b == 64 then unless_deep heads at bracket else Fault at Syntax) at
     (tells_deep P b bytes at heads at tuple deep)
-    (tells_either P b bytes at (b == 64) (unless_deep heads at bracket) (Fault at Syntax) at (tells_deep P b bytes at heads at bracket deep) (tells_fault P b bytes at at Syntax)))
+    (tells_either P b bytes at (b == 64) (unless_deep heads at bracket) (Fault at Syntax) at (tells_deep P b bytes at heads at bracket deep) (tells_fault P b bytes at at Syntax (omega arith))))
 
-greatest : (code : Code) → code_number code ≤ 5
-greatest Syntax = omega arith
-greatest Number = omega arith
-greatest Symbol = omega arith
-greatest Arity = omega arith
-greatest Count = omega arith
-
-is_deep_is : (heads : List Open) → 4096 < suc (length heads) → is_deep heads ≡ true
+is_deep_is : (heads : List Open) → most_term_levels < suc (length heads) → is_deep heads ≡ true
 is_deep_is heads many = grind (arith, nat_tests)
 
 pub count_told : (P : Protocol) (here : List ℕ) (heads : List Open) → IsTooDeep (suc (length heads)) here → (at from : ℕ) → StandsBefore heads at → IsTold P here at (reading heads Begins from) here Count
@@ -142,6 +138,6 @@ count_told P here heads is at from before =
       place = at;
       told = told.code;
       is = ap (followed (read_on P is.later (at + 1)) at bytes) begins ∙ told.is;
-      not_after = inr (refl, greatest told.code);
+      not_after = inr (refl, told.least);
     })
     (λ deep. told_before P is.first is.later at start bytes Count deep.0 Count deep.1 (omega (arith, deep.2))))

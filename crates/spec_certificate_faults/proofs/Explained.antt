@@ -5,6 +5,7 @@ use Rattle.std.specs.Char.{is_ascii_digit}
 use Rattle.std.specs.Fmt.{decimal}
 use Rattle.std.specs.List.{AllByRecursion, list_all}
 use Rattle.spec_trees.specs.Tree.{Leaf, node}
+use Rattle.spec_calculus.specs.Bounds.{most_term_levels}
 use Rattle.spec_calculus.specs.Syntax.{Protocol}
 use Rattle.spec_protocol_tokens.specs.Bytes.{begins_word, is_in_word}
 use Rattle.spec_protocol_tokens.proofs.Sizes.{begins_word-in_word}
@@ -531,7 +532,7 @@ deep_stands P bytes total heads here place is begins deep = stands_here P bytes 
 held_room : (P : Protocol) (heads : List Open) (t : Term) → IsHeld P (length heads) t → is_deep heads ≡ true → ⊥
 held_room P heads t held deep = never (length heads) (omega (arith, held.shallow, positive_depth t)) deep
   where
-    never : (n : ℕ) → n + 1 ≤ 4096 → nat_le 4096 n ≡ true → ⊥
+    never : (n : ℕ) → n + 1 ≤ most_term_levels → nat_le most_term_levels n ≡ true → ⊥
     never n le e = grind (arith, nat_tests)
 
 end_told : (P : Protocol) → HasNames P → (bytes : List ℕ) (total at : ℕ) (r : Reading) (place : ℕ) (code : Code) → ReadingOf P r → IsPlaced P total r [] → bytes ≡ so_far P r [] → at_end at r.heads r.from r.mode ≡ Refused place code → (code ≡ Syntax) ⊎ Stands P bytes total place code

@@ -5,6 +5,7 @@ use Rattle.std.proofs.lemmas.List.{length-append}
 use Rattle.std.specs.Fmt.{decimal}
 use Rattle.std.specs.List.{AllByRecursion}
 use Rattle.spec_trees.specs.Tree.{Leaf, Node, trees, node, depth}
+use Rattle.spec_calculus.specs.Bounds.{most_term_levels}
 use Rattle.spec_calculus.specs.Syntax.{Protocol}
 use Rattle.spec_protocol_scope.specs.Names.{is_variable}
 use Rattle.spec_protocol_scope.specs.Words.{IsSymbolWord}
@@ -51,7 +52,7 @@ record Opens (P : Protocol) (f : Sym) (n : ℕ) (inside : List ℕ) (at : ℕ) (
   is : read_on P (head_text P f inside) at (reading heads Begins from) ≡ read_on P inside place (reading (head_over named at [] ∷ heads) Begins at)
 
 worded_opens : (P : Protocol) (w : List ℕ) (f : Sym) (arity n : ℕ) (inside : List ℕ) (at : ℕ) (heads : List Open) (m from : ℕ) → IsSymbolWord w → symbol_called P w ≡ Some record { symbol = f; arity = arity } → Misfits record { symbol = f; arity = arity } f n → head_text P f inside ≡ w ++ (40 ∷ inside)
-    → length heads + suc m ≤ 4096 → Opens P f n inside at heads from
+    → length heads + suc m ≤ most_term_levels → Opens P f n inside at heads from
 worded_opens P w f arity n inside at heads m from word called misfits text room = record {
   named = record { symbol = f; arity = arity };
   place = at + length w + 1;
@@ -59,7 +60,7 @@ worded_opens P w f arity n inside at heads m from word called misfits text room 
   is = ap (λ bs. read_on P bs at (reading heads Begins from)) text ∙ applied_read P w record { symbol = f; arity = arity } inside at heads m from (symbol_word_is_word w word) called room;
 }
 
-opens : (P : Protocol) → HasNames P → (f : Sym) (n : ℕ) → TakesOthers P f n → (inside : List ℕ) (at : ℕ) (heads : List Open) (m from : ℕ) → length heads + suc m ≤ 4096 → Opens P f n inside at heads from
+opens : (P : Protocol) → HasNames P → (f : Sym) (n : ℕ) → TakesOthers P f n → (inside : List ℕ) (at : ℕ) (heads : List Open) (m from : ℕ) → length heads + suc m ≤ most_term_levels → Opens P f n inside at heads from
 opens P names (Ctor f) n wrong inside at heads m from room =
     worded_opens P (declared_word P.constructors f) (Ctor f) wrong.0 n inside at heads m from (constructor_word P false f wrong.0 names wrong.1) (constructor_called P names false f wrong.0 wrong.1)
     record { arity = other_number wrong.0 n wrong.2; closes = refl; comma = λ two. refl; closing = refl } refl room

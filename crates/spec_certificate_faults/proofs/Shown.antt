@@ -15,7 +15,7 @@ use Rattle.spec_certificate_text.specs.Text.{term_text}
 use Rattle.spec_certificate_text.specs.OfProtocol.{HasNames}
 use Rattle.spec_certificate_text.proofs.Names.{constructor_word, free_word, symbol_word_is_word, restriction_word_is_word}
 use Rattle.spec_certificate_text.proofs.Runs.{both_left}
-use Rattle.spec_certificate_reading.specs.Terms.{Code, Syntax, Number, Symbol, Arity, Count}
+use Rattle.spec_certificate_reading.specs.Terms.{Code, Syntax, Number, Symbol, Arity, Count, NodeOrder, NodeLarge}
 use Rattle.spec_certificate_reading.proofs.Long.{onto_long}
 use Rattle.spec_certificate_faults.specs.Grammar.{IsInGrammar, MayBegin}
 use Rattle.spec_certificate_faults.specs.TermFaults.{begins_term, AreNoNumber, TakesOthers, TermFault, StandsInTerm}
@@ -132,3 +132,5 @@ fault_shown P names code bytes there is = by code is.fault
     by Symbol (same, inr fault) = at_here (begins_at is.here (fault.word ++ (64 ∷ (decimal fault.point ++ fault.behind))) fault.text (word_begins fault.word (64 ∷ (decimal fault.point ++ fault.behind)) fault.is_word)) same
     by Arity (same, fault) = at_here (begins_at is.here (term_text P (node fault.symbol fault.arguments) fault.behind) fault.text (misapplied_begins P names fault.symbol fault.arguments fault.behind fault.wrong)) same
     by Count (same, fault) = at_here record { first = fault.first; later = fault.later; text = fault.text; begins = fault.begins } same
+    by NodeOrder fault = absurd fault
+    by NodeLarge fault = absurd fault

@@ -4,6 +4,7 @@ use Rattle.std.proofs.lemmas.Bool.Decides.{nat_tests}
 use Rattle.std.specs.Fmt.{decimal}
 use Rattle.std.specs.List.{AllByRecursion}
 use Rattle.spec_trees.specs.Tree.{Leaf, Node, Trees, none, more, items_of}
+use Rattle.spec_calculus.specs.Bounds.{most_term_levels}
 use Rattle.spec_calculus.specs.Syntax.{Protocol}
 use Rattle.spec_terms.specs.Term.{Sym, Ctor, Data, Tuple, Free, Point, Attacker, Term}
 use Rattle.spec_certificate_text.specs.Loose.{Head, Applied, Tupled, Made, Attackers, LooseRow, opening}
@@ -138,7 +139,7 @@ head_begins P names (Free a) arity k is = word_begins (symbol_word P (Free a)) (
 head_begins P names (Point p) arity k is = word_begins (symbol_word P (Point p)) (64 ∷ (decimal p ++ (91 ∷ k))) (restriction_word_is_word P p arity names is.0)
 head_begins P names Attacker arity k is = record { first = 64; later = 91 ∷ k; text = refl; begins = refl }
 
-is_many : (heads : List Open) → is_deep heads ≡ true → 4096 < suc (length heads)
+is_many : (heads : List Open) → is_deep heads ≡ true → most_term_levels < suc (length heads)
 is_many heads deep = grind (arith, nat_tests)
 
 pub deep_there : (heads : List Open) (here : List ℕ) → BeginsTerm here → is_deep heads ≡ true → IsTooDeep (suc (length heads)) here

@@ -9,7 +9,7 @@ use Rattle.spec_certificate_text.specs.Loose.{Loose, onto}
 use Rattle.spec_certificate_text.specs.Spelled.{IsWord, goes_on}
 use Rattle.spec_certificate_text.specs.Written.{written}
 use Rattle.spec_certificate_text.specs.OfProtocol.{HasNames}
-use Rattle.spec_certificate_reading.specs.Terms.{Code, Syntax, Number, Symbol, Arity, Count, Begins, InWord, InDigits, Ended, Reading, Step, Goes, Ends, Fault}
+use Rattle.spec_certificate_reading.specs.Terms.{Code, Syntax, Number, Symbol, Arity, Count, NodeOrder, NodeLarge, Begins, InWord, InDigits, Ended, Reading, Step, Goes, Ends, Fault}
 use Rattle.spec_certificate_reading.specs.Names.{Named, symbol_called}
 use Rattle.spec_certificate_reading.specs.Steps.{goes, apply, step}
 use Rattle.spec_certificate_reading.specs.Runs.{Read, Done, Refused, followed, read_on, read_term}
@@ -71,6 +71,8 @@ fault_is P Number bytes there stands = stands
 fault_is P Symbol bytes there stands = stands
 fault_is P Arity bytes there stands = stands
 fault_is P Count bytes there stands = stands
+fault_is P NodeOrder bytes there stands = absurd stands.fault
+fault_is P NodeLarge bytes there stands = absurd stands.fault
 
 told_stands_at : (P : Protocol) → HasNames P → (bytes : List ℕ) (at place : ℕ) (code : Code) → read_term P bytes at ≡ Refused place code → StandsAt (terms P) bytes at place code
 told_stands_at P names bytes at place code e =
@@ -178,6 +180,8 @@ syntax_or Number = inr (λ e. cc)
 syntax_or Symbol = inr (λ e. cc)
 syntax_or Arity = inr (λ e. cc)
 syntax_or Count = inr (λ e. cc)
+syntax_or NodeOrder = inr (λ e. cc)
+syntax_or NodeLarge = inr (λ e. cc)
 
 no_done : (P : Protocol) (before there rest : List ℕ) → NoneGoesOn (terms P) before there → IsTermText (before ++ there) rest → ⊥
 no_done P before [] rest stops is = stops rest (subst (λ bs. IsTermText bs rest) (append-nil before) is)
@@ -224,6 +228,8 @@ any_told P names Number bytes there at is = term_fault_told P names bytes at the
 any_told P names Symbol bytes there at is = term_fault_told P names bytes at there Symbol is
 any_told P names Arity bytes there at is = term_fault_told P names bytes at there Arity is
 any_told P names Count bytes there at is = term_fault_told P names bytes at there Count is
+any_told P names NodeOrder bytes there at is = absurd is.fault
+any_told P names NodeLarge bytes there at is = absurd is.fault
 
 -- the fault that is told does not stand after another
 record TellsFirst (P : Protocol) (bytes : List ℕ) (at other : ℕ) (another : Code) : Type 0 where
@@ -260,26 +266,50 @@ number_tells Syntax Number e = absurd (omega (arith, e))
 number_tells Syntax Symbol e = absurd (omega (arith, e))
 number_tells Syntax Arity e = absurd (omega (arith, e))
 number_tells Syntax Count e = absurd (omega (arith, e))
+number_tells Syntax NodeOrder e = absurd (omega (arith, e))
+number_tells Syntax NodeLarge e = absurd (omega (arith, e))
 number_tells Number Syntax e = absurd (omega (arith, e))
 number_tells Number Number e = refl
 number_tells Number Symbol e = absurd (omega (arith, e))
 number_tells Number Arity e = absurd (omega (arith, e))
 number_tells Number Count e = absurd (omega (arith, e))
+number_tells Number NodeOrder e = absurd (omega (arith, e))
+number_tells Number NodeLarge e = absurd (omega (arith, e))
 number_tells Symbol Syntax e = absurd (omega (arith, e))
 number_tells Symbol Number e = absurd (omega (arith, e))
 number_tells Symbol Symbol e = refl
 number_tells Symbol Arity e = absurd (omega (arith, e))
 number_tells Symbol Count e = absurd (omega (arith, e))
+number_tells Symbol NodeOrder e = absurd (omega (arith, e))
+number_tells Symbol NodeLarge e = absurd (omega (arith, e))
 number_tells Arity Syntax e = absurd (omega (arith, e))
 number_tells Arity Number e = absurd (omega (arith, e))
 number_tells Arity Symbol e = absurd (omega (arith, e))
 number_tells Arity Arity e = refl
 number_tells Arity Count e = absurd (omega (arith, e))
+number_tells Arity NodeOrder e = absurd (omega (arith, e))
+number_tells Arity NodeLarge e = absurd (omega (arith, e))
 number_tells Count Syntax e = absurd (omega (arith, e))
 number_tells Count Number e = absurd (omega (arith, e))
 number_tells Count Symbol e = absurd (omega (arith, e))
 number_tells Count Arity e = absurd (omega (arith, e))
 number_tells Count Count e = refl
+number_tells Count NodeOrder e = absurd (omega (arith, e))
+number_tells Count NodeLarge e = absurd (omega (arith, e))
+number_tells NodeOrder Syntax e = absurd (omega (arith, e))
+number_tells NodeOrder Number e = absurd (omega (arith, e))
+number_tells NodeOrder Symbol e = absurd (omega (arith, e))
+number_tells NodeOrder Arity e = absurd (omega (arith, e))
+number_tells NodeOrder Count e = absurd (omega (arith, e))
+number_tells NodeOrder NodeOrder e = refl
+number_tells NodeOrder NodeLarge e = absurd (omega (arith, e))
+number_tells NodeLarge Syntax e = absurd (omega (arith, e))
+number_tells NodeLarge Number e = absurd (omega (arith, e))
+number_tells NodeLarge Symbol e = absurd (omega (arith, e))
+number_tells NodeLarge Arity e = absurd (omega (arith, e))
+number_tells NodeLarge Count e = absurd (omega (arith, e))
+number_tells NodeLarge NodeOrder e = absurd (omega (arith, e))
+number_tells NodeLarge NodeLarge e = refl
 
 pub first_is_one : (K : Kind) (bytes : List ℕ) (at p q : ℕ) (c d : Code) → IsFirstFault K bytes at p c → IsFirstFault K bytes at q d → (p ≡ q) × (c ≡ d)
 first_is_one K bytes at p q c d one two = by (one.first q d two.stands) (two.first p c one.stands)

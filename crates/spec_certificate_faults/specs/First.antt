@@ -2,7 +2,7 @@
 use Rattle.std.specs.Prelude.{◌≡◌, ℕ, ◌+◌, ◌<◌, ◌≤◌, ◌⊎◌, List, [], ◌∷◌, ◌++◌, length}
 use Rattle.spec_calculus.specs.Syntax.{Protocol}
 use Rattle.spec_certificate_text.specs.Loose.{Loose, onto}
-use Rattle.spec_certificate_reading.specs.Terms.{Code, Syntax, Number, Symbol, Arity, Count}
+use Rattle.spec_certificate_reading.specs.Terms.{Code, Syntax, Number, Symbol, Arity, Count, NodeOrder, NodeLarge}
 use Rattle.spec_certificate_faults.specs.Grammar.{IsInGrammar, EndsBefore}
 use Rattle.spec_certificate_faults.specs.TermFaults.{StandsInTerm}
 
@@ -32,6 +32,8 @@ IsFault K Number bytes there = K.Fault Number bytes there
 IsFault K Symbol bytes there = K.Fault Symbol bytes there
 IsFault K Arity bytes there = K.Fault Arity bytes there
 IsFault K Count bytes there = K.Fault Count bytes there
+IsFault K NodeOrder bytes there = K.Fault NodeOrder bytes there
+IsFault K NodeLarge bytes there = K.Fault NodeLarge bytes there
 
 -- a fault of the code stands at the place of the bytes, the first of which has the other one
 pub record StandsAt (K : Kind) (bytes : List ℕ) (at place : ℕ) (code : Code) : Type 0 where
@@ -46,6 +48,8 @@ code_number Number = 2
 code_number Symbol = 3
 code_number Arity = 4
 code_number Count = 5
+code_number NodeOrder = 7
+code_number NodeLarge = 8
 
 -- it stands at an earlier place, or at the same and has no greater number
 abbrev pub NotAfter : ℕ → Code → ℕ → Code → Type 0

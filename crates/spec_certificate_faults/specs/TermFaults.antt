@@ -4,7 +4,7 @@ use Rattle.std.specs.Char.{is_ascii_digit}
 use Rattle.std.specs.Fmt.{decimal}
 use Rattle.std.specs.List.{AllByRecursion}
 use Rattle.spec_trees.specs.Tree.{node, depth}
-use Rattle.spec_calculus.specs.Bounds.{most_arguments}
+use Rattle.spec_calculus.specs.Bounds.{most_arguments, most_term_levels}
 use Rattle.spec_calculus.specs.Syntax.{Protocol}
 use Rattle.spec_protocol_tokens.specs.Bytes.{begins_word, is_in_word}
 use Rattle.spec_protocol_scope.specs.Names.{is_variable}
@@ -14,7 +14,7 @@ use Rattle.spec_certificate_text.specs.Words.{symbol_word, word_at}
 use Rattle.spec_certificate_text.specs.Written.{written}
 use Rattle.spec_certificate_text.specs.Text.{term_text}
 use Rattle.spec_certificate_text.specs.Spelled.{IsWord, AreDigits, goes_on}
-use Rattle.spec_certificate_reading.specs.Terms.{Code, Syntax, Number, Symbol, Arity, Count}
+use Rattle.spec_certificate_reading.specs.Terms.{Code, Syntax, Number, Symbol, Arity, Count, NodeOrder, NodeLarge}
 use Rattle.spec_certificate_faults.specs.Grammar.{EndsAt, EndsBefore, MayBegin}
 
 -- Number: digits, one at least, that are not decimal without leading zero, of at most 9 digits.
@@ -85,7 +85,7 @@ TakesOthers P symbol n = (arity : ℕ) × IsSymbolOf P symbol arity × (arity �
 
 -- so many levels stand above
 abbrev pub MayStandBelow : Protocol → ℕ → Term → Type 0
-MayStandBelow P above t = IsTermOf P t × (above + depth t ≤ 4096)
+MayStandBelow P above t = IsTermOf P t × (above + depth t ≤ most_term_levels)
 
 pub record IsMisapplied (P : Protocol) (level : ℕ) (here : List ℕ) : Type 0 where
   pub symbol : Sym
@@ -107,7 +107,7 @@ pub record IsTooDeep (level : ℕ) (here : List ℕ) : Type 0 where
   pub later : List ℕ
   pub text : here ≡ first ∷ later
   pub begins : begins_term first ≡ true
-  pub deep : 4096 < level
+  pub deep : most_term_levels < level
 
 -- the fault of this code stands at the one place, where a term of the level begins at the other
 abbrev pub TermFault : Protocol → ℕ → List ℕ → Code → List ℕ → Type 0
@@ -116,6 +116,8 @@ TermFault P level here Number there = IsNoVariable here there ⊎ IsNoPoint here
 TermFault P level here Symbol there = (there ≡ here) × (NamesNothing P here ⊎ NamesNoRestriction P here)
 TermFault P level here Arity there = (there ≡ here) × IsMisapplied P level here
 TermFault P level here Count there = (there ≡ here) × IsTooDeep level here
+TermFault P level here NodeOrder there = ⊥
+TermFault P level here NodeLarge there = ⊥
 
 -- it stands in the bytes, which a term begins
 pub record StandsInTerm (P : Protocol) (code : Code) (bytes there : List ℕ) : Type 0 where

@@ -122,7 +122,7 @@ numbers_long (n ∷ ns) k = omega (arith, length-append (decimal n) (numbers_tex
 row_long : (letter : ℕ) (ns k : List ℕ) → length k + 1 ≤ length (row_text letter ns k)
 row_long letter ns k = omega (arith, numbers_long ns (10 ∷ k))
 
-rows_there : (letter : ℕ) → Sound (row_lines letter) (AllByRecursion IsRow) (read_rows letter)
+pub rows_there : (letter : ℕ) → Sound (row_lines letter) (AllByRecursion IsRow) (read_rows letter)
 rows_there letter bytes at rows p r e =
     let all = lines_there (row_text letter) IsRow letter (row_line letter) (row_there letter) (length bytes) [] bytes at rows p r e in
     let there : IsThere (row_lines letter) (AllByRecursion IsRow) bytes all.others r = record { text = all.text ∙ rows_are letter all.others r; is = all.each } in

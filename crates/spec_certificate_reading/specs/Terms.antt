@@ -12,7 +12,9 @@ pub data Code : Type 0 where
   Number : Code  -- no decimal number within the limit of digits without leading zero
   Symbol : Code  -- a word that names nothing that may stand there
   Arity : Code  -- a wrong number of arguments
-  Count : Code  -- too deep
+  Count : Code  -- too deep, one too many, or out of order
+  NodeOrder : Code  -- a node or a number of one is out of order
+  NodeLarge : Code  -- a node, or what is over nodes, has too many symbols
 
 -- a symbol whose arguments are being read: where it stands, how many it takes, and those that were read
 pub record Open : Type 0 where

@@ -4,3 +4,4 @@ pub mod Apart
 pub mod Names
 pub mod Terms
 pub mod Clauses
+pub mod Followed

@@ -45,7 +45,7 @@ second_extends K L May front before each may to =
 
 -- The kinds.
 
-past_both : (Last : Type 0) (K L : Kind) (May Must : List ℕ → Type 0) → Forms ⊥ K May → Forms Last L Must → ((bs rest : List ℕ) → L.Text bs rest → May bs) → (code : Code) (bytes there : List ℕ) → (behind K L).Fault code bytes there → IsPassed Last (behind K L) bytes there
+pub past_both : (Last : Type 0) (K L : Kind) (May Must : List ℕ → Type 0) → Forms ⊥ K May → Forms Last L Must → ((bs rest : List ℕ) → L.Text bs rest → May bs) → (code : Code) (bytes there : List ℕ) → (behind K L).Fault code bytes there → IsPassed Last (behind K L) bytes there
 past_both Last K L May Must first second may code bytes there (inl fault) =
     let past = goes_past K bytes there (first.past code bytes there fault) in
     inl record { before = past.before; text = past.text; first = past.first; later = past.later; begins = past.begins; extends = first_extends K L May Must (past.before ++ past.first ∷ []) first.moved may second.some past.extends }
@@ -64,7 +64,7 @@ past_both Last K L May Must first second may code bytes there (inr (mid, one, fa
         }
     by (inr ends) = inr (ends.0, record { none = ends.1.none; rest = ends.1.rest; is = (mid, one, ends.1.is) })
 
-moved_both : (K L : Kind) (May Must : List ℕ → Type 0) → ((bs rest : List ℕ) → K.Text bs rest → IsMoved K May bs rest) → ((bs rest : List ℕ) → L.Text bs rest → IsMoved L Must bs rest) → ((bs rest : List ℕ) → L.Text bs rest → May bs) → (bytes mid rest : List ℕ) → K.Text bytes mid → L.Text mid rest → IsMoved (behind K L) Must bytes rest
+pub moved_both : (K L : Kind) (May Must : List ℕ → Type 0) → ((bs rest : List ℕ) → K.Text bs rest → IsMoved K May bs rest) → ((bs rest : List ℕ) → L.Text bs rest → IsMoved L Must bs rest) → ((bs rest : List ℕ) → L.Text bs rest → May bs) → (bytes mid rest : List ℕ) → K.Text bytes mid → L.Text mid rest → IsMoved (behind K L) Must bytes rest
 moved_both K L May Must first second may bytes mid rest one two =
     let a = first bytes mid one in
     let b = second mid rest two in
@@ -76,7 +76,7 @@ moved_both K L May Must first second may bytes mid rest one two =
           (b.front ++ other, subst (λ bs. K.Text bs (b.front ++ other)) (sym (append_assoc a.front b.front other)) (a.each (b.front ++ other) (may (b.front ++ other) other l)), l);
     }
 
-some_both : (K L : Kind) (May Must : List ℕ → Type 0) → HasSome K May → HasSome L Must → ((bs rest : List ℕ) → L.Text bs rest → May bs) → HasSome (behind K L) Must
+pub some_both : (K L : Kind) (May Must : List ℕ → Type 0) → HasSome K May → HasSome L Must → ((bs rest : List ℕ) → L.Text bs rest → May bs) → HasSome (behind K L) Must
 some_both K L May Must first second may = record {
   front = first.front ++ second.front;
   each = λ other must.
@@ -112,13 +112,13 @@ found_both Last K L Of On May Must r m first second on bytes at place y rest of 
     let so = on bytes k of one in
     ((k, one, (second at x).found k p place y rest so told), (second at x).counted k p place y rest so told ∙ first.counted bytes at p x k of is)
 
-right_first : (K L : Kind) (May Must : List ℕ → Type 0) → ((bs rest : List ℕ) → K.Text bs rest → IsMoved K May bs rest) → ((bs rest : List ℕ) → L.Text bs rest → May bs) → HasSome L Must → (bytes : List ℕ) (total place : ℕ) (code : Code) → IsRight K bytes total place code → IsRight (behind K L) bytes total place code
+pub right_first : (K L : Kind) (May Must : List ℕ → Type 0) → ((bs rest : List ℕ) → K.Text bs rest → IsMoved K May bs rest) → ((bs rest : List ℕ) → L.Text bs rest → May bs) → HasSome L Must → (bytes : List ℕ) (total place : ℕ) (code : Code) → IsRight K bytes total place code → IsRight (behind K L) bytes total place code
 right_first K L May Must moved may some bytes total place code (inl syntax) =
     let to = syntax.1.to in
     inl (syntax.0, record { there = syntax.1.there; to = record { before = to.before; text = to.text; extends = first_extends K L May Must to.before moved may some to.extends }; counted = syntax.1.counted })
 right_first K L May Must moved may some bytes total place code (inr stands) = inr record { there = stands.there; is = inl stands.is; counted = stands.counted }
 
-right_second : (K L : Kind) (May : List ℕ → Type 0) → ((bs rest : List ℕ) → K.Text bs rest → IsMoved K May bs rest) → ((bs rest : List ℕ) → L.Text bs rest → May bs) → (bytes mid : List ℕ) (total place : ℕ) (code : Code) → K.Text bytes mid → IsRight L mid total place code → IsRight (behind K L) bytes total place code
+pub right_second : (K L : Kind) (May : List ℕ → Type 0) → ((bs rest : List ℕ) → K.Text bs rest → IsMoved K May bs rest) → ((bs rest : List ℕ) → L.Text bs rest → May bs) → (bytes mid : List ℕ) (total place : ℕ) (code : Code) → K.Text bytes mid → IsRight L mid total place code → IsRight (behind K L) bytes total place code
 right_second K L May moves may bytes mid total place code text (inl syntax) =
     let to = syntax.1.to in
     let moved = moves bytes mid text in
@@ -147,7 +147,7 @@ right_both {A} {B} Last K L Of On May Must r m first second forms may on bytes a
     subst (λ total. IsRight (behind K L) bytes total place code) (first.counted bytes at p x k of is)
     (right_second K L May first.forms.moved may bytes k (p + length k) place code one ((second at x).right k p place code (on bytes k of one) told))
 
-later_early : (Last : Type 0) (place q : ℕ) (rest mid : List ℕ) (total : ℕ) → q + length mid ≡ total → IsEarly Last place rest (q + length mid) → IsEarly Last place rest total
+pub later_early : (Last : Type 0) (place q : ℕ) (rest mid : List ℕ) (total : ℕ) → q + length mid ≡ total → IsEarly Last place rest (q + length mid) → IsEarly Last place rest total
 later_early Last place q rest mid total e (inl early) = inl (omega (arith, early, e))
 later_early Last place q rest mid total e (inr last) = inr (last.0, omega (arith, last.1, e))
 

@@ -15,7 +15,7 @@ use Rattle.spec_certificate_text.specs.Words.{event_word}
 use Rattle.spec_certificate_text.specs.Written.{written_row, written_event}
 use Rattle.spec_certificate_text.proofs.Names.{event_word_is_word}
 use Rattle.spec_certificate_reading.specs.Names.{CalledEvent, event_called}
-use Rattle.spec_certificate_reading.specs.Terms.{Code, Syntax, Number, Symbol, Arity, Count}
+use Rattle.spec_certificate_reading.specs.Terms.{Code, Syntax, Number, Symbol, Arity, Count, NodeOrder, NodeLarge}
 use Rattle.spec_certificate_reading.specs.Outcomes.{Outcome, Found, Faulty, next, front, ended, Reader, read_fixed}
 use Rattle.spec_certificate_reading.specs.Facts.{one_term, argument, read_terms, Performed, performed, event_named, read_event}
 use Rattle.spec_certificate_reading.specs.Readable.{MayStand}
@@ -115,6 +115,8 @@ word_judges P names = record {
     so Number bytes at here = absurd here
     so Arity bytes at here = absurd here
     so Count bytes at here = absurd here
+    so NodeOrder bytes at here = absurd here
+    so NodeLarge bytes at here = absurd here
 
     there : (code : Code) (bytes : List ℕ) (at place : ℕ) (w rest : List ℕ) → run_read begins_word is_in_word bytes at ≡ Found w place rest → (event_called P w ≡ None) × (code ≡ Symbol) → WordFault P code bytes
     there code bytes at place w rest e (none, codes) =
@@ -134,6 +136,8 @@ word_judges P names = record {
     past_it Number bytes here = absurd here
     past_it Arity bytes here = absurd here
     past_it Count bytes here = absurd here
+    past_it NodeOrder bytes here = absurd here
+    past_it NodeLarge bytes here = absurd here
 
 word_tells : (P : Protocol) → HasNames P → Tells ⊥ (marked words (WordFault P)) Anything (EndsAt is_in_word) (word_read P)
 unfolding word_read
@@ -357,6 +361,8 @@ event_judges P names = record {
     so Number bytes at here = absurd here
     so Symbol bytes at here = absurd here
     so Count bytes at here = absurd here
+    so NodeOrder bytes at here = absurd here
+    so NodeLarge bytes at here = absurd here
 
     there : (code : Code) (bytes : List ℕ) (at place : ℕ) (x : CalledEvent × List Term) (rest : List ℕ) → with_arguments P bytes at ≡ Found x place rest → (x.0.arity ≢ length x.1) × (code ≡ Arity) → EventFault P code bytes
     there code bytes at place x rest e (other, codes) =
@@ -399,6 +405,8 @@ event_judges P names = record {
     past_it Number bytes here = absurd here
     past_it Symbol bytes here = absurd here
     past_it Count bytes here = absurd here
+    past_it NodeOrder bytes here = absurd here
+    past_it NodeLarge bytes here = absurd here
 
 pub events_tell : (P : Protocol) → HasNames P → Tells ⊥ (events P) Anything (EndsAt event_goes_on) (read_event P)
 events_tell P names =

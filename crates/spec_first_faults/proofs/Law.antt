@@ -1,7 +1,7 @@
 -- What is told by a reader that tells the first fault of a kind is the first fault.
 use Rattle.std.proofs.Common.{◌≡◌, ℕ, ◌+◌, ◌≤◌, ◌⊎◌, inl, inr, List, [], ◌∷◌, ◌++◌, length, refl, sym, ◌∙◌, ap, subst, arith, append_assoc, length-append}
 use Rattle.std.proofs.lemmas.List.{append-nil}
-use Rattle.spec_certificate_reading.specs.Terms.{Code, Syntax, Number, Symbol, Arity, Count}
+use Rattle.spec_certificate_reading.specs.Terms.{Code, Syntax, Number, Symbol, Arity, Count, NodeOrder, NodeLarge}
 use Rattle.spec_certificate_reading.specs.Outcomes.{Outcome, Found, Faulty, Reader}
 use Rattle.spec_reading_faults.proofs.Shared.{shares_behind}
 use Rattle.spec_certificate_faults.specs.First.{Kind, NoneGoesOn, IsFault, StandsAt, code_number, NotAfter, IsFirstFault}
@@ -32,6 +32,8 @@ fault_is K Number bytes there none stands = stands
 fault_is K Symbol bytes there none stands = stands
 fault_is K Arity bytes there none stands = stands
 fault_is K Count bytes there none stands = stands
+fault_is K NodeOrder bytes there none stands = stands
+fault_is K NodeLarge bytes there none stands = stands
 
 pub told_stands : {A : Type 0} {Last : Type 0} (K : Kind) (May : List ℕ → Type 0) (r : Reader A) → Tells Last K Anything May r → (bytes : List ℕ) (at place : ℕ) (code : Code) → r bytes at ≡ Faulty place code → StandsAt K bytes at place code
 told_stands K May r tells bytes at place code e = by (tells.right bytes at place code tt e)
@@ -103,6 +105,8 @@ any_told K May r tells Number bytes there at is = tells.told Number bytes there 
 any_told K May r tells Symbol bytes there at is = tells.told Symbol bytes there at tt is
 any_told K May r tells Arity bytes there at is = tells.told Arity bytes there at tt is
 any_told K May r tells Count bytes there at is = tells.told Count bytes there at tt is
+any_told K May r tells NodeOrder bytes there at is = tells.told NodeOrder bytes there at tt is
+any_told K May r tells NodeLarge bytes there at is = tells.told NodeLarge bytes there at tt is
 
 -- the fault that is told does not stand after another
 record TellsFirst {A : Type 0} (o : Outcome A) (other : ℕ) (another : Code) : Type 0 where

@@ -7,7 +7,7 @@ use Rattle.std.specs.List.{prefix_len}
 use Rattle.spec_run_text.specs.Reading.{numeral}
 use Rattle.spec_run_text.proofs.Numbers.{numeral-decimal, numeral_some}
 use Rattle.spec_certificate_text.specs.OfProtocol.{IsShort}
-use Rattle.spec_certificate_reading.specs.Terms.{Code, Syntax, Number, Symbol, Arity, Count}
+use Rattle.spec_certificate_reading.specs.Terms.{Code, Syntax, Number, Symbol, Arity, Count, NodeOrder, NodeLarge}
 use Rattle.spec_certificate_reading.specs.Outcomes.{Found, Faulty, next, front, ended, as_number, number_before, read_number}
 use Rattle.spec_certificate_reading.proofs.Parts.{parts}
 use Rattle.spec_certificate_faults.specs.Grammar.{EndsAt}
@@ -102,6 +102,8 @@ number_judges = record {
     so Symbol bytes at here = absurd here
     so Arity bytes at here = absurd here
     so Count bytes at here = absurd here
+    so NodeOrder bytes at here = absurd here
+    so NodeLarge bytes at here = absurd here
 
     there : (code : Code) (bytes : List ℕ) (at place : ℕ) (w rest : List ℕ) → run_read is_ascii_digit is_ascii_digit bytes at ≡ Found w place rest → (numeral w ≡ None) × (code ≡ Number) → NumberFault code bytes
     there code bytes at place w rest e (none, codes) =
@@ -115,6 +117,8 @@ number_judges = record {
     past_it Symbol bytes here = absurd here
     past_it Arity bytes here = absurd here
     past_it Count bytes here = absurd here
+    past_it NodeOrder bytes here = absurd here
+    past_it NodeLarge bytes here = absurd here
 
 pub numbers_tell : Tells ⊥ numbers Anything (EndsAt is_ascii_digit) read_number
 numbers_tell =

@@ -6,10 +6,10 @@ use Rattle.std.specs.Char.{is_ascii_digit}
 use Rattle.std.specs.List.{prefix_len}
 use Rattle.spec_calculus.specs.Syntax.{Protocol}
 use Rattle.spec_certificate_text.specs.OfProtocol.{HasNames}
-use Rattle.spec_certificate_reading.specs.Terms.{Code, Syntax, Number, Symbol, Arity, Count}
+use Rattle.spec_certificate_reading.specs.Terms.{Code, Syntax, Number, Symbol, Arity, Count, NodeOrder, NodeLarge}
 use Rattle.spec_certificate_reading.specs.Outcomes.{Outcome, Found, Faulty, next, front, ended, Reader, read_fixed, read_number}
 use Rattle.spec_certificate_reading.specs.Certificates.{read_certificate}
-use Rattle.spec_certificate_reading.specs.Reports.{Claim, Proved, Bare, Unknown, read_text, read_proof, read_unknown, read_proved, read_verdict, read_claim, claims_from}
+use Rattle.spec_certificate_reading.specs.Reports.{Claim, Proved, Bare, Unknown, read_text, read_proof, read_unknown, read_proved, read_verdict, read_claim, claims_by, claims_from}
 use Rattle.spec_certificate_reading.proofs.Parts.{other_byte, same_byte}
 use Rattle.spec_report_text.specs.Text.{in_line}
 use Rattle.spec_reading_faults.proofs.Shared.{Shares, IsLocal, choice_local}
@@ -131,6 +131,8 @@ order_judges number = record {
     so Number bytes at here = absurd here
     so Symbol bytes at here = absurd here
     so Arity bytes at here = absurd here
+    so NodeOrder bytes at here = absurd here
+    so NodeLarge bytes at here = absurd here
 
     there : (code : Code) (bytes : List ℕ) (at place n : ℕ) (rest : List ℕ) → read_number bytes at ≡ Found n place rest → (n ≢ number) × (code ≡ Count) → OrderFault number code bytes
     there code bytes at place n rest e (other, codes) =
@@ -143,6 +145,8 @@ order_judges number = record {
     past_it Number bytes here = absurd here
     past_it Symbol bytes here = absurd here
     past_it Arity bytes here = absurd here
+    past_it NodeOrder bytes here = absurd here
+    past_it NodeLarge bytes here = absurd here
 
 about_tells : (P : Protocol) → HasNames P → (number : ℕ) → Tells ⊥ (claims_about P number) Anything BeginsNone (read_claim P number)
 about_tells P names number =
@@ -186,6 +190,8 @@ past_judges = record {
     so Number bytes at here = absurd here
     so Symbol bytes at here = absurd here
     so Arity bytes at here = absurd here
+    so NodeOrder bytes at here = absurd here
+    so NodeLarge bytes at here = absurd here
 
     there : (code : Code) (bytes : List ℕ) (at place n : ℕ) (rest : List ℕ) → read_number bytes at ≡ Found n place rest → Count ≡ code → PastFault code bytes
     there code bytes at place n rest e codes =
@@ -198,6 +204,8 @@ past_judges = record {
     past_it Number bytes here = absurd here
     past_it Symbol bytes here = absurd here
     past_it Arity bytes here = absurd here
+    past_it NodeOrder bytes here = absurd here
+    past_it NodeLarge bytes here = absurd here
 
 -- What stands behind it.
 
@@ -273,7 +281,7 @@ further_tells claims =
     (marked_tells numbers Anything (EndsAt is_ascii_digit) read_number judge_past PastFault numbers_tell past_judges) (λ at u. anything_else-tells claims) (anything_else-tells claims).forms (λ bs rest text. text.0) (λ bs mid of text. text.ends))
 
 claims_end : (P : Protocol) (number : ℕ) (claims : List Claim) (bytes : List ℕ) (at : ℕ) → claims_from P 0 number claims bytes at ≡ chosen is_some (further_query claims) (λ bs p. Found claims p bs) bytes at
-unfolding claims_from is_some judge_past
+unfolding claims_by is_some judge_past
 claims_end P number claims [] at = refl
 claims_end P number claims (b ∷ bytes) at = next_same (read_fixed (codes "query ") (b ∷ bytes) at) _ _ (λ u from r. sym (next_twice (read_number r from) (λ n p k. judged (judge_past n) from p k) (λ x p k. to_end claims k p)))
 
@@ -286,6 +294,8 @@ left_here Syntax bytes there (inr (here, none)) = absurd none
 left_here Number bytes there (inr (here, none)) = absurd none
 left_here Symbol bytes there (inr (here, none)) = absurd none
 left_here Arity bytes there (inr (here, none)) = absurd none
+left_here NodeOrder bytes there (inr (here, none)) = absurd none
+left_here NodeLarge bytes there (inr (here, none)) = absurd none
 
 left_forms : Forms IsLast (marked (nothing_before AtEnd) LeftFault) AtEnd
 left_forms = record {
@@ -315,7 +325,7 @@ left_tells = record {
 
 claims_more : (P : Protocol) (left number : ℕ) (claims : List Claim) (bytes : List ℕ) (at : ℕ)
     → claims_from P (suc left) number claims bytes at ≡ chosen is_some (then_read (read_claim P number) (λ at c. claims_from P left (number + 1) (claims ++ c ∷ []))) (λ bs p. Faulty p Count) bytes at
-unfolding claims_from is_some
+unfolding claims_by is_some
 claims_more P left number claims [] at = refl
 claims_more P left number claims (b ∷ bytes) at = refl
 

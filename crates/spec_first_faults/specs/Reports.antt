@@ -23,12 +23,14 @@ reasons = behind (runs in_line in_line) (fixed (codes "\n"))
 abbrev pub BeginsNone : List ℕ → Type 0
 BeginsNone bytes = (front bytes == 99) ≡ false
 
--- a certificate or none
-abbrev pub proofs : Protocol → Kind
-proofs P = one_of (certificates P) (nothing_before BeginsNone)
+-- Where this is the kind of certificates.
 
-abbrev pub verdicts : Protocol → Kind
-verdicts P = one_of (behind (fixed (codes " unknown ")) reasons) (behind (fixed (codes " proved\n")) (proofs P))
+-- a certificate or none
+abbrev pub proofs_with : Kind → Kind
+proofs_with K = one_of K (nothing_before BeginsNone)
+
+abbrev pub verdicts_with : Kind → Kind
+verdicts_with K = one_of (behind (fixed (codes " unknown ")) reasons) (behind (fixed (codes " proved\n")) (proofs_with K))
 
 -- Count: the number of another query than the next
 pub record IsOtherQuery (next : ℕ) (bytes : List ℕ) : Type 0 where
@@ -44,8 +46,8 @@ OrderFault next Count bytes = IsOtherQuery next bytes
 OrderFault next code bytes = ⊥
 
 -- the claim about the query of that number
-abbrev pub claims_about : Protocol → ℕ → Kind
-claims_about P number = behind (fixed (codes "query ")) (behind (marked numbers (OrderFault number)) (verdicts P))
+abbrev pub claims_about_with : Kind → ℕ → Kind
+claims_about_with K number = behind (fixed (codes "query ")) (behind (marked numbers (OrderFault number)) (verdicts_with K))
 
 -- Count: a query past the last
 pub record IsPastLast (bytes : List ℕ) : Type 0 where
@@ -74,9 +76,23 @@ LeftFault code bytes = ⊥
 
 -- the claims about so many queries, the first of which has the number, and the end of all bytes: the grammar has claims up to there,
 -- whatever their numbers are and however many
+abbrev pub claims_with : Kind → ℕ → ℕ → Kind
+claims_with K zero number = one_of (behind (fixed (codes "query ")) (behind (marked numbers PastFault) anything_else)) (nothing_before AtEnd)
+claims_with K (suc left) number = one_of (behind (claims_about_with K number) (claims_with K left (number + 1))) (marked (nothing_before AtEnd) LeftFault)
+
+-- Certificates without a table.
+
+abbrev pub proofs : Protocol → Kind
+proofs P = proofs_with (certificates P)
+
+abbrev pub verdicts : Protocol → Kind
+verdicts P = verdicts_with (certificates P)
+
+abbrev pub claims_about : Protocol → ℕ → Kind
+claims_about P number = claims_about_with (certificates P) number
+
 abbrev pub claims_of : Protocol → ℕ → ℕ → Kind
-claims_of P zero number = one_of (behind (fixed (codes "query ")) (behind (marked numbers PastFault) anything_else)) (nothing_before AtEnd)
-claims_of P (suc left) number = one_of (behind (claims_about P number) (claims_of P left (number + 1))) (marked (nothing_before AtEnd) LeftFault)
+claims_of P left number = claims_with (certificates P) left number
 
 -- a report: a claim about each query of the protocol, in order
 abbrev pub reports : Protocol → Kind

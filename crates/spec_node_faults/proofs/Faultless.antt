@@ -25,7 +25,8 @@ use Rattle.spec_node_tables.proofs.Ordered.{apart_nothing}
 use Rattle.spec_node_faults.specs.Loose.{LooseCertificate, row_line, written}
 use Rattle.spec_node_faults.specs.Nodes.{place_if, node_numbers, node_symbols, node_arities, node_orders, node_larges}
 use Rattle.spec_node_faults.specs.Clauses.{item_symbols, item_arities, item_orders, item_larges, has_unreached}
-use Rattle.spec_node_faults.specs.Faults.{Code, Number, Symbol, Arity, Count, NodeOrder, NodeLarge, nodes_place, clauses_place, rows_place, goals_place, table_of, all_nodes, all_items, row_numbers, clause_numbers, clause_orders, clause_larges, places}
+use Rattle.spec_certificate_reading.specs.Terms.{Code, Syntax, Number, Symbol, Arity, Count, NodeOrder, NodeLarge}
+use Rattle.spec_node_faults.specs.Faults.{nodes_place, clauses_place, rows_place, goals_place, table_of, all_nodes, all_items, row_numbers, clause_numbers, clause_orders, clause_larges, places}
 use Rattle.spec_node_faults.proofs.Meant.{terms_meant_are}
 use Rattle.spec_node_faults.proofs.Clear as nodes
 use Rattle.spec_node_faults.proofs.Clear.{none_of, not_placed, IsClear, nodes_clear}
@@ -137,6 +138,7 @@ module _ (P : Protocol) (names : HasNames P) (c : Certificate) (is : IsCertifica
 
   pub faultless : length c.clauses ≤ most_clauses → (code : Code) → places P at (written P (with_nodes c)) code ≡ []
   unfolding loose
+  faultless most Syntax = refl
   faultless most Number = numbers_none
   faultless most Symbol = symbols_none
   faultless most Arity = arities_none

@@ -8,7 +8,9 @@ use Rattle.spec_clauses.specs.Inclusion.{here, there, Has}
 use Rattle.spec_clauses.proofs.Lists.{all_append}
 use Rattle.spec_clauses.proofs.Inclusion.{all_has, Has-append, Has-map, Has-map_source, Has-flat_map, Has-flat_map_source, Has-one}
 use Rattle.spec_node_faults.specs.Loose.{LooseCertificate}
-use Rattle.spec_node_faults.specs.Faults.{Code, Number, Symbol, Arity, Count, NodeOrder, NodeLarge, Fault, code_number, places, faults_of, faults, NotAfter, sooner, first_of, first_fault}
+use Rattle.spec_certificate_reading.specs.Terms.{Code, Syntax, Number, Symbol, Arity, Count, NodeOrder, NodeLarge}
+use Rattle.spec_certificate_faults.specs.First.{code_number}
+use Rattle.spec_node_faults.specs.Faults.{Fault, places, faults_of, faults, NotAfter, sooner, first_of, first_fault}
 
 -- the faults of a list have no lesser numbers behind
 Ascends : List Fault → Type 0
@@ -109,19 +111,22 @@ module _ (P : Protocol) (at : ℕ) (c : LooseCertificate) where
   all_ascend (d ∷ ds) rising = block_ascends d (places P at c d) (flat_map (faults_of P at c) ds) (all_ascend ds rising.1) (all_over (code_number d) ds rising.0)
 
   all_codes : List Code
-  all_codes = Number ∷ Symbol ∷ Arity ∷ Count ∷ NodeOrder ∷ NodeLarge ∷ []
+  all_codes = Syntax ∷ Number ∷ Symbol ∷ Arity ∷ Count ∷ NodeOrder ∷ NodeLarge ∷ []
 
   codes_rise : IsRising all_codes
   unfolding IsRising all_codes
   codes_rise = (
-    (omega arith, (omega arith, (omega arith, (omega arith, (omega arith, tt))))),
+    (omega arith, (omega arith, (omega arith, (omega arith, (omega arith, (omega arith, tt)))))),
     (
-      (omega arith, (omega arith, (omega arith, (omega arith, tt)))),
+      (omega arith, (omega arith, (omega arith, (omega arith, (omega arith, tt))))),
       (
-        (omega arith, (omega arith, (omega arith, tt))),
+        (omega arith, (omega arith, (omega arith, (omega arith, tt)))),
         (
-          (omega arith, (omega arith, tt)),
-          ((omega arith, tt), (tt, tt)),
+          (omega arith, (omega arith, (omega arith, tt))),
+          (
+            (omega arith, (omega arith, tt)),
+            ((omega arith, tt), (tt, tt)),
+          ),
         ),
       ),
     ),
@@ -129,12 +134,13 @@ module _ (P : Protocol) (at : ℕ) (c : LooseCertificate) where
 
   code_there : (code : Code) → Has all_codes code
   unfolding all_codes
-  code_there Number = (_, here)
-  code_there Symbol = (_, there here)
-  code_there Arity = (_, there (there here))
-  code_there Count = (_, there (there (there here)))
-  code_there NodeOrder = (_, there (there (there (there here))))
-  code_there NodeLarge = (_, there (there (there (there (there here)))))
+  code_there Syntax = (_, here)
+  code_there Number = (_, there here)
+  code_there Symbol = (_, there (there here))
+  code_there Arity = (_, there (there (there here)))
+  code_there Count = (_, there (there (there (there here))))
+  code_there NodeOrder = (_, there (there (there (there (there here)))))
+  code_there NodeLarge = (_, there (there (there (there (there (there here))))))
 
   fault_there : (g : Fault) → Has (places P at c g.code) g.place → Has (faults P at c) g
   unfolding all_codes

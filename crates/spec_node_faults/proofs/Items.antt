@@ -138,7 +138,7 @@ module _ (P : Protocol) where
       let first = fact_begins at h in
       let later = later_begins place hs f in omega arith
 
-  clause_begins : (at : ℕ) (cs : List (Clause ℕ)) → length (flat_map item_begins (clause_items at (map (written_clause P) cs))) ≡ length cs
+  pub clause_begins : (at : ℕ) (cs : List (Clause ℕ)) → length (flat_map item_begins (clause_items at (map (written_clause P) cs))) ≡ length cs
   clause_begins at [] = refl
   clause_begins at (c ∷ cs) =
       let place = at + length (clause_line (written_clause P c) []) in

@@ -1,8 +1,14 @@
-mod Written
-mod Meant
-mod Clear
-mod Items
-mod Orders
-mod Sums
-mod Faultless
-mod First
+pub mod Written
+pub mod Meant
+pub mod Clear
+pub mod Items
+pub mod Orders
+pub mod Sums
+pub mod Faultless
+pub mod First
+pub mod OfGrammar
+pub mod FoundNodes
+pub mod FoundClauses
+pub mod FoundOrders
+pub mod FoundSums
+pub mod Converse

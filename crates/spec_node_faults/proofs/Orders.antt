@@ -26,7 +26,7 @@ use Rattle.spec_node_faults.proofs.Items.{IsGood, item_values, in_order}
 
 -- Fronts.
 
-front_self : (ts us : List Term) → is_front ts (ts ++ us) ≡ true
+pub front_self : (ts us : List Term) → is_front ts (ts ++ us) ≡ true
 front_self [] us = refl
 front_self (t ∷ ts) us = ap (λ b. b && is_front ts (ts ++ us)) ((same_term-decides t t).1 refl) ∙ front_self ts us
 
@@ -64,7 +64,7 @@ module _ (P : Protocol) where
       ∙ (ap (λ b. place_if b p.place ++ item_orders all (ts ++ (term_at all n ∷ [])) items) steps.0
       ∙ orders_clear all (ts ++ (term_at all n ∷ [])) items good.1 steps.1)
 
-  terms_values : (all : List Term) (items : List Item) → AllByRecursion (IsGood P) items → flat_map (item_terms all) items ≡ map (term_at all) (flat_map item_values items)
+  pub terms_values : (all : List Term) (items : List Item) → AllByRecursion (IsGood P) items → flat_map (item_terms all) items ≡ map (term_at all) (flat_map item_values items)
   unfolding IsGood
   terms_values all [] good = refl
   terms_values all (Begins place ∷ items) good = terms_values all items good.1

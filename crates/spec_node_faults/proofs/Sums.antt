@@ -30,7 +30,7 @@ pub record IsCounted (all : List Term) (t : Term) : Type 0 where
   pub short : IsShort (number_in all t)
 
 module _ (all : List Term) where
-  same_sums : (a b c d : ℕ) (k : List Item) → a ≡ c → b ≡ d → item_larges all a b k ≡ item_larges all c d k
+  pub same_sums : (a b c d : ℕ) (k : List Item) → a ≡ c → b ≡ d → item_larges all a b k ≡ item_larges all c d k
   same_sums a b c d k first second = ap (λ x. item_larges all x b k) first ∙ ap (λ x. item_larges all c x k) second
 
   one_within : (clause sum place : ℕ) (t : Term) → clause + size t ≤ most_symbols → sum + size t ≤ most_certificate_symbols → place_if (is_over most_symbols (clause + size t) || is_over most_certificate_symbols (sum + size t)) place ≡ []

@@ -3,7 +3,8 @@ use Rattle.std.specs.Prelude.{◌≡◌, ℕ, Some, List, [], ◌∷◌, map, co
 use Rattle.spec_calculus.specs.Syntax.{Protocol}
 use Rattle.spec_certificate_text.specs.Loose.{Head, Applied, Tupled, Attackers}
 use Rattle.spec_node_faults.specs.Loose.{LooseNode, Predicate, Att, Mess, Mev, Bad, LooseFact, LooseClause, LooseCertificate, certificate_onto}
-use Rattle.spec_node_faults.specs.Faults.{Code, Fault, first_fault}
+use Rattle.spec_certificate_reading.specs.Terms.{Code}
+use Rattle.spec_node_faults.specs.Faults.{Fault, first_fault}
 
 abbrev pub over : Head → List (List ℕ) → LooseNode
 over head numbers = record { head = head; numbers = numbers }
@@ -75,6 +76,6 @@ v0 = alone (codes "v0")
 abbrev pub twice : List ℕ → LooseNode
 twice digits = over Tupled (digits ∷ digits ∷ [])
 
--- eleven nodes of two times the one before, the first of two times the first node of all
+-- thirteen nodes of two times the one before, the first of two times the first node of all
 abbrev pub doubled : List LooseNode
-doubled = map twice (codes "1" ∷ codes "2" ∷ codes "3" ∷ codes "4" ∷ codes "5" ∷ codes "6" ∷ codes "7" ∷ codes "8" ∷ codes "9" ∷ codes "10" ∷ codes "11" ∷ [])
+doubled = map twice (codes "1" ∷ codes "2" ∷ codes "3" ∷ codes "4" ∷ codes "5" ∷ codes "6" ∷ codes "7" ∷ codes "8" ∷ codes "9" ∷ codes "10" ∷ codes "11" ∷ codes "12" ∷ codes "13" ∷ [])

@@ -1,25 +1,12 @@
 -- The faults of a certificate by numbers that is of the grammar: the places of each code.
-use Rattle.std.specs.Prelude.{◌≡◌, ◌⊎◌, ◌<◌, ◌≤◌, ℕ, ◌+◌, nat_le, cond, Option, Some, None, List, [], ◌∷◌, ◌++◌, map, flat_map, length, codes}
+use Rattle.std.specs.Prelude.{ℕ, ◌+◌, nat_le, cond, Option, Some, None, List, [], ◌∷◌, ◌++◌, map, flat_map, length, codes}
 use Rattle.spec_calculus.specs.Syntax.{Protocol}
 use Rattle.spec_terms.specs.Term.{Term}
+use Rattle.spec_certificate_reading.specs.Terms.{Code, Syntax, Number, Symbol, Arity, Count, NodeOrder, NodeLarge}
+use Rattle.spec_certificate_faults.specs.First as first
 use Rattle.spec_node_faults.specs.Loose.{LooseCertificate, node_line, clause_line, row_line, lines}
 use Rattle.spec_node_faults.specs.Nodes.{NodeAt, place_if, placed, no_number, nodes_at, terms_meant, node_numbers, node_symbols, node_arities, node_orders, node_larges}
 use Rattle.spec_node_faults.specs.Clauses.{Item, clause_items, item_numbers, item_symbols, clause_counts, item_orders, has_unreached, item_larges, item_arities}
-
--- why a certificate of the grammar is refused
-pub data Code : Type 0 where
-  -- digits that are no number within the limit
-  Number : Code
-  -- a word that names nothing that may stand there
-  Symbol : Code
-  -- a wrong number of arguments
-  Arity : Code
-  -- a clause too many
-  Count : Code
-  -- a node that stands earlier, a number that names no node before, or a node that the walk does not complete next
-  NodeOrder : Code
-  -- more symbols than a limit
-  NodeLarge : Code
 
 -- the places at which its nodes, its clauses, and what follows its clauses begin
 abbrev pub nodes_place : ℕ → ℕ
@@ -49,7 +36,7 @@ abbrev pub row_numbers : ℕ → ℕ → List (List (List ℕ)) → List ℕ
 row_numbers at letter [] = []
 row_numbers at letter (r ∷ rows) = flat_map no_number (placed (at + 2) r) ++ row_numbers (at + length (row_line letter r [])) letter rows
 
--- The places of each code, where the first byte of the text has this place.
+-- The places of each code, where the first byte of the text has this place. A text of the grammar has no fault of syntax.
 
 abbrev pub clause_numbers : ℕ → LooseCertificate → List ℕ
 clause_numbers at c = flat_map item_numbers (all_items at c)
@@ -61,6 +48,7 @@ abbrev pub clause_larges : Protocol → ℕ → LooseCertificate → List ℕ
 clause_larges P at c = item_larges (table_of P c) 0 0 (all_items at c)
 
 abbrev pub places : Protocol → ℕ → LooseCertificate → Code → List ℕ
+places P at c Syntax = []
 places P at c Number =
     flat_map (node_numbers P) (all_nodes P at c) ++ clause_numbers at c ++ row_numbers (rows_place at c) 114 c.rows ++ row_numbers (goals_place at c) 103 c.goals
 places P at c Symbol = flat_map (node_symbols P) (all_nodes P at c) ++ flat_map (item_symbols P) (all_items at c)
@@ -71,15 +59,6 @@ places P at c Count = clause_counts (all_items at c)
 places P at c NodeOrder =
     flat_map (node_orders P) (all_nodes P at c) ++ clause_orders P at c ++ place_if (has_unreached (table_of P c) (all_items at c)) (rows_place at c)
 places P at c NodeLarge = flat_map (node_larges P) (all_nodes P at c) ++ clause_larges P at c
-
--- the number of a code
-abbrev pub code_number : Code → ℕ
-code_number Number = 2
-code_number Symbol = 3
-code_number Arity = 4
-code_number Count = 5
-code_number NodeOrder = 7
-code_number NodeLarge = 8
 
 -- The first fault: by place, and at one place the least number.
 
@@ -92,11 +71,11 @@ faults_of P at c code = map (λ place. record { place = place; code = code }) (p
 
 -- the one stands at an earlier place, or at the same and has no greater number
 abbrev pub NotAfter : Fault → Fault → Type 0
-NotAfter f g = (f.place < g.place) ⊎ ((f.place ≡ g.place) × (code_number f.code ≤ code_number g.code))
+NotAfter f g = first.NotAfter f.place f.code g.place g.code
 
 -- the faults, those of a lesser number first
 abbrev pub faults : Protocol → ℕ → LooseCertificate → List Fault
-faults P at c = flat_map (faults_of P at c) (Number ∷ Symbol ∷ Arity ∷ Count ∷ NodeOrder ∷ NodeLarge ∷ [])
+faults P at c = flat_map (faults_of P at c) (Syntax ∷ Number ∷ Symbol ∷ Arity ∷ Count ∷ NodeOrder ∷ NodeLarge ∷ [])
 
 -- of those at one place, the earlier in the list
 abbrev pub sooner : Fault → Option Fault → Fault

@@ -3,4 +3,5 @@ pub mod Loose
 pub mod Nodes
 pub mod Clauses
 pub mod Faults
+pub mod Grammar
 pub mod Examples

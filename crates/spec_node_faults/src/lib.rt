@@ -11,13 +11,15 @@ ghost use Rattle.spec_clauses.specs.Inclusion.{Has};
 ghost use Rattle.spec_certificates.specs.Certificate.{Certificate};
 ghost use Rattle.spec_certificate_text.specs.OfProtocol.{IsCertificateOf, HasNames};
 ghost use Rattle.spec_node_tables.specs.Nodes.{NodeCertificate, with_nodes};
-ghost use Rattle.spec_node_tables.specs.Text.{numbered_text};
+ghost use Rattle.spec_node_tables.specs.Text.{numbered_text, text_with_nodes};
 ghost use Rattle.spec_node_tables.specs.Large.{FitsInNodes};
 ghost use Rattle.spec_certificate_text.specs.Loose.{Applied, Tupled, Made};
 ghost use Rattle.spec_certificate_text.specs.Examples.{sending, answering};
 ghost use Rattle.spec_node_tables.specs.Examples.{silent};
 ghost use Rattle.spec_node_faults.specs.Loose.{Att, Mess, Bad, LooseCertificate, certificate_onto, written};
-ghost use Rattle.spec_node_faults.specs.Faults.{Code, Fault, NotAfter, Number, Symbol, Arity, Count, NodeOrder, NodeLarge, places, first_fault};
+ghost use Rattle.spec_certificate_reading.specs.Terms.{Code, Number, Symbol, Arity, Count, NodeOrder, NodeLarge};
+ghost use Rattle.spec_node_faults.specs.Faults.{Fault, NotAfter, places, first_fault};
+ghost use Rattle.spec_node_faults.specs.Grammar.{IsInGrammar, IsNumberable};
 ghost use Rattle.spec_node_faults.specs.Examples.{over, alone, of, concludes, from, certificate, pair, enc, happened, silent_nodes, four_clauses, last_clause, Tells, fault, got, nodes, c, v0, twice, doubled};
 
 /// The certificate of a name that nobody uses has no fault; without its last clause a node is never reached.
@@ -107,17 +109,17 @@ pub fn worked_events_of_clauses()
         (codes "cert 2\nn c\nc mev(begin(1,2)) => bad()\nend\n") 25 NodeOrder }
 {}
 
-/// A node of thirteen that doubles again and again has more symbols than the limit: twelve are allowed.
+/// A node of fifteen that doubles again and again has more symbols than the limit: fourteen are allowed.
 pub fn worked_sizes()
-    ensures large { Tells sending (nodes (c ∷ (doubled ++ (twice (codes "12") ∷ []))))
+    ensures large { Tells sending (nodes (c ∷ (doubled ++ (twice (codes "14") ∷ []))))
         (codes "cert 2\nn c\nn () 1 1\nn () 2 2\nn () 3 3\nn () 4 4\nn () 5 5\nn () 6 6\n" ++
-        codes "n () 7 7\nn () 8 8\nn () 9 9\nn () 10 10\nn () 11 11\nn () 12 12\nend\n")
-        116 NodeLarge }
+        (codes "n () 7 7\nn () 8 8\nn () 9 9\nn () 10 10\nn () 11 11\nn () 12 12\n" ++
+        codes "n () 13 13\nn () 14 14\nend\n")) 138 NodeLarge }
     ensures allowed { places sending 0 (nodes (c ∷ doubled)) NodeLarge ≡ [] }
     ensures clause { first_fault sending 0 (certificate (c ∷ doubled)
-        (concludes (of Mess (codes "12" ∷ codes "1" ∷ [])) ∷ [])) ≡ Some (fault 127 NodeLarge) }
+        (concludes (of Mess (codes "14" ∷ codes "1" ∷ [])) ∷ [])) ≡ Some (fault 149 NodeLarge) }
     ensures behind { first_fault sending 0 (certificate (c ∷ doubled)
-        (from (of Att (codes "12" ∷ []) ∷ []) (of Bad []) ∷ [])) ≡ None }
+        (from (of Att (codes "14" ∷ []) ∷ []) (of Bad []) ∷ [])) ≡ None }
 {}
 
 /// A certificate by numbers, written with the words of a protocol, has the text that the protocol gives it.
@@ -142,4 +144,23 @@ pub fn first_faults_are_first()
         first_fault P at c ≡ Some f → Has (places P at c g.code) g.place → NotAfter f g }
     ensures none { (P : Protocol) (at : ℕ) (c : LooseCertificate) (g : Fault) →
         first_fault P at c ≡ None → Has (places P at c g.code) g.place → ⊥ }
+{}
+
+/// A certificate of the grammar has no fault exactly where it is written so of a certificate that may be written by a table;
+/// and so bytes are then the text of that certificate.
+pub fn faultless_texts_are_texts()
+    ensures meant { (P : Protocol) (at : ℕ) (c : LooseCertificate) → HasNames P → IsInGrammar c →
+        ((code : Code) → places P at c code ≡ []) →
+        (x : Certificate) × IsNumberable P x × (written P (with_nodes x) ≡ c) }
+    ensures text { (P : Protocol) (at : ℕ) (c : LooseCertificate) → HasNames P → IsInGrammar c →
+        ((code : Code) → places P at c code ≡ []) →
+        (x : Certificate) × IsNumberable P x ×
+        ((rest : List ℕ) → certificate_onto c rest ≡ text_with_nodes P x rest) }
+    ensures grammar { (P : Protocol) (x : Certificate) → HasNames P → IsNumberable P x →
+        IsInGrammar (written P (with_nodes x)) }
+    ensures none { (P : Protocol) (at : ℕ) (x : Certificate) (code : Code) → HasNames P →
+        IsNumberable P x → places P at (written P (with_nodes x)) code ≡ [] }
+    ensures one { (P : Protocol) (x y : Certificate) (k l : List ℕ) → HasNames P →
+        IsNumberable P x → IsNumberable P y →
+        text_with_nodes P x k ≡ text_with_nodes P y l → (x ≡ y) × (k ≡ l) }
 {}

@@ -176,7 +176,7 @@ head_is Tupled ts is = tt
 head_is (Made w d) ts is = is.0
 head_is Attackers ts is = tt
 
-node_head_is : (P : Protocol) → HasNames P → (n : TableNode) → IsNodeOf P n → IsHead (node_head P n)
+pub node_head_is : (P : Protocol) → HasNames P → (n : TableNode) → IsNodeOf P n → IsHead (node_head P n)
 node_head_is P names n is =
     head_is (node_head P n) (written_row P (trees (zeros (node_numbers n)))) (subst IsLoose (written-sample P n) (written_is_loose P names (sample n) (sample_is P n is)))
 

@@ -31,7 +31,7 @@ at_end : (ts us : List Term) (t : Term) → slice_get (ts ++ (t ∷ us)) (length
 at_end [] us t = refl
 at_end (s ∷ ts) us t = at_end ts us t
 
-has_number : (ts : List Term) (k : ℕ) → k < length ts → Has ts (unwrap_or (slice_get ts k) (Leaf 0))
+pub has_number : (ts : List Term) (k : ℕ) → k < length ts → Has ts (unwrap_or (slice_get ts k) (Leaf 0))
 has_number [] k less = absurd (omega arith)
 has_number (t ∷ ts) zero less = (ts, here)
 has_number (t ∷ ts) (suc k) less = let found = has_number ts k (omega arith) in (t ∷ found.0, there found.1)

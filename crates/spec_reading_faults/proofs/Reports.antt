@@ -8,7 +8,7 @@ use Rattle.spec_certificate_text.specs.OfProtocol.{HasNames, IsShort}
 use Rattle.spec_certificate_reading.specs.Terms.{Syntax, Count}
 use Rattle.spec_certificate_reading.specs.Outcomes.{Outcome, Found, Faulty, next, front, read_fixed, read_number, Reader}
 use Rattle.spec_certificate_reading.specs.Certificates.{read_certificate}
-use Rattle.spec_certificate_reading.specs.Reports.{Claim, Proved, Bare, Unknown, query_number, read_text, read_proof, read_verdict, read_claim, behind_claims, claims_from, read_report}
+use Rattle.spec_certificate_reading.specs.Reports.{Claim, Proved, Bare, Unknown, query_number, read_text, read_proof, read_verdict, read_claim, behind_claims, claims_by, claims_from, read_report}
 use Rattle.spec_report_text.specs.Text.{SpellsReport, in_line}
 use Rattle.spec_report_text.proofs.ReportsRead.{refused_is_none}
 use Rattle.spec_reading_faults.proofs.Shared.{Shares, shares_behind, Passed, IsLocal, next_local, choice_local, found_local, never_local, other_local}
@@ -207,18 +207,18 @@ ends_local claims = some_local (ends claims) further (λ b bytes at. refl)
     further_local
 
 claims_end : (P : Protocol) (number : ℕ) (claims : List Claim) (bytes : List ℕ) (at : ℕ) → claims_from P 0 number claims bytes at ≡ ends claims bytes at
-unfolding claims_from ends
+unfolding claims_by ends
 claims_end P number claims bytes at = refl
 
 claims_none : (P : Protocol) (left number : ℕ) (claims : List Claim) (at : ℕ) → claims_from P (suc left) number claims [] at ≡ Faulty at Count
-unfolding claims_from
+unfolding claims_by
 claims_none P left number claims at = refl
 
 one_claim : Protocol → ℕ → ℕ → List Claim → Reader (List Claim)
 one_claim P left number claims bytes at = next (read_claim P number bytes at) (λ c p r. claims_from P left (number + 1) (claims ++ c ∷ []) r p)
 
 claims_more : (P : Protocol) (left number : ℕ) (claims : List Claim) (b : ℕ) (bytes : List ℕ) (at : ℕ) → claims_from P (suc left) number claims (b ∷ bytes) at ≡ one_claim P left number claims (b ∷ bytes) at
-unfolding claims_from one_claim
+unfolding claims_by one_claim
 claims_more P left number claims b bytes at = refl
 
 none_later : (P : Protocol) (left number : ℕ) (claims : List Claim) (at place : ℕ) → claims_from P (suc left) number claims [] at ≡ Faulty place Syntax → at ≤ place

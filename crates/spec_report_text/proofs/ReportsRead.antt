@@ -15,7 +15,7 @@ use Rattle.spec_certificate_reading.specs.Terms.{Code, Syntax, Count}
 use Rattle.spec_certificate_reading.specs.Outcomes.{Outcome, Found, Faulty, next, front, read_fixed, read_number}
 use Rattle.spec_certificate_reading.specs.Certificates.{read_certificate}
 use Rattle.spec_certificate_reading.specs.Readable.{IsReadableCertificate}
-use Rattle.spec_certificate_reading.specs.Reports.{Claim, Proved, Bare, Unknown, query_number, read_text, read_proof, read_proved, read_unknown, read_verdict, read_claim, behind_claims, claims_from, read_report}
+use Rattle.spec_certificate_reading.specs.Reports.{Claim, Proved, Bare, Unknown, query_number, read_text, read_proof, read_proved, read_unknown, read_verdict, read_claim, behind_claims, claims_by, claims_from, read_report}
 use Rattle.spec_certificate_reading.proofs.Parts.{Finds, parts, joined, chosen, when_true, when_false, equal_byte, same_byte, fixed_there, fixed_found, run_stops, number_there, number_found}
 use Rattle.spec_certificate_reading.proofs.CertificatesRead.{read_certificate-there, read_certificate-found}
 use Rattle.spec_report_text.specs.Text.{query_text, in_line, IsReason, SpellsClaim, SpellsClaims, SpellsReport}
@@ -139,18 +139,18 @@ nothing_behind claims at (b ∷ bytes) all p r e =
     absurd (cc)
 
 claims_end : (P : Protocol) (number : ℕ) (claims : List Claim) (bytes : List ℕ) (at : ℕ) → claims_from P 0 number claims bytes at ≡ behind_claims claims at bytes
-unfolding claims_from
+unfolding claims_by
 claims_end P number claims bytes at = refl
 
 claims_cut : (P : Protocol) (left number : ℕ) (claims : List Claim) (at : ℕ) → claims_from P (suc left) number claims [] at ≡ Faulty at Count
-unfolding claims_from
+unfolding claims_by
 claims_cut P left number claims at = refl
 
 abbrev behind_claim : Protocol → ℕ → ℕ → List Claim → Claim → ℕ → List ℕ → Outcome (List Claim)
 behind_claim P left number claims c p r = claims_from P left (number + 1) (claims ++ c ∷ []) r p
 
 claims_more : (P : Protocol) (left number : ℕ) (claims : List Claim) (b : ℕ) (bytes : List ℕ) (at : ℕ) → claims_from P (suc left) number claims (b ∷ bytes) at ≡ next (read_claim P number (b ∷ bytes) at) (behind_claim P left number claims)
-unfolding claims_from
+unfolding claims_by
 claims_more P left number claims b bytes at = refl
 
 -- behind these claims others were found

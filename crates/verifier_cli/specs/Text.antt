@@ -101,6 +101,8 @@ report_code_text (Misspelled report.Number) = codes "2 Number"
 report_code_text (Misspelled report.Symbol) = codes "3 Symbol"
 report_code_text (Misspelled report.Arity) = codes "4 Arity"
 report_code_text (Misspelled report.Count) = codes "5 Count"
+report_code_text (Misspelled report.NodeOrder) = codes "7 NodeOrder"
+report_code_text (Misspelled report.NodeLarge) = codes "8 NodeLarge"
 report_code_text LongReport = codes "6 LongFile"
 
 -- the code of a refused run, and its name

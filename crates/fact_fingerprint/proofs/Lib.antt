@@ -1,0 +1,4 @@
+pub mod Below
+pub mod Ranging
+pub mod Comparing
+pub mod Telling

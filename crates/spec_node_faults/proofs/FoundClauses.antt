@@ -1,0 +1,209 @@
+-- Clauses whose items are without faults by themselves are clauses of the protocol by numbers, written with its words.
+use Rattle.std.proofs.Common.{◌≡◌, ℕ, suc, ◌+◌, ◌≤◌, true, false, not, ◌&&◌, ◌||◌, ◌==◌, nat_le, Bool, List, [], ◌∷◌, ◌++◌, map, length, Option, Some, None, refl, sym, ◌∙◌, ap, subst, arith}
+use Rattle.std.specs.Prelude.{flat_map, take}
+use Rattle.std.specs.Fmt.{decimal}
+use Rattle.std.specs.Option.{is_none, option_map_or}
+use Rattle.std.specs.List.{AllByRecursion, list_any}
+use Rattle.std.proofs.lemmas.List.{length-map}
+use Rattle.std.proofs.lemmas.Bool.Decides.{nat_tests}
+use Rattle.spec_calculus.specs.Syntax.{Protocol}
+use Rattle.spec_run_text.proofs.Numbers.{numeral_some}
+use Rattle.spec_clauses.specs.Fact.{Fact, Clause, terms_of}
+use Rattle.spec_clauses.specs.Fact as fact
+use Rattle.spec_clauses.proofs.Lists.{all_first, all_second}
+use Rattle.spec_certificate_text.specs.OfProtocol.{IsShort, IsEvent}
+use Rattle.spec_certificate_reading.specs.Names.{CalledEvent, event_called}
+use Rattle.spec_certificate_reading.proofs.Called.{event_called_is}
+use Rattle.spec_node_tables.specs.OfProtocol.{HasEvent, IsFactOver, IsClauseOver}
+use Rattle.spec_node_faults.specs.Loose.{Predicate, Att, Mess, Ev, Mev, Bad, LooseFact, LooseClause, fact_onto, clause_line, written_fact, written_clause}
+use Rattle.spec_node_faults.specs.Nodes.{Placed, placed, place_if}
+use Rattle.spec_node_faults.specs.Clauses.{Item, Begins, Signs, Event, Number, number_items, event_items, fact_items, later_items, facts_items, clause_items, item_numbers, item_symbols, stands_at, item_arities}
+use Rattle.spec_node_faults.specs.Grammar.{IsPredicateOf, MayBeSupposed, MayBeConcluded, IsHypothesis, IsConclusion, IsClause, MayBeHypothesis, MayBeConclusion, StandsRight}
+use Rattle.spec_node_faults.proofs.Items.{IsGood}
+use Rattle.spec_node_faults.proofs.FoundNodes.{first_empty, second_empty, not_wrong, some_number}
+
+-- Items of which no fault is told are good.
+
+module _ (P : Protocol) where
+  none_at : (items : List Item) → list_any (stands_at []) items ≡ false
+  none_at [] = refl
+  none_at (Begins place ∷ items) = none_at items
+  none_at (Signs symbols ∷ items) = none_at items
+  none_at (Event place word arguments ∷ items) = none_at items
+  none_at (Number p ∷ items) = none_at items
+
+  event_good : (place : ℕ) (word : List ℕ) (arguments : ℕ) (items : List Item) → place_if (is_none (event_called P word)) place ≡ []
+      → place_if (option_map_or (λ called. not (called.arity == arguments)) (event_called P word) false && not (list_any (stands_at []) (take arguments items))) place ≡ [] → IsGood P (Event place word arguments)
+  unfolding IsGood
+  event_good place word arguments items known right = by (event_called P word) refl known (not_wrong _ place right)
+    where
+      by : (o : Option CalledEvent) → event_called P word ≡ o → place_if (is_none o) place ≡ [] → (option_map_or (λ called. not (called.arity == arguments)) o false && not (list_any (stands_at []) (take arguments items))) ≡ false
+          → (called : CalledEvent) × (event_called P word ≡ Some called) × (called.arity ≡ arguments)
+      by None e none wrong = absurd (cc)
+      by (Some called) e none wrong =
+          let fewer : (not (called.arity == arguments) && not false) ≡ false = subst (λ b. (not (called.arity == arguments) && not b) ≡ false) (none_at (take arguments items)) wrong in
+          (called, e, same (called.arity == arguments) refl fewer)
+        where
+          same : (b : Bool) → (called.arity == arguments) ≡ b → (not b && true) ≡ false → called.arity ≡ arguments
+          same true is e = grind (arith, nat_tests, is)
+          same false is e = absurd (cc)
+
+  pub items_good : (items : List Item) → flat_map item_numbers items ≡ [] → flat_map (item_symbols P) items ≡ [] → item_arities P [] items ≡ [] → AllByRecursion (IsGood P) items
+  unfolding IsGood
+  items_good [] numbers symbols arities = tt
+  items_good (Begins place ∷ items) numbers symbols arities = (tt, items_good items numbers symbols arities)
+  items_good (Signs n ∷ items) numbers symbols arities = (tt, items_good items numbers symbols arities)
+  items_good (Event place word arguments ∷ items) numbers symbols arities =
+      let one = place_if (is_none (event_called P word)) place in
+      let two = place_if (option_map_or (λ called. not (called.arity == arguments)) (event_called P word) false && not (list_any (stands_at []) (take arguments items))) place in (
+        event_good place word arguments items (first_empty one (flat_map (item_symbols P) items) symbols) (first_empty two (item_arities P [] items) arities),
+        items_good items numbers (second_empty one (flat_map (item_symbols P) items) symbols) (second_empty two (item_arities P [] items) arities),
+      )
+  items_good (Number p ∷ items) numbers symbols arities =
+      let one = item_numbers (Number p) in (
+        some_number p.place _ (first_empty one (flat_map item_numbers items) numbers),
+        items_good items (second_empty one (flat_map item_numbers items) numbers) symbols arities,
+      )
+
+  -- Facts.
+
+  record NumbersFound (ds : List (List ℕ)) : Type 0 where
+    found : List ℕ
+    text : map decimal found ≡ ds
+    short : AllByRecursion IsShort found
+
+  numbers_found : (at : ℕ) (ds : List (List ℕ)) → AllByRecursion (IsGood P) (number_items at ds) → NumbersFound ds
+  unfolding IsGood
+  numbers_found at [] good = record { found = []; text = refl; short = tt }
+  numbers_found at (d ∷ ds) good =
+      let so = numeral_some d good.0.0 good.0.1 in
+      let others = numbers_found (at + length d + 1) ds good.1 in
+      let first = sym so.0 in
+      let later = others.text in
+      record { found = good.0.0 ∷ others.found; text = ap (λ x. x ∷ map decimal others.found) first ∙ ap (λ xs. d ∷ xs) later; short = (so.1, others.short) }
+
+  -- a fact by numbers that is written so
+  record FactFound (f : LooseFact) : Type 0 where
+    found : Fact ℕ
+    text : written_fact P found ≡ f
+    is : IsFactOver IsShort P found
+
+  many : (ds : List (List ℕ)) (low : NumbersFound ds) → length ds ≡ length low.found
+  many ds low = let texts = low.text in ap length (sym texts) ∙ length-map low.found decimal
+
+  fact_found : (at : ℕ) (p : Predicate) (ds : List (List ℕ)) → IsPredicateOf p (length ds) → AllByRecursion (IsGood P) (fact_items at (record { predicate = p; numbers = ds })) → FactFound (record { predicate = p; numbers = ds })
+  unfolding IsGood
+  fact_found at Att [] one good = absurd (omega (arith, one))
+  fact_found at Att (d ∷ []) one good =
+      let so = numeral_some d good.1.0.0 good.1.0.1 in
+      let text = sym so.0 in
+      record { found = fact.Att good.1.0.0; text = λ i. record { predicate = Att; numbers = text i ∷ [] }; is = (tt, (so.1, tt)) }
+  fact_found at Att (d ∷ e ∷ ds) one good = absurd (omega (arith, one))
+  fact_found at Mess [] two good = absurd (omega (arith, two))
+  fact_found at Mess (d ∷ []) two good = absurd (omega (arith, two))
+  fact_found at Mess (d ∷ e ∷ []) two good =
+      let first = numeral_some d good.1.0.0 good.1.0.1 in
+      let second = numeral_some e good.1.1.0.0 good.1.1.0.1 in
+      let text = sym first.0 in
+      let later = sym second.0 in
+      record { found = fact.Mess good.1.0.0 good.1.1.0.0; text = λ i. record { predicate = Mess; numbers = text i ∷ later i ∷ [] }; is = (tt, (first.1, (second.1, tt))) }
+  fact_found at Mess (d ∷ e ∷ f ∷ ds) two good = absurd (omega (arith, two))
+  fact_found at (Ev word) ds is good =
+      let called = good.1.0 in
+      let named = event_called_is P word called.0 called.1 in
+      let low = numbers_found (at + 3 + length word + 1) ds good.1.1 in
+      let text = low.text in
+      let words = named.has_word in
+      record {
+        found = fact.Ev called.0.number low.found;
+        text = λ i. record { predicate = Ev (words i); numbers = text i };
+        is = (subst (IsEvent P called.0.number) (called.2 ∙ many ds low) named.is_of, low.short);
+      }
+  fact_found at (Mev word) ds is good =
+      let called = good.1.0 in
+      let named = event_called_is P word called.0 called.1 in
+      let low = numbers_found (at + 4 + length word + 1) ds good.1.1 in
+      let text = low.text in
+      let words = named.has_word in
+      record {
+        found = fact.Mev called.0.number low.found;
+        text = λ i. record { predicate = Mev (words i); numbers = text i };
+        is = (subst (IsEvent P called.0.number) (called.2 ∙ many ds low) named.is_of, low.short);
+      }
+  fact_found at Bad ds is good =
+      let low = numbers_found (at + 4) ds good.1 in
+      let text = low.text in
+      record { found = fact.Bad low.found; text = λ i. record { predicate = Bad; numbers = text i }; is = (tt, low.short) }
+
+  may_suppose : (g : Fact ℕ) (f : LooseFact) → written_fact P g ≡ f → MayBeSupposed f.predicate → MayBeHypothesis g
+  may_suppose (fact.Att n) f e may = tt
+  may_suppose (fact.Mess m n) f e may = tt
+  may_suppose (fact.Ev e ns) f same may = tt
+  may_suppose (fact.Mev e ns) f same may = tt
+  may_suppose (fact.Bad ns) f e may = subst (λ g. MayBeSupposed g.predicate) (sym e) may
+
+  may_conclude : (g : Fact ℕ) (f : LooseFact) → written_fact P g ≡ f → MayBeConcluded f.predicate → MayBeConclusion g
+  may_conclude (fact.Att n) f e may = tt
+  may_conclude (fact.Mess m n) f e may = tt
+  may_conclude (fact.Ev e ns) f same may = tt
+  may_conclude (fact.Mev e ns) f same may = subst (λ g. MayBeConcluded g.predicate) (sym same) may
+  may_conclude (fact.Bad ns) f e may = tt
+
+  -- Clauses.
+
+  record HypothesesFound (hs : List LooseFact) : Type 0 where
+    found : List (Fact ℕ)
+    text : map (written_fact P) found ≡ hs
+    are : AllByRecursion (IsFactOver IsShort P) found
+    supposed : AllByRecursion MayBeHypothesis found
+
+  more_found : (h : LooseFact) (hs : List LooseFact) → IsHypothesis h → FactFound h → HypothesesFound hs → HypothesesFound (h ∷ hs)
+  more_found h hs is one others =
+      let first = one.text in
+      let later = others.text in
+      record { found = one.found ∷ others.found; text = ap (λ m. m ∷ map (written_fact P) others.found) first ∙ ap (λ ms. h ∷ ms) later; are = (one.is, others.are); supposed = (may_suppose one.found h first is.supposed, others.supposed) }
+
+  record FactsFound (hs : List LooseFact) (f : LooseFact) : Type 0 where
+    hypotheses : HypothesesFound hs
+    conclusion : FactFound f
+
+  later_found : (at : ℕ) (hs : List LooseFact) (f : LooseFact) → AllByRecursion IsHypothesis hs → IsConclusion f → AllByRecursion (IsGood P) (later_items at hs f) → FactsFound hs f
+  later_found at [] f are is good = record { hypotheses = record { found = []; text = refl; are = tt; supposed = tt }; conclusion = fact_found (at + 4) f.predicate f.numbers is.predicate good }
+  later_found at (h ∷ hs) f are is good =
+      let place = at + 2 + length (fact_onto h []) in
+      let one = fact_found (at + 2) h.predicate h.numbers are.0.predicate (all_first (IsGood P) (fact_items (at + 2) h) (later_items place hs f) good) in
+      let others = later_found place hs f are.1 is (all_second (IsGood P) (fact_items (at + 2) h) (later_items place hs f) good) in
+      record { hypotheses = more_found h hs are.0 one others.hypotheses; conclusion = others.conclusion }
+
+  facts_found : (at : ℕ) (hs : List LooseFact) (f : LooseFact) → AllByRecursion IsHypothesis hs → IsConclusion f → AllByRecursion (IsGood P) (facts_items at hs f) → FactsFound hs f
+  facts_found at [] f are is good = record { hypotheses = record { found = []; text = refl; are = tt; supposed = tt }; conclusion = fact_found (at + 3) f.predicate f.numbers is.predicate good }
+  facts_found at (h ∷ hs) f are is good =
+      let place = at + length (fact_onto h []) in
+      let one = fact_found at h.predicate h.numbers are.0.predicate (all_first (IsGood P) (fact_items at h) (later_items place hs f) good) in
+      let others = later_found place hs f are.1 is (all_second (IsGood P) (fact_items at h) (later_items place hs f) good) in
+      record { hypotheses = more_found h hs are.0 one others.hypotheses; conclusion = others.conclusion }
+
+  pub record ClausesFound (cs : List LooseClause) : Type 0 where
+    pub found : List (Clause ℕ)
+    pub text : map (written_clause P) found ≡ cs
+    pub are : AllByRecursion (IsClauseOver IsShort P) found
+    pub stand : AllByRecursion StandsRight found
+
+  pub clauses_found : (at : ℕ) (cs : List LooseClause) → AllByRecursion IsClause cs → AllByRecursion (IsGood P) (clause_items at cs) → ClausesFound cs
+  unfolding IsGood
+  clauses_found at [] are good = record { found = []; text = refl; are = tt; stand = tt }
+  clauses_found at (c ∷ cs) are good =
+      let place = at + length (clause_line c []) in
+      let one = facts_found (at + 2) c.hypotheses c.conclusion are.0.hypotheses are.0.conclusion (all_first (IsGood P) (facts_items (at + 2) c.hypotheses c.conclusion) (clause_items place cs) good.1) in
+      let others = clauses_found place cs are.1 (all_second (IsGood P) (facts_items (at + 2) c.hypotheses c.conclusion) (clause_items place cs) good.1) in
+      let hs = one.hypotheses.text in
+      let f = one.conclusion.text in
+      let found : Clause ℕ = record { hypotheses = one.hypotheses.found; conclusion = one.conclusion.found } in
+      let first : written_clause P found ≡ c = λ i. record { hypotheses = hs i; conclusion = f i } in
+      let later = others.text in
+      record {
+        found = found ∷ others.found;
+        text = ap (λ m. m ∷ map (written_clause P) others.found) first ∙ ap (λ ms. c ∷ ms) later;
+        are = (record { hypotheses = one.hypotheses.are; conclusion = one.conclusion.is }, others.are);
+        stand = (record { hypotheses = one.hypotheses.supposed; conclusion = may_conclude one.conclusion.found c.conclusion f are.0.conclusion.concluded }, others.stand);
+      }

@@ -1,0 +1,110 @@
+-- What is written with the words of a protocol is of the grammar.
+use Rattle.std.proofs.Common.{◌≡◌, ℕ, ◌+◌, ◌<◌, ◌≤◌, List, [], ◌∷◌, map, length, refl, sym, ◌∙◌, ap, subst, arith}
+use Rattle.std.specs.Fmt.{decimal}
+use Rattle.std.specs.List.{AllByRecursion}
+use Rattle.std.proofs.lemmas.List.{length-map}
+use Rattle.std.proofs.lemmas.Fmt.{decimal_nonempty}
+use Rattle.spec_calculus.specs.Syntax.{Protocol}
+use Rattle.spec_terms.specs.Term.{Sym, Ctor, Data, Tuple, Free, Point, Attacker}
+use Rattle.spec_clauses.specs.Fact.{Fact, Clause, terms_of}
+use Rattle.spec_clauses.specs.Fact as fact
+use Rattle.spec_certificates.specs.Certificate.{Certificate}
+use Rattle.spec_certificate_text.specs.Loose.{Head, Applied, Tupled, Made, Attackers}
+use Rattle.spec_certificate_text.specs.Spelled.{IsHead}
+use Rattle.spec_certificate_text.specs.OfProtocol.{IsShort, HasNames}
+use Rattle.spec_certificate_text.proofs.Names.{decimal_digits, event_word_is_word}
+use Rattle.spec_certificate_reading.specs.Readable.{IsRow}
+use Rattle.spec_node_tables.specs.Table.{table, number_in}
+use Rattle.spec_node_tables.specs.Nodes.{TableNode, Variable, Over, with_nodes}
+use Rattle.spec_node_tables.specs.Text.{symbol_head, node_head}
+use Rattle.spec_node_tables.specs.Text as short
+use Rattle.spec_node_tables.specs.OfProtocol.{IsNodeOf, IsFactOver, IsClauseOver}
+use Rattle.spec_node_tables.proofs.Lines.{node_head_is}
+use Rattle.spec_node_tables.proofs.Certificates.{mapped_all, with_nodes_is}
+use Rattle.spec_node_tables.proofs.Sizes.{few_nodes}
+use Rattle.spec_node_faults.specs.Loose.{written_node, predicate_of, written_fact, written_clause, written}
+use Rattle.spec_node_faults.specs.Grammar.{IsNumber, IsHeadOf, IsNode, IsHypothesis, IsConclusion, IsClause, IsNumberRow, IsInGrammar, MayBeHypothesis, MayBeConclusion, StandsRight, IsNumberable}
+
+number_is : (n : ℕ) → IsShort n → IsNumber (decimal n)
+number_is n small = (decimal_digits n small, let some = decimal_nonempty n (omega arith) in omega arith)
+
+numbers_are : (ns : List ℕ) → AllByRecursion IsShort ns → AllByRecursion IsNumber (map decimal ns)
+numbers_are ns small = mapped_all IsShort IsNumber decimal number_is ns small
+
+module _ (P : Protocol) (names : HasNames P) where
+  head_is : (n : TableNode) → IsNodeOf P n → IsHeadOf (node_head P n) (length (map decimal (short.node_numbers n)))
+  head_is (Variable x) is = node_head_is P names (Variable x) is
+  head_is (Over (Ctor f) ns) is = node_head_is P names (Over (Ctor f) ns) is
+  head_is (Over (Data f) ns) is = node_head_is P names (Over (Data f) ns) is
+  head_is (Over (Tuple m) ns) is = tt
+  head_is (Over (Free a) ns) is = node_head_is P names (Over (Free a) ns) is
+  head_is (Over (Point p) ns) is = ((node_head_is P names (Over (Point p) ns) is).0, number_is p is.0.1)
+  head_is (Over Attacker ns) is = length-map ns decimal ∙ is.0
+
+  short_numbers : (n : TableNode) → IsNodeOf P n → AllByRecursion IsShort (short.node_numbers n)
+  short_numbers (Variable x) is = tt
+  short_numbers (Over f ns) is = is.1
+
+  node_is : (n : TableNode) → IsNodeOf P n → IsNode (written_node P n)
+  node_is n is = record { head = head_is n is; numbers = numbers_are (short.node_numbers n) (short_numbers n is) }
+
+  hypothesis_is : (f : Fact ℕ) → IsFactOver IsShort P f → MayBeHypothesis f → IsHypothesis (written_fact P f)
+  hypothesis_is (fact.Att n) is may = record { predicate = refl; numbers = numbers_are (n ∷ []) is.1; supposed = tt }
+  hypothesis_is (fact.Mess m n) is may = record { predicate = refl; numbers = numbers_are (m ∷ n ∷ []) is.1; supposed = tt }
+  hypothesis_is (fact.Ev e ns) is may = record { predicate = event_word_is_word P e (length ns) names is.0; numbers = numbers_are ns is.1; supposed = tt }
+  hypothesis_is (fact.Mev e ns) is may = record { predicate = event_word_is_word P e (length ns) names is.0; numbers = numbers_are ns is.1; supposed = tt }
+  hypothesis_is (fact.Bad ns) is may = absurd may
+
+  conclusion_is : (f : Fact ℕ) → IsFactOver IsShort P f → MayBeConclusion f → IsConclusion (written_fact P f)
+  conclusion_is (fact.Att n) is may = record { predicate = refl; numbers = numbers_are (n ∷ []) is.1; concluded = tt }
+  conclusion_is (fact.Mess m n) is may = record { predicate = refl; numbers = numbers_are (m ∷ n ∷ []) is.1; concluded = tt }
+  conclusion_is (fact.Ev e ns) is may = record { predicate = event_word_is_word P e (length ns) names is.0; numbers = numbers_are ns is.1; concluded = tt }
+  conclusion_is (fact.Mev e ns) is may = absurd may
+  conclusion_is (fact.Bad ns) is may = record { predicate = tt; numbers = numbers_are ns is.1; concluded = tt }
+
+  hypotheses_are : (fs : List (Fact ℕ)) → AllByRecursion (IsFactOver IsShort P) fs → AllByRecursion MayBeHypothesis fs → AllByRecursion IsHypothesis (map (written_fact P) fs)
+  hypotheses_are [] are may = tt
+  hypotheses_are (f ∷ fs) are may = (hypothesis_is f are.0 may.0, hypotheses_are fs are.1 may.1)
+
+  clauses_are : (cs : List (Clause ℕ)) → AllByRecursion (IsClauseOver IsShort P) cs → AllByRecursion StandsRight cs → AllByRecursion IsClause (map (written_clause P) cs)
+  clauses_are [] are right = tt
+  clauses_are (c ∷ cs) are right =
+      (record { hypotheses = hypotheses_are c.hypotheses are.0.hypotheses right.0.hypotheses; conclusion = conclusion_is c.conclusion are.0.conclusion right.0.conclusion }, clauses_are cs are.1 right.1)
+
+row_is : (ns : List ℕ) → IsRow ns → IsNumberRow (map decimal ns)
+row_is [] is = absurd is
+row_is (n ∷ ns) is = record { some = omega arith; numbers = numbers_are (n ∷ ns) is }
+
+-- by numbers as with terms
+
+module _ {X Y : Type 0} (f : X → Y) where
+  hypothesis_mapped : (h : Fact X) → MayBeHypothesis h → MayBeHypothesis (fact.map_fact f h)
+  hypothesis_mapped (fact.Att t) may = tt
+  hypothesis_mapped (fact.Mess t u) may = tt
+  hypothesis_mapped (fact.Ev e ts) may = tt
+  hypothesis_mapped (fact.Mev e ts) may = tt
+  hypothesis_mapped (fact.Bad ts) may = may
+
+  conclusion_mapped : (h : Fact X) → MayBeConclusion h → MayBeConclusion (fact.map_fact f h)
+  conclusion_mapped (fact.Att t) may = tt
+  conclusion_mapped (fact.Mess t u) may = tt
+  conclusion_mapped (fact.Ev e ts) may = tt
+  conclusion_mapped (fact.Mev e ts) may = may
+  conclusion_mapped (fact.Bad ts) may = tt
+
+  pub clause_mapped : (c : Clause X) → StandsRight c → StandsRight (fact.map_clause f c)
+  clause_mapped c right = record {
+    hypotheses = mapped_all MayBeHypothesis MayBeHypothesis (fact.map_fact f) hypothesis_mapped c.hypotheses right.hypotheses;
+    conclusion = conclusion_mapped c.conclusion right.conclusion;
+  }
+
+pub written_in_grammar : (P : Protocol) → HasNames P → (c : Certificate) → IsNumberable P c → IsInGrammar (written P (with_nodes c))
+written_in_grammar P names c is =
+    let few = few_nodes c.clauses is.fits in
+    let by_numbers = with_nodes_is P c is.is (omega arith) in
+    record {
+      nodes = mapped_all (IsNodeOf P) IsNode (written_node P) (node_is P names) (with_nodes c).nodes by_numbers.nodes;
+      clauses = clauses_are P names (with_nodes c).clauses by_numbers.clauses (mapped_all StandsRight StandsRight (fact.map_clause (number_in (table c.clauses))) (clause_mapped (number_in (table c.clauses))) c.clauses is.stands);
+      rows = mapped_all IsRow IsNumberRow (map decimal) row_is c.rows is.rows;
+      goals = mapped_all IsRow IsNumberRow (map decimal) row_is c.goals is.goals;
+    }
