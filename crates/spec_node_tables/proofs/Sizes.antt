@@ -126,7 +126,7 @@ argument_size : (v u : Term) → Has (arguments_of v) u → size u ≤ size v
 argument_size (Leaf x) u h = elim h.1 [ ]
 argument_size (Node f args) u h = let within = all_has (λ w. size w ≤ sizes args) (items_of args) u (items_size args) h in omega arith
 
-subterm_size : {t u : Term} → IsSubterm t u → size t ≤ size u
+pub subterm_size : {t u : Term} → IsSubterm t u → size t ≤ size u
 subterm_size itself = omega arith
 subterm_size (of_argument {u = u} {v = v} has within) = omega (arith, subterm_size within, argument_size v u has)
 

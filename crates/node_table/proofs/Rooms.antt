@@ -1,0 +1,284 @@
+-- Room that is left behind trees and facts, and what is over the limits.
+use Rattle.std.proofs.Common.{◌≡◌, ℕ, zero, suc, ◌+◌, ◌-◌, ◌<◌, ◌≤◌, Bool, true, false, nat_le, cond, Option, Some, None, is_none, List, [], ◌∷◌, ◌++◌, length, map, take, get_or, refl, sym, ◌∙◌, ap, subst, arith}
+use Rattle.std.specs.Prelude.{option_and_then, flat_map}
+use Rattle.std.specs.List.{AllByRecursion}
+use Rattle.std.proofs.lemmas.List.{append_assoc, take_more}
+use Rattle.std.proofs.lemmas.Bool.Decides.{nat_tests}
+use Rattle.spec_trees.specs.Tree.{node, trees, size, sizes}
+use Rattle.spec_trees.proofs.Measures.{size-positive}
+use Rattle.spec_calculus.specs.Bounds.{most_symbols}
+use Rattle.spec_terms.specs.Term.{Sym, Term}
+use Rattle.spec_clauses.specs.Fact.{Fact, Clause, terms_of, total, fact_size, clause_size}
+use Rattle.spec_clauses.specs.Head.{head_of, head_size}
+use Rattle.spec_clauses.specs.Inclusion.{Has}
+use Rattle.spec_clauses.proofs.Parts.{fact_size-parts}
+use Rattle.spec_clauses.proofs.Lists.{all_append, all_first, all_second, all_weaker, all-flat_map}
+use Rattle.spec_clauses.proofs.Inclusion.{all_has}
+use Rattle.spec_node_tables.specs.Table.{facts_in_order, terms_in_order, table}
+use Rattle.spec_node_tables.specs.Large.{most_certificate_symbols, up_to_terms, up_to_fact, up_to_facts, up_to_clauses, AreUpTo, FitsInNodes, is_large_in_nodes}
+use Rattle.spec_node_tables.proofs.Walks.{table_has}
+use Rattle.spec_node_tables.proofs.Back.{all_there}
+use Rattle.spec_node_tables.proofs.Sizes.{ordered_total, subterm_size, large_decides}
+use Rattle.clause_form.proofs.Lists.{total_more, total_all, total-map, total-append}
+use Rattle.node_table.specs.Room.{room_less, room_behind_fact, room_behind_facts}
+
+-- Room, and room that is left.
+
+pub left_of : (room n left : ℕ) → left + n ≡ room → Some left ≡ room_less room n
+left_of room n left is = go (nat_le n room) refl where
+  go : (b : Bool) → nat_le n room ≡ b → Some left ≡ cond b (Some (room - n)) None
+  go true e = ap Some (omega (arith, is))
+  go false e = absurd (grind (arith, nat_tests))
+
+pub no_room : (room n : ℕ) → room < n → None ≡ room_less room n
+no_room room n over = go (nat_le n room) refl where
+  go : (b : Bool) → nat_le n room ≡ b → None ≡ cond b (Some (room - n)) None
+  go true e = absurd (grind (arith, nat_tests))
+  go false e = refl
+
+pub left_is : (room n left : ℕ) → Some left ≡ room_less room n → left + n ≡ room
+left_is room n left = go (nat_le n room) refl where
+  go : (b : Bool) → nat_le n room ≡ b → Some left ≡ cond b (Some (room - n)) None → left + n ≡ room
+  go true e some = let same : left ≡ room - n = cc in let within : n ≤ room = grind (arith, nat_tests) in omega arith
+  go false e some = cc
+
+pub is_over : (room n : ℕ) → None ≡ room_less room n → room < n
+is_over room n = go (nat_le n room) refl where
+  go : (b : Bool) → nat_le n room ≡ b → None ≡ cond b (Some (room - n)) None → room < n
+  go true e none = cc
+  go false e none = grind (arith, nat_tests)
+
+-- Trees one by one.
+
+-- room that is left where so many were counted before the first of them
+pub record HasRoom {X : Type 0} (f : X → Term) (before room left : ℕ) (items : List X) (i : ℕ) : Type 0 where
+  pub is : left + (before + total (λ x. size (f x)) (take i items)) ≡ room
+
+module _ {X : Type 0} (f : X → Term) (before room left : ℕ) (items : List X) (i : ℕ) (x : X) (has : HasRoom f before room left items i) where
+  pub one_less : (less : ℕ) → i < length items → x ≡ get_or items i x → Some less ≡ room_less left (size (f x)) → HasRoom f before room less items (i + 1)
+  one_less less below is some = record {
+    is = omega (arith, has.is, left_is left (size (f x)) less some, total_more (λ y. size (f y)) items i x below, ap (λ y. size (f y)) is);
+  }
+
+  pub too_many : (ts : List Term) → i < length items → x ≡ get_or items i x → map f items ≡ ts → None ≡ room_less left (size (f x)) → None ≡ room_less room (before + total size ts)
+  too_many ts below is are none = no_room room (before + total size ts)
+      (omega (
+        arith,
+        has.is,
+        is_over left (size (f x)) none,
+        total_more (λ y. size (f y)) items i x below,
+        ap (λ y. size (f y)) is,
+        total_within (λ y. size (f y)) items (i + 1),
+        total-map size f items,
+        ap (total size) are,
+      ))
+    where
+      total_within : {Y : Type 0} (g : Y → ℕ) (ys : List Y) (n : ℕ) → total g (take n ys) ≤ total g ys
+      total_within g [] zero = omega arith
+      total_within g [] (suc n) = omega arith
+      total_within g (y ∷ ys) zero = omega arith
+      total_within g (y ∷ ys) (suc n) = omega (arith, total_within g ys n)
+
+pub room_left : {X : Type 0} (f : X → Term) (before room left : ℕ) (items : List X) (i : ℕ) (ts : List Term) → HasRoom f before room left items i → length items ≤ i → map f items ≡ ts → Some left ≡ room_less room (before + total size ts)
+room_left f before room left items i ts has past are = left_of room (before + total size ts) left
+    (omega (arith, has.is, total_all (λ y. size (f y)) items i past, total-map size f items, ap (total size) are))
+
+-- a symbol over trees
+pub node_size : (f : Sym) (ts : List Term) (t : Term) → t ≡ node f ts → 1 + total size ts ≡ size t
+node_size f ts t is = omega (arith, row_size ts, ap size is) where
+  row_size : (us : List Term) → sizes (trees us) ≡ total size us
+  row_size [] = refl
+  row_size (u ∷ us) = omega (arith, row_size us)
+
+pub no_room_at_all : (room : ℕ) (t : Term) → room ≡ 0 → None ≡ room_less room (size t)
+no_room_at_all room t none = no_room room (size t) (omega (arith, size-positive t))
+
+-- A clause: its hypotheses, and then its conclusion.
+
+behind_append : (fs gs : List (Fact Term)) (room : ℕ) → room_behind_facts room (fs ++ gs) ≡ option_and_then (λ left. room_behind_facts left gs) (room_behind_facts room fs)
+behind_append [] gs room = refl
+behind_append (f ∷ fs) gs room =
+    elim (room_behind_fact room f) as (λ o. option_and_then (λ left. room_behind_facts left (fs ++ gs)) o ≡ option_and_then (λ left. room_behind_facts left gs) (option_and_then (λ left. room_behind_facts left fs) o)) [
+      | None ↦ refl
+      | Some less ↦ behind_append fs gs less
+    ]
+
+some_again : (o : Option ℕ) → option_and_then (λ n. Some n) o ≡ o
+some_again None = refl
+some_again (Some n) = refl
+
+abbrev clause_of : List (Fact Term) → Fact Term → Clause Term
+clause_of hypotheses conclusion = record { hypotheses = hypotheses; conclusion = conclusion }
+
+pub behind_clause : (c : Clause Term) (hypotheses : List (Fact Term)) (conclusion : Fact Term) (room left : ℕ) (r : Option ℕ) → clause_of hypotheses conclusion ≡ c → Some left ≡ room_behind_facts room hypotheses → r ≡ room_behind_fact left conclusion → r ≡ room_behind_facts room (facts_in_order c)
+behind_clause c hypotheses conclusion room left r is first last =
+    last
+    ∙ (sym (some_again (room_behind_fact left conclusion))
+    ∙ (ap (option_and_then (λ less. option_and_then (λ n. Some n) (room_behind_fact less conclusion))) first
+    ∙ (sym (behind_append hypotheses (conclusion ∷ []) room) ∙ ap (λ d. room_behind_facts room (facts_in_order d)) is)))
+
+pub none_behind_clause : (c : Clause Term) (hypotheses : List (Fact Term)) (conclusion : Fact Term) (room : ℕ) → clause_of hypotheses conclusion ≡ c → None ≡ room_behind_facts room hypotheses → None ≡ room_behind_facts room (facts_in_order c)
+none_behind_clause c hypotheses conclusion room is none =
+    ap (option_and_then (λ left. room_behind_facts left (conclusion ∷ []))) none
+    ∙ (sym (behind_append hypotheses (conclusion ∷ []) room) ∙ ap (λ d. room_behind_facts room (facts_in_order d)) is)
+
+-- Symbols up to each term.
+
+module _ (most : ℕ) where
+  terms_fit : (ts : List Term) (before : ℕ) → total size ts ≤ most - before → AreUpTo most (up_to_terms before ts)
+  terms_fit [] before within = tt
+  terms_fit (t ∷ ts) before within = let some = size-positive t in (omega arith, terms_fit ts (before + size t) (omega arith))
+
+  terms_over : (ts : List Term) (before : ℕ) → AreUpTo most (up_to_terms before ts) → total size ts ≤ most - before
+  terms_over [] before are = omega arith
+  terms_over (t ∷ ts) before are = let first = are.0 in let later = terms_over ts (before + size t) are.1 in omega arith
+
+  -- what is left behind a fact, where so many symbols stood before
+  fact_fits : (f : Fact Term) (before room left : ℕ) → room ≡ most - before → room_behind_fact room f ≡ Some left → AreUpTo most (up_to_fact before f) × (left ≡ most - (before + fact_size f))
+  fact_fits f before room left is e =
+      let rest = left_is (room - head_size (head_of f)) (total size (terms_of f)) left (sym e) in
+      let parts = fact_size-parts f in
+      (terms_fit (terms_of f) (before + head_size (head_of f)) (omega arith), omega arith)
+
+  fact_over : (f : Fact Term) (before room : ℕ) → room ≡ most - before → room_behind_fact room f ≡ None → AreUpTo most (up_to_fact before f) → ⊥
+  fact_over f before room is e are =
+      let over = is_over (room - head_size (head_of f)) (total size (terms_of f)) (sym e) in
+      let within = terms_over (terms_of f) (before + head_size (head_of f)) are in
+      absurd (omega arith)
+
+  -- and behind facts
+  pub facts_fit : (fs : List (Fact Term)) (before room left : ℕ) → room ≡ most - before → room_behind_facts room fs ≡ Some left → AreUpTo most (up_to_facts before fs) × (left ≡ most - (before + total fact_size fs))
+  facts_fit [] before room left is e = (tt, let same : room ≡ left = cc in omega arith)
+  facts_fit (f ∷ fs) before room left is e = go (room_behind_fact room f) refl e (λ less same later. facts_fit fs (before + fact_size f) less left same later) where
+    go : (o : Option ℕ) → room_behind_fact room f ≡ o → option_and_then (λ less. room_behind_facts less fs) o ≡ Some left
+        → ((less : ℕ) → less ≡ most - (before + fact_size f) → room_behind_facts less fs ≡ Some left → AreUpTo most (up_to_facts (before + fact_size f) fs) × (left ≡ most - (before + fact_size f + total fact_size fs)))
+        → AreUpTo most (up_to_facts before (f ∷ fs)) × (left ≡ most - (before + total fact_size (f ∷ fs)))
+    go None here later others_fit = cc
+    go (Some less) here later others_fit =
+        let first = fact_fits f before room less is here in
+        let others = others_fit less first.1 later in
+        (all_append (λ n. n ≤ most) (up_to_fact before f) (up_to_facts (before + fact_size f) fs) first.0 others.0, omega (arith, others.1))
+
+  pub facts_over : (fs : List (Fact Term)) (before room : ℕ) → room ≡ most - before → room_behind_facts room fs ≡ None → AreUpTo most (up_to_facts before fs) → ⊥
+  facts_over [] before room is e are = cc
+  facts_over (f ∷ fs) before room is e are =
+      let later_up = all_second (λ n. n ≤ most) (up_to_fact before f) (up_to_facts (before + fact_size f) fs) are in
+      go (room_behind_fact room f) refl e (λ less same later. facts_over fs (before + fact_size f) less same later later_up)
+    where
+      go : (o : Option ℕ) → room_behind_fact room f ≡ o → option_and_then (λ less. room_behind_facts less fs) o ≡ None → ((less : ℕ) → less ≡ most - (before + fact_size f) → room_behind_facts less fs ≡ None → ⊥) → ⊥
+      go None here later others_over = fact_over f before room is here (all_first (λ n. n ≤ most) (up_to_fact before f) (up_to_facts (before + fact_size f) fs) are)
+      go (Some less) here later others_over = others_over less (fact_fits f before room less is here).1 later
+
+-- Clauses one by one.
+
+-- the first clauses have no more symbols than the limits up to each of their terms, and so many of all may still come
+pub record AreCounted (cs : List (Clause Term)) (left : ℕ) : Type 0 where
+  pub each : AllByRecursion (λ c. AreUpTo most_symbols (up_to_facts 0 (facts_in_order c))) cs
+  pub together : AreUpTo most_certificate_symbols (up_to_clauses 0 cs)
+  pub room : left ≡ most_certificate_symbols - total clause_size cs
+
+clauses_behind : (cs : List (Clause Term)) (c : Clause Term) (before : ℕ) → up_to_clauses before (cs ++ (c ∷ [])) ≡ up_to_clauses before cs ++ (up_to_facts (before + total clause_size cs) (facts_in_order c) ++ [])
+clauses_behind [] c before = ap (λ n. up_to_facts n (facts_in_order c) ++ []) (omega arith)
+clauses_behind (d ∷ cs) c before =
+    let here = up_to_facts before (facts_in_order d) in
+    let later = clauses_behind cs c (before + clause_size d) in
+    let sum : before + clause_size d + total clause_size cs ≡ before + total clause_size (d ∷ cs) = omega arith in
+    ap (λ l. here ++ l) later
+    ∙ (sym (append_assoc here (up_to_clauses (before + clause_size d) cs) (up_to_facts (before + clause_size d + total clause_size cs) (facts_in_order c) ++ []))
+    ∙ ap (λ n. (here ++ up_to_clauses (before + clause_size d) cs) ++ (up_to_facts n (facts_in_order c) ++ [])) sum)
+
+total_behind : (cs : List (Clause Term)) (c : Clause Term) → total clause_size (cs ++ (c ∷ [])) ≡ total clause_size cs + clause_size c
+total_behind cs c = omega (arith, total-append clause_size cs (c ∷ []))
+
+pub one_counted : (cs : List (Clause Term)) (c : Clause Term) (left some less : ℕ) → AreCounted cs left → Some some ≡ room_behind_facts most_symbols (facts_in_order c) → Some less ≡ room_behind_facts left (facts_in_order c) → AreCounted (cs ++ (c ∷ [])) less
+one_counted cs c left some less counted own whole =
+    let alone = facts_fit most_symbols (facts_in_order c) 0 most_symbols some (omega arith) (sym own) in
+    let before = total clause_size cs in
+    let among = facts_fit most_certificate_symbols (facts_in_order c) before left less counted.room (sym whole) in
+    record {
+      each = all_append (λ d. AreUpTo most_symbols (up_to_facts 0 (facts_in_order d))) cs (c ∷ []) counted.each (alone.0, tt);
+      together = subst (AreUpTo most_certificate_symbols) (sym (clauses_behind cs c 0 ∙ ap (λ n. up_to_clauses 0 cs ++ (up_to_facts n (facts_in_order c) ++ [])) (omega arith)))
+          (all_append (λ n. n ≤ most_certificate_symbols) (up_to_clauses 0 cs) (up_to_facts before (facts_in_order c) ++ []) counted.together
+          (all_append (λ n. n ≤ most_certificate_symbols) (up_to_facts before (facts_in_order c)) [] among.0 tt));
+      room = omega (arith, among.1, total_behind cs c, ordered_total c);
+    }
+
+pub nothing_counted : (left : ℕ) → left ≡ most_certificate_symbols → AreCounted [] left
+nothing_counted left is = record { each = tt; together = tt; room = omega (arith, is) }
+
+-- one more clause of a list
+pub counted_on : (cs : List (Clause Term)) (i : ℕ) (c : Clause Term) (left less : ℕ) (r : Option ℕ) → AreCounted (take i cs) left → i < length cs → c ≡ get_or cs i c → is_none r ≡ false → r ≡ room_behind_facts most_symbols (facts_in_order c) → Some less ≡ room_behind_facts left (facts_in_order c)
+    → AreCounted (take (i + 1) cs) less
+counted_on cs i c left less None counted below is some own whole = cc
+counted_on cs i c left less (Some n) counted below is some own whole =
+    let taken : take (i + 1) cs ≡ take i cs ++ (c ∷ []) = take_more cs i c below ∙ ap (λ d. take i cs ++ (d ∷ [])) (sym is) in
+    subst (λ ds. AreCounted ds less) (sym taken) (one_counted (take i cs) c left n less counted own whole)
+
+-- a clause that is too large by itself
+pub none_alone : (r : Option ℕ) (cs : List (Fact Term)) → is_none r ≡ true → r ≡ room_behind_facts most_symbols cs → None ≡ room_behind_facts most_symbols cs
+none_alone None cs none own = own
+none_alone (Some n) cs none own = cc
+
+-- a term is no larger than what stands up to it
+terms_small : (most : ℕ) (ts : List Term) (before : ℕ) → AreUpTo most (up_to_terms before ts) → AllByRecursion (λ t. size t ≤ most) ts
+terms_small most [] before are = tt
+terms_small most (t ∷ ts) before are = let first = are.0 in (omega arith, terms_small most ts (before + size t) are.1)
+
+facts_small : (most : ℕ) (fs : List (Fact Term)) (before : ℕ) → AreUpTo most (up_to_facts before fs) → AllByRecursion (λ f. AllByRecursion (λ t. size t ≤ most) (terms_of f)) fs
+facts_small most [] before are = tt
+facts_small most (f ∷ fs) before are = (
+  terms_small most (terms_of f) (before + head_size (head_of f)) (all_first (λ n. n ≤ most) (up_to_fact before f) (up_to_facts (before + fact_size f) fs) are),
+  facts_small most fs (before + fact_size f) (all_second (λ n. n ≤ most) (up_to_fact before f) (up_to_facts (before + fact_size f) fs) are),
+)
+
+small_terms : (cs : List (Clause Term)) → AllByRecursion (λ c. AreUpTo most_symbols (up_to_facts 0 (facts_in_order c))) cs → AllByRecursion (λ t. size t ≤ most_symbols) (terms_in_order cs)
+small_terms cs each =
+    all-flat_map (λ t. size t ≤ most_symbols) terms_of (flat_map facts_in_order cs)
+    (all-flat_map (λ f. AllByRecursion (λ t. size t ≤ most_symbols) (terms_of f)) facts_in_order cs
+    (all_weaker (λ c. AreUpTo most_symbols (up_to_facts 0 (facts_in_order c))) (λ c. AllByRecursion (λ f. AllByRecursion (λ t. size t ≤ most_symbols) (terms_of f)) (facts_in_order c))
+    (λ c h. facts_small most_symbols (facts_in_order c) 0 h) cs each))
+
+pub fits : (cs : List (Clause Term)) (left : ℕ) → AreCounted cs left → false ≡ is_large_in_nodes cs
+fits cs left counted = sym ((large_decides cs).1 record {
+  nodes = all_weaker (Has (table cs)) (λ t. size t ≤ most_symbols) (λ t h. small t h) (table cs) (all_there (table cs));
+  clauses = counted.each;
+  together = counted.together;
+}) where
+  small : (t : Term) → Has (table cs) t → size t ≤ most_symbols
+  small t h =
+      let (u, has, sub) = (table_has cs t).0 h in
+      let large = all_has (λ v. size v ≤ most_symbols) (terms_in_order cs) u (small_terms cs counted.each) has in
+      omega (arith, subterm_size sub)
+
+-- Clauses that are too large, behind those that aren't.
+
+large_by : (cs : List (Clause Term)) → (FitsInNodes cs → ⊥) → true ≡ is_large_in_nodes cs
+large_by cs never = go (is_large_in_nodes cs) refl where
+  go : (b : Bool) → is_large_in_nodes cs ≡ b → true ≡ b
+  go true e = refl
+  go false e = absurd (never ((large_decides cs).0 e))
+
+pub one_large : (cs : List (Clause Term)) (i : ℕ) (c : Clause Term) → i < length cs → c ≡ get_or cs i c → None ≡ room_behind_facts most_symbols (facts_in_order c) → true ≡ is_large_in_nodes cs
+one_large cs i c below is none = large_by cs (λ fits. facts_over most_symbols (facts_in_order c) 0 most_symbols (omega arith) (sym none) (at cs i fits.clauses below is))
+  where
+    at : (ds : List (Clause Term)) (n : ℕ) → AllByRecursion (λ d. AreUpTo most_symbols (up_to_facts 0 (facts_in_order d))) ds → n < length ds → c ≡ get_or ds n c → AreUpTo most_symbols (up_to_facts 0 (facts_in_order c))
+    at [] n each below is = absurd (omega arith)
+    at (d ∷ ds) zero each below is = subst (λ e. AreUpTo most_symbols (up_to_facts 0 (facts_in_order e))) (sym is) each.0
+    at (d ∷ ds) (suc n) each below is = at ds n each.1 (omega arith) is
+
+pub all_large : (cs : List (Clause Term)) (i left : ℕ) (c : Clause Term) → AreCounted (take i cs) left → i < length cs → c ≡ get_or cs i c → None ≡ room_behind_facts left (facts_in_order c) → true ≡ is_large_in_nodes cs
+all_large cs i left c counted below is none = large_by cs (λ fits.
+    let before = total clause_size (take i cs) in
+    facts_over most_certificate_symbols (facts_in_order c) before left counted.room (sym none)
+    (subst (λ n. AreUpTo most_certificate_symbols (up_to_facts n (facts_in_order c))) (omega arith) (at cs i 0 fits.together below is)))
+  where
+    at : (ds : List (Clause Term)) (n before : ℕ) → AreUpTo most_certificate_symbols (up_to_clauses before ds) → n < length ds → c ≡ get_or ds n c → AreUpTo most_certificate_symbols (up_to_facts (before + total clause_size (take n ds)) (facts_in_order c))
+    at [] n before are below is = absurd (omega arith)
+    at (d ∷ ds) zero before are below is =
+        let here = all_first (λ n. n ≤ most_certificate_symbols) (up_to_facts before (facts_in_order d)) (up_to_clauses (before + clause_size d) ds) are in
+        let same : before ≡ before + 0 = omega arith in
+        subst (λ m. AreUpTo most_certificate_symbols (up_to_facts m (facts_in_order c))) same (subst (λ e. AreUpTo most_certificate_symbols (up_to_facts before (facts_in_order e))) (sym is) here)
+    at (d ∷ ds) (suc n) before are below is =
+        let later = at ds n (before + clause_size d) (all_second (λ n. n ≤ most_certificate_symbols) (up_to_facts before (facts_in_order d)) (up_to_clauses (before + clause_size d) ds) are) (omega arith) is in
+        let sum : before + clause_size d + total clause_size (take n ds) ≡ before + total clause_size (take (suc n) (d ∷ ds)) = omega arith in
+        subst (λ m. AreUpTo most_certificate_symbols (up_to_facts m (facts_in_order c))) sum later

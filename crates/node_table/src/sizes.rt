@@ -1,0 +1,121 @@
+//! Whether clauses are too large for a table: their symbols are counted up to each term, as long as they are within the limits.
+
+ghost use Rattle.std.specs.Prelude.{◌≡◌, map};
+ghost use Rattle.spec_trees.specs.Tree.{size};
+ghost use Rattle.spec_clauses.specs.Fact.{total};
+ghost use Rattle.spec_clauses.specs.Head.{head_of, head_size};
+ghost use Rattle.spec_node_tables.specs.Table.{facts_in_order};
+ghost use Rattle.spec_node_tables.specs.Large.{is_large_in_nodes};
+ghost use Rattle.clause_form.specs.Plain.{term_of};
+ghost use Rattle.clause_form.specs.PlainFacts.{plain_fact_of};
+ghost use Rattle.node_table.specs.Room.{room_less, room_behind_fact, room_behind_facts};
+
+use clause_form::{PlainClause, PlainFact, PlainFacts, Tree};
+use limits::{MOST_REPORT_BYTES, MOST_SYMBOLS};
+
+/// The most symbols of all clauses of a certificate that is written by a table: as many as a report has bytes at most.
+const MOST_CERTIFICATE_SYMBOLS: u64 = MOST_REPORT_BYTES as u64;
+
+/// Room for so many symbols, less those of a tree; none where it has more.
+fn room_behind_tree(tree: &Tree, room: u64) -> Option<u64>
+    ensures { result ≡ room_less room (size (term_of tree.now)) }
+{
+    if room == 0 {
+        return None;
+    }
+    let mut left = room - 1;
+    match tree {
+        Tree::Var(_) => Some(left),
+        Tree::App(_, arguments) => {
+            'each: for argument in &arguments.items {
+                match room_behind_tree(argument, left) {
+                    Some(less) => left = less,
+                    None => return None,
+                }
+            }
+            Some(left)
+        }
+    }
+}
+
+/// Room for so many symbols, less those of trees; none where these have more.
+fn room_behind_trees(trees: &[Tree], room: u64) -> Option<u64>
+    ensures { result ≡ room_less room (total size (map term_of trees.now)) }
+{
+    let mut left = room;
+    'each: for tree in trees {
+        match room_behind_tree(tree, left) {
+            Some(less) => left = less,
+            None => return None,
+        }
+    }
+    Some(left)
+}
+
+/// The symbols that a fact has besides those of its terms.
+fn head_symbols(fact: &PlainFact) -> u64
+    ensures { result ≡ head_size (head_of (plain_fact_of fact.now)) }
+{
+    match fact {
+        PlainFact::Att(_) | PlainFact::Mess(_, _) | PlainFact::Bad(_) => 1,
+        PlainFact::Ev(_, _) | PlainFact::Mev(_, _) => 2,
+    }
+}
+
+/// Room for so many symbols, less those of a fact; none where there are too many up to one of its terms.
+fn room_behind_fact(fact: &PlainFact, room: u64) -> Option<u64>
+    ensures { result ≡ room_behind_fact room (plain_fact_of fact.now) }
+{
+    let left = room.saturating_sub(head_symbols(fact));
+    match fact {
+        PlainFact::Att(term) => room_behind_tree(term, left),
+        PlainFact::Mess(channel, message) => match room_behind_tree(channel, left) {
+            Some(less) => room_behind_tree(message, less),
+            None => None,
+        },
+        PlainFact::Ev(_, arguments) | PlainFact::Mev(_, arguments) | PlainFact::Bad(arguments) => {
+            room_behind_trees(&arguments.items, left)
+        }
+    }
+}
+
+/// Room for so many symbols, less those of facts; none where there are too many up to one of their terms.
+fn room_behind_facts(facts: &PlainFacts, room: u64) -> Option<u64>
+    ensures { result ≡ room_behind_facts room facts.now }
+{
+    let mut left = room;
+    'each: for fact in &facts.items {
+        match room_behind_fact(fact, left) {
+            Some(less) => left = less,
+            None => return None,
+        }
+    }
+    Some(left)
+}
+
+/// Room for so many symbols, less those of a clause; none where there are too many up to one of its terms.
+fn room_behind_clause(clause: &PlainClause, room: u64) -> Option<u64>
+    ensures { result ≡ room_behind_facts room (facts_in_order clause.now) }
+{
+    match room_behind_facts(&clause.hyps, room) {
+        Some(left) => room_behind_fact(&clause.concl, left),
+        None => None,
+    }
+}
+
+/// Whether the clauses are too large for a table. Takes no memory.
+pub fn is_large_in_nodes(clauses: &[PlainClause]) -> bool
+    ensures { result ≡ is_large_in_nodes clauses.now }
+{
+    let mut left = MOST_CERTIFICATE_SYMBOLS;
+    'each: for clause in clauses {
+        if room_behind_clause(clause, MOST_SYMBOLS).is_none() {
+            return true;
+        }
+        match room_behind_clause(clause, left) {
+            Some(less) => left = less,
+            None => return true,
+        }
+    }
+    false
+}

@@ -1,0 +1,79 @@
+-- The kinds of events and facts by numbers, as the grammar has them, where the table has these terms.
+use Rattle.std.specs.Prelude.{◌≡◌, ◌≢◌, ℕ, List, ◌∷◌, length, codes}
+use Rattle.spec_calculus.specs.Syntax.{Protocol}
+use Rattle.spec_terms.specs.Term.{Term}
+use Rattle.spec_certificate_text.specs.OfProtocol.{IsEvent}
+use Rattle.spec_certificate_reading.specs.Terms.{Code, Arity}
+use Rattle.spec_certificate_faults.specs.Grammar.{EndsAt}
+use Rattle.spec_first_faults.specs.Kinds.{fixed, nothing_before}
+use Rattle.spec_first_faults.specs.Kinds as plain
+use Rattle.spec_first_faults.specs.Facts.{words, WordFault, event_goes_on}
+use Rattle.spec_node_tables.specs.Text.{number_text, event_over}
+use Rattle.spec_node_reading.specs.Kinds.{KindIn, kept, changing, behind, one_of, marked, row_of}
+use Rattle.spec_node_reading.specs.Walked.{Walked, with_signs, MayFollowAll, table_numbers}
+
+module _ (P : Protocol) (table : List Term) where
+  -- numbers, a comma between each two, and `)`
+  abbrev pub arguments : KindIn Walked
+  arguments = row_of (table_numbers table) (codes ",") (codes ")")
+
+  -- Events: a word alone, or over numbers.
+
+  -- what stands behind the word: `(` and numbers, or nothing
+  abbrev pub applications : KindIn Walked
+  applications = one_of (behind (kept (fixed (codes "("))) arguments) (kept (nothing_before (EndsAt event_goes_on)))
+
+  abbrev pub performances : KindIn Walked
+  performances = behind (kept (plain.marked words (WordFault P))) applications
+
+  -- Arity: an event over numbers that may follow, of which it takes another number
+  pub record IsMisperformed (w : Walked) (bytes : List ℕ) : Type 0 where
+    pub event : ℕ
+    pub takes : ℕ
+    pub numbers : List ℕ
+    pub rest : List ℕ
+    pub is_event : IsEvent P event takes
+    pub each : MayFollowAll table w numbers
+    pub wrong : takes ≢ length numbers
+    pub text : bytes ≡ event_over number_text P event numbers rest
+    pub whole : performances.Text bytes rest
+
+  abbrev pub EventFault : Walked → Code → List ℕ → Type 0
+  EventFault w Arity bytes = IsMisperformed w bytes
+  EventFault w code bytes = ⊥
+
+  abbrev pub events : KindIn Walked
+  events = marked performances EventFault
+
+  -- Facts.
+
+  -- the word of a predicate and `(`, which are so many symbols
+  abbrev pub opening : List ℕ → ℕ → KindIn Walked
+  opening word signs = changing word (with_signs signs)
+
+  abbrev pub closing : KindIn Walked
+  closing = kept (fixed (codes ")"))
+
+  -- `att(`, a number and `)`
+  abbrev pub known : KindIn Walked
+  known = behind (opening (codes "att(") 1) (behind (table_numbers table) closing)
+
+  -- `mess(`, a number, a comma, a number and `)`
+  abbrev pub sent : KindIn Walked
+  sent = behind (opening (codes "mess(") 1) (behind (table_numbers table) (behind (kept (fixed (codes ","))) (behind (table_numbers table) closing)))
+
+  -- `ev(` or `mev(`, an event and `)`
+  abbrev pub performed : List ℕ → KindIn Walked
+  performed word = behind (opening word 2) (behind events closing)
+
+  -- `bad(`, numbers, of which there may be none, and `)`
+  abbrev pub violated : KindIn Walked
+  violated = behind (opening (codes "bad(") 1) (one_of closing arguments)
+
+  -- any fact but `bad`
+  abbrev pub hypotheses : KindIn Walked
+  hypotheses = one_of (one_of (performed (codes "mev(")) sent) (one_of (performed (codes "ev(")) known)
+
+  -- any fact but `mev`
+  abbrev pub conclusions : KindIn Walked
+  conclusions = one_of sent (one_of (performed (codes "ev(")) (one_of violated known))
