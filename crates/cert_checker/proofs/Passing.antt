@@ -12,7 +12,11 @@ use Rattle.spec_clauses.specs.Resolvents.{Resolvents}
 use Rattle.spec_certificates.specs.Certificate.{CoverRowHolds, Numbered, numbered_from, Pair, pairs_with, pairs_of_solved, pairs_of}
 use Rattle.term_tree.specs.declared.bank.Id.{Id}
 use Rattle.clause_form.specs.Seen.{clause_at}
+use Rattle.spec_fingerprints.specs.Fingerprints as print
+use Rattle.spec_fingerprints.specs.Fingerprints.{fingerprint_of, hypothesis_print, may_resolve}
+use Rattle.spec_fingerprints.proofs.Meeting.{hypothesis_apart}
 use Rattle.clause_resolve.specs.Apart.{IsSelectedAt}
+use Rattle.clause_resolve.proofs.Shifting.{placed}
 use Rattle.clause_resolve.specs.Answers.{Gives, IsAnswerOf}
 use Rattle.clause_resolve.specs.declared.resolving.Resolved.{Resolved}
 use Rattle.clause_resolve.specs.declared.resolving.Resolved.TheVariants as resolved_so
@@ -69,6 +73,18 @@ module _ (all : List Term) (cs : List (Clause Id)) (rows : List (List ℕ)) (fro
 
   pub pair_apart : (new : List Term) (found : Resolved) → found ≡ resolved_so.NoUnifier → IsAnswerOf new (clause_at all (get_or cs i d)) (clause_at all (get_or cs j e)) found → IsClosedSo (clauses_at all cs) (pair_at (numbered_at all cs) i j) rows from (closed_so.All from)
   pair_apart new found same answer = closed_by from (no_unifier (clauses_at all cs) A B (drop from rows) (subst (λ (r : Resolved). IsAnswerOf new (clause_at all (get_or cs i d)) (clause_at all (get_or cs j e)) r) same answer))
+
+  -- where fingerprints tell
+  pub pair_told_apart : (at : ℕ) (conclusion : print.Fingerprint) (hypothesis : Option print.Fingerprint) → IsSelectedAt (clause_at all (get_or cs j e)) at → conclusion ≡ fingerprint_of (clause_at all (get_or cs i d)).conclusion → hypothesis ≡ hypothesis_print (clause_at all (get_or cs j e))
+      → may_resolve conclusion hypothesis ≡ false → IsClosedSo (clauses_at all cs) (pair_at (numbered_at all cs) i j) rows from (closed_so.All from)
+  pair_told_apart at conclusion hypothesis place is also apart =
+      let p = placed (clause_at all (get_or cs j e)) at place in
+      let told : may_resolve (fingerprint_of (clause_at all (get_or cs i d)).conclusion) (hypothesis_print (clause_at all (get_or cs j e))) ≡ false = sym (λ k. may_resolve (is k) (also k)) ∙ apart in
+      closed_by from (no_unifier (clauses_at all cs) A B (drop from rows) (record {
+        at = p.selection;
+        is_selected = p.is_selected;
+        gives = hypothesis_apart (clause_at all (get_or cs i d)) (clause_at all (get_or cs j e)) p.selection p.is_selected told;
+      }))
 
   pub pair_large : (new : List Term) (found : Resolved) → found ≡ resolved_so.Large → IsAnswerOf new (clause_at all (get_or cs i d)) (clause_at all (get_or cs j e)) found → IsClosedSo (clauses_at all cs) (pair_at (numbered_at all cs) i j) rows from (where_shown i j (shown_so.Except 0))
   pair_large new found same answer = open_by (rulings.Closure (i + 1) (j + 1) 0) (too_large (clauses_at all cs) A B (drop from rows) (subst (λ (r : Resolved). IsAnswerOf new (clause_at all (get_or cs i d)) (clause_at all (get_or cs j e)) r) same answer))

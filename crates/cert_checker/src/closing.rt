@@ -1,10 +1,12 @@
 //! Pairs of a solved clause with an unsolved one: each resolvent is covered by the next row.
 
-ghost use Rattle.std.specs.Prelude.{◌≡◌, ◌<◌, ◌+◌, ◌^◌, Some, length, slice_get, IfOk};
+ghost use Rattle.std.specs.Prelude.{◌≡◌, ◌<◌, ◌+◌, ◌^◌, Some, length, map, slice_get, option_map, IfOk};
 ghost use Rattle.spec_clauses.specs.Fact.{Clause};
 ghost use Rattle.spec_certificates.specs.Certificate.{pairs_of};
+ghost use Rattle.spec_fingerprints.specs.Fingerprints.{fingerprint_of, hypothesis_print};
 ghost use Rattle.term_tree.specs.declared.bank.Id.{Id};
 ghost use Rattle.clause_resolve.specs.Apart.{IsSelectedAt};
+ghost use Rattle.fact_fingerprint.specs.Seen.{fingerprint_seen};
 ghost use Rattle.clause_form.specs.Seen.{clause_at};
 ghost use Rattle.cert_checker.specs.declared.ruling.Shown.TheVariants as shown_so;
 ghost use Rattle.clause_form.specs.Fit.{AreFit, clauses_at};
@@ -17,6 +19,7 @@ use crate::covering::are_covered;
 use crate::ruling::{Closed, Ruling, Shown};
 use crate::unsolved::{Unsolved, unsolved_ones};
 use clause_resolve::{Resolved, resolvents};
+use fact_fingerprint::{Fingerprint, conclusion_fingerprint, hypothesis_fingerprints, may_resolve};
 use literal_selection::is_solved;
 use std::alloc::AllocError;
 use term_tree::Bank;
@@ -84,31 +87,86 @@ fn close_pair<B: Bank>(
     }
 }
 
+/// A solved clause by its place and the fingerprint of its conclusion, and the fingerprints of the selected hypotheses of all
+/// clauses.
+#[derive(Clone, Copy)]
+pub(crate) struct Solving<'a> {
+    pub solved: usize,
+    pub print: Fingerprint,
+    pub prints: &'a [Option<Fingerprint>],
+}
+
+/// Whether the resolvents of a solved clause with an unsolved one are covered by the rows from a place on. Where fingerprints
+/// tell that there is no unifier, no row is used. The bank is as before.
+fn close_met<B: Bank>(
+    bank: &mut B,
+    checker: &Checker<'_>,
+    solving: &Solving<'_>,
+    one: Unsolved,
+    from: usize,
+) -> Result<Closed, AllocError>
+    requires fit { AreFit (B.trees bank.old) checker.now.clauses.now }
+    requires solved { solving.now.solved < length checker.now.clauses.now }
+    requires unsolved { one.place < length checker.now.clauses.now }
+    requires selected { (c : Clause Id) → slice_get checker.now.clauses.now one.place ≡ Some c →
+        IsSelectedAt (clause_at (B.trees bank.old) c) one.at }
+    requires print { (c : Clause Id) →
+        slice_get checker.now.clauses.now solving.now.solved ≡ Some c →
+        fingerprint_seen solving.now.print ≡
+        fingerprint_of (clause_at (B.trees bank.old) c).conclusion }
+    requires prints { map (option_map fingerprint_seen) solving.now.prints.now ≡
+        map hypothesis_print (clauses_at (B.trees bank.old) checker.now.clauses.now) }
+    ensures closed { let all = B.trees bank.old in IfOk result (λ closed.
+        IsClosedSo (clauses_at all checker.now.clauses.now)
+        (pair_at (numbered_at all checker.now.clauses.now) solving.now.solved one.place)
+        checker.now.cert.now.rows from closed) }
+    ensures bank { B.trees bank.new ≡ B.trees bank.old }
+{
+    if !may_resolve(&solving.print, &solving.prints[one.place]) {
+        return Ok(Closed::All(from));
+    }
+    let pair = Pair {
+        solved: solving.solved,
+        unsolved: one.place,
+    };
+    close_pair(bank, checker, pair, one.at, from)
+}
+
+/// The unsolved clauses, and the fingerprints of the selected hypotheses of all clauses.
+#[derive(Clone, Copy)]
+pub(crate) struct Partners<'a> {
+    pub unsolved: &'a [Unsolved],
+    pub prints: &'a [Option<Fingerprint>],
+}
+
 /// Whether the resolvents of a solved clause with each unsolved one are covered. The bank is as before.
 fn close_solved<B: Bank>(
     bank: &mut B,
     checker: &Checker<'_>,
     solved: usize,
-    unsolved: &[Unsolved],
+    partners: &Partners<'_>,
     from: usize,
 ) -> Result<Closed, AllocError>
     requires fit { AreFit (B.trees bank.old) checker.now.clauses.now }
     requires solved { solved < length checker.now.clauses.now }
-    requires unsolved { unsolved.now ≡ unsolved_from 0
+    requires unsolved { partners.now.unsolved.now ≡ unsolved_from 0
         (clauses_at (B.trees bank.old) checker.now.clauses.now) }
+    requires prints { map (option_map fingerprint_seen) partners.now.prints.now ≡
+        map hypothesis_print (clauses_at (B.trees bank.old) checker.now.clauses.now) }
     ensures closed { let all = B.trees bank.old in IfOk result (λ closed.
         IsClosedSo (clauses_at all checker.now.clauses.now)
         (pairs_at (numbered_at all checker.now.clauses.now) solved)
         checker.now.cert.now.rows from closed) }
     ensures bank { B.trees bank.new ≡ B.trees bank.old }
 {
+    let solving = Solving {
+        solved,
+        print: conclusion_fingerprint(bank, &checker.clauses[solved]),
+        prints: partners.prints,
+    };
     let mut next = from;
-    'each: for one in unsolved {
-        let pair = Pair {
-            solved,
-            unsolved: one.place,
-        };
-        match close_pair(bank, checker, pair, one.at, next)? {
+    'each: for one in partners.unsolved {
+        match close_met(bank, checker, &solving, *one, next)? {
             Closed::All(left) => next = left,
             Closed::Except(ruling) => return Ok(Closed::Except(ruling)),
         }
@@ -121,13 +179,15 @@ fn close_one<B: Bank>(
     bank: &mut B,
     checker: &Checker<'_>,
     solved: usize,
-    unsolved: &[Unsolved],
+    partners: &Partners<'_>,
     from: usize,
 ) -> Result<Closed, AllocError>
     requires fit { AreFit (B.trees bank.old) checker.now.clauses.now }
     requires solved { solved < length checker.now.clauses.now }
-    requires unsolved { unsolved.now ≡ unsolved_from 0
+    requires unsolved { partners.now.unsolved.now ≡ unsolved_from 0
         (clauses_at (B.trees bank.old) checker.now.clauses.now) }
+    requires prints { map (option_map fingerprint_seen) partners.now.prints.now ≡
+        map hypothesis_print (clauses_at (B.trees bank.old) checker.now.clauses.now) }
     ensures closed { let all = B.trees bank.old in IfOk result (λ closed.
         IsClosedSo (clauses_at all checker.now.clauses.now)
         (pairs_at_solved (numbered_at all checker.now.clauses.now) solved)
@@ -137,19 +197,21 @@ fn close_one<B: Bank>(
     if !is_solved(bank, &checker.clauses[solved]) {
         return Ok(Closed::All(from));
     }
-    close_solved(bank, checker, solved, unsolved, from)
+    close_solved(bank, checker, solved, partners, from)
 }
 
 /// Whether the resolvents of each solved clause with each unsolved one are covered. The bank is as before.
 fn close_all<B: Bank>(
     bank: &mut B,
     checker: &Checker<'_>,
-    unsolved: &[Unsolved],
+    partners: &Partners<'_>,
     from: usize,
 ) -> Result<Closed, AllocError>
     requires fit { AreFit (B.trees bank.old) checker.now.clauses.now }
-    requires unsolved { unsolved.now ≡ unsolved_from 0
+    requires unsolved { partners.now.unsolved.now ≡ unsolved_from 0
         (clauses_at (B.trees bank.old) checker.now.clauses.now) }
+    requires prints { map (option_map fingerprint_seen) partners.now.prints.now ≡
+        map hypothesis_print (clauses_at (B.trees bank.old) checker.now.clauses.now) }
     ensures closed { let all = B.trees bank.old in IfOk result (λ closed.
         IsClosedSo (clauses_at all checker.now.clauses.now)
         (let each = numbered_at all checker.now.clauses.now in pairs_of each each)
@@ -158,7 +220,7 @@ fn close_all<B: Bank>(
 {
     let mut next = from;
     'each: for solved in 0..checker.clauses.len() {
-        match close_one(bank, checker, solved, unsolved, next)? {
+        match close_one(bank, checker, solved, partners, next)? {
             Closed::All(left) => next = left,
             Closed::Except(ruling) => return Ok(Closed::Except(ruling)),
         }
@@ -181,5 +243,10 @@ pub(crate) fn are_closed<B: Bank>(
     ensures bank { B.trees bank.new ≡ B.trees bank.old }
 {
     let unsolved = unsolved_ones(bank, checker)?;
-    close_all(bank, checker, &unsolved, from)
+    let prints = hypothesis_fingerprints(checker.alloc, bank, checker.clauses)?;
+    let partners = Partners {
+        unsolved: &unsolved,
+        prints: &prints,
+    };
+    close_all(bank, checker, &partners, from)
 }

@@ -1,4 +1,4 @@
--- The features that are kept beside entries: as the bank grows, as entries are marked, with an entry more; what they tell.
+-- What the features that are kept beside entries tell.
 use Rattle.std.proofs.Common.{◌≡◌, ◌∙◌, ℕ, zero, suc, ◌-◌, ◌<◌, Bool, true, false, Some, List, [], ◌∷◌, ◌++◌, length, get_or, true≢false, refl, ap, sym, subst, arith}
 use Rattle.std.specs.Prelude.{slice_get}
 use Rattle.std.specs.List.{list_all}
@@ -20,43 +20,6 @@ use Rattle.clause_saturate.specs.declared.log.Entry.{Entry}
 use Rattle.clause_saturate.specs.Beating.{clauses_of, AreMarked}
 use Rattle.clause_saturate.proofs.Marking.{MarkedTo}
 use Rattle.clause_saturate.specs.Live.{lanes_of, kept_lanes, HasFeatures, NumberCovers}
-
-pub lanes_grow : (a b : List Term) (es : List Entry) → Grows a b → AreFit a (clauses_of es) → lanes_of b es ≡ lanes_of a es
-lanes_grow a b [] grows fit = refl
-lanes_grow a b (e ∷ es) grows fit =
-    let first : features_of (clause_at b e.clause) ≡ features_of (clause_at a e.clause) = ap features_of (NamesClause-grows a b e.clause (clause_at a e.clause) grows (record { known = fit.0.known; is = refl })).is in
-    ap (λ ls. ls ∷ lanes_of b es) first ∙ ap (λ rest. features_of (clause_at a e.clause) ∷ rest) (lanes_grow a b es grows fit.1)
-
-pub lanes_marked : (all : List Term) (c : Clause Term) (number : ℕ) (olds news : List Entry) → AreMarked all c number olds news → lanes_of all news ≡ lanes_of all olds
-lanes_marked all c number [] [] m = refl
-lanes_marked all c number [] (e ∷ es) m = absurd m
-lanes_marked all c number (d ∷ ds) [] m = absurd m
-lanes_marked all c number (d ∷ ds) (e ∷ es) m =
-    let first : features_of (clause_at all e.clause) ≡ features_of (clause_at all d.clause) = ap (λ (x : Clause Id). features_of (clause_at all x)) m.0.clause in
-    ap (λ ls. ls ∷ lanes_of all es) first ∙ ap (λ rest. features_of (clause_at all d.clause) ∷ rest) (lanes_marked all c number ds es m.1)
-
-pub lanes_pushed : (all : List Term) (es : List Entry) (fs : List Features) (e : Entry) (f : Features) → kept_lanes fs ≡ lanes_of all es → HasFeatures all e.clause f → kept_lanes (fs ++ f ∷ []) ≡ lanes_of all (es ++ e ∷ [])
-lanes_pushed all [] [] e f same has = ap (λ ls. ls ∷ []) has
-lanes_pushed all [] (g ∷ fs) e f same has = cc
-lanes_pushed all (d ∷ es) [] e f same has = cc
-lanes_pushed all (d ∷ es) (g ∷ fs) e f same has =
-    let first : g.lanes ≡ features_of (clause_at all d.clause) = cc in
-    let rest : kept_lanes fs ≡ lanes_of all es = cc in
-    ap (λ ls. ls ∷ kept_lanes (fs ++ f ∷ [])) first ∙ ap (λ ls. features_of (clause_at all d.clause) ∷ ls) (lanes_pushed all es fs e f rest has)
-
--- the first i of them with their marks
-pub lanes_marked_to : (all : List Term) (c : Clause Term) (number i : ℕ) (olds news : List Entry) → MarkedTo all c number i olds news → lanes_of all news ≡ lanes_of all olds
-lanes_marked_to all c number zero olds news m = ap (lanes_of all) m
-lanes_marked_to all c number (suc i) [] [] m = refl
-lanes_marked_to all c number (suc i) [] (e ∷ es) m = absurd m
-lanes_marked_to all c number (suc i) (d ∷ ds) [] m = absurd m
-lanes_marked_to all c number (suc i) (d ∷ ds) (e ∷ es) m =
-    let first : features_of (clause_at all e.clause) ≡ features_of (clause_at all d.clause) = ap (λ (x : Clause Id). features_of (clause_at all x)) m.0.clause in
-    ap (λ ls. ls ∷ lanes_of all es) first ∙ ap (λ rest. features_of (clause_at all d.clause) ∷ rest) (lanes_marked_to all c number i ds es m.1)
-
--- there are as many as entries
-pub lanes_length : (all : List Term) (es : List Entry) (fs : List Features) → kept_lanes fs ≡ lanes_of all es → length fs ≡ length es
-lanes_length all es fs same = sym (length-map fs (λ f. f.lanes)) ∙ (ap length same ∙ length-map es (λ e. features_of (clause_at all e.clause)))
 
 -- what stands beside an entry are its clause's
 pub kept_there : (all : List Term) (es : List Entry) (fs : List Features) (k : ℕ) (x : Entry) (f : Features) → kept_lanes fs ≡ lanes_of all es → slice_get es k ≡ Some x → f ≡ get_or fs k f → HasFeatures all x.clause f

@@ -6,6 +6,7 @@ pub mod Fitting
 pub mod Pairing
 pub mod Found
 pub mod Living
+pub mod Beside
 pub mod Lanes
 pub mod Listing
 pub mod Partners

@@ -15,8 +15,11 @@ use Rattle.clause_form.specs.Fit.{AreFit}
 use Rattle.feature_index.specs.declared.lanes.Features.{Features}
 use Rattle.clause_saturate.specs.Logs.{is_unbeaten}
 use Rattle.clause_saturate.specs.Beating.{clauses_of, IsMarked, AreMarked}
-use Rattle.clause_saturate.specs.Live.{IsAmong, IsAscending, IsLiveAt, AreNumbersOf, kept_lanes, lanes_of, HasFeatures, AreListed, is_live_entry, is_live_at, IsNumberListed}
-use Rattle.clause_saturate.proofs.Lanes.{lanes_grow, lanes_marked, lanes_pushed}
+use Rattle.spec_features.specs.Features.{features_of}
+use Rattle.spec_fingerprints.specs.Fingerprints.{clause_print}
+use Rattle.std.proofs.lemmas.List.{map-append}
+use Rattle.clause_saturate.specs.Live.{IsAmong, IsAscending, IsLiveAt, AreNumbersOf, kept_lanes, lanes_of, kept_prints, prints_of, HasFeatures, AreListed, is_live_entry, is_live_at, IsNumberListed}
+use Rattle.clause_saturate.proofs.Beside.{told_grow, told_marked, told_pushed}
 
 -- numbers that ascend from a number ascend from a lesser one
 from_less : (less least : ℕ) (ns : List ℕ) → less ≤ least → IsAscending least ns → IsAscending less ns
@@ -144,19 +147,20 @@ numbers_same a b es solved ns same h = record {
 pub listed_grows : (a b : List Term) (es : List Entry) (live : Live) → Grows a b → AreFit a (clauses_of es) → AreListed a es live → AreListed b es live
 listed_grows a b es live grows fit h =
     let same : AreSame a b es = λ n x at. same_clause a b es n x grows fit at in
-    record { solved = numbers_same a b es true live.solved.items same h.solved; unsolved = numbers_same a b es false live.unsolved.items same h.unsolved; features = h.features ∙ sym (lanes_grow a b es grows fit) }
+    record { solved = numbers_same a b es true live.solved.items same h.solved; unsolved = numbers_same a b es false live.unsolved.items same h.unsolved; features = h.features ∙ sym (told_grow features_of a b es grows fit); prints = h.prints ∙ sym (told_grow clause_print a b es grows fit) }
 
 pub listed_back : (a b : List Term) (es : List Entry) (live : Live) → Grows a b → AreFit a (clauses_of es) → AreListed b es live → AreListed a es live
 listed_back a b es live grows fit h =
     let same : AreSame b a es = λ n x at. sym (same_clause a b es n x grows fit at) in
-    record { solved = numbers_same b a es true live.solved.items same h.solved; unsolved = numbers_same b a es false live.unsolved.items same h.unsolved; features = h.features ∙ lanes_grow a b es grows fit }
+    record { solved = numbers_same b a es true live.solved.items same h.solved; unsolved = numbers_same b a es false live.unsolved.items same h.unsolved; features = h.features ∙ told_grow features_of a b es grows fit; prints = h.prints ∙ told_grow clause_print a b es grows fit }
 
 -- no entries have no numbers
-pub none_listed : (all : List Term) (es : List Entry) (live : Live) → es ≡ [] → live.solved.items ≡ [] → live.unsolved.items ≡ [] → live.features.items ≡ [] → AreListed all es live
-none_listed all es live none solved unsolved features = record {
+pub none_listed : (all : List Term) (es : List Entry) (live : Live) → es ≡ [] → live.solved.items ≡ [] → live.unsolved.items ≡ [] → live.features.items ≡ [] → live.prints.items ≡ [] → AreListed all es live
+none_listed all es live none solved unsolved features prints = record {
   solved = go true live.solved.items solved;
   unsolved = go false live.unsolved.items unsolved;
   features = ap kept_lanes features ∙ ap (lanes_of all) (sym none);
+  prints = ap kept_prints prints ∙ ap (prints_of all) (sym none);
 }
   where
     nowhere : (kind : Bool) (n : ℕ) → IsLiveAt all [] kind n → ⊥
@@ -284,29 +288,36 @@ marked_count all c number (d ∷ ds) (e ∷ es) m = ap suc (marked_count all c n
 
 -- what is kept beside marked entries
 pub marked_listed : (all : List Term) (c : Clause Term) (number : ℕ) (olds marked : List Entry) (was now : Live) → AreListed all olds was → AreMarked all c number olds marked
-    → now.solved.items ≡ filter (is_live_at marked) was.solved.items → now.unsolved.items ≡ filter (is_live_at marked) was.unsolved.items → now.features.items ≡ was.features.items → AreListed all marked now
-marked_listed all c number olds marked was now h m solved unsolved same = record {
+    → now.solved.items ≡ filter (is_live_at marked) was.solved.items → now.unsolved.items ≡ filter (is_live_at marked) was.unsolved.items → now.features.items ≡ was.features.items → now.prints.items ≡ was.prints.items → AreListed all marked now
+marked_listed all c number olds marked was now h m solved unsolved same prints = record {
   solved = subst (λ (ns : List ℕ). AreNumbersOf all marked true ns) (sym solved) (marked_numbers all c number olds marked true was.solved.items m h.solved);
   unsolved = subst (λ (ns : List ℕ). AreNumbersOf all marked false ns) (sym unsolved) (marked_numbers all c number olds marked false was.unsolved.items m h.unsolved);
-  features = ap kept_lanes same ∙ (h.features ∙ sym (lanes_marked all c number olds marked m));
+  features = ap kept_lanes same ∙ (h.features ∙ sym (told_marked features_of all c number olds marked m));
+  prints = ap kept_prints prints ∙ (h.prints ∙ sym (told_marked clause_print all c number olds marked m));
 }
 
 -- and with a new entry
 pub pushed_listed : (all : List Term) (number : ℕ) (es news : List Entry) (entry : Entry) (f : Features) (was now : Live) → AreListed all es was → number ≡ length es + 1 → entry.by ≡ None → news ≡ es ++ entry ∷ []
-    → IsNumberListed (is_solved (clause_at all entry.clause).hypotheses) number was now → now.features.items ≡ was.features.items ++ f ∷ [] → HasFeatures all entry.clause f → AreListed all news now
-pushed_listed all number es news entry f was now h next_number live is listed more has = subst (λ (l : List Entry). AreListed all l now) (sym is) (go (is_solved (clause_at all entry.clause).hypotheses) refl listed)
+    → IsNumberListed (is_solved (clause_at all entry.clause).hypotheses) number was now → now.features.items ≡ was.features.items ++ f ∷ [] → HasFeatures all entry.clause f
+    → kept_prints now.prints.items ≡ kept_prints was.prints.items ++ clause_print (clause_at all entry.clause) ∷ [] → AreListed all news now
+pushed_listed all number es news entry f was now h next_number live is listed more has printed = subst (λ (l : List Entry). AreListed all l now) (sym is) (go (is_solved (clause_at all entry.clause).hypotheses) refl listed)
   where
     features : kept_lanes now.features.items ≡ lanes_of all (es ++ entry ∷ [])
-    features = ap kept_lanes more ∙ lanes_pushed all es was.features.items entry f h.features has
+    features = told_pushed features_of all es entry (kept_lanes was.features.items) (kept_lanes now.features.items) f.lanes h.features (ap kept_lanes more ∙ map-append (λ (k : Features). k.lanes) was.features.items (f ∷ [])) has
+
+    prints : kept_prints now.prints.items ≡ prints_of all (es ++ entry ∷ [])
+    prints = told_pushed clause_print all es entry (kept_prints was.prints.items) (kept_prints now.prints.items) (clause_print (clause_at all entry.clause)) h.prints printed refl
 
     go : (b : Bool) → is_solved (clause_at all entry.clause).hypotheses ≡ b → IsNumberListed b number was now → AreListed all (es ++ entry ∷ []) now
     go true kind l = record {
       solved = subst (λ (ns : List ℕ). AreNumbersOf all (es ++ entry ∷ []) true ns) (sym l.0) (pushed_numbers all es entry number true was.solved.items next_number live kind h.solved);
       unsolved = subst (λ (ns : List ℕ). AreNumbersOf all (es ++ entry ∷ []) false ns) (sym l.1) (other_numbers all es entry false was.unsolved.items (λ other. let wrong : true ≡ false = sym kind ∙ other in cc) h.unsolved);
       features = features;
+      prints = prints;
     }
     go false kind l = record {
       solved = subst (λ (ns : List ℕ). AreNumbersOf all (es ++ entry ∷ []) true ns) (sym l.0) (other_numbers all es entry true was.solved.items (λ other. let wrong : true ≡ false = sym other ∙ kind in cc) h.solved);
       unsolved = subst (λ (ns : List ℕ). AreNumbersOf all (es ++ entry ∷ []) false ns) (sym l.1) (pushed_numbers all es entry number false was.unsolved.items next_number live kind h.unsolved);
       features = features;
+      prints = prints;
     }

@@ -31,7 +31,7 @@ use Rattle.clause_form.specs.Fit.{AreFit}
 use Rattle.clause_saturate.specs.Beating.{clauses_of, IsOfferMade}
 use Rattle.clause_saturate.proofs.Fitting.{walked_grows}
 use Rattle.clause_saturate.specs.Live.{AreListed}
-use Rattle.clause_saturate.specs.Pairs.{major, minor, IsDuePair, NoDuePair, NoDuePairs, IsFirstPair, GivesAnswer, IsMadeBy, IsFoundFor, AreSameOrMore}
+use Rattle.clause_saturate.specs.Pairs.{major, minor, IsDuePair, NoDuePair, AreApart, ArePassedBy, AllArePassedBy, IsFirstPair, GivesAnswer, IsMadeBy, IsFoundFor, AreSameOrMore}
 use Rattle.clause_saturate.specs.Walked.{Task, IsAsked, IsAt, IsWalked, HasSpent, HasLarge}
 use Rattle.clause_saturate.proofs.Listing.{same_clause}
 use Rattle.clause_saturate.proofs.Telling.{log_length, unbeaten_none, none_unbeaten, IsSolvedAt-push, TellLog-grows}
@@ -172,17 +172,31 @@ pub undue_step : (all : List Term) (task : Task) (walk : Walk) (m i : ℕ) → i
 undue_step all task walk m i order none (log, at) =
     behind all task walk m i (moved all task walk m i 0 log order at (pair_undue task.given at.is_task.some log m i order at.up_to (undue all log walk.items.items m i at.tell none)))
 
-pub passed_by : (all : List Term) (task : Task) (walk : Walk) (m i j : ℕ) → i ≤ j → j ≤ m → NoDuePairs all walk.items.items m i j → IsWalked all task walk (key m i 1) → IsWalked all task walk (key m j 1)
+-- and so is one whose facts have no unifier
+pub apart_step : (all : List Term) (task : Task) (walk : Walk) (pair : Pair) → GivesAnswer all walk.items.items pair NoUnifier → IsWalked all task walk (key (major pair) (minor pair) 1) → IsWalked all task walk (key (major pair) (minor pair + 1) 1)
+apart_step all task walk pair g (log, w) =
+    let m = major pair in
+    let i = minor pair in
+    behind all task walk m i (moved all task walk m i 0 log g.due.order w (pair_apart task.given w.is_task.some log m i g.due.order w.up_to (found_gives task.given all log walk.items.items pair NoUnifier w.up_to w.tell g)))
+
+pass_step : (all : List Term) (task : Task) (walk : Walk) (m i : ℕ) → i < m → ArePassedBy all walk.items.items m i → IsWalked all task walk (key m i 1) → IsWalked all task walk (key m (i + 1) 1)
+pass_step all task walk m i order (inl none) w = undue_step all task walk m i order none w
+pass_step all task walk m i order (inr apart) w =
+    let from : IsWalked all task walk (key (major apart.pair) (minor apart.pair) 1) = subst (λ k. IsWalked all task walk (key k (minor apart.pair) 1)) (sym apart.is_later) (subst (λ k. IsWalked all task walk (key m k 1)) (sym apart.is_earlier) w) in
+    let to = apart_step all task walk apart.pair apart.gives from in
+    subst (λ k. IsWalked all task walk (key k (i + 1) 1)) apart.is_later (subst (λ k. IsWalked all task walk (key (major apart.pair) (k + 1) 1)) apart.is_earlier to)
+
+pub passed_by : (all : List Term) (task : Task) (walk : Walk) (m i j : ℕ) → i ≤ j → j ≤ m → AllArePassedBy all walk.items.items m i j → IsWalked all task walk (key m i 1) → IsWalked all task walk (key m j 1)
 passed_by all task walk m i j order within none w =
     let there : i + (j - i) ≡ j = omega (arith, order) in
     subst (λ k. IsWalked all task walk (key m k 1)) there (go (j - i) (omega (arith, there, within)) (λ k from to. none k from (omega (arith, to, there))))
   where
-    go : (n : ℕ) → i + n ≤ m → ((k : ℕ) → i ≤ k → k < i + n → NoDuePair all walk.items.items m k) → IsWalked all task walk (key m (i + n) 1)
+    go : (n : ℕ) → i + n ≤ m → ((k : ℕ) → i ≤ k → k < i + n → ArePassedBy all walk.items.items m k) → IsWalked all task walk (key m (i + n) 1)
     go zero within none = let here : i ≡ i + 0 = omega arith in subst (λ k. IsWalked all task walk (key m k 1)) here w
     go (suc n) within none =
         let next : i + n + 1 ≡ i + suc n = omega arith in
         subst (λ k. IsWalked all task walk (key m k 1)) next
-        (undue_step all task walk m (i + n) (omega (arith, within)) (none (i + n) (omega arith) (omega arith)) (go n (omega (arith, within)) (λ k from to. none k from (omega (arith, to)))))
+        (pass_step all task walk m (i + n) (omega (arith, within)) (none (i + n) (omega arith) (omega arith)) (go n (omega (arith, within)) (λ k from to. none k from (omega (arith, to)))))
 
 -- up to the next due pair
 pub next_walked : (all : List Term) (task : Task) (walk : Walk) (m i : ℕ) (pair : Pair) → IsFirstPair all walk.items.items m i pair → IsWalked all task walk (key m i 1) → IsWalked all task walk (key (major pair) (minor pair) 1)
@@ -197,13 +211,6 @@ next_due all entries m i pair first = subst (λ k. IsDuePair all entries k (mino
 pub next_passed : (all now : List Term) (task : Task) (old walk : Walk) (m i k : ℕ) (pair : Pair) → IsFirstPair all old.items.items m i pair → k ≡ minor pair + 1 → IsWalked now task walk (key (major pair) (minor pair + 1) 1) → IsWalked now task walk (key m k 1)
 next_passed all now task old walk m i k pair first is w =
     subst (λ j. IsWalked now task walk (key m j 1)) (sym is) (subst (λ j. IsWalked now task walk (key j (minor pair + 1) 1)) first.due.is_later w)
-
--- and one whose facts have no unifier
-pub apart_step : (all : List Term) (task : Task) (walk : Walk) (pair : Pair) → GivesAnswer all walk.items.items pair NoUnifier → IsWalked all task walk (key (major pair) (minor pair) 1) → IsWalked all task walk (key (major pair) (minor pair + 1) 1)
-apart_step all task walk pair g (log, w) =
-    let m = major pair in
-    let i = minor pair in
-    behind all task walk m i (moved all task walk m i 0 log g.due.order w (pair_apart task.given w.is_task.some log m i g.due.order w.up_to (found_gives task.given all log walk.items.items pair NoUnifier w.up_to w.tell g)))
 
 -- no goal has the key of a resolvent
 not_goal : (given : List (Clause Term)) (m i k : ℕ) → i < m → (t : ℕ) → goal_key given t ≡ key m i k → ⊥

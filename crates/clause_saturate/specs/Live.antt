@@ -7,7 +7,11 @@ use Rattle.spec_clauses.specs.Selection.{is_solved}
 use Rattle.spec_features.specs.Features.{features_of}
 use Rattle.term_tree.specs.declared.bank.Id.{Id}
 use Rattle.clause_form.specs.Seen.{clause_at}
+use Rattle.spec_fingerprints.specs.Fingerprints as print
+use Rattle.spec_fingerprints.specs.Fingerprints.{may_meet, clause_print}
 use Rattle.feature_index.specs.declared.lanes.Features.{Features}
+use Rattle.fact_fingerprint.specs.declared.fingerprints.Fingerprint.{Fingerprint}
+use Rattle.fact_fingerprint.specs.Seen.{fingerprint_seen}
 use Rattle.clause_saturate.specs.declared.log.Entry.{Entry}
 use Rattle.clause_saturate.specs.declared.walk.Live.{Live}
 use Rattle.clause_saturate.specs.Logs.{is_unbeaten}
@@ -43,15 +47,23 @@ lanes_of all entries = map (λ entry. features_of (clause_at all entry.clause)) 
 abbrev pub kept_lanes : List Features → List (List ℕ)
 kept_lanes features = map (λ f. f.lanes) features
 
+-- the fingerprints of each entry's clause, and as they are kept
+abbrev pub prints_of : List Term → List Entry → List print.Fingerprint
+prints_of all entries = map (λ entry. clause_print (clause_at all entry.clause)) entries
+
+abbrev pub kept_prints : List Fingerprint → List print.Fingerprint
+kept_prints prints = map fingerprint_seen prints
+
 -- they are the clause's
 abbrev pub HasFeatures : List Term → Clause Id → Features → Type 0
 HasFeatures all clause features = features.lanes ≡ features_of (clause_at all clause)
 
--- both lists are those of these entries, and so are the features
+-- both lists are those of these entries, and so are the features and the fingerprints
 pub record AreListed (all : List Term) (entries : List Entry) (live : Live) : Type 0 where
   pub solved : AreNumbersOf all entries true live.solved.items
   pub unsolved : AreNumbersOf all entries false live.unsolved.items
   pub features : kept_lanes live.features.items ≡ lanes_of all entries
+  pub prints : kept_prints live.prints.items ≡ prints_of all entries
 
 -- whether there is an entry, and it is live
 abbrev pub is_live_entry : Option Entry → Bool
@@ -78,8 +90,16 @@ pub record CoversAmong (all : List Term) (entries : List Entry) (numbers : List 
   pub among : IsAmong numbers number
   pub covers : NumberCovers all entries c number
 
--- the first of the numbers from one on and before the later one, if there is one
-abbrev pub IsPartner : List ℕ → ℕ → ℕ → Option ℕ → Type 0
-IsPartner numbers later from None = (number : ℕ) → IsAmong numbers number → from ≤ number → number < later → ⊥
-IsPartner numbers later from (Some first) = IsAmong numbers first × (from ≤ first) × (first < later)
-    × ((number : ℕ) → IsAmong numbers number → from ≤ number → number < first → ⊥)
+-- whether two fingerprints may meet, and whether those of two numbers, that of the second first
+abbrev pub may_both : Option print.Fingerprint → Option print.Fingerprint → Bool
+may_both (Some p) (Some q) = may_meet p q
+may_both _ _ = false
+
+abbrev pub meets_at : List print.Fingerprint → ℕ → ℕ → Bool
+meets_at prints later number = may_both (numbered prints number) (numbered prints later)
+
+-- the first of the numbers from one on and before the later one that passes the test, if there is one
+abbrev pub IsPartner : (ℕ → Bool) → List ℕ → ℕ → ℕ → Option ℕ → Type 0
+IsPartner passes numbers later from None = (number : ℕ) → IsAmong numbers number → from ≤ number → number < later → passes number ≡ false
+IsPartner passes numbers later from (Some first) = IsAmong numbers first × (from ≤ first) × (first < later)
+    × ((number : ℕ) → IsAmong numbers number → from ≤ number → number < first → passes number ≡ false)

@@ -41,26 +41,36 @@ abbrev pub NoDuePair : List Term → List Entry → ℕ → ℕ → Type 0
 NoDuePair all entries later earlier = (last first : Entry) → numbered entries later ≡ Some last → numbered entries earlier ≡ Some first → last.by ≡ None → first.by ≡ None
     → is_solved (clause_at all last.clause).hypotheses ≡ is_solved (clause_at all first.clause).hypotheses
 
--- none of the entries from one number on and before another is in a due pair with the later one
-abbrev pub NoDuePairs : List Term → List Entry → ℕ → ℕ → ℕ → Type 0
-NoDuePairs all entries later from to = (earlier : ℕ) → from ≤ earlier → earlier < to → NoDuePair all entries later earlier
-
--- the first due pair of the later entry with one from a number on, if there is one
-pub record IsFirstPair (all : List Term) (entries : List Entry) (later from : ℕ) (pair : Pair) : Type 0 where
-  pub due : IsDuePair all entries later (minor pair) pair
-  pub from_there : from ≤ minor pair
-  pub none : NoDuePairs all entries later from (minor pair)
-
-abbrev pub IsNextPair : List Term → List Entry → ℕ → ℕ → Option Pair → Type 0
-IsNextPair all entries later from None = NoDuePairs all entries later from later
-IsNextPair all entries later from (Some pair) = IsFirstPair all entries later from pair
-
 -- the due pair gives the answer on the selected hypothesis
 pub record GivesAnswer (all : List Term) (entries : List Entry) (pair : Pair) (answer : Answer) : Type 0 where
   pub due : IsDuePair all entries (major pair) (minor pair) pair
   pub at : Selection
   pub selected : select (clause_at all due.unsolved.clause).hypotheses ≡ Some at
   pub give : Resolves (clause_at all due.solved.clause) (clause_at all due.unsolved.clause) at answer
+
+-- the two entries are a due pair without a unifier
+pub record AreApart (all : List Term) (entries : List Entry) (later earlier : ℕ) : Type 0 where
+  pub pair : Pair
+  pub is_later : major pair ≡ later
+  pub is_earlier : minor pair ≡ earlier
+  pub gives : GivesAnswer all entries pair answer.NoUnifier
+
+-- so they are, or they are no due pair; and so is each of the entries from one number on and before another, with the later one
+abbrev pub ArePassedBy : List Term → List Entry → ℕ → ℕ → Type 0
+ArePassedBy all entries later earlier = NoDuePair all entries later earlier ⊎ AreApart all entries later earlier
+
+abbrev pub AllArePassedBy : List Term → List Entry → ℕ → ℕ → ℕ → Type 0
+AllArePassedBy all entries later from to = (earlier : ℕ) → from ≤ earlier → earlier < to → ArePassedBy all entries later earlier
+
+-- a due pair of the later entry with one from a number on, where those before it are passed by, if there is one
+pub record IsFirstPair (all : List Term) (entries : List Entry) (later from : ℕ) (pair : Pair) : Type 0 where
+  pub due : IsDuePair all entries later (minor pair) pair
+  pub from_there : from ≤ minor pair
+  pub none : AllArePassedBy all entries later from (minor pair)
+
+abbrev pub IsNextPair : List Term → List Entry → ℕ → ℕ → Option Pair → Type 0
+IsNextPair all entries later from None = AllArePassedBy all entries later from later
+IsNextPair all entries later from (Some pair) = IsFirstPair all entries later from pair
 
 -- the clauses name, in a bank that may have grown, the resolvents of the due pair
 pub record IsMadeBy (all now : List Term) (entries : List Entry) (pair : Pair) (clauses : List (horn.Clause Id)) : Type 0 where

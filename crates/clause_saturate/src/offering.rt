@@ -4,15 +4,17 @@ ghost use Rattle.std.specs.Prelude.{◌≡◌, ◌+◌, ◌<◌, ◌≤◌, ℕ,
 ghost use Rattle.spec_clauses.specs.Selection.{is_solved as is_solved_list};
 ghost use Rattle.spec_clauses.specs.Subsumption.{Subsumes};
 ghost use Rattle.spec_saturation.specs.Key.{Key, Entry as EntryOf};
-ghost use Rattle.clause_form.specs.Seen.{clause_at, IsClauseIn};
+ghost use Rattle.spec_fingerprints.specs.Fingerprints.{clause_print};
+ghost use Rattle.clause_form.specs.Seen.{clause_at};
 ghost use Rattle.clause_form.specs.Fit.{IsFit, AreFit};
 ghost use Rattle.clause_saturate.specs.Logs.{TellLog, IsOrigin};
 ghost use Rattle.clause_saturate.specs.Beating.{clauses_of, LiveCovers, SomeLiveCovers, BeatsLive, IsMarked, AreMarked, IsPushed, IsOfferMade};
-ghost use Rattle.clause_saturate.specs.Live.{IsAmong, HasFeatures, AreListed, is_live_at, IsNumberListed, NumberCovers, CoversAmong, kept_lanes, lanes_of};
+ghost use Rattle.clause_saturate.specs.Live.{IsAmong, HasFeatures, AreListed, is_live_at, IsNumberListed, NumberCovers, CoversAmong, kept_lanes, lanes_of, kept_prints};
 
 use crate::log::{Entry, Origin};
 use crate::walk::{Live, Offer, Walk};
 use clause_form::Clause;
+use fact_fingerprint::clause_fingerprint;
 use feature_index::{Features, features, may_cover};
 use literal_selection::is_solved;
 use multiset_subsume::cover_row;
@@ -250,21 +252,26 @@ fn drop_all(entries: &[Entry], live: &mut Live)
     ensures unsolved { live.new.unsolved.items ≡
         filter (is_live_at entries.now) live.old.unsolved.items }
     ensures features { live.new.features.items ≡ live.old.features.items }
+    ensures prints { live.new.prints.items ≡ live.old.prints.items }
 {
     drop_dead(entries, &mut live.solved);
     drop_dead(entries, &mut live.unsolved);
 }
 
-/// Puts the number of a new entry at the end of the list of its kind, and its features at the end of all.
+/// Puts the number of a new entry at the end of the list of its kind, and its features and its fingerprint at the end of all.
 fn list<B: Bank>(live: &mut Live, bank: &B, offer: &Offer<'_>) -> Result<(), AllocError>
-    requires { IsClauseIn (B.trees bank.now) offer.now.clause.now }
+    requires { IsFit (B.trees bank.now) offer.now.clause.now }
     ensures listed { OnOk result (IsNumberListed
         (is_solved_list (clause_at (B.trees bank.now) offer.now.clause.now).hypotheses)
         offer.now.number live.old live.new) }
     ensures features { OnOk result
         (live.new.features.items ≡ live.old.features.items ++ offer.now.features ∷ []) }
+    ensures prints { OnOk result (kept_prints live.new.prints.items ≡
+        kept_prints live.old.prints.items ++
+        clause_print (clause_at (B.trees bank.now) offer.now.clause.now) ∷ []) }
 {
     live.features.push(offer.features)?;
+    live.prints.push(clause_fingerprint(bank, offer.clause))?;
     if is_solved(bank, offer.clause) {
         live.solved.push(offer.number)?;
         return Ok(());

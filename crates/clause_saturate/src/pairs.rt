@@ -1,41 +1,64 @@
 //! Pairs of entries, and what they give.
 
-ghost use Rattle.std.specs.Prelude.{◌+◌, ◌<◌, ◌≤◌, length, take, IfOk, OnOk};
+ghost use Rattle.std.specs.Prelude.{◌≡◌, ◌+◌, ◌<◌, ◌≤◌, ℕ, length, take, IfOk, OnOk};
 ghost use Rattle.spec_saturation.specs.Key.{key};
 ghost use Rattle.term_tree.specs.Bank.{Grows};
 ghost use Rattle.clause_resolve.specs.Answers.{LeavesBank};
 ghost use Rattle.clause_form.specs.Fit.{AreFit};
 ghost use Rattle.clause_saturate.specs.Beating.{clauses_of};
-ghost use Rattle.clause_saturate.specs.Live.{IsAscending, AreListed, IsPartner};
+ghost use Rattle.clause_saturate.specs.Live.{IsAmong, IsAscending, AreListed, kept_prints, meets_at, IsPartner};
 ghost use Rattle.clause_saturate.specs.Pairs.{major, minor, IsNextPair, IsDuePair, IsMadeBy, IsFoundFor, AreSameOrMore, IsTidy};
 ghost use Rattle.clause_saturate.specs.Walked.{Task, IsWalked, HasOffered, HasPassed};
 
 use crate::log::{Entry, Origin};
 use crate::offering::offer;
-use crate::walk::{Pair, Stop, Walk};
+use crate::walk::{Live, Pair, Stop, Walk};
 use clause_form::Clause;
 use clause_resolve::{Resolved, resolvents};
+use fact_fingerprint::may_meet;
 use literal_selection::{is_solved, selected};
 use std::alloc::{AllocError, Global};
 use term_tree::{Bank, Mark};
 
-/// The first of the numbers from one on and before the later one, if there is one.
-fn partner(numbers: &[usize], later: usize, from: usize) -> Option<usize>
-    requires { IsAscending 1 numbers.now }
-    ensures { IsPartner numbers.now later from result }
+/// Whether the fingerprints of the entries of two numbers may meet.
+fn meet(live: &Live, later: usize, number: usize) -> bool
+    requires some { 0 < later }
+    requires within { later ≤ length live.now.prints.items }
+    requires some_number { 0 < number }
+    requires number_within { number ≤ length live.now.prints.items }
+    ensures { result ≡ meets_at (kept_prints live.now.prints.items) later number }
 {
-    let place = numbers.partition_point(|number| *number < from);
-    if place == numbers.len() {
-        return None;
-    }
-    let first = numbers[place];
-    if first < later {
-        return Some(first);
+    let left = &live.prints[number - 1];
+    let right = &live.prints[later - 1];
+    may_meet(left, right)
+}
+
+/// The first of the numbers from one on and before the later one whose fingerprint may meet that of the later one, if there
+/// is one.
+fn partner(live: &Live, numbers: &[usize], later: usize, from: usize) -> Option<usize>
+    requires ascending { IsAscending 1 numbers.now }
+    requires within { (number : ℕ) → IsAmong numbers.now number →
+        (0 < number) × (number ≤ length live.now.prints.items) }
+    requires some { 0 < later }
+    requires later_within { later ≤ length live.now.prints.items }
+    ensures { IsPartner (meets_at (kept_prints live.now.prints.items) later) numbers.now later from
+        result }
+{
+    let start = numbers.partition_point(|number| *number < from);
+    'each: for place in start..numbers.len() {
+        let number = numbers[place];
+        if later <= number {
+            return None;
+        }
+        if meet(live, later, number) {
+            return Some(number);
+        }
     }
     None
 }
 
-/// The next due pair of an entry with an earlier one from a number on, if there is one.
+/// The next due pair of an entry with an earlier one from a number on, if there is one. Due pairs whose facts have no unifier
+/// may be left out: those that fingerprints tell.
 pub(crate) fn next_pair<B: Bank>(walk: &Walk, bank: &B, later: usize, from: usize) -> Option<Pair>
     requires entries { AreFit (B.trees bank.now) (clauses_of walk.now.items.items) }
     requires listed { AreListed (B.trees bank.now) walk.now.items.items walk.now.live }
@@ -48,13 +71,13 @@ pub(crate) fn next_pair<B: Bank>(walk: &Walk, bank: &B, later: usize, from: usiz
         return None;
     }
     if is_solved(bank, &last.clause) {
-        let earlier = partner(&walk.live.unsolved, later, from)?;
+        let earlier = partner(&walk.live, &walk.live.unsolved, later, from)?;
         return Some(Pair {
             solved: later,
             unsolved: earlier,
         });
     }
-    let earlier = partner(&walk.live.solved, later, from)?;
+    let earlier = partner(&walk.live, &walk.live.solved, later, from)?;
     Some(Pair {
         solved: earlier,
         unsolved: later,

@@ -112,6 +112,8 @@ fn begun_walk(common: &Common) -> Result<Walk, AllocError>
         walk.live.unsolved.items ≡ common.now.live.unsolved.items) }
     ensures features { IfOk result (λ walk.
         walk.live.features.items ≡ common.now.live.features.items) }
+    ensures prints { IfOk result (λ walk.
+        walk.live.prints.items ≡ common.now.live.prints.items) }
     ensures budget { IfOk result (λ walk. walk.budget ≡ common.now.budget) }
 {
     let live = common.live.copy(common.alloc)?;

@@ -4,16 +4,18 @@ ghost use Rattle.std.specs.Prelude.{◌≡◌, [], IfOk};
 
 use crate::log::Entry;
 use clause_form::Clause;
+use fact_fingerprint::Fingerprint;
 use feature_index::Features;
 use std::alloc::{AllocError, Global};
 
 /// What is kept beside the entries of a log: the numbers of the live ones, ascending, of those that are solved and of the
-/// others; and the features of each entry's clause, in order.
+/// others; the features of each entry's clause, in order, and the fingerprint of the fact on which it is resolved.
 #[derive(Drop)]
 pub(crate) struct Live {
     pub solved: Vec<usize>,
     pub unsolved: Vec<usize>,
     pub features: Vec<Features>,
+    pub prints: Vec<Fingerprint>,
 }
 
 /// A clause that is offered, its features, and the number that its entry is to have.
@@ -39,11 +41,13 @@ impl Live {
         ensures solved { result.solved.items ≡ [] }
         ensures unsolved { result.unsolved.items ≡ [] }
         ensures features { result.features.items ≡ [] }
+        ensures prints { result.prints.items ≡ [] }
     {
         Live {
             solved: Vec::new(alloc),
             unsolved: Vec::new(alloc),
             features: Vec::new(alloc),
+            prints: Vec::new(alloc),
         }
     }
 
@@ -52,14 +56,17 @@ impl Live {
         ensures solved { IfOk result (λ copied. copied.solved.items ≡ self.now.solved.items) }
         ensures unsolved { IfOk result (λ copied. copied.unsolved.items ≡ self.now.unsolved.items) }
         ensures features { IfOk result (λ copied. copied.features.items ≡ self.now.features.items) }
+        ensures prints { IfOk result (λ copied. copied.prints.items ≡ self.now.prints.items) }
     {
         let solved = self.solved.to_vec(alloc)?;
         let unsolved = self.unsolved.to_vec(alloc)?;
         let features = self.features.to_vec(alloc)?;
+        let prints = self.prints.to_vec(alloc)?;
         Ok(Live {
             solved,
             unsolved,
             features,
+            prints,
         })
     }
 }

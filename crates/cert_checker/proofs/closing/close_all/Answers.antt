@@ -1,5 +1,6 @@
-use Rattle.std.proofs.Common.{◌∙◌, List, ap, sym, arith}
+use Rattle.std.proofs.Common.{◌∙◌, List, map, ap, sym, arith}
 use Rattle.spec_terms.specs.Term.{Term}
+use Rattle.spec_fingerprints.specs.Fingerprints.{hypothesis_print}
 use Rattle.clause_form.specs.Fit.{clauses_at}
 use Rattle.cert_checker.specs.Unsolved.{unsolved_from}
 use Rattle.cert_checker.proofs.Passing.{all_go_on, all_fail, all_end}
@@ -7,6 +8,9 @@ use Rattle.cert_checker.proofs.closing.close_all.Goals as goal
 
 pub close_one-requires-clause-unsolved : goal.close_one-requires-clause-unsolved
 close_one-requires-clause-unsolved g c = c.requires.unsolved ∙ ap (λ (all : List Term). unsolved_from 0 (clauses_at all c.args.checker.now.clauses.now)) (sym c.each.invariant.same)
+
+pub close_one-requires-clause-prints : goal.close_one-requires-clause-prints
+close_one-requires-clause-prints g c = c.requires.prints ∙ ap (λ (all : List Term). map hypothesis_print (clauses_at all c.args.checker.now.clauses.now)) (sym c.each.invariant.same)
 
 pub each-preserved : goal.each-preserved
 each-preserved g c =

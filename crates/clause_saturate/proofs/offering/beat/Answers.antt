@@ -17,4 +17,4 @@ returns-clause-listed g c =
     let same : c.deref-2.result.now ≡ marks = c.deref-2.ensures.value in
     let solved = c.drop_all.ensures.solved ∙ ap (λ (es : List Entry). filter (is_live_at es) was.solved.items) same in
     let unsolved = c.drop_all.ensures.unsolved ∙ ap (λ (es : List Entry). filter (is_live_at es) was.unsolved.items) same in
-    marked_listed all (clause_at all c.args.offer.now.clause.now) c.args.offer.now.number c.args.walk.now.items.items marks was c.drop_all.new.live c.requires.listed c.in_ok-mark_items.ensures.marked solved unsolved c.drop_all.ensures.features
+    marked_listed all (clause_at all c.args.offer.now.clause.now) c.args.offer.now.number c.args.walk.now.items.items marks was c.drop_all.new.live c.requires.listed c.in_ok-mark_items.ensures.marked solved unsolved c.drop_all.ensures.features c.drop_all.ensures.prints

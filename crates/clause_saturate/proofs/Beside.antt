@@ -1,0 +1,49 @@
+-- What is told of the clause of each entry: as the bank grows, as entries are marked, and with an entry more.
+use Rattle.std.proofs.Common.{◌≡◌, ◌∙◌, ℕ, zero, suc, List, [], ◌∷◌, ◌++◌, length, map, refl, ap, sym}
+use Rattle.std.proofs.lemmas.List.{length-map, map-append}
+use Rattle.spec_terms.specs.Term.{Term}
+use Rattle.spec_clauses.specs.Fact.{Clause}
+use Rattle.term_tree.specs.Bank.{Grows}
+use Rattle.term_tree.specs.declared.bank.Id.{Id}
+use Rattle.clause_form.specs.Seen.{clause_at}
+use Rattle.clause_form.proofs.Copying.{NamesClause-grows}
+use Rattle.clause_form.specs.Fit.{AreFit}
+use Rattle.clause_saturate.specs.declared.log.Entry.{Entry}
+use Rattle.clause_saturate.specs.Beating.{clauses_of, AreMarked}
+use Rattle.clause_saturate.proofs.Marking.{MarkedTo}
+
+abbrev pub told_of : {X : Type 0} → (Clause Term → X) → List Term → List Entry → List X
+told_of what all es = map (λ e. what (clause_at all e.clause)) es
+
+module _ {X : Type 0} (what : Clause Term → X) where
+  pub told_grow : (a b : List Term) (es : List Entry) → Grows a b → AreFit a (clauses_of es) → told_of what b es ≡ told_of what a es
+  told_grow a b [] grows fit = refl
+  told_grow a b (e ∷ es) grows fit =
+      let first : what (clause_at b e.clause) ≡ what (clause_at a e.clause) = ap what (NamesClause-grows a b e.clause (clause_at a e.clause) grows (record { known = fit.0.known; is = refl })).is in
+      λ i. first i ∷ told_grow a b es grows fit.1 i
+
+  pub told_marked : (all : List Term) (c : Clause Term) (number : ℕ) (olds news : List Entry) → AreMarked all c number olds news → told_of what all news ≡ told_of what all olds
+  told_marked all c number [] [] m = refl
+  told_marked all c number [] (e ∷ es) m = absurd m
+  told_marked all c number (d ∷ ds) [] m = absurd m
+  told_marked all c number (d ∷ ds) (e ∷ es) m =
+      let first : what (clause_at all e.clause) ≡ what (clause_at all d.clause) = ap (λ (x : Clause Id). what (clause_at all x)) m.0.clause in
+      λ i. first i ∷ told_marked all c number ds es m.1 i
+
+  -- the first i of them with their marks
+  pub told_marked_to : (all : List Term) (c : Clause Term) (number i : ℕ) (olds news : List Entry) → MarkedTo all c number i olds news → told_of what all news ≡ told_of what all olds
+  told_marked_to all c number zero olds news m = ap (told_of what all) m
+  told_marked_to all c number (suc i) [] [] m = refl
+  told_marked_to all c number (suc i) [] (e ∷ es) m = absurd m
+  told_marked_to all c number (suc i) (d ∷ ds) [] m = absurd m
+  told_marked_to all c number (suc i) (d ∷ ds) (e ∷ es) m =
+      let first : what (clause_at all e.clause) ≡ what (clause_at all d.clause) = ap (λ (x : Clause Id). what (clause_at all x)) m.0.clause in
+      λ j. first j ∷ told_marked_to all c number i ds es m.1 j
+
+  -- with an entry more there is one more
+  pub told_pushed : (all : List Term) (es : List Entry) (e : Entry) (was now : List X) (x : X) → was ≡ told_of what all es → now ≡ was ++ x ∷ [] → x ≡ what (clause_at all e.clause) → now ≡ told_of what all (es ++ e ∷ [])
+  told_pushed all es e was now x same more has = more ∙ ((λ i. same i ++ has i ∷ []) ∙ sym (map-append (λ d. what (clause_at all d.clause)) es (e ∷ [])))
+
+  -- there are as many as entries
+  pub told_length : {K : Type 0} (seen : K → X) (all : List Term) (es : List Entry) (ks : List K) → map seen ks ≡ told_of what all es → length ks ≡ length es
+  told_length seen all es ks same = sym (length-map ks seen) ∙ (ap length same ∙ length-map es (λ e. what (clause_at all e.clause)))
