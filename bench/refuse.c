@@ -4,7 +4,7 @@
  * At each call that asks for memory the process splits twice. The first copy is refused this call alone, the second this one and each
  * that follows; what a copy writes and ends with is compared with what the whole run is to give. Then the process itself gets its memory
  * and goes on. WANTED names a file with the text that the whole run writes, WANTED_STATUS is its status, and COUNTS names a file of zeros
- * for the counts. Where REFUSED is set, the process doesn't split, and is refused the call of that number alone, from 1.
+ * for the counts.
  */
 #define _GNU_SOURCE
 #include <errno.h>
@@ -42,7 +42,6 @@ static struct counts *counts;
 static const char *wanted;
 static size_t wanted_size;
 static int wanted_status, is_armed, is_refusing;
-static long only, calls;
 static char found[1 << 20];
 
 /* A file that an environment variable names, in memory. */
@@ -58,7 +57,6 @@ static void *mapped(const char *variable, int protection, size_t *size) {
 }
 
 __attribute__((constructor)) static void begin(void) {
-    if (getenv("REFUSED")) only = atol(getenv("REFUSED"));
     if (!getenv("COUNTS")) return;
     counts = mapped("COUNTS", PROT_READ | PROT_WRITE, NULL);
     wanted = mapped("WANTED", PROT_READ, &wanted_size);
@@ -112,7 +110,6 @@ static int is_copy(int mode) {
 /* Whether this call is refused. */
 static int is_refused(void) {
     if (is_refusing) return 1;
-    if (only) return ++calls == only;
     if (!is_armed) return 0;
     is_armed = 0;
     counts->calls++;

@@ -12,11 +12,11 @@ use Rattle.spec_terms.specs.Term.{Term}
 use Rattle.spec_translation.specs.Visit.{Visit, after_copy}
 use Rattle.spec_translation.specs.Choice.{Choice, term_choice, rule_choice, GoesOn, RulesGoOn, AllGoOn}
 use Rattle.term_tree.specs.Bank.{tree_at}
-use Rattle.clause_translate.specs.declared.place.Place.{Place}
-use Rattle.clause_translate.specs.declared.visit.Visit as source
-use Rattle.clause_translate.specs.Places.{IsAt}
-use Rattle.clause_translate.specs.Visits.{visit_at, NamesVisit, NameVisits, HasFewCopies}
-use Rattle.clause_translate.specs.Forms.{present, GoOn}
+use Rattle.process_visits.specs.declared.place.Place.{Place}
+use Rattle.process_visits.specs.declared.visit.Visit as source
+use Rattle.process_visits.specs.Places.{IsAt}
+use Rattle.process_visits.specs.Visits.{visit_at, NamesVisit, NameVisits, HasFewCopies}
+use Rattle.process_visits.specs.Forms.{present, GoOn}
 
 -- the same visit at a later point
 pub next_copies : {P : Protocol} (to : Place) (point : ℕ) (v : source.Visit) → IsAt P (point + 1) to → HasFewCopies point v → HasFewCopies to.point v

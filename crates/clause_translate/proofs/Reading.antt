@@ -11,8 +11,8 @@ use Rattle.spec_well_formed.specs.Limits.{IsSmallRule, IsSmallDestructor, IsWith
 use Rattle.spec_well_formed.specs.Rules.{IsProperRule, HasProperRules}
 use Rattle.spec_well_formed.specs.WellFormed.{IsRuleOver, IsWellScoped}
 use Rattle.clause_terms.proofs.Laws.{short_term, short_terms, short_pattern, short_rule, rule_room}
-use Rattle.clause_translate.specs.Room.{rule_base}
-use Rattle.clause_translate.specs.Short.{IsShortExpression, IsShortProcess, IsFitRule, HasFitRules}
+use Rattle.process_visits.specs.Room.{rule_base}
+use Rattle.process_visits.specs.Short.{IsShortExpression, IsShortProcess, IsFitRule, HasFitRules}
 
 short_expression : (signature : Signature) (bound : List Name) (expression : Expression) → IsExpressionBelow signature bound expression → IsShortExpression expression
 short_expression signature bound (Plain t) below = short_term signature (IsKnown signature bound) t below

@@ -8,13 +8,13 @@ use Rattle.term_tree.proofs.BankLaws.{Grows_refl, Grows_trans}
 use Rattle.spec_translation.specs.Visit.{Visit}
 use Rattle.spec_translation.specs.Course.{Outcome, TooLarge, Finished, preceded}
 use Rattle.spec_translation.specs.Visited.{EachThen, Visited}
-use Rattle.clause_translate.specs.declared.listing.Listing.{Listing}
-use Rattle.clause_translate.specs.declared.visit.Visit as source
-use Rattle.clause_translate.specs.Visits.{visit_at, IsVisitIn}
+use Rattle.process_visits.specs.declared.listing.Listing.{Listing}
+use Rattle.process_visits.specs.declared.visit.Visit as source
+use Rattle.process_visits.specs.Visits.{visit_at, IsVisitIn}
 use Rattle.clause_translate.specs.Jobs.{Once, Each, Runs, IsDone, Ends, visits_at, AreVisitsIn}
-use Rattle.clause_translate.proofs.Named.{visit_later}
-use Rattle.clause_translate.proofs.Courses.{each_more, each_ends}
-use Rattle.clause_translate.proofs.Listings.{lists_none}
+use Rattle.process_visits.proofs.Named.{visit_later}
+use Rattle.process_visits.proofs.Courses.{each_more, each_ends}
+use Rattle.process_visits.proofs.Listings.{lists_none}
 use Rattle.clause_translate.proofs.Visiting.{ends_behind}
 
 -- how far the visits have come

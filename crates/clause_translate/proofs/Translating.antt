@@ -14,11 +14,11 @@ use Rattle.spec_translation.specs.Visited.{Visited}
 use Rattle.spec_translation.specs.Translation.{Clauses, LargeAt, attacker_clauses, goal_clauses, IsTranslation}
 use Rattle.clause_form.specs.Seen.{clause_at, AreClausesIn, NameClauses}
 use Rattle.query_derive.specs.GoalRows.{OfQuery}
-use Rattle.clause_translate.specs.declared.listing.Listing.{Listing}
+use Rattle.process_visits.specs.declared.listing.Listing.{Listing}
 use Rattle.clause_translate.specs.Jobs.{Once, Ends}
 use Rattle.clause_translate.specs.Whole.{TranslatesTo, EndsAt, AddsVisits, IsLargeAt, IsCommonTo}
-use Rattle.clause_translate.proofs.Adding.{clauses_later}
-use Rattle.clause_translate.proofs.Listings.{NameClauses-append}
+use Rattle.process_visits.proofs.Adding.{clauses_later}
+use Rattle.process_visits.proofs.Listings.{NameClauses-append}
 
 there : (items : List Query) (number : ℕ) → 0 < number → number ≤ length items → (q : Query) × (numbered items number ≡ Some q)
 there items zero up within = absurd (omega (arith, up))

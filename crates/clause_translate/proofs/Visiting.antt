@@ -16,16 +16,16 @@ use Rattle.spec_translation.specs.Course as course
 use Rattle.spec_translation.specs.Course.{Outcome, Done, TooLarge, Course, Finished, Unless, preceded}
 use Rattle.spec_translation.specs.Choice.{AllGoOn}
 use Rattle.spec_translation.specs.Visited.{some_large, EachThen, Received, Chosen, Visited}
-use Rattle.clause_translate.specs.declared.listing.Listing.{Listing}
-use Rattle.clause_translate.specs.declared.place.Place.{Place}
-use Rattle.clause_translate.specs.declared.visit.Visit as source
-use Rattle.clause_translate.specs.Places.{protocol_at, IsAt}
-use Rattle.clause_translate.specs.Visits.{visit_at, NamesVisit, NameVisits}
-use Rattle.clause_translate.specs.Forms.{Lists, Adds, are_large_in, output_raw, is_large_output, event_raw, is_large_event, AddsEvent, IsLargeInput, evaluated, received, Receives, present, GoOn, IsLargeChoice}
+use Rattle.process_visits.specs.declared.listing.Listing.{Listing}
+use Rattle.process_visits.specs.declared.place.Place.{Place}
+use Rattle.process_visits.specs.declared.visit.Visit as source
+use Rattle.process_visits.specs.Places.{protocol_at, IsAt}
+use Rattle.process_visits.specs.Visits.{visit_at, NamesVisit, NameVisits}
+use Rattle.process_visits.specs.Forms.{Lists, Adds, are_large_in, output_raw, is_large_output, event_raw, is_large_event, AddsEvent, IsLargeInput, evaluated, received, Receives, present, GoOn, IsLargeChoice}
 use Rattle.clause_translate.specs.Jobs.{Job, Once, Uncounted, Each, Runs, IsDone, Ends, visits_at, AreVisitsIn}
-use Rattle.clause_translate.proofs.Named.{if_ok}
-use Rattle.clause_translate.proofs.Listings.{lists_none, lists_behind, lists_no_more}
-use Rattle.clause_translate.proofs.Courses.{unless_large, unless_small, each_join, each_large, each_present}
+use Rattle.process_visits.proofs.Named.{if_ok}
+use Rattle.process_visits.proofs.Listings.{lists_none, lists_behind, lists_no_more}
+use Rattle.process_visits.proofs.Courses.{unless_large, unless_small, each_join, each_large, each_present}
 
 -- the same job, where it runs so
 pub ends_as : (P : Protocol) (below job : Job) (new : List Term) (before after : Listing) (large : Option ℕ) → ((out : Outcome) → Runs P below before.left out → Runs P job before.left out) → Ends P below new before after large → Ends P job new before after large

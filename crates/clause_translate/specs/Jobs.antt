@@ -6,10 +6,10 @@ use Rattle.spec_clauses.specs.Fact.{Clause}
 use Rattle.spec_translation.specs.Visit.{Visit}
 use Rattle.spec_translation.specs.Course.{Outcome, Done, TooLarge, Finished}
 use Rattle.spec_translation.specs.Visited.{EachThen, Visited}
-use Rattle.clause_translate.specs.declared.listing.Listing.{Listing}
-use Rattle.clause_translate.specs.declared.visit.Visit as source
-use Rattle.clause_translate.specs.Forms.{Lists}
-use Rattle.clause_translate.specs.Visits.{visit_at, IsVisitIn}
+use Rattle.process_visits.specs.declared.listing.Listing.{Listing}
+use Rattle.process_visits.specs.declared.visit.Visit as source
+use Rattle.process_visits.specs.Forms.{Lists}
+use Rattle.process_visits.specs.Visits.{visit_at, IsVisitIn}
 
 -- a process at a point, the same whose visit is counted already, or a process once for each of some visits
 pub data Job : Type 0 where

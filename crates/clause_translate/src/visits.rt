@@ -1,52 +1,30 @@
 //! The visits of a process in pre-order (Blanchet 2016, section 3.3.2).
 
-ghost use Rattle.std.specs.Prelude.{◌≡◌, [], ◌++◌, IfOk};
+ghost use Rattle.std.specs.Prelude.{◌≡◌, [], IfOk};
 ghost use Rattle.std.specs.List.{AllByRecursion};
-ghost use Rattle.spec_calculus.specs.Limits.{compared, terms_in};
-ghost use Rattle.clause_terms.specs.Scopes.{scope_at, IsScopeIn};
-ghost use Rattle.clause_translate.specs.Forms.{are_large_in};
 ghost use Rattle.spec_calculus.specs.Syntax as calculus;
-ghost use Rattle.pi_tree.specs.Patterns.{pattern_of, expression_of};
 ghost use Rattle.pi_tree.specs.Processes.{process_of};
 ghost use Rattle.term_tree.specs.Bank.{Grows};
-ghost use Rattle.clause_translate.specs.Places.{protocol_at, HasFewPoints};
-ghost use Rattle.clause_translate.specs.Processes.{output_form, input_form, parallel_form, let_form, event_form};
-ghost use Rattle.clause_translate.specs.Short.{IsShortProcess};
-ghost use Rattle.clause_translate.specs.Visits.{visit_at, IsVisitIn, HasFewCopies};
+ghost use Rattle.process_visits.specs.Places.{protocol_at, HasFewPoints};
+ghost use Rattle.process_visits.specs.Processes.{output_form, input_form, parallel_form, let_form, event_form};
+ghost use Rattle.process_visits.specs.Short.{IsShortProcess};
+ghost use Rattle.process_visits.specs.Visits.{visit_at, IsVisitIn, HasFewCopies};
 ghost use Rattle.clause_translate.specs.Jobs.{Once, Uncounted, Each, Ends, visits_at, AreVisitsIn};
 
-use crate::choices::choices;
-use crate::copies::after_copy;
-use crate::events::add_event;
-use crate::forms::{Event, Input, Let, Output, Parallel};
-use crate::inputs::after_input;
-use crate::large::{some_large_compared, some_large_in};
-use crate::listing::Listing;
-use crate::names::after_new;
-use crate::outputs::add_output;
-use crate::place::Place;
-use crate::visit::Visit;
-use clause_terms::Scope;
-use pi_tree::{Expr, Pat, Process};
+use pi_tree::Process;
+use process_visits::choices::choices;
+use process_visits::copies::after_copy;
+use process_visits::events::add_event;
+use process_visits::forms::{Event, Input, Let, Output, Parallel};
+use process_visits::inputs::after_input;
+use process_visits::large::is_large_let;
+use process_visits::listing::Listing;
+use process_visits::names::after_new;
+use process_visits::outputs::add_output;
+use process_visits::place::Place;
+use process_visits::visit::Visit;
 use std::alloc::AllocError;
 use term_tree::Bank;
-
-/// Whether a term that a `let` evaluates, or with which its pattern compares, is too large.
-#[tactic(auto, using(crate::proofs::Tests::of_compared))]
-fn is_large_let<B: Bank>(
-    place: &Place<'_>,
-    bank: &B,
-    scope: &Scope,
-    pattern: &Pat,
-    expression: &Expr,
-) -> bool
-    requires { IsScopeIn (B.trees bank.now) scope.now }
-    ensures { result ≡ are_large_in (protocol_at place.now) (scope_at (B.trees bank.now) scope.now)
-        (compared (pattern_of pattern.now) ++ terms_in (expression_of expression.now)) }
-{
-    some_large_compared(place, bank, scope, pattern)
-        || some_large_in(place, bank, scope, expression)
-}
 
 /// Visits a process that begins at the place, and tells the point of the first visit that is too large, if one is. Where
 /// no clause was added the bank is as before; on `Err` it may have grown.

@@ -1,19 +1,12 @@
 //! The program: it decides queries about protocols, on files of the disk, and writes to standard output.
 #![tactic(auto)]
 
-mod disk_files;
 mod ending;
-mod std_sink;
-#[cfg(test)]
-mod tests;
-mod told_files;
 
-use disk_files::disk_files;
 use ending::Ending;
+use hv_disk::{ToldFiles, disk_files, std_sink};
 use std::io::ErrorKind;
 use std::{env, io};
-use std_sink::std_sink;
-use told_files::ToldFiles;
 use verifier_cli::top;
 
 fn main(rt: HostRuntime) -> Ending {

@@ -23,8 +23,8 @@ use Rattle.spec_placements.proofs.Holding.{inner_row, holds_from, from_holds}
 use Rattle.spec_placements.proofs.Linked.{rules_link, linked_first}
 use Rattle.spec_placements.proofs.Removing.{removed_within, loose_placed, loose_unplaced}
 use Rattle.spec_placements.proofs.Standing.{holds_nothing, row_placed}
-use Rattle.multiset_subsume.specs.Boards.{facts_at, IsBoard, IsPlacing, IsBegun, ArePut, HoldsOn, AreLinkedOn, HoldsNotOn, HoldsByOn, HoldsFirst, HoldsWith, FailsWith}
-use Rattle.multiset_subsume.proofs.Putting.{positions_back}
+use Rattle.fact_placing.specs.Boards.{facts_at, IsBoard, IsPlacing, IsBegun, ArePut, HoldsOn, AreLinkedOn, HoldsNotOn, HoldsByOn, HoldsFirst, HoldsWith, FailsWith}
+use Rattle.fact_placing.proofs.Putting.{positions_back}
 
 -- what removal of the parts tells of the flags that it began with
 pub may_stand : (hs parts : List (horn.Fact Term)) (taken before now : List Bool) (b : Bool) → before ≡ taken → MatchBool b (Removes hs before now parts) (HasNoRoom hs before parts) → MatchBool b (IsWithin parts (left taken hs)) (HasNoRoom hs taken parts)

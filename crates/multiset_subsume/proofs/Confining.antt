@@ -12,8 +12,8 @@ use Rattle.clause_form.specs.declared.facts.Fact.{Fact}
 use Rattle.clause_form.specs.Seen.{fact_at}
 use Rattle.spec_placements.specs.Crowds.{room, IsConfined, AreConfined}
 use Rattle.spec_placements.proofs.Crowding.{confined_more, confined_same}
-use Rattle.multiset_subsume.specs.Boards.{facts_at, CannotPut}
-use Rattle.multiset_subsume.proofs.Listing.{unref}
+use Rattle.fact_placing.specs.Boards.{facts_at, CannotPut}
+use Rattle.fact_placing.proofs.Listing.{unref}
 
 -- a fact that can be put at no position outside of the area
 pub confined_by : (all : List Term) (hyps : List (horn.Fact Id)) (pairs : List Bound) (taken area : List Bool) (fact : horn.Fact Id) (n : ℕ) → length (facts_at all hyps) ≤ n

@@ -24,8 +24,8 @@ use Rattle.spec_placements.specs.Stages.{PlacesFirst}
 use Rattle.spec_placements.proofs.Holding.{from_first, no_row}
 use Rattle.spec_placements.proofs.Leading.{leads_first_nowhere, leads_first_on, leads_first_to_end}
 use Rattle.spec_placements.proofs.Standing.{one_holds, row_placed}
-use Rattle.multiset_subsume.specs.Boards.{facts_at, IsPlacing, IsAsBefore, IsBegun, IsPut, CannotPut, CanPlaceOn, CanStandOn, HoldsOn, IsFirstOn, IsFirstByOn, IsLeastRow, IsNextRow, IsFirstWith, NowhereWith}
-use Rattle.multiset_subsume.proofs.Listing.{unref}
+use Rattle.fact_placing.specs.Boards.{facts_at, IsPlacing, IsAsBefore, IsBegun, IsPut, CannotPut, CanPlaceOn, CanStandOn, HoldsOn, IsFirstOn, IsFirstByOn, IsLeastRow, IsNextRow, IsFirstWith, NowhereWith}
+use Rattle.fact_placing.proofs.Listing.{unref}
 use Rattle.multiset_subsume.proofs.Keeping.{as_back}
 
 pub insert_front : (row : List ℕ) (p : ℕ) → insert row 0 p ≡ p ∷ row

@@ -5,8 +5,8 @@ use Rattle.spec_clauses.specs.Fact as horn
 use Rattle.term_tree.specs.declared.bank.Id.{Id}
 use Rattle.unify_match.specs.declared.bound.Bound.{Bound}
 use Rattle.unify_match.specs.Trail.{Extends}
-use Rattle.multiset_subsume.specs.Boards.{IsPlacing, IsAsBefore, IsPut, AreLinkedOn}
-use Rattle.multiset_subsume.proofs.Putting.{is_taken_back}
+use Rattle.fact_placing.specs.Boards.{IsPlacing, IsAsBefore, IsPut, AreLinkedOn}
+use Rattle.fact_placing.proofs.Putting.{is_taken_back}
 
 pub as_itself : (pairs : List Bound) (taken : List Bool) → IsAsBefore pairs pairs taken taken
 as_itself pairs taken = record { bindings = refl; flags = refl }

@@ -1,6 +1,3 @@
-pub mod FactTerms
-pub mod Listing
-pub mod Putting
 pub mod Removal
 pub mod Along
 pub mod Keeping

@@ -14,8 +14,8 @@ use Rattle.clause_form.specs.declared.facts.Fact.{Fact}
 use Rattle.clause_form.specs.Seen.{fact_at, IsFactIn, AreFactsIn}
 use Rattle.spec_placements.specs.Takes.{left}
 use Rattle.spec_placements.specs.Placing.{all_known}
-use Rattle.multiset_subsume.specs.Boards.{facts_at, CanPlaceOn}
-use Rattle.multiset_subsume.proofs.Listing.{unref}
+use Rattle.fact_placing.specs.Boards.{facts_at, CanPlaceOn}
+use Rattle.fact_placing.proofs.Listing.{unref}
 
 pick_known : (all : List Term) {fs rest : List (horn.Fact Id)} {f : horn.Fact Id} → Picks fs f rest → AreFactsIn all fs → IsFactIn all f × AreFactsIn all rest
 pick_known all inclusion.here known = known

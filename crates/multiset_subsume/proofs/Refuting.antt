@@ -21,9 +21,9 @@ use Rattle.unify_match.proofs.Matchings.{match_applications_fail}
 use Rattle.clause_form.specs.declared.facts.Fact.{Fact}
 use Rattle.clause_form.specs.Facts.{fact_of}
 use Rattle.clause_form.specs.Seen.{fact_at, clause_at}
-use Rattle.multiset_subsume.specs.Boards.{facts_at}
+use Rattle.fact_placing.specs.Boards.{facts_at}
 use Rattle.multiset_subsume.specs.Apart.{AreApart, StandsNowhere, CannotAllStand}
-use Rattle.multiset_subsume.proofs.Putting.{there_at}
+use Rattle.fact_placing.proofs.Putting.{there_at}
 
 -- different symbols at the roots, or different numbers of arguments
 pub roots_apart : (all : List Term) (general special : Id) (f g : Sym) (xs ys : List Id) → tree_at all general ≡ node f (map (tree_at all) xs) → tree_at all special ≡ node g (map (tree_at all) ys) → ((f ≡ g) × (length xs ≡ length ys) → ⊥)

@@ -18,8 +18,8 @@ use Rattle.spec_placements.specs.Placing.{some_fact_has, fact_has, HoldsFrom, Ca
 use Rattle.spec_placements.specs.LooseParts.{bound_parts}
 use Rattle.spec_placements.proofs.Removing.{loose_placed}
 use Rattle.spec_placements.proofs.Standing.{holds_nothing, back_holds, some_stand, in_range, pick_removed, stand_placed, holds_one, row_long}
-use Rattle.multiset_subsume.specs.Boards.{facts_at, IsPlacing, IsPut, CannotPut, CanPlaceOn, CanStandOn, HoldsOn, AreLinkedOn, HoldsInserted}
-use Rattle.multiset_subsume.proofs.Listing.{unref}
+use Rattle.fact_placing.specs.Boards.{facts_at, IsPlacing, IsPut, CannotPut, CanPlaceOn, CanStandOn, HoldsOn, AreLinkedOn, HoldsInserted}
+use Rattle.fact_placing.proofs.Listing.{unref}
 
 -- no fact is left, and the loose parts stand
 pub placed_nothing : (all : List Term) (hyps : List (horn.Fact Id)) (loose : List ℕ) (pairs : List Bound) (taken : List Bool) (facts : List (horn.Fact Id)) → length facts ≡ 0 → IsPlacing all hyps pairs taken → AreLinkedOn all loose pairs facts

@@ -7,7 +7,7 @@ use Rattle.spec_clauses.specs.Inclusion.{IsWithin}
 use Rattle.spec_clauses.specs.Subsumption.{firm}
 use Rattle.term_tree.specs.declared.bank.Id.{Id}
 use Rattle.clause_form.specs.Seen.{fact_at}
-use Rattle.multiset_subsume.specs.Boards.{facts_at}
+use Rattle.fact_placing.specs.Boards.{facts_at}
 
 -- no substitution makes the general fact the special one
 abbrev pub AreApart : List Term → horn.Fact Id → horn.Fact Id → Type 0

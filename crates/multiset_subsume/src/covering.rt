@@ -8,16 +8,16 @@ ghost use Rattle.spec_clauses.specs.Subsumption.{Subsumes, RowHolds, IsFirstRow}
 ghost use Rattle.spec_placements.specs.Placing.{FactMatched, AreLinked};
 ghost use Rattle.clause_form.specs.Facts.{fact_of};
 ghost use Rattle.clause_form.specs.Seen.{fact_at, clause_at, IsFactIn, AreFactsIn, IsClauseIn};
-ghost use Rattle.multiset_subsume.specs.Boards.{facts_at, IsBoard, IsPlacing, IsAsBefore};
-ghost use Rattle.multiset_subsume.specs.Boards.{AreLinkedOn, CanPlaceOn, HoldsOn, IsLeastRow};
-ghost use Rattle.multiset_subsume.specs.Boards.{IsNextRow, IsFirstByOn, IsFirstWith, NowhereWith};
+ghost use Rattle.fact_placing.specs.Boards.{facts_at, IsBoard, IsPlacing, IsAsBefore};
+ghost use Rattle.fact_placing.specs.Boards.{AreLinkedOn, CanPlaceOn, HoldsOn, IsLeastRow};
+ghost use Rattle.fact_placing.specs.Boards.{IsNextRow, IsFirstByOn, IsFirstWith, NowhereWith};
 
-use crate::board::{Board, firm_of, loose_of};
 use crate::parts::{placed_apart, stands_apart};
-use crate::placing::{Placing, begun, put};
 use crate::quick::shows_no_row;
 use crate::row::Row;
 use clause_form::{Clause, Fact};
+use fact_placing::board::{Board, firm_of, loose_of};
+use fact_placing::placing::{Placing, begun, put};
 use std::alloc::{AllocError, Global};
 use term_tree::Bank;
 

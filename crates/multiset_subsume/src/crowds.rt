@@ -6,13 +6,13 @@ ghost use Rattle.unify_match.specs.Seen.{seen};
 ghost use Rattle.clause_form.specs.Facts.{fact_of};
 ghost use Rattle.clause_form.specs.Seen.{fact_at, IsFactIn, AreFactsIn};
 ghost use Rattle.spec_placements.specs.Crowds.{room, IsConfined, AreConfined};
-ghost use Rattle.multiset_subsume.specs.Boards.{facts_at, IsBoard, IsPlacing, IsAsBefore};
-ghost use Rattle.multiset_subsume.specs.Boards.{CannotPut, CanPlaceOn};
+ghost use Rattle.fact_placing.specs.Boards.{facts_at, IsBoard, IsPlacing, IsAsBefore};
+ghost use Rattle.fact_placing.specs.Boards.{CannotPut, CanPlaceOn};
 
-use crate::board::Board;
 use crate::linking::in_largest_part;
-use crate::placing::{Placing, fits};
 use clause_form::Fact;
+use fact_placing::board::Board;
+use fact_placing::placing::{Placing, fits};
 use std::alloc::AllocError;
 use term_tree::Bank;
 

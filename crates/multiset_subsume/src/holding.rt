@@ -8,15 +8,15 @@ ghost use Rattle.spec_clauses.specs.Subsumption.{RowHolds};
 ghost use Rattle.spec_placements.specs.Placing.{FactMatched, AreLinked};
 ghost use Rattle.clause_form.specs.Facts.{fact_of};
 ghost use Rattle.clause_form.specs.Seen.{fact_at, clause_at, IsFactIn, AreFactsIn, IsClauseIn};
-ghost use Rattle.multiset_subsume.specs.Boards.{facts_at, IsBoard, IsPlacing, IsPut, CannotPut};
-ghost use Rattle.multiset_subsume.specs.Boards.{ArePut, AreLinkedOn, HoldsNotOn, HoldsByOn};
-ghost use Rattle.multiset_subsume.specs.Boards.{HoldsWith, FailsWith};
+ghost use Rattle.fact_placing.specs.Boards.{facts_at, IsBoard, IsPlacing, IsPut, CannotPut};
+ghost use Rattle.fact_placing.specs.Boards.{ArePut, AreLinkedOn, HoldsNotOn, HoldsByOn};
+ghost use Rattle.fact_placing.specs.Boards.{HoldsWith, FailsWith};
 
-use crate::board::{Board, firm_of, loose_of};
 use crate::loose::loose_may_stand;
-use crate::placing::{Placing, begun, put};
 use crate::row::Row;
 use clause_form::{Clause, Fact};
+use fact_placing::board::{Board, firm_of, loose_of};
+use fact_placing::placing::{Placing, begun, put};
 use std::alloc::{AllocError, Global};
 use term_tree::Bank;
 

@@ -10,15 +10,12 @@
 //! about only as variables are bound. `docs/PAIRS.md` has times.
 #![tactic(auto)]
 
-mod board;
 mod covering;
 mod crowds;
 mod holding;
 mod linking;
 mod loose;
-mod matching;
 mod parts;
-mod placing;
 mod quick;
 pub mod row;
 mod search;

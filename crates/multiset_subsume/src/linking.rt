@@ -6,8 +6,8 @@ ghost use Rattle.term_tree.specs.Bank.{AreKnown};
 ghost use Rattle.clause_form.specs.Facts.{fact_of};
 ghost use Rattle.clause_form.specs.Seen.{IsFactIn, AreFactsIn};
 
-use crate::board::Board;
 use clause_form::Fact;
+use fact_placing::board::Board;
 use limits::MOST_SYMBOLS;
 use std::alloc::{AllocError, Global};
 use term_tree::{Bank, Id, Node};

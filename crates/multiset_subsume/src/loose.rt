@@ -12,11 +12,11 @@ ghost use Rattle.clause_form.specs.Facts.{fact_of};
 ghost use Rattle.clause_form.specs.Seen.{fact_at, IsFactIn, AreFactsIn};
 ghost use Rattle.spec_placements.specs.Takes.{left};
 ghost use Rattle.spec_placements.specs.LooseParts.{flat_of, bound_parts, Removes, HasNoRoom};
-ghost use Rattle.multiset_subsume.specs.Boards.{facts_at, IsBoard, IsPlacing};
+ghost use Rattle.fact_placing.specs.Boards.{facts_at, IsBoard, IsPlacing};
 
-use crate::board::Board;
-use crate::placing::Placing;
 use clause_form::{Fact, is_data_symbol};
+use fact_placing::board::Board;
+use fact_placing::placing::Placing;
 use std::alloc::AllocError;
 use term_tree::{Bank, Id, Node};
 use unify_match::Binds;

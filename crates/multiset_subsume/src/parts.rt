@@ -5,14 +5,14 @@ ghost use Rattle.std.specs.Prelude.{◌≡◌, ◌<◌, ◌∷◌, ◌++◌, [],
 ghost use Rattle.spec_clauses.specs.Inclusion.{IsWithin};
 ghost use Rattle.clause_form.specs.Facts.{fact_of};
 ghost use Rattle.clause_form.specs.Seen.{IsFactIn, AreFactsIn};
-ghost use Rattle.multiset_subsume.specs.Boards.{IsBoard, IsPlacing, IsAsBefore, AreLinkedOn};
-ghost use Rattle.multiset_subsume.specs.Boards.{CanPlaceOn, CanStandOn, HoldsOn};
+ghost use Rattle.fact_placing.specs.Boards.{IsBoard, IsPlacing, IsAsBefore, AreLinkedOn};
+ghost use Rattle.fact_placing.specs.Boards.{CanPlaceOn, CanStandOn, HoldsOn};
 
-use crate::board::Board;
 use crate::linking::{Parts, count_of, is_divided, number_at, parts_of};
-use crate::placing::{Placing, put, take_back};
 use crate::search::can_place;
 use clause_form::Fact;
+use fact_placing::board::Board;
+use fact_placing::placing::{Placing, put, take_back};
 use std::alloc::{AllocError, Global};
 use term_tree::Bank;
 

@@ -9,7 +9,7 @@ ghost use Rattle.spec_clauses.specs.Subsumption.{firm, RowHolds};
 ghost use Rattle.term_tree.specs.Bank.{tree_at, AreKnown};
 ghost use Rattle.clause_form.specs.Facts.{fact_of};
 ghost use Rattle.clause_form.specs.Seen.{fact_at, clause_at, IsFactIn, AreFactsIn, IsClauseIn};
-ghost use Rattle.multiset_subsume.specs.Boards.{facts_at};
+ghost use Rattle.fact_placing.specs.Boards.{facts_at};
 ghost use Rattle.multiset_subsume.specs.Apart.{AreApart, StandsNowhere, CannotAllStand};
 
 use clause_form::{Clause, Fact, is_variable_known};

@@ -3,14 +3,14 @@
 ghost use Rattle.std.specs.Prelude.{◌≡◌, ℕ, ◌<◌, ◌≤◌, ◌∷◌, length, map, IfOk, MatchOption};
 ghost use Rattle.clause_form.specs.Facts.{fact_of};
 ghost use Rattle.clause_form.specs.Seen.{IsFactIn, AreFactsIn};
-ghost use Rattle.multiset_subsume.specs.Boards.{IsBoard, IsPlacing, IsAsBefore, AreLinkedOn};
-ghost use Rattle.multiset_subsume.specs.Boards.{CanPlaceOn, CanStandOn, HoldsOn, HoldsInserted};
+ghost use Rattle.fact_placing.specs.Boards.{IsBoard, IsPlacing, IsAsBefore, AreLinkedOn};
+ghost use Rattle.fact_placing.specs.Boards.{CanPlaceOn, CanStandOn, HoldsOn, HoldsInserted};
 
-use crate::board::Board;
 use crate::crowds::next_of;
 use crate::loose::loose_may_stand;
-use crate::placing::{Placing, put, take_back};
 use clause_form::Fact;
+use fact_placing::board::Board;
+use fact_placing::placing::{Placing, put, take_back};
 use std::alloc::AllocError;
 use term_tree::Bank;
 

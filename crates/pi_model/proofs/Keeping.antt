@@ -9,9 +9,9 @@ use Rattle.spec_calculus.specs.Runs.{Thread, At, Ended, Configuration, Step, Bui
 use Rattle.spec_calculus.specs.Standing.{names_made}
 use Rattle.spec_calculus.proofs.Items.{each-append, each-replaced, if_some-is, if_some-cond, if_some-choice, if_some-then, if_some-map}
 use Rattle.spec_calculus.proofs.Growth.{numbers_are_taken}
-use Rattle.pi_model.specs.declared.configurations.Conf.{Conf}
-use Rattle.pi_model.specs.Configurations.{IsPointOf, IsConfigurationOf, configuration_of}
-use Rattle.pi_model.proofs.Points.{nodes-some, point-within}
+use Rattle.pi_configurations.specs.declared.configurations.Conf.{Conf}
+use Rattle.pi_configurations.specs.Configurations.{IsPointOf, IsConfigurationOf, configuration_of}
+use Rattle.pi_configurations.proofs.Points.{nodes-some, point-within}
 
 module _ (P : Protocol) where
   goes_on-kept : (c : Configuration) (i : ℕ) (thread : Thread) → IsPointOf P thread → AllByRecursion (IsPointOf P) c.threads → AllByRecursion (IsPointOf P) (goes_on c i thread).threads

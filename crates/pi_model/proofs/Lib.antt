@@ -1,13 +1,6 @@
-pub mod Members
-pub mod ThreadItems
-pub mod Points
 pub mod ThreadSteps
 pub mod Causes
 pub mod Naming
 pub mod Passing
 pub mod Keeping
 pub mod Told
-pub mod Deciding
-pub mod Picking
-pub mod Searching
-pub mod Choosing

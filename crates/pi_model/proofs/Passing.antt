@@ -11,7 +11,7 @@ use Rattle.spec_calculus.specs.Refusals.{Refusal, Cause, first_cause, where_true
 use Rattle.spec_calculus.specs.Limits.{is_large, terms_at, listed, written, evaluated}
 use Rattle.pi_model.specs.declared.errors.StepError.{StepError}
 use Rattle.pi_model.specs.declared.errors.StepError.TheVariants.{NoThread, WrongForm, UnknownChannel, ChannelsDiffer, NoKnowledge, NoRule, NotFailing, NotPublic, Large}
-use Rattle.pi_model.specs.Moves.{advanced}
+use Rattle.pi_configurations.specs.Moves.{advanced}
 use Rattle.pi_model.specs.Plans.{IsPossible, IsRefused, Stands, StandsNowhere}
 use Rattle.spec_calculus.proofs.Equality.{same_value-sound, same_value-refl}
 use Rattle.term_values.proofs.Room.{any-append}

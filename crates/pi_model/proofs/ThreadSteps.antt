@@ -15,7 +15,7 @@ use Rattle.pi_model.specs.declared.errors.StepError.{StepError}
 use Rattle.pi_model.specs.declared.errors.StepError.TheVariants.{NoThread, WrongForm, UnknownChannel, ChannelsDiffer, NoKnowledge, NoRule, NotFailing, NotPublic, Large}
 use Rattle.pi_model.specs.Errors.{refusal_of}
 use Rattle.pi_model.specs.Choices.{some_matches}
-use Rattle.pi_model.specs.Moves.{moved_to, moved, advanced}
+use Rattle.pi_configurations.specs.Moves.{moved_to, moved, advanced}
 use Rattle.pi_model.specs.Plans.{IsPossible, IsRefused, Stands, StandsNowhere}
 use Rattle.term_values.proofs.Room.{any-append}
 

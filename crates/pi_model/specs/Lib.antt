@@ -1,14 +1,7 @@
 pub mod Errors
 pub mod Steps
-pub mod Threads
-pub mod Moves
-pub mod Happenings
-pub mod Configurations
 pub mod PointProps
 pub mod Plans
 pub mod Running
-pub mod Changes
 pub mod Answers
 pub mod Choices
-pub mod Correspondences
-pub mod Alternatives

@@ -4,12 +4,12 @@ use Rattle.spec_calculus.specs.Points.{nodes}
 use Rattle.spec_calculus.specs.Runs.{Step}
 use Rattle.pi_tree.specs.Processes.{process_of}
 use Rattle.pi_tree.specs.Protocols.{protocol_of}
-use Rattle.pi_model.specs.declared.changes.Change.{Change}
+use Rattle.pi_configurations.specs.declared.changes.Change.{Change}
 use Rattle.pi_model.specs.declared.errors.ApplyError.{ApplyError}
 use Rattle.pi_model.specs.declared.running.Run.{Run}
 use Rattle.pi_model.specs.declared.standing.Stand.{Stand}
-use Rattle.pi_model.specs.Changes.{changed}
-use Rattle.pi_model.specs.Configurations.{configuration_of}
+use Rattle.pi_configurations.specs.Changes.{changed}
+use Rattle.pi_configurations.specs.Configurations.{configuration_of}
 use Rattle.pi_model.specs.Plans.{Stands, IsPossible, IsErrorOf}
 
 -- the thread of that number stands there

@@ -8,20 +8,20 @@ ghost use Rattle.spec_calculus.specs.Runs.{after_step};
 ghost use Rattle.pi_tree.specs.Processes.{process_of};
 ghost use Rattle.pi_tree.specs.Protocols.{protocol_of};
 ghost use Rattle.pi_model.specs.Answers.{IsRefusalOf, TellsWhether};
-ghost use Rattle.pi_model.specs.Changes.{changed};
-ghost use Rattle.pi_model.specs.Configurations.{configuration_of, IsConfigurationOf};
+ghost use Rattle.pi_configurations.specs.Changes.{changed};
+ghost use Rattle.pi_configurations.specs.Configurations.{configuration_of, IsConfigurationOf};
 ghost use Rattle.pi_model.specs.Plans.{IsPossible, IsErrorOf};
 ghost use Rattle.pi_model.specs.Steps.{step_of};
 
 use crate::attacker::{build, part, reduce};
-use crate::changes::Change;
 use crate::choices::{fail, take};
-use crate::configurations::Conf;
 use crate::errors::ApplyError;
 use crate::processes::{copy, hear, make, mark, split};
 use crate::receiving::{pass, say};
 use crate::running::Run;
 use crate::steps::Step;
+use pi_configurations::changes::Change;
+use pi_configurations::configurations::Conf;
 use pi_tree::Protocol;
 use std::alloc::Global;
 

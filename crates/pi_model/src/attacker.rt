@@ -4,12 +4,12 @@ ghost use Rattle.std.specs.Prelude.{IfOk, IfErr};
 ghost use Rattle.spec_calculus.specs.Runs as calculus;
 ghost use Rattle.pi_model.specs.Running.{Changes, Refuses};
 
-use crate::changes::Change;
-use crate::configurations::known_value;
 use crate::errors::{ApplyError, StepError};
 use crate::knowledge::{built, first_arity, is_public_constructor, known_values, part_of, takes};
 use crate::running::Run;
 use crate::steps::Numbers;
+use pi_configurations::changes::Change;
+use pi_configurations::configurations::known_value;
 use term_values::{is_large, rules_of, value_by_rule};
 
 /// The attacker applies the constructor, 0 for the tuple, to known values.

@@ -7,11 +7,11 @@ ghost use Rattle.pi_tree.specs.Values.{value_of};
 ghost use Rattle.pi_model.specs.Choices.{some_matches};
 ghost use Rattle.pi_model.specs.Running.{Changes, Refuses};
 
-use crate::changes::Change;
 use crate::errors::{ApplyError, StepError};
 use crate::running::Run;
 use crate::standing::{point_after, standing_of};
-use crate::threads::Thread;
+use pi_configurations::changes::Change;
+use pi_configurations::threads::Thread;
 use pi_tree::{Pat, Process, Value};
 use std::alloc::{AllocError, Global};
 use term_values::{
@@ -19,7 +19,7 @@ use term_values::{
 };
 
 /// The thread at a `let` goes on with the value of that label, which matches its pattern.
-#[tactic(auto, using(crate::proofs::ThreadSteps::of_take, crate::proofs::Points::of_points))]
+#[tactic(auto, using(crate::proofs::ThreadSteps::of_take, pi_configurations::proofs::Points::of_points))]
 pub fn take(run: &Run, number: u32, label: u32) -> Result<Change, ApplyError>
     ensures possible { IfOk result (Changes run.now (calculus.Take number label)) }
     ensures refused { IfErr result (Refuses run.now (calculus.Take number label)) }
@@ -64,7 +64,7 @@ fn some_match(
 }
 
 /// The thread at a `let` goes to its else branch, where none of its values matches.
-#[tactic(auto, using(crate::proofs::ThreadSteps::of_fail, crate::proofs::Points::of_points))]
+#[tactic(auto, using(crate::proofs::ThreadSteps::of_fail, pi_configurations::proofs::Points::of_points))]
 pub fn fail(run: &Run, number: u32) -> Result<Change, ApplyError>
     ensures possible { IfOk result (Changes run.now (calculus.Fail number)) }
     ensures refused { IfErr result (Refuses run.now (calculus.Fail number)) }

@@ -1,54 +1,20 @@
 //! What the attacker knows, and what can be made of it.
 
-ghost use Rattle.std.specs.Prelude.{◌≡◌, true, map, option_map, IfOk};
+ghost use Rattle.std.specs.Prelude.{◌≡◌, map, option_map, IfOk};
 ghost use Rattle.spec_trees.specs.Tree.{items_of, trees};
 ghost use Rattle.spec_calculus.specs.Points.{numbered};
-ghost use Rattle.spec_calculus.specs.Values.{value_of};
-ghost use Rattle.spec_calculus.specs.Runs.{knows, known_values, built, part_of};
+ghost use Rattle.spec_calculus.specs.Runs.{known_values, built, part_of};
 ghost use Rattle.spec_calculus.specs.Refusals.{takes, is_public_constructor, first_arity};
 ghost use Rattle.pi_tree.specs.Names.{declared_of};
 ghost use Rattle.pi_tree.specs.Protocols.{protocol_of};
 ghost use Rattle.pi_tree.specs.Rules.{rule_of};
-ghost use Rattle.pi_tree.specs.Terms.{term_of};
 ghost use Rattle.pi_tree.specs.Values as seen;
-ghost use Rattle.term_values.specs.Bound.{bound_of};
-ghost use Rattle.pi_model.specs.Configurations.{configuration_of};
+ghost use Rattle.pi_configurations.specs.Configurations.{configuration_of};
 
-use crate::configurations::{Conf, known_value};
-use crate::hashes::term_hash;
 use crate::steps::Numbers;
-use pi_tree::{Declared, MOST_ARGUMENTS, Protocol, Rule, Term, Value, Values};
+use pi_configurations::configurations::{Conf, known_value};
+use pi_tree::{Declared, MOST_ARGUMENTS, Protocol, Rule, Value, Values};
 use std::alloc::{AllocError, Global};
-use term_values::{Bound, is_value_of};
-
-/// Whether the value of the term is the one that is found first. Where it isn't, it may be known all the same.
-#[tactic(auto, using(crate::proofs::Members::of_members))]
-fn is_latest(conf: &Conf, term: &Term, bound: &Bound) -> bool
-    ensures { result ≡ true → knows (configuration_of conf.now)
-        (value_of (bound_of bound.now) (term_of term.now)) ≡ true }
-{
-    match conf.known.latest_of(term_hash(term, bound)) {
-        None => false,
-        Some(value) => is_value_of(term, value, bound),
-    }
-}
-
-/// Whether the attacker knows the value of the term. A value that is known is mostly found at once; one that isn't
-/// takes a look at all.
-pub fn knows(conf: &Conf, term: &Term, bound: &Bound) -> bool
-    ensures { result ≡ knows (configuration_of conf.now)
-        (value_of (bound_of bound.now) (term_of term.now)) }
-{
-    if is_latest(conf, term, bound) {
-        return true;
-    }
-    for value in &conf.known.items {
-        if is_value_of(term, value, bound) {
-            return true;
-        }
-    }
-    false
-}
 
 /// Copies of the known values of those numbers, if all are there.
 pub fn known_values(

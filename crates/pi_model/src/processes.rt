@@ -4,18 +4,18 @@ ghost use Rattle.std.specs.Prelude.{IfOk, IfErr};
 ghost use Rattle.spec_calculus.specs.Runs as calculus;
 ghost use Rattle.pi_model.specs.Running.{Changes, Refuses};
 
-use crate::changes::Change;
 use crate::errors::{ApplyError, StepError};
-use crate::happenings::Happened;
-use crate::knowledge::knows;
 use crate::running::Run;
 use crate::standing::{point_after, standing_of};
-use crate::threads::Thread;
+use pi_configurations::changes::Change;
+use pi_configurations::happenings::Happened;
+use pi_configurations::knowing::knows;
+use pi_configurations::threads::Thread;
 use pi_tree::{Process, Slot, Value};
 use term_values::{Bound, evaluate, evaluate_all, some_large_at};
 
 /// The thread at a parallel composition becomes two.
-#[tactic(auto, using(crate::proofs::ThreadSteps::of_split, crate::proofs::Points::of_points))]
+#[tactic(auto, using(crate::proofs::ThreadSteps::of_split, pi_configurations::proofs::Points::of_points))]
 pub fn split(run: &Run, number: u32) -> Result<Change, ApplyError>
     ensures possible { IfOk result (Changes run.now (calculus.Split number)) }
     ensures refused { IfErr result (Refuses run.now (calculus.Split number)) }
@@ -32,7 +32,7 @@ pub fn split(run: &Run, number: u32) -> Result<Change, ApplyError>
 }
 
 /// The thread at a replication gives one more copy.
-#[tactic(auto, using(crate::proofs::ThreadSteps::of_copy, crate::proofs::Points::of_points))]
+#[tactic(auto, using(crate::proofs::ThreadSteps::of_copy, pi_configurations::proofs::Points::of_points))]
 pub fn copy(run: &Run, number: u32) -> Result<Change, ApplyError>
     ensures possible { IfOk result (Changes run.now (calculus.Copy number)) }
     ensures refused { IfErr result (Refuses run.now (calculus.Copy number)) }
@@ -48,7 +48,7 @@ pub fn copy(run: &Run, number: u32) -> Result<Change, ApplyError>
 }
 
 /// The thread's restriction makes a name.
-#[tactic(auto, using(crate::proofs::ThreadSteps::of_make, crate::proofs::Points::of_points))]
+#[tactic(auto, using(crate::proofs::ThreadSteps::of_make, pi_configurations::proofs::Points::of_points))]
 pub fn make(run: &Run, number: u32) -> Result<Change, ApplyError>
     ensures possible { IfOk result (Changes run.now (calculus.Make number)) }
     ensures refused { IfErr result (Refuses run.now (calculus.Make number)) }
@@ -65,7 +65,7 @@ pub fn make(run: &Run, number: u32) -> Result<Change, ApplyError>
 }
 
 /// The attacker hears the message of the thread at an output on a channel that is known.
-#[tactic(auto, using(crate::proofs::ThreadSteps::of_hear, crate::proofs::Points::of_points))]
+#[tactic(auto, using(crate::proofs::ThreadSteps::of_hear, pi_configurations::proofs::Points::of_points))]
 pub fn hear(run: &Run, number: u32) -> Result<Change, ApplyError>
     ensures possible { IfOk result (Changes run.now (calculus.Hear number)) }
     ensures refused { IfErr result (Refuses run.now (calculus.Hear number)) }
@@ -87,7 +87,7 @@ pub fn hear(run: &Run, number: u32) -> Result<Change, ApplyError>
 }
 
 /// The thread performs its event.
-#[tactic(auto, using(crate::proofs::ThreadSteps::of_mark, crate::proofs::Points::of_points))]
+#[tactic(auto, using(crate::proofs::ThreadSteps::of_mark, pi_configurations::proofs::Points::of_points))]
 pub fn mark(run: &Run, number: u32) -> Result<Change, ApplyError>
     ensures possible { IfOk result (Changes run.now (calculus.Mark number)) }
     ensures refused { IfErr result (Refuses run.now (calculus.Mark number)) }

@@ -12,15 +12,15 @@ ghost use Rattle.pi_tree.specs.Patterns.{pattern_of};
 ghost use Rattle.pi_tree.specs.Processes.{process_of};
 ghost use Rattle.pi_tree.specs.Values.{value_of};
 ghost use Rattle.pi_model.specs.Running.{StandsIn, IsWithin, Changes, Refuses};
-ghost use Rattle.pi_model.specs.Threads.{thread_of};
+ghost use Rattle.pi_configurations.specs.Threads.{thread_of};
 
-use crate::changes::Change;
-use crate::configurations::{is_thread, known_value};
 use crate::errors::{ApplyError, StepError};
-use crate::knowledge::knows;
 use crate::running::Run;
 use crate::standing::{Stand, standing_of};
-use crate::threads::Thread;
+use pi_configurations::changes::Change;
+use pi_configurations::configurations::{is_thread, known_value};
+use pi_configurations::knowing::knows;
+use pi_configurations::threads::Thread;
 use pi_tree::{Pat, Process, Value};
 use std::alloc::{AllocError, Global};
 use term_values::{Bound, Environment, evaluate, is_value_of, matched, some_large_at};
@@ -46,7 +46,7 @@ pub fn received(
 }
 
 /// The thread at an input on a channel that is known receives a known value.
-#[tactic(auto, using(crate::proofs::ThreadSteps::of_say, crate::proofs::Points::of_points))]
+#[tactic(auto, using(crate::proofs::ThreadSteps::of_say, pi_configurations::proofs::Points::of_points))]
 pub fn say(run: &Run, number: u32, known: u32) -> Result<Change, ApplyError>
     ensures possible { IfOk result (Changes run.now (calculus.Say number known)) }
     ensures refused { IfErr result (Refuses run.now (calculus.Say number known)) }
@@ -78,7 +78,7 @@ fn some_large_at_either(from: &Stand, to: &Stand) -> bool
 }
 
 /// An output meets an input, whose channels are the terms there.
-#[tactic(auto, using(crate::proofs::Passing::of_meeting, crate::proofs::Points::of_points))]
+#[tactic(auto, using(crate::proofs::Passing::of_meeting, pi_configurations::proofs::Points::of_points))]
 fn meet(
     run: &Run,
     sender: u32,

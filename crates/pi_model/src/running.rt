@@ -4,10 +4,10 @@ ghost use Rattle.std.specs.Prelude.{◌^◌, ◌<◌, length};
 ghost use Rattle.spec_calculus.specs.Points.{nodes};
 ghost use Rattle.pi_tree.specs.Processes.{process_of};
 ghost use Rattle.pi_tree.specs.Protocols.{protocol_of};
-ghost use Rattle.pi_model.specs.Configurations.{IsConfigurationOf};
+ghost use Rattle.pi_configurations.specs.Configurations.{IsConfigurationOf};
 ghost use Rattle.pi_model.specs.PointProps.{point_props};
 
-use crate::configurations::Conf;
+use pi_configurations::configurations::Conf;
 use pi_tree::Protocol;
 use std::alloc::Global;
 

@@ -3,13 +3,13 @@
 ghost use Rattle.std.specs.Prelude.{◌≡◌, ◌^◌, ◌<◌, IfOk, IfErr};
 ghost use Rattle.spec_calculus.specs.Points.{point_after};
 ghost use Rattle.pi_tree.specs.Processes.{process_of};
-ghost use Rattle.pi_model.specs.Configurations.{configuration_of};
+ghost use Rattle.pi_configurations.specs.Configurations.{configuration_of};
 ghost use Rattle.pi_model.specs.Plans.{StandsNowhere};
 ghost use Rattle.pi_model.specs.Running.{StandsIn, IsWithin};
 
 use crate::errors::StepError;
 use crate::running::Run;
-use crate::threads::Thread;
+use pi_configurations::threads::Thread;
 use pi_tree::Process;
 use term_values::Environment;
 
@@ -22,7 +22,7 @@ pub struct Stand<'a> {
 }
 
 /// Where the thread of that number stands, if there is one that has not ended.
-#[tactic(auto, using(crate::proofs::Points::of_standing))]
+#[tactic(auto, using(pi_configurations::proofs::Points::of_standing))]
 pub fn standing_of<'a>(run: &Run<'a>, number: u32) -> Result<Stand<'a>, StepError>
     ensures stands { IfOk result (StandsIn run.now number) }
     ensures within { IfOk result (IsWithin run.now) }

@@ -4,7 +4,7 @@ use Rattle.spec_calculus.specs.Syntax.{Protocol, Query}
 use Rattle.spec_calculus.specs.Points.{numbered}
 use Rattle.spec_calculus.specs.Runs.{Configuration, Step}
 use Rattle.pi_model.specs.Errors.{refusal_of}
-use Rattle.pi_model.specs.Configurations.{configuration_of}
+use Rattle.pi_configurations.specs.Configurations.{configuration_of}
 use Rattle.run_replay.specs.Replay.{IsDone, IsFirstRefused, IsViolatedAfter, IsFirstViolation}
 use Rattle.run_replay.specs.declared.reach.Reached.{Reached}
 use Rattle.run_replay.specs.declared.reach.Reached.TheVariants.{End, Refused}

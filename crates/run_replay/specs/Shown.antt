@@ -3,7 +3,7 @@ use Rattle.std.specs.Prelude.{◌≡◌, List, length}
 use Rattle.spec_calculus.specs.Syntax.{Protocol}
 use Rattle.spec_calculus.specs.Runs.{Step}
 use Rattle.pi_model.specs.Errors.{refusal_of}
-use Rattle.pi_model.specs.Configurations.{configuration_of}
+use Rattle.pi_configurations.specs.Configurations.{configuration_of}
 use Rattle.run_replay.specs.Replay as replay
 use Rattle.run_replay.specs.Replay.{IsReplayOf}
 use Rattle.run_replay.specs.declared.replaying.Replayed.{Replayed}

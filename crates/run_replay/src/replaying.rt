@@ -5,7 +5,7 @@ ghost use Rattle.pi_tree.specs.Protocols.{protocol_of};
 ghost use Rattle.pi_model.specs.Steps.{step_of};
 ghost use Rattle.run_replay.specs.Limits.{IsLimited};
 ghost use Rattle.run_replay.specs.Replay.{IsDone, AreFirstViolations};
-ghost use Rattle.pi_model.specs.Configurations.{configuration_of};
+ghost use Rattle.pi_configurations.specs.Configurations.{configuration_of};
 ghost use Rattle.run_replay.specs.Reached.{TellsFirst};
 ghost use Rattle.run_replay.specs.Shown.{Replays};
 

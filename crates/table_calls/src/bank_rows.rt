@@ -79,8 +79,8 @@ fn ring_of(alloc: Global, keys: u64) -> Result<Vec<u8>, AllocError> {
 }
 
 /// The protocol that the bytes spell, if they spell one.
-fn read(alloc: Global, bytes: &[u8]) -> Option<Protocol>
-    ensures { IfSome result (λ protocol. CanBeVerified (protocol_of protocol)) }
+fn read(alloc: Global, bytes: &[u8]) -> Option<Box<Protocol>>
+    ensures { IfSome result (λ protocol. CanBeVerified (protocol_of protocol.value)) }
 {
     within_limits();
     proper_rules();

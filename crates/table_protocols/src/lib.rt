@@ -23,19 +23,19 @@ fn sketch_of(alloc: Global, bytes: &[u8]) -> Option<Sketch>
 }
 
 /// The protocol that the sketch of the bytes stands for, if it stands for one.
-fn scoped(alloc: Global, bytes: &[u8], sketch: &Sketch) -> Option<Protocol>
+fn scoped(alloc: Global, bytes: &[u8], sketch: &Sketch) -> Option<Box<Protocol>>
     requires { IsSketchOf bytes.now (file_of sketch.now) }
-    ensures { IfSome result (λ protocol. Spells bytes.now (protocol_of protocol)) }
+    ensures { IfSome result (λ protocol. Spells bytes.now (protocol_of protocol.value)) }
 {
     match check_scope(alloc, bytes, sketch) {
-        Ok(protocol) => Some(protocol),
+        Ok(protocol) => Box::new(alloc, protocol).ok(),
         Err(_) => None,
     }
 }
 
 /// The protocol that the bytes spell, if they spell one. Takes memory for it; without it, there is none.
-pub fn spelled(alloc: Global, bytes: &[u8]) -> Option<Protocol>
-    ensures { IfSome result (λ protocol. Spells bytes.now (protocol_of protocol)) }
+pub fn spelled(alloc: Global, bytes: &[u8]) -> Option<Box<Protocol>>
+    ensures { IfSome result (λ protocol. Spells bytes.now (protocol_of protocol.value)) }
 {
     let sketch = sketch_of(alloc, bytes)?;
     scoped(alloc, bytes, &sketch)

@@ -218,7 +218,7 @@ fn event_fact(must: bool, event: u32, arguments: Trees) -> PlainFact {
 }
 
 /// The clause that a text spells, if it spells one.
-pub fn clause_of(alloc: Global, text: &str) -> Result<Option<PlainClause>, AllocError> {
+pub fn clause_of(alloc: Global, text: &str) -> Result<Option<Box<PlainClause>>, AllocError> {
     let mut reader = Reader {
         name: Vec::new(alloc),
         open: Vec::new(alloc),
@@ -227,5 +227,8 @@ pub fn clause_of(alloc: Global, text: &str) -> Result<Option<PlainClause>, Alloc
         is_right: true,
     };
     reader.read_all(alloc, text.as_bytes())?;
-    Ok(reader.finish())
+    match reader.finish() {
+        Some(clause) => Ok(Some(Box::new(alloc, clause)?)),
+        None => Ok(None),
+    }
 }

@@ -29,31 +29,35 @@ pub fn variable_of(name: &[u8]) -> Option<u32> {
     }
 }
 
+/// The symbols with names of their own, constructors that stand for events among them.
+const SYMBOLS: [(&str, Sym); 13] = [
+    ("f", Sym::Ctor(1)),
+    ("g", Sym::Ctor(2)),
+    ("h", Sym::Ctor(3)),
+    ("enc", Sym::Ctor(4)),
+    ("box", Sym::Data(5)),
+    ("pair", Sym::Data(6)),
+    ("c", Sym::Free(1)),
+    ("d", Sym::Free(2)),
+    ("k", Sym::Free(3)),
+    ("e", Sym::Ctor(1001)),
+    ("begin", Sym::Ctor(1002)),
+    ("end", Sym::Ctor(1003)),
+    ("@", Sym::Attacker),
+];
+
 /// The symbol with this name, over so many arguments.
 pub fn symbol_of(name: &[u8], arguments: usize) -> Option<Sym> {
-    match name {
-        b"" => Some(Sym::Tuple(u32::try_from(arguments).ok()?)),
-        b"f" => Some(Sym::Ctor(1)),
-        b"g" => Some(Sym::Ctor(2)),
-        b"h" => Some(Sym::Ctor(3)),
-        b"enc" => Some(Sym::Ctor(4)),
-        b"box" => Some(Sym::Data(5)),
-        b"pair" => Some(Sym::Data(6)),
-        b"c" => Some(Sym::Free(1)),
-        b"d" => Some(Sym::Free(2)),
-        b"k" => Some(Sym::Free(3)),
-        b"e" => Some(Sym::Ctor(EVENTS + 1)),
-        b"begin" => Some(Sym::Ctor(EVENTS + 2)),
-        b"end" => Some(Sym::Ctor(EVENTS + 3)),
-        b"@" => Some(Sym::Attacker),
-        _ => point_of(name),
+    if name.is_empty() {
+        return Some(Sym::Tuple(u32::try_from(arguments).ok()?));
     }
-}
-
-/// The restricted name with this name, if it is one's.
-fn point_of(name: &[u8]) -> Option<Sym> {
     if name.starts_with(b"n@") {
         return Some(Sym::Point(number_in(name)));
+    }
+    for (word, symbol) in &SYMBOLS {
+        if word.as_bytes() == name {
+            return Some(*symbol);
+        }
     }
     None
 }
@@ -68,28 +72,18 @@ pub fn event_of(symbol: Sym) -> Option<u32> {
 
 /// The name of an event.
 pub fn event_name(event: u32) -> &'static str {
-    match event {
-        1 => "e",
-        2 => "begin",
-        3 => "end",
-        _ => "?",
-    }
+    symbol_name(Sym::Ctor(event.saturating_add(EVENTS)))
 }
 
 /// The name of a symbol that is no restricted name.
 pub fn symbol_name(symbol: Sym) -> &'static str {
-    match symbol {
-        Sym::Ctor(1) => "f",
-        Sym::Ctor(2) => "g",
-        Sym::Ctor(3) => "h",
-        Sym::Ctor(4) => "enc",
-        Sym::Data(5) => "box",
-        Sym::Data(6) => "pair",
-        Sym::Free(1) => "c",
-        Sym::Free(2) => "d",
-        Sym::Free(3) => "k",
-        Sym::Attacker => "@",
-        Sym::Tuple(_) => "",
-        _ => "?",
+    if let Sym::Tuple(_) = symbol {
+        return "";
     }
+    for (word, named) in &SYMBOLS {
+        if named.is_same(symbol) {
+            return word;
+        }
+    }
+    "?"
 }

@@ -20,15 +20,9 @@ pub enum About {
     End,
 }
 
-/// The protocol that the file spells, if it spells one.
-fn protocol(alloc: Global, file: &[u8]) -> Option<Box<Protocol>> {
-    let protocol = spelled(alloc, file)?;
-    Box::new(alloc, protocol).ok()
-}
-
 /// What is told of the protocol that the file spells, if it spells one.
 pub fn told(alloc: Global, setting: &Setting, about: About) -> Result<String, AllocError> {
-    match protocol(alloc, &setting.file) {
+    match spelled(alloc, &setting.file) {
         Some(protocol) => told_of(alloc, setting, &protocol, about),
         None => String::from_str(alloc, "no protocol"),
     }

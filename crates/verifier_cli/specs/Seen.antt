@@ -3,7 +3,7 @@ use Rattle.spec_protocol_tokens.specs.Piece as lexical
 use Rattle.spec_protocol_scope.specs.Answers as scope
 use Rattle.spec_protocol_scope.specs.Spells.{Refusal, Lexical, Scoped}
 use Rattle.spec_protocol_scope.specs.Spells as spells
-use Rattle.pi_model.specs.Configurations.{configuration_of}
+use Rattle.pi_configurations.specs.Configurations.{configuration_of}
 use Rattle.pi_model.specs.Errors.{refusal_of}
 use Rattle.run_replay.specs.declared.replaying.Replayed.{Replayed}
 use Rattle.run_replay.specs.declared.replaying.Replayed.TheVariants.{Done, Stuck}

@@ -1,7 +1,6 @@
 //! Rows about the texts of certificates and reports, and what comes of reading them.
 
 mod lines;
-mod protocol;
 mod reading;
 mod rows;
 pub mod settings;

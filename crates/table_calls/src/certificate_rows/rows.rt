@@ -5,12 +5,12 @@
 //! of the report that was set last.
 
 use crate::certificate_rows::lines::Change;
-use crate::certificate_rows::protocol::protocol;
 use crate::certificate_rows::reading::{answer, changes, claims, fronts};
 use crate::certificate_rows::settings::Setting;
 use crate::certificate_rows::texts::text_of;
 use pi_tree::Protocol;
 use std::alloc::{AllocError, Global};
+use table_protocols::spelled;
 use table_rows::{Line, compared, named};
 
 /// A row about the report that was set last.
@@ -41,10 +41,12 @@ impl Setting {
     }
 }
 
-/// What a row shows of the protocol, and whether it expects that. Nothing else owns a protocol: that is dear to prove.
+/// What a row shows of the protocol, and whether it expects that.
 fn line_of(alloc: Global, setting: &Setting, word: &str, text: &str) -> Result<Line, AllocError> {
-    let protocol = protocol(alloc, setting.queries)?;
-    line_for(alloc, &protocol, setting, word, text)
+    match spelled(alloc, &setting.protocol) {
+        Some(protocol) => line_for(alloc, &protocol, setting, word, text),
+        None => Ok(Line::Wrong(String::from_str(alloc, "no protocol")?)),
+    }
 }
 
 /// The same with the protocol.

@@ -7,8 +7,8 @@ use table_rows::named;
 /// What is set for the rows that follow.
 #[derive(Drop)]
 pub struct Setting {
-    /// How many queries the protocol has.
-    pub queries: u32,
+    /// The text of the protocol.
+    pub protocol: Vec<u8>,
     /// Whether texts are those of certificates, and not of reports.
     pub is_alone: bool,
     /// What each text begins with.
@@ -21,7 +21,7 @@ pub struct Setting {
 #[derive(Clone, Copy)]
 enum Part {
     Kind,
-    Queries,
+    Protocol,
     Front,
     More,
     File,
@@ -30,17 +30,17 @@ enum Part {
 /// The first words of the lines that set something.
 const PARTS: [(&str, Part); 5] = [
     ("read", Part::Kind),
-    ("queries", Part::Queries),
+    ("protocol", Part::Protocol),
     ("front", Part::Front),
     ("more", Part::More),
     ("file", Part::File),
 ];
 
 impl Setting {
-    /// Reports about one query, and nothing else is set.
+    /// Reports, and nothing else is set.
     pub fn new(alloc: Global) -> Setting {
         Setting {
-            queries: 1,
+            protocol: Vec::new(alloc),
             is_alone: false,
             front: Vec::new(alloc),
             file: Vec::new(alloc),
@@ -62,7 +62,7 @@ impl Setting {
     fn set_part(&mut self, alloc: Global, part: Part, text: &str) -> Result<(), AllocError> {
         match part {
             Part::Kind => self.is_alone = text == "certificates",
-            Part::Queries => self.queries = text.parse::<u32>().unwrap_or(0),
+            Part::Protocol => self.protocol = Vec::from_slice(alloc, text.as_bytes())?,
             Part::Front => self.front = bytes_of(alloc, &[], text)?,
             Part::More => self.file = bytes_of(alloc, &self.file, text)?,
             Part::File => self.file = bytes_of(alloc, &self.front, text)?,

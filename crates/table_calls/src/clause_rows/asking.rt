@@ -17,8 +17,8 @@ const BEFORE: &str = "free c, d, k. fun f/1. fun g/1. fun h/2. fun enc/2. data b
 const BEHIND: &str = ". process new a; !in(c,x); new b";
 
 /// The protocol that the bytes spell, if they spell one with a query.
-fn read_asked(alloc: Global, bytes: &[u8]) -> Option<Protocol>
-    ensures { IfSome result (λ protocol. IsAsked (protocol_of protocol)) }
+fn read_asked(alloc: Global, bytes: &[u8]) -> Option<Box<Protocol>>
+    ensures { IfSome result (λ protocol. IsAsked (protocol_of protocol.value)) }
 {
     within_limits();
     query_leaves();
@@ -30,8 +30,9 @@ fn read_asked(alloc: Global, bytes: &[u8]) -> Option<Protocol>
 }
 
 /// The protocol with the query that the text spells, as `attacker(c)`, if it spells one.
-pub fn asked_by(alloc: Global, query: &str) -> Result<Option<Protocol>, AllocError>
-    ensures { IfOk result (λ found. IfSome found (λ protocol. IsAsked (protocol_of protocol))) }
+pub fn asked_by(alloc: Global, query: &str) -> Result<Option<Box<Protocol>>, AllocError>
+    ensures { IfOk result (λ found. IfSome found (λ protocol.
+        IsAsked (protocol_of protocol.value))) }
 {
     let text = format!(in alloc; "{BEFORE}{query}{BEHIND}")?;
     Ok(read_asked(alloc, text.as_bytes()))

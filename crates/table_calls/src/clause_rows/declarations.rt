@@ -53,8 +53,8 @@ impl DeclarationTable {
 }
 
 /// The protocol that the bytes spell, if they spell one.
-fn read_declared(alloc: Global, bytes: &[u8]) -> Option<Protocol>
-    ensures { IfSome result (λ protocol. IsDeclared (protocol_of protocol)) }
+fn read_declared(alloc: Global, bytes: &[u8]) -> Option<Box<Protocol>>
+    ensures { IfSome result (λ protocol. IsDeclared (protocol_of protocol.value)) }
 {
     within_limits();
     proper_rules();
@@ -64,8 +64,9 @@ fn read_declared(alloc: Global, bytes: &[u8]) -> Option<Protocol>
 }
 
 /// The protocol with these declarations, if they are some: one that does nothing.
-fn declared_by(alloc: Global, declarations: &str) -> Result<Option<Protocol>, AllocError>
-    ensures { IfOk result (λ found. IfSome found (λ protocol. IsDeclared (protocol_of protocol))) }
+fn declared_by(alloc: Global, declarations: &str) -> Result<Option<Box<Protocol>>, AllocError>
+    ensures { IfOk result (λ found. IfSome found (λ protocol.
+        IsDeclared (protocol_of protocol.value))) }
 {
     let text = format!(in alloc; "{declarations} process 0")?;
     Ok(read_declared(alloc, text.as_bytes()))

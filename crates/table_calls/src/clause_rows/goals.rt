@@ -80,31 +80,12 @@ fn goal_within(
 fn first_text(alloc: Global, protocol: &Protocol, text: &str) -> Result<String, AllocError>
     requires { IsAsked (protocol_of protocol.now) }
 {
-    match clause_of(alloc, text)? {
-        Some(clause) => first_of(alloc, protocol, &clause),
-        None => String::from_str(alloc, "no clause"),
-    }
-}
-
-/// The first goal row of a clause.
-fn first_of(alloc: Global, protocol: &Protocol, plain: &PlainClause) -> Result<String, AllocError>
-    requires { IsAsked (protocol_of protocol.now) }
-{
+    let Some(plain) = clause_of(alloc, text)? else {
+        return String::from_str(alloc, "no clause");
+    };
     let mut bank = TreeBank::new(alloc)?;
-    first_within(alloc, &mut bank, protocol, plain)
-}
-
-/// The first goal row of a clause that is copied into a bank.
-fn first_within(
-    alloc: Global,
-    bank: &mut TreeBank,
-    protocol: &Protocol,
-    plain: &PlainClause,
-) -> Result<String, AllocError>
-    requires { IsAsked (protocol_of protocol.now) }
-{
-    let clause = copy_into(alloc, bank, plain)?;
-    first_in(alloc, bank, &clause, protocol)
+    let clause = copy_into(alloc, &mut bank, &plain)?;
+    first_in(alloc, &bank, &clause, protocol)
 }
 
 /// The first goal row of a clause over ids, or `none`.
@@ -158,11 +139,11 @@ fn held_text(alloc: Global, protocol: &Protocol, texts: &str) -> Result<String, 
     requires { IsAsked (protocol_of protocol.now) }
 {
     let (text, numbers) = texts.split_once(';').unwrap_or((texts, ""));
+    let Some(plain) = clause_of(alloc, text)? else {
+        return String::from_str(alloc, "no clause");
+    };
     let row = row_of(alloc, numbers)?;
-    match clause_of(alloc, text)? {
-        Some(clause) => held_of(alloc, protocol, &clause, &row),
-        None => String::from_str(alloc, "no clause"),
-    }
+    held_of(alloc, protocol, &plain, &row)
 }
 
 /// Whether a row holds of a clause.
@@ -175,21 +156,8 @@ fn held_of(
     requires { IsAsked (protocol_of protocol.now) }
 {
     let mut bank = TreeBank::new(alloc)?;
-    held_within(alloc, &mut bank, protocol, plain, row)
-}
-
-/// Whether a row holds of a clause that is copied into a bank.
-fn held_within(
-    alloc: Global,
-    bank: &mut TreeBank,
-    protocol: &Protocol,
-    plain: &PlainClause,
-    row: &QueryRow,
-) -> Result<String, AllocError>
-    requires { IsAsked (protocol_of protocol.now) }
-{
-    let clause = copy_into(alloc, bank, plain)?;
-    let is_held = query_row_holds(alloc, bank, &clause, protocol, 1, row)?;
+    let clause = copy_into(alloc, &mut bank, plain)?;
+    let is_held = query_row_holds(alloc, &bank, &clause, protocol, 1, row)?;
     String::from_str(alloc, yes_or_no(is_held))
 }
 

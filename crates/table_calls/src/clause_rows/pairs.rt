@@ -5,6 +5,7 @@ ghost use Rattle.spec_clauses.specs.Limits.{IsWithinLimit};
 ghost use Rattle.clause_form.specs.Seen.{clause_at, IsClauseIn, AreClausesIn};
 ghost use Rattle.clause_form.specs.Fit.{IsFit};
 
+use crate::clause_rows::features::candidates_text;
 use crate::clause_rows::tables::texts_of;
 use clause_form::{Clause, is_normal, size_of};
 use clause_resolve::{Resolved, normal_clauses_have_low_variables, resolvents};
@@ -12,7 +13,7 @@ use literal_selection::{is_solved, selected};
 use multiset_subsume::{Row, cover_row, row_holds};
 use pi_tree::MOST_SYMBOLS;
 use std::alloc::{AllocError, Global};
-use term_tree::TreeBank;
+use term_tree::{Bank, TreeBank};
 
 /// A table of pairs of clauses.
 #[derive(Clone, Copy)]
@@ -21,6 +22,8 @@ pub enum PairTable {
     Resolvents,
     /// The first row of positions by which the first clause subsumes the second.
     Subsumed,
+    /// What an index of both by their features tells for each of them.
+    Candidates,
 }
 
 impl PairTable {
@@ -41,20 +44,21 @@ impl PairTable {
         match self {
             PairTable::Resolvents => resolvents_text(alloc, bank, first, second),
             PairTable::Subsumed => cover_text(alloc, bank, first, second),
+            PairTable::Candidates => candidates_text(alloc, bank, first, second),
         }
     }
 }
 
 /// Whether a clause has no more symbols than the limit.
-pub fn is_small(bank: &TreeBank, clause: &Clause) -> bool
-    requires { IsClauseIn bank.now clause.now }
-    ensures { result ≡ true → IsWithinLimit (clause_at bank.now clause.now) }
+pub fn is_small<B: Bank>(bank: &B, clause: &Clause) -> bool
+    requires { IsClauseIn (B.trees bank.now) clause.now }
+    ensures { result ≡ true → IsWithinLimit (clause_at (B.trees bank.now) clause.now) }
 {
     size_of(bank, clause) <= MOST_SYMBOLS
 }
 
 /// Whether a clause is its own norm within the limit of size.
-fn is_fit(bank: &TreeBank, clause: &Clause) -> bool
+pub fn is_fit(bank: &TreeBank, clause: &Clause) -> bool
     requires { IsClauseIn bank.now clause.now }
     ensures { result ≡ true → IsFit bank.now clause.now }
 {

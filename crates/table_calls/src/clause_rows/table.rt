@@ -36,13 +36,17 @@ pub enum PairKind {
 }
 
 /// The tables, by the names of their files.
-const TABLES: [(&str, Table); 18] = [
+const TABLES: [(&str, Table); 24] = [
     ("norms.txt", Table::Single(ClauseTable::Norms)),
+    ("norm_lists.txt", Table::Single(ClauseTable::NormLists)),
     ("parts.txt", Table::Single(ClauseTable::Parts)),
     ("sizes.txt", Table::Single(ClauseTable::Sizes)),
     ("selected.txt", Table::Single(ClauseTable::Selected)),
     ("normal.txt", Table::Single(ClauseTable::Normal)),
     ("copies.txt", Table::Single(ClauseTable::Copies)),
+    ("terms.txt", Table::Single(ClauseTable::Terms)),
+    ("trees.txt", Table::Single(ClauseTable::Trees)),
+    ("features.txt", Table::Single(ClauseTable::Features)),
     (
         "resolvents.txt",
         Table::Pair(PairKind::Clauses(PairTable::Resolvents)),
@@ -50,6 +54,10 @@ const TABLES: [(&str, Table); 18] = [
     (
         "subsumed.txt",
         Table::Pair(PairKind::Clauses(PairTable::Subsumed)),
+    ),
+    (
+        "candidates.txt",
+        Table::Pair(PairKind::Clauses(PairTable::Candidates)),
     ),
     (
         "unifiers.txt",
@@ -68,6 +76,10 @@ const TABLES: [(&str, Table); 18] = [
         Table::Pair(PairKind::Lists(TermTable::Renamed)),
     ),
     ("moved.txt", Table::Pair(PairKind::Lists(TermTable::Moved))),
+    (
+        "towers.txt",
+        Table::Pair(PairKind::Lists(TermTable::Towers)),
+    ),
     ("goals.txt", Table::Goal(GoalTable::Goals)),
     ("goal_rows.txt", Table::Goal(GoalTable::FirstRows)),
     ("held_rows.txt", Table::Goal(GoalTable::HeldRows)),
@@ -107,34 +119,14 @@ impl PairKind {
     /// What a row with these texts shows: two clauses, with `;` between.
     fn shown(self, alloc: Global, texts: &str) -> Result<String, AllocError> {
         let (first, second) = texts.split_once(';').unwrap_or((texts, ""));
-        match clause_of(alloc, first)? {
-            Some(first) => self.shown_with(alloc, &first, second),
-            None => String::from_str(alloc, "no pair"),
-        }
-    }
-
-    /// The same of the first clause and the second one's text.
-    fn shown_with(
-        self,
-        alloc: Global,
-        first: &PlainClause,
-        text: &str,
-    ) -> Result<String, AllocError> {
-        match clause_of(alloc, text)? {
-            Some(second) => self.shown_of(alloc, first, &second),
-            None => String::from_str(alloc, "no pair"),
-        }
-    }
-
-    /// The same of both clauses.
-    fn shown_of(
-        self,
-        alloc: Global,
-        first: &PlainClause,
-        second: &PlainClause,
-    ) -> Result<String, AllocError> {
+        let Some(first) = clause_of(alloc, first)? else {
+            return String::from_str(alloc, "no pair");
+        };
+        let Some(second) = clause_of(alloc, second)? else {
+            return String::from_str(alloc, "no pair");
+        };
         let mut bank = TreeBank::new(alloc)?;
-        self.shown_within(alloc, &mut bank, first, second)
+        self.shown_within(alloc, &mut bank, &first, &second)
     }
 
     /// The same with a bank that has neither.

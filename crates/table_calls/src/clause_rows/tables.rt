@@ -1,13 +1,17 @@
-//! The tables of single clauses, and what a row of each shows.
+//! The tables of single clauses, and what a row of each shows, over the plain bank and over the shared one.
 
 ghost use Rattle.clause_form.specs.Seen.{IsClauseIn, AreClausesIn};
 
+use crate::clause_rows::features::lanes_text;
+use crate::clause_rows::terms::{terms_text, trees_text};
 use clause_form::{
     Clause, Normal, PlainClause, copy_into, flatten, is_normal, norm, read_out, size_of,
 };
+use clause_norms::norms_of;
 use literal_selection::{is_solved, selected};
 use std::alloc::{AllocError, Global};
 use table_texts::writing::clause_text;
+use term_store::SharedBank;
 use term_tree::{Bank, SIZE_LIMIT, TreeBank};
 
 /// A table of single clauses.
@@ -15,6 +19,8 @@ use term_tree::{Bank, SIZE_LIMIT, TreeBank};
 pub enum ClauseTable {
     /// The norms of clauses.
     Norms,
+    /// The norms of the flat parts of clauses.
+    NormLists,
     /// The flat parts of clauses.
     Parts,
     /// The sizes of clauses.
@@ -25,20 +31,39 @@ pub enum ClauseTable {
     Normal,
     /// Clauses that are read out of a bank, copied into another one and read out of that.
     Copies,
+    /// The terms in the conclusions of clauses.
+    Terms,
+    /// How many trees a bank has once clauses are copied into it.
+    Trees,
+    /// The features of clauses.
+    Features,
 }
 
 impl ClauseTable {
-    /// What a row with this clause shows.
+    /// What a row with this clause shows: over the plain bank, and over the shared one where that is something else.
     pub fn shown(self, alloc: Global, plain: &PlainClause) -> Result<String, AllocError> {
+        let over_plain = self.shown_over_plain(alloc, plain)?;
+        let over_shared = self.shown_over_shared(alloc, plain)?;
+        both(alloc, over_plain, over_shared.as_str())
+    }
+
+    /// The same over the plain bank.
+    fn shown_over_plain(self, alloc: Global, plain: &PlainClause) -> Result<String, AllocError> {
         let mut bank = TreeBank::new(alloc)?;
         self.shown_within(alloc, &mut bank, plain)
     }
 
+    /// The same over the shared bank.
+    fn shown_over_shared(self, alloc: Global, plain: &PlainClause) -> Result<String, AllocError> {
+        let mut bank = SharedBank::new(alloc)?;
+        self.shown_within(alloc, &mut bank, plain)
+    }
+
     /// The same with a bank that hasn't the clause.
-    fn shown_within(
+    fn shown_within<B: Bank>(
         self,
         alloc: Global,
-        bank: &mut TreeBank,
+        bank: &mut B,
         plain: &PlainClause,
     ) -> Result<String, AllocError> {
         let mark = bank.mark();
@@ -49,28 +74,40 @@ impl ClauseTable {
     }
 
     /// The same of a clause over ids of a bank.
-    fn shown_in(
+    fn shown_in<B: Bank>(
         self,
         alloc: Global,
-        bank: &mut TreeBank,
+        bank: &mut B,
         clause: &Clause,
     ) -> Result<String, AllocError>
-        requires { IsClauseIn bank.old clause.now }
+        requires { IsClauseIn (B.trees bank.old) clause.now }
     {
         match self {
             ClauseTable::Norms => norm_text(alloc, bank, clause),
+            ClauseTable::NormLists => norms_text(alloc, bank, clause),
             ClauseTable::Parts => parts_text(alloc, bank, clause),
             ClauseTable::Sizes => size_text(alloc, bank, clause),
             ClauseTable::Selected => selected_text(alloc, bank, clause),
             ClauseTable::Normal => normal_text(alloc, bank, clause),
             ClauseTable::Copies => copied_text(alloc, bank, clause),
+            ClauseTable::Terms => terms_text(alloc, bank, clause),
+            ClauseTable::Trees => trees_text(alloc, bank, clause),
+            ClauseTable::Features => lanes_text(alloc, bank, clause),
         }
     }
 }
 
+/// The first text, and the second one behind it where that is another.
+fn both(alloc: Global, first: String, second: &str) -> Result<String, AllocError> {
+    if first.as_str() == second {
+        return Ok(first);
+    }
+    format!(in alloc; "{first} / {second}")
+}
+
 /// What is shown where memory was refused: nothing where the bank is as it was, and else `grown`.
 ///
-/// `rt try --fail-alloc` tries it: a row that shows `grown` ends the program with another status than the refusal does.
+/// `bench/refused_allocations` tries it: a row that shows `grown` ends the program with another status than the refusal does.
 fn refused_text(alloc: Global, is_kept: bool, error: AllocError) -> Result<String, AllocError> {
     if is_kept {
         return Err(error);
@@ -115,16 +152,16 @@ pub fn texts_of<B: Bank>(alloc: Global, bank: &B, clauses: &[Clause]) -> Result<
 }
 
 /// The norm of a clause.
-fn norm_text(alloc: Global, bank: &mut TreeBank, clause: &Clause) -> Result<String, AllocError>
-    requires { IsClauseIn bank.old clause.now }
+fn norm_text<B: Bank>(alloc: Global, bank: &mut B, clause: &Clause) -> Result<String, AllocError>
+    requires { IsClauseIn (B.trees bank.old) clause.now }
 {
     let copied = clause.copy(alloc)?;
     normed_text(alloc, bank, copied)
 }
 
 /// The norm of a clause; `grown` where memory was refused, and the bank isn't as it was.
-fn normed_text(alloc: Global, bank: &mut TreeBank, clause: Clause) -> Result<String, AllocError>
-    requires { IsClauseIn bank.old clause }
+fn normed_text<B: Bank>(alloc: Global, bank: &mut B, clause: Clause) -> Result<String, AllocError>
+    requires { IsClauseIn (B.trees bank.old) clause }
 {
     let mark = bank.mark();
     match norm(alloc, bank, clause) {
@@ -134,25 +171,36 @@ fn normed_text(alloc: Global, bank: &mut TreeBank, clause: Clause) -> Result<Str
     }
 }
 
+/// The norms of the flat parts of a clause; `grown` where memory was refused, and the bank isn't as it was.
+fn norms_text<B: Bank>(alloc: Global, bank: &mut B, clause: &Clause) -> Result<String, AllocError>
+    requires { IsClauseIn (B.trees bank.old) clause.now }
+{
+    let mark = bank.mark();
+    match norms_of(alloc, bank, clause) {
+        Ok(made) => texts_of(alloc, bank, &made.items),
+        Err(error) => refused_text(alloc, bank.mark() == mark, error),
+    }
+}
+
 /// The flat parts of a clause.
-fn parts_text(alloc: Global, bank: &TreeBank, clause: &Clause) -> Result<String, AllocError>
-    requires { IsClauseIn bank.now clause.now }
+fn parts_text<B: Bank>(alloc: Global, bank: &B, clause: &Clause) -> Result<String, AllocError>
+    requires { IsClauseIn (B.trees bank.now) clause.now }
 {
     let parts = flatten(alloc, bank, clause)?;
     texts_of(alloc, bank, &parts.items)
 }
 
 /// The size of a clause.
-fn size_text(alloc: Global, bank: &TreeBank, clause: &Clause) -> Result<String, AllocError>
-    requires { IsClauseIn bank.now clause.now }
+fn size_text<B: Bank>(alloc: Global, bank: &B, clause: &Clause) -> Result<String, AllocError>
+    requires { IsClauseIn (B.trees bank.now) clause.now }
 {
     let size = size_of(bank, clause);
     format!(in alloc; "{size}")
 }
 
 /// The place of the selected hypothesis, from 0, or `solved`.
-fn selected_text(alloc: Global, bank: &TreeBank, clause: &Clause) -> Result<String, AllocError>
-    requires { IsClauseIn bank.now clause.now }
+fn selected_text<B: Bank>(alloc: Global, bank: &B, clause: &Clause) -> Result<String, AllocError>
+    requires { IsClauseIn (B.trees bank.now) clause.now }
 {
     if size_of(bank, clause) == SIZE_LIMIT {
         return String::from_str(alloc, "too large");
@@ -179,8 +227,8 @@ fn solved_name(solved: bool) -> &'static str {
 }
 
 /// Whether a clause is its own norm.
-fn normal_text(alloc: Global, bank: &TreeBank, clause: &Clause) -> Result<String, AllocError>
-    requires { IsClauseIn bank.now clause.now }
+fn normal_text<B: Bank>(alloc: Global, bank: &B, clause: &Clause) -> Result<String, AllocError>
+    requires { IsClauseIn (B.trees bank.now) clause.now }
 {
     String::from_str(alloc, yes_or_no(is_normal(bank, clause)))
 }
@@ -191,8 +239,8 @@ pub fn yes_or_no(is_so: bool) -> &'static str {
 }
 
 /// The clause that is read out of the bank, copied into another one and read out of that.
-fn copied_text(alloc: Global, bank: &TreeBank, clause: &Clause) -> Result<String, AllocError>
-    requires { IsClauseIn bank.now clause.now }
+fn copied_text<B: Bank>(alloc: Global, bank: &B, clause: &Clause) -> Result<String, AllocError>
+    requires { IsClauseIn (B.trees bank.now) clause.now }
 {
     let plain = read_out(alloc, bank, clause)?;
     text_of_plain(alloc, &plain)

@@ -6,6 +6,7 @@ ghost use Rattle.term_tree.specs.Bank.{AreKnown};
 ghost use Rattle.clause_form.specs.Seen.{IsClauseIn};
 ghost use Rattle.unify_match.specs.Seen.{IsReady, AreBindings};
 
+use crate::clause_rows::terms::tower_text;
 use clause_form::{Clause, Fact, read_term};
 use std::alloc::{AllocError, Global};
 use table_texts::writing::term_text;
@@ -37,6 +38,8 @@ pub enum TermTable {
     Renamed,
     /// The variable of the first list moved by the number of the one in the second list.
     Moved,
+    /// The size of the term of the first list, doubled as often as the number of the variable in the second list says.
+    Towers,
 }
 
 impl TermTable {
@@ -80,6 +83,7 @@ impl TermTable {
             TermTable::TakenBack => taken_back_text(alloc, lefts[0], rights[0]),
             TermTable::Renamed => renamed_text(alloc, bank, lefts[0], rights),
             TermTable::Moved => moved_text(alloc, bank, lefts[0], rights[0]),
+            TermTable::Towers => tower_text(alloc, bank, lefts[0], rights[0]),
         }
     }
 }
@@ -266,7 +270,7 @@ fn taken_back_text(alloc: Global, first: Id, second: Id) -> Result<String, Alloc
 }
 
 /// The number of the variable that a term is, if it is one.
-fn number_of(bank: &TreeBank, id: Id) -> Option<u32>
+pub fn number_of(bank: &TreeBank, id: Id) -> Option<u32>
     requires { id.index < length bank.now }
 {
     match bank.node(id) {

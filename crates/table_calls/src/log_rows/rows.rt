@@ -37,7 +37,7 @@ const PARTS: [(&str, Part); 5] = [
 /// The rows of a table, the last one as far as it is read.
 #[derive(Drop)]
 pub struct LogRows {
-    given: Vec<PlainClause>,
+    given: Vec<Box<PlainClause>>,
     budget: u64,
     expected: String,
     /// Whether a row with these clauses has ended.

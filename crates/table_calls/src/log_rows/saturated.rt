@@ -1,34 +1,16 @@
 //! Logs of given clauses and a budget.
 
-ghost use Rattle.std.specs.Prelude.{◌<◌, ◌≡◌, true, length, OnOk, IfOk};
-ghost use Rattle.term_tree.specs.Bank.{Grows};
-ghost use Rattle.spec_clauses.specs.Limits.{IsWithinLimit};
-ghost use Rattle.clause_form.specs.Seen.{clause_at, IsClauseIn, AreClausesIn};
-ghost use Rattle.clause_form.specs.Fit.{IsFit, AreFit};
+ghost use Rattle.std.specs.Prelude.{◌<◌, length, OnOk, IfOk};
+ghost use Rattle.clause_form.specs.Seen.{IsClauseIn, AreClausesIn};
+ghost use Rattle.clause_form.specs.Fit.{AreFit};
 ghost use Rattle.clause_saturate.specs.Beating.{clauses_of};
 
+use crate::clause_rows::pairs::is_fit;
 use crate::log_rows::texts::{add_due, add_entries, add_large};
-use clause_form::{Clause, Clauses, PlainClause, copy_into, is_normal, read_out, size_of};
+use clause_form::{Clause, Clauses, PlainClause, copy_into, read_out};
 use clause_saturate::{Entry, Log, PlainEntry, Saturated, entries_tell_logs, read_log, saturate};
-use pi_tree::MOST_SYMBOLS;
 use std::alloc::{AllocError, Global};
 use term_tree::TreeBank;
-
-/// Whether a clause has no more symbols than the limit.
-fn is_small(bank: &TreeBank, clause: &Clause) -> bool
-    requires { IsClauseIn bank.now clause.now }
-    ensures { result ≡ true → IsWithinLimit (clause_at bank.now clause.now) }
-{
-    size_of(bank, clause) <= MOST_SYMBOLS
-}
-
-/// Whether a clause is its own norm within the limit of size.
-fn is_fit(bank: &TreeBank, clause: &Clause) -> bool
-    requires { IsClauseIn bank.now clause.now }
-    ensures { result ≡ true → IsFit bank.now clause.now }
-{
-    is_small(bank, clause) && is_normal(bank, clause)
-}
 
 /// Adds a clause to those that are given, if it is its own norm within the limit of size.
 fn add_fit(
@@ -51,7 +33,7 @@ fn add_fit(
 fn fit_clauses(
     alloc: Global,
     bank: &mut TreeBank,
-    clauses: &[PlainClause],
+    clauses: &[Box<PlainClause>],
 ) -> Result<Clauses, AllocError>
     ensures { IfOk result (λ given. AreFit bank.new given) }
 {
@@ -121,7 +103,7 @@ fn saturated_text(
 
 /// The log of clauses and a budget, and its end: the lines that a row expects. Where a clause isn't its own norm within
 /// the limit of size, or there is none, it says so.
-pub fn log_text(alloc: Global, clauses: &[PlainClause], budget: u64) -> Result<String, AllocError> {
+pub fn log_text(alloc: Global, clauses: &[Box<PlainClause>], budget: u64) -> Result<String, AllocError> {
     let mut bank = TreeBank::new(alloc)?;
     let given = fit_clauses(alloc, &mut bank, clauses)?;
     if given.items.len() != clauses.len() {

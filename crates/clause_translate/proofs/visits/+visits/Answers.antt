@@ -12,18 +12,18 @@ use Rattle.term_tree.specs.Bank.{Grows}
 use Rattle.term_tree.specs.declared.bank.Id.{Id}
 use Rattle.term_tree.proofs.BankLaws.{Grows_refl, Grows_trans, take-grows, Grows-length}
 use Rattle.spec_translation.specs.Visit.{is_large_visit, after_new}
-use Rattle.clause_translate.specs.declared.listing.Listing.{Listing}
-use Rattle.clause_translate.specs.declared.visit.Visit as source
-use Rattle.clause_translate.specs.declared.visit.Visits.{Visits}
-use Rattle.clause_translate.specs.Places.{protocol_at, HasFewPoints}
-use Rattle.clause_translate.specs.Processes.{output_form, input_form, parallel_form, let_form, event_form}
-use Rattle.clause_translate.specs.Short.{IsShortProcess}
-use Rattle.clause_translate.specs.Visits.{visit_at, NamesVisit, HasFewCopies}
-use Rattle.clause_translate.specs.Forms.{is_large_output, present, Receives, IsLargeInput, EventAdds, GoOn, IsLargeChoice}
+use Rattle.process_visits.specs.declared.listing.Listing.{Listing}
+use Rattle.process_visits.specs.declared.visit.Visit as source
+use Rattle.process_visits.specs.declared.visit.Visits.{Visits}
+use Rattle.process_visits.specs.Places.{protocol_at, HasFewPoints}
+use Rattle.process_visits.specs.Processes.{output_form, input_form, parallel_form, let_form, event_form}
+use Rattle.process_visits.specs.Short.{IsShortProcess}
+use Rattle.process_visits.specs.Visits.{visit_at, NamesVisit, HasFewCopies}
+use Rattle.process_visits.specs.Forms.{is_large_output, present, Receives, IsLargeInput, EventAdds, GoOn, IsLargeChoice}
 use Rattle.clause_translate.specs.Jobs.{Once, Uncounted, Each, Ends, visits_at}
-use Rattle.clause_translate.proofs.Named.{visit_later}
+use Rattle.process_visits.proofs.Named.{visit_later}
 use Rattle.clause_translate.proofs.Weights.{weight}
-use Rattle.clause_translate.proofs.Lists.{all_at}
+use Rattle.process_visits.proofs.Lists.{all_at}
 use Rattle.clause_translate.proofs.FewCopies.{next_copies, later_copies, kept_copies, one_copy, below_copies, chosen_copies}
 use Rattle.clause_translate.proofs.FewPoints.{next_few, next_point, left_few, right_few, left_point, right_point}
 use Rattle.clause_translate.proofs.Visiting.{none_left, nil_ends, spelled, counted_ok, ends_back, moved, moved_each, output_ends, event_ends, input_ends, copies_ends, new_ends, parallel_ends, let_ends, next_large, known_visits, output_large, event_large, input_large, new_large, left_large, let_large, choice_large}

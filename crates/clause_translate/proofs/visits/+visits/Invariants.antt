@@ -1,7 +1,7 @@
 -- there is less and less to be visited
 use Rattle.std.proofs.Common.{◌+◌, ◌*◌}
 use Rattle.pi_tree.specs.Processes.{process_of}
-use Rattle.clause_translate.specs.Places.{protocol_at}
+use Rattle.process_visits.specs.Places.{protocol_at}
 use Rattle.clause_translate.proofs.Weights.{weight}
 use Rattle.clause_translate.proofs.Repeating.{AreVisited}
 use Rattle.clause_translate.proofs.visits.+visits.Given as goal

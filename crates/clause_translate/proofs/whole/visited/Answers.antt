@@ -3,7 +3,7 @@ use Rattle.spec_calculus.specs.Bounds.{most_visits}
 use Rattle.pi_tree.specs.Protocols.{protocol_of}
 use Rattle.term_tree.proofs.BankLaws.{Grows_trans}
 use Rattle.spec_translation.specs.Visit.{first_visit}
-use Rattle.clause_translate.specs.declared.listing.Listing.{Listing}
+use Rattle.process_visits.specs.declared.listing.Listing.{Listing}
 use Rattle.clause_translate.specs.Jobs.{Once, Ends}
 use Rattle.clause_translate.proofs.Translating.{visits_added}
 use Rattle.clause_translate.proofs.whole.visited.Goals as goal

@@ -4,8 +4,8 @@ use Rattle.term_tree.specs.declared.bank.Id.{Id}
 use Rattle.pi_tree.specs.Protocols.{protocol_of}
 use Rattle.spec_translation.specs.Translation.{goal_clauses}
 use Rattle.clause_form.specs.Seen.{clause_at, NameClauses}
-use Rattle.clause_translate.proofs.Adding.{clauses_later}
-use Rattle.clause_translate.proofs.Listings.{NameClauses-append}
+use Rattle.process_visits.proofs.Adding.{clauses_later}
+use Rattle.process_visits.proofs.Listings.{NameClauses-append}
 use Rattle.clause_translate.proofs.Translating.{translates_to}
 use Rattle.clause_translate.proofs.whole.with_goal.Goals as goal
 

@@ -5,8 +5,8 @@ use Rattle.term_tree.specs.declared.bank.Id.{Id}
 use Rattle.clause_form.specs.Facts.{fact_of}
 use Rattle.clause_form.specs.Seen.{clause_at, IsFactIn, AreFactsIn}
 use Rattle.clause_form.proofs.Flattening.{with_hypotheses}
-use Rattle.multiset_subsume.specs.Boards.{IsBoard}
-use Rattle.multiset_subsume.proofs.Listing.{unref}
+use Rattle.fact_placing.specs.Boards.{IsBoard}
+use Rattle.fact_placing.proofs.Listing.{unref}
 use Rattle.multiset_subsume.proofs.Along.{is_board, linked_with}
 use Rattle.multiset_subsume.proofs.FirstRows.{firsts_told, subsumes_told}
 use Rattle.clause_form.specs.declared.facts.Fact.{Fact}

@@ -1,9 +1,9 @@
 use Rattle.std.proofs.Common.{map}
 use Rattle.clause_form.specs.Facts.{fact_of}
-use Rattle.multiset_subsume.proofs.Listing.{unref}
+use Rattle.fact_placing.proofs.Listing.{unref}
 use Rattle.multiset_subsume.proofs.FirstRows.{first_with}
 use Rattle.multiset_subsume.proofs.Along.{at_some}
-use Rattle.multiset_subsume.specs.Boards.{IsBegun}
+use Rattle.fact_placing.specs.Boards.{IsBegun}
 use Rattle.unify_match.specs.Seen.{seen}
 use Rattle.multiset_subsume.proofs.covering.first_matched.Goals as goal
 

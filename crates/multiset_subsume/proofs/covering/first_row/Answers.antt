@@ -1,9 +1,9 @@
 use Rattle.std.proofs.Common.{map}
 use Rattle.clause_form.specs.Facts.{fact_of}
 use Rattle.multiset_subsume.proofs.Keeping.{placing_as, linked_as, as_back, as_forth}
-use Rattle.multiset_subsume.proofs.Listing.{unref}
+use Rattle.fact_placing.proofs.Listing.{unref}
 use Rattle.multiset_subsume.proofs.Along.{at_some}
-use Rattle.multiset_subsume.specs.Boards.{HoldsOn, IsFirstByOn, CanPlaceOn}
+use Rattle.fact_placing.specs.Boards.{HoldsOn, IsFirstByOn, CanPlaceOn}
 use Rattle.multiset_subsume.proofs.Parting.{at_none}
 use Rattle.multiset_subsume.proofs.covering.first_row.Goals as goal
 

@@ -1,11 +1,11 @@
 use Rattle.std.proofs.Common.{map, arith, ◌∷◌}
 use Rattle.std.proofs.lemmas.List.{length-map}
 use Rattle.clause_form.specs.Facts.{fact_of}
-use Rattle.multiset_subsume.proofs.Listing.{unref}
+use Rattle.fact_placing.proofs.Listing.{unref}
 use Rattle.multiset_subsume.proofs.FirstRows.{least_known, first_within, least_found}
 use Rattle.multiset_subsume.proofs.Keeping.{placing_as, linked_as, as_before-trans, as_back}
 use Rattle.multiset_subsume.proofs.Along.{at_some}
-use Rattle.multiset_subsume.specs.Boards.{HoldsOn}
+use Rattle.fact_placing.specs.Boards.{HoldsOn}
 use Rattle.multiset_subsume.proofs.covering.least_row.Goals as goal
 
 pub returns-clause-outcome : goal.returns-clause-outcome

@@ -1,6 +1,6 @@
 use Rattle.std.proofs.Common.{ℕ, ◌<◌, map}
 use Rattle.clause_form.specs.Facts.{fact_of}
-use Rattle.multiset_subsume.specs.Boards.{IsAsBefore, CanStandOn}
+use Rattle.fact_placing.specs.Boards.{IsAsBefore, CanStandOn}
 use Rattle.multiset_subsume.proofs.covering.least_row.Given as goal
 
 abbrev pub invariant-each : goal.invariant-each

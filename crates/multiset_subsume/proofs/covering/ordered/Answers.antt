@@ -5,9 +5,9 @@ use Rattle.clause_form.specs.declared.facts.Fact.{Fact}
 use Rattle.clause_form.specs.Facts.{fact_of}
 use Rattle.clause_form.specs.Seen.{AreFactsIn}
 use Rattle.clause_form.proofs.Comparing.{map_dropped}
-use Rattle.multiset_subsume.specs.Boards.{HoldsOn, IsNextRow, AreLinkedOn}
-use Rattle.multiset_subsume.proofs.Listing.{unref}
-use Rattle.multiset_subsume.proofs.Putting.{known_ref, linked_on}
+use Rattle.fact_placing.specs.Boards.{HoldsOn, IsNextRow, AreLinkedOn}
+use Rattle.fact_placing.proofs.Listing.{unref}
+use Rattle.fact_placing.proofs.Putting.{known_ref, linked_on}
 use Rattle.multiset_subsume.proofs.FirstRows.{way_on, way_ends, rest_of, known_dropped, front_of, next_within, way_begins}
 use Rattle.multiset_subsume.proofs.covering.ordered.Goals as goal
 

@@ -1,6 +1,6 @@
 use Rattle.std.proofs.Common.{map, drop}
 use Rattle.clause_form.specs.Facts.{fact_of}
-use Rattle.multiset_subsume.specs.Boards.{AreLinkedOn}
+use Rattle.fact_placing.specs.Boards.{AreLinkedOn}
 use Rattle.multiset_subsume.proofs.FirstRows.{IsOnTheWay}
 use Rattle.multiset_subsume.proofs.covering.ordered.Given as goal
 

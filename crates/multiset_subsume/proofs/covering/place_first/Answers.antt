@@ -2,7 +2,7 @@ use Rattle.std.proofs.Common.{arith, map, ◌∷◌, ℕ, List, ap, get_or}
 use Rattle.std.proofs.lemmas.List.{length-map}
 use Rattle.clause_form.specs.Facts.{fact_of}
 use Rattle.multiset_subsume.proofs.Keeping.{placing_as}
-use Rattle.multiset_subsume.proofs.Listing.{unref}
+use Rattle.fact_placing.proofs.Listing.{unref}
 use Rattle.multiset_subsume.proofs.FirstRows.{first_within, next_told}
 use Rattle.multiset_subsume.proofs.covering.place_first.Goals as goal
 

@@ -1,5 +1,5 @@
 use Rattle.std.proofs.Common.{◌≡◌, length}
-use Rattle.multiset_subsume.specs.Boards.{IsAsBefore}
+use Rattle.fact_placing.specs.Boards.{IsAsBefore}
 use Rattle.multiset_subsume.proofs.crowds.area_of.Given as goal
 
 abbrev pub invariant-each : goal.invariant-each

@@ -4,10 +4,10 @@ use Rattle.clause_form.specs.Facts.{fact_of}
 use Rattle.unify_match.specs.Seen.{seen}
 use Rattle.clause_form.specs.Seen.{fact_at}
 use Rattle.spec_placements.specs.Crowds.{IsConfined}
-use Rattle.multiset_subsume.specs.Boards.{facts_at}
-use Rattle.multiset_subsume.proofs.Putting.{known_ref}
+use Rattle.fact_placing.specs.Boards.{facts_at}
+use Rattle.fact_placing.proofs.Putting.{known_ref}
 use Rattle.multiset_subsume.proofs.Keeping.{as_before-trans, as_back, placing_as}
-use Rattle.multiset_subsume.proofs.Listing.{unref}
+use Rattle.fact_placing.proofs.Listing.{unref}
 use Rattle.multiset_subsume.proofs.Confining.{confined_on}
 use Rattle.multiset_subsume.proofs.crowds.count_confined.Goals as goal
 

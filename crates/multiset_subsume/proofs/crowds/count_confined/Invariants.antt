@@ -2,7 +2,7 @@ use Rattle.std.proofs.Common.{◌≤◌, map, take}
 use Rattle.unify_match.specs.Seen.{seen}
 use Rattle.clause_form.specs.Facts.{fact_of}
 use Rattle.spec_placements.specs.Crowds.{AreConfined}
-use Rattle.multiset_subsume.specs.Boards.{facts_at, IsAsBefore}
+use Rattle.fact_placing.specs.Boards.{facts_at, IsAsBefore}
 use Rattle.multiset_subsume.proofs.crowds.count_confined.Given as goal
 
 abbrev pub invariant-each : goal.invariant-each

@@ -1,7 +1,7 @@
 use Rattle.std.proofs.Common.{arith, map}
 use Rattle.clause_form.specs.Facts.{fact_of}
 use Rattle.multiset_subsume.proofs.Keeping.{placing_as}
-use Rattle.multiset_subsume.proofs.Putting.{length_at}
+use Rattle.fact_placing.proofs.Putting.{length_at}
 use Rattle.multiset_subsume.proofs.Confining.{confined_by}
 use Rattle.multiset_subsume.proofs.crowds.fits_only.Goals as goal
 

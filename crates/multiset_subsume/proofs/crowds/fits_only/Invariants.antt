@@ -1,6 +1,6 @@
 use Rattle.std.proofs.Common.{◌≡◌, ◌<◌, ℕ, false, map, get_or}
 use Rattle.clause_form.specs.Facts.{fact_of}
-use Rattle.multiset_subsume.specs.Boards.{IsAsBefore, CannotPut}
+use Rattle.fact_placing.specs.Boards.{IsAsBefore, CannotPut}
 use Rattle.multiset_subsume.proofs.crowds.fits_only.Given as goal
 
 abbrev pub invariant-each : goal.invariant-each

@@ -1,5 +1,5 @@
 use Rattle.std.proofs.Common.{map}
-use Rattle.multiset_subsume.proofs.Putting.{known_ref}
+use Rattle.fact_placing.proofs.Putting.{known_ref}
 use Rattle.clause_form.specs.Facts.{fact_of}
 use Rattle.multiset_subsume.proofs.Keeping.{placing_as}
 use Rattle.multiset_subsume.proofs.crowds.most_constrained.Goals as goal

@@ -1,8 +1,8 @@
 use Rattle.std.proofs.Common.{map}
 use Rattle.clause_form.specs.Facts.{fact_of}
 use Rattle.multiset_subsume.proofs.Keeping.{placing_as, as_before-trans, as_back}
-use Rattle.multiset_subsume.proofs.Listing.{unref}
-use Rattle.multiset_subsume.specs.Boards.{CanPlaceOn}
+use Rattle.fact_placing.proofs.Listing.{unref}
+use Rattle.fact_placing.specs.Boards.{CanPlaceOn}
 use Rattle.multiset_subsume.proofs.crowds.next_of.Goals as goal
 
 pub overcrowded-requires-clause-placing : goal.overcrowded-requires-clause-placing

@@ -3,10 +3,10 @@ use Rattle.clause_form.specs.Facts.{fact_of}
 use Rattle.unify_match.specs.Seen.{seen}
 use Rattle.spec_placements.specs.Crowds.{room, AreConfined}
 use Rattle.spec_placements.proofs.Crowding.{crowded}
-use Rattle.multiset_subsume.specs.Boards.{facts_at}
-use Rattle.multiset_subsume.proofs.Putting.{known_ref}
+use Rattle.fact_placing.specs.Boards.{facts_at}
+use Rattle.fact_placing.proofs.Putting.{known_ref}
 use Rattle.multiset_subsume.proofs.Keeping.{as_back, placing_as, as_before-trans}
-use Rattle.multiset_subsume.proofs.Listing.{unref}
+use Rattle.fact_placing.proofs.Listing.{unref}
 use Rattle.multiset_subsume.proofs.crowds.overcrowded.Goals as goal
 
 pub area_of-requires-clause-fact : goal.area_of-requires-clause-fact

@@ -1,7 +1,7 @@
 use Rattle.std.proofs.Common.{map}
 use Rattle.std.proofs.lemmas.Bool.{MatchBool-at_true}
 use Rattle.clause_form.specs.Facts.{fact_of}
-use Rattle.multiset_subsume.proofs.Listing.{unref}
+use Rattle.fact_placing.proofs.Listing.{unref}
 use Rattle.multiset_subsume.proofs.Along.{held_along}
 use Rattle.multiset_subsume.proofs.holding.holds_from.Goals as goal
 

@@ -4,8 +4,8 @@ use Rattle.std.proofs.lemmas.List.{length-map}
 use Rattle.std.proofs.lemmas.Grind.{common_steps}
 use Rattle.clause_form.specs.Facts.{fact_of}
 use Rattle.clause_form.proofs.Comparing.{map_drop}
-use Rattle.multiset_subsume.proofs.Listing.{unref}
-use Rattle.multiset_subsume.proofs.Putting.{known_ref, positions_more, put_on, linked_on, put_fails, too_long}
+use Rattle.fact_placing.proofs.Listing.{unref}
+use Rattle.fact_placing.proofs.Putting.{known_ref, positions_more, put_on, linked_on, put_fails, too_long}
 use Rattle.multiset_subsume.proofs.holding.put_along.Goals as goal
 
 pub returns-then-facts-row-clause-outcome : goal.returns-then-facts-row-clause-outcome

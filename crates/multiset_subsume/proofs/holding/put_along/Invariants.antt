@@ -1,6 +1,6 @@
 use Rattle.std.proofs.Common.{◌≡◌, ◌↔◌, suc, pred, map, take, drop}
 use Rattle.clause_form.specs.Facts.{fact_of}
-use Rattle.multiset_subsume.specs.Boards.{IsPlacing, HoldsOn, AreLinkedOn}
+use Rattle.fact_placing.specs.Boards.{IsPlacing, HoldsOn, AreLinkedOn}
 use Rattle.multiset_subsume.proofs.holding.put_along.Given as goal
 
 abbrev pub invariant-each : goal.invariant-each

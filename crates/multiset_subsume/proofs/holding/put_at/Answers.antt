@@ -1,6 +1,6 @@
 use Rattle.std.proofs.Common.{arith, map}
 use Rattle.clause_form.specs.Facts.{fact_of}
-use Rattle.multiset_subsume.proofs.Putting.{length_at, cannot_past}
+use Rattle.fact_placing.proofs.Putting.{length_at, cannot_past}
 use Rattle.multiset_subsume.proofs.holding.put_at.Goals as goal
 
 pub returns-then-place-board-clause-outcome : goal.returns-then-place-board-clause-outcome

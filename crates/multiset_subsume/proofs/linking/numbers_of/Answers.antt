@@ -1,4 +1,4 @@
-use Rattle.multiset_subsume.proofs.Putting.{known_ref}
+use Rattle.fact_placing.proofs.Putting.{known_ref}
 use Rattle.multiset_subsume.proofs.linking.numbers_of.Goals as goal
 
 pub meet_fact-requires : goal.meet_fact-requires

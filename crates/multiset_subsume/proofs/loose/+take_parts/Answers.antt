@@ -7,7 +7,7 @@ use Rattle.clause_form.specs.Facts.{fact_of}
 use Rattle.clause_form.proofs.Walks.{argument_at}
 use Rattle.clause_form.proofs.Flattening.{parts_at, data_flat}
 use Rattle.spec_placements.specs.LooseParts.{Removes, HasNoRoom}
-use Rattle.multiset_subsume.specs.Boards.{facts_at}
+use Rattle.fact_placing.specs.Boards.{facts_at}
 use Rattle.multiset_subsume.proofs.Removal.{removes_all, no_room_at}
 use Rattle.multiset_subsume.proofs.loose.+take_parts.Goals as goal
 

@@ -4,7 +4,7 @@ use Rattle.term_tree.specs.Bank.{tree_at}
 use Rattle.clause_form.specs.Facts.{fact_of}
 use Rattle.clause_form.proofs.Flattening.{parts_at}
 use Rattle.spec_placements.specs.LooseParts.{Removes}
-use Rattle.multiset_subsume.specs.Boards.{facts_at}
+use Rattle.fact_placing.specs.Boards.{facts_at}
 use Rattle.multiset_subsume.proofs.loose.+take_parts.Given as goal
 
 abbrev pub decreases-take_parts : goal.decreases-take_parts

@@ -2,7 +2,7 @@ use Rattle.std.proofs.Common.{◌≡◌, map, rules}
 use Rattle.unify_match.specs.Seen.{seen}
 use Rattle.clause_form.specs.Facts.{fact_of}
 use Rattle.spec_placements.specs.LooseParts.{bound_parts}
-use Rattle.multiset_subsume.specs.Boards.{facts_at}
+use Rattle.fact_placing.specs.Boards.{facts_at}
 use Rattle.multiset_subsume.proofs.Along.{may_stand}
 use Rattle.multiset_subsume.proofs.loose.loose_may_stand.Goals as goal
 

@@ -5,7 +5,7 @@ use Rattle.clause_form.specs.Facts.{fact_of}
 use Rattle.unify_match.proofs.SeenLemmas.{AreInBank-at}
 use Rattle.spec_placements.specs.LooseParts.{Removes, HasNoRoom}
 use Rattle.spec_placements.proofs.Removing.{removes_nothing}
-use Rattle.multiset_subsume.specs.Boards.{facts_at}
+use Rattle.fact_placing.specs.Boards.{facts_at}
 use Rattle.multiset_subsume.proofs.Removal.{bound_part, unbound_part}
 use Rattle.multiset_subsume.proofs.loose.take_bound.Goals as goal
 

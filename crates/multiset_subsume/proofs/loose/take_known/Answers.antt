@@ -10,8 +10,8 @@ use Rattle.clause_form.specs.Seen.{fact_at}
 use Rattle.clause_form.proofs.Walks.{fact_known_at}
 use Rattle.spec_placements.specs.LooseParts.{Removes}
 use Rattle.spec_placements.proofs.Removing.{removes_one, lacking}
-use Rattle.multiset_subsume.specs.Boards.{facts_at}
-use Rattle.multiset_subsume.proofs.Putting.{there_at, length_at, same_there}
+use Rattle.fact_placing.specs.Boards.{facts_at}
+use Rattle.fact_placing.proofs.Putting.{there_at, length_at, same_there}
 use Rattle.multiset_subsume.proofs.Removal.{lacks}
 use Rattle.multiset_subsume.proofs.loose.take_known.Goals as goal
 

@@ -2,7 +2,7 @@ use Rattle.std.proofs.Common.{map, arith}
 use Rattle.std.proofs.lemmas.Grind.{common_steps}
 use Rattle.unify_match.specs.Seen.{seen}
 use Rattle.clause_form.specs.Facts.{fact_of}
-use Rattle.multiset_subsume.specs.Boards.{facts_at}
+use Rattle.fact_placing.specs.Boards.{facts_at}
 use Rattle.multiset_subsume.proofs.Removal.{parts_of, no_room_at}
 use Rattle.multiset_subsume.proofs.loose.take_loose.Goals as goal
 

@@ -2,7 +2,7 @@ use Rattle.std.proofs.Common.{◌≡◌, map, take, length}
 use Rattle.unify_match.specs.Seen.{seen}
 use Rattle.clause_form.specs.Facts.{fact_of}
 use Rattle.spec_placements.specs.LooseParts.{bound_parts, Removes}
-use Rattle.multiset_subsume.specs.Boards.{facts_at}
+use Rattle.fact_placing.specs.Boards.{facts_at}
 use Rattle.multiset_subsume.proofs.loose.take_loose.Given as goal
 
 abbrev pub invariant-each : goal.invariant-each

@@ -2,7 +2,7 @@ use Rattle.std.proofs.Common.{List, ap, map, subst, sym, take}
 use Rattle.spec_clauses.specs.Fact as horn
 use Rattle.spec_clauses.specs.Inclusion.{IsWithin}
 use Rattle.term_tree.specs.declared.bank.Id.{Id}
-use Rattle.multiset_subsume.proofs.Listing.{unref}
+use Rattle.fact_placing.proofs.Listing.{unref}
 use Rattle.multiset_subsume.proofs.Parting.{member_more, member_all}
 use Rattle.multiset_subsume.proofs.parts.members.Goals as goal
 

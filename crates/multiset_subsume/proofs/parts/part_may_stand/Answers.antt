@@ -3,8 +3,8 @@ use Rattle.spec_clauses.specs.Inclusion.{IsWithin}
 use Rattle.clause_form.specs.declared.facts.Fact.{Fact}
 use Rattle.clause_form.specs.Facts.{fact_of}
 use Rattle.clause_form.specs.Seen.{AreFactsIn}
-use Rattle.multiset_subsume.specs.Boards.{CanPlaceOn, HoldsOn}
-use Rattle.multiset_subsume.proofs.Listing.{unref}
+use Rattle.fact_placing.specs.Boards.{CanPlaceOn, HoldsOn}
+use Rattle.fact_placing.proofs.Listing.{unref}
 use Rattle.multiset_subsume.proofs.Parting.{within_known, part_placed, at_none}
 use Rattle.multiset_subsume.proofs.parts.part_may_stand.Goals as goal
 

@@ -1,4 +1,4 @@
-use Rattle.multiset_subsume.specs.Boards.{IsAsBefore}
+use Rattle.fact_placing.specs.Boards.{IsAsBefore}
 use Rattle.multiset_subsume.proofs.parts.parts_may_stand.Given as goal
 
 abbrev pub invariant-each : goal.invariant-each

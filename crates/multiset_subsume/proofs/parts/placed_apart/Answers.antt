@@ -1,8 +1,8 @@
 use Rattle.std.proofs.Common.{map, IfOk, MatchOption}
 use Rattle.clause_form.specs.Facts.{fact_of}
 use Rattle.multiset_subsume.proofs.Keeping.{placing_as, linked_as, as_before-trans, as_back}
-use Rattle.multiset_subsume.proofs.Listing.{unref}
-use Rattle.multiset_subsume.specs.Boards.{CanPlaceOn, HoldsOn}
+use Rattle.fact_placing.proofs.Listing.{unref}
+use Rattle.fact_placing.specs.Boards.{CanPlaceOn, HoldsOn}
 use Rattle.multiset_subsume.proofs.parts.placed_apart.Goals as goal
 
 pub can_place-requires-2-clause-placing : goal.can_place-requires-2-clause-placing

@@ -2,8 +2,8 @@ use Rattle.std.proofs.Common.{◌∷◌, map, refl, arith}
 use Rattle.std.proofs.lemmas.Bool.{MatchBool-at_true, MatchBool-at_false}
 use Rattle.std.proofs.lemmas.Grind.{common_steps}
 use Rattle.clause_form.specs.Facts.{fact_of}
-use Rattle.multiset_subsume.proofs.Listing.{unref}
-use Rattle.multiset_subsume.proofs.Putting.{linked_on}
+use Rattle.fact_placing.proofs.Listing.{unref}
+use Rattle.fact_placing.proofs.Putting.{linked_on}
 use Rattle.multiset_subsume.proofs.Keeping.{is_taken_back_later}
 use Rattle.multiset_subsume.proofs.Searching.{stand_told, cannot_stand}
 use Rattle.multiset_subsume.proofs.parts.stands_apart.Goals as goal

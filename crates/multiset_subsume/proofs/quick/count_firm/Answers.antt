@@ -5,7 +5,7 @@ use Rattle.spec_clauses.specs.Subsumption.{firm}
 use Rattle.clause_form.specs.Facts.{fact_of}
 use Rattle.clause_form.specs.Seen.{fact_at}
 use Rattle.clause_form.proofs.Walks.{fact_known_at}
-use Rattle.multiset_subsume.specs.Boards.{facts_at}
+use Rattle.fact_placing.specs.Boards.{facts_at}
 use Rattle.multiset_subsume.proofs.quick.count_firm.Goals as goal
 
 pub each-init : goal.each-init

@@ -6,8 +6,8 @@ use Rattle.spec_clauses.specs.Fact.{fact_under}
 use Rattle.clause_form.specs.Facts.{fact_of}
 use Rattle.clause_form.specs.Seen.{fact_at}
 use Rattle.clause_form.proofs.Walks.{fact_known_at}
-use Rattle.multiset_subsume.specs.Boards.{facts_at}
-use Rattle.multiset_subsume.proofs.Putting.{there_at, same_there, length_at}
+use Rattle.fact_placing.specs.Boards.{facts_at}
+use Rattle.fact_placing.proofs.Putting.{there_at, same_there, length_at}
 use Rattle.multiset_subsume.proofs.Refuting.{nowhere}
 use Rattle.multiset_subsume.proofs.quick.some_may_match.Goals as goal
 

@@ -4,7 +4,7 @@ use Rattle.spec_terms.specs.Term.{Subst}
 use Rattle.spec_clauses.specs.Fact.{fact_under}
 use Rattle.clause_form.specs.Facts.{fact_of}
 use Rattle.clause_form.specs.Seen.{fact_at}
-use Rattle.multiset_subsume.specs.Boards.{facts_at}
+use Rattle.fact_placing.specs.Boards.{facts_at}
 use Rattle.multiset_subsume.proofs.quick.some_may_match.Given as goal
 
 abbrev pub invariant-each : goal.invariant-each

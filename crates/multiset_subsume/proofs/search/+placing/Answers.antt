@@ -8,9 +8,9 @@ use Rattle.clause_form.specs.Facts.{fact_of}
 use Rattle.clause_form.specs.Seen.{AreFactsIn}
 use Rattle.unify_match.specs.Seen.{seen}
 use Rattle.spec_placements.proofs.Removing.{loose_unplaced}
-use Rattle.multiset_subsume.specs.Boards.{facts_at, HoldsOn, CanPlaceOn}
-use Rattle.multiset_subsume.proofs.Listing.{unref}
-use Rattle.multiset_subsume.proofs.Putting.{linked_on, known_ref}
+use Rattle.fact_placing.specs.Boards.{facts_at, HoldsOn, CanPlaceOn}
+use Rattle.fact_placing.proofs.Listing.{unref}
+use Rattle.fact_placing.proofs.Putting.{linked_on, known_ref}
 use Rattle.multiset_subsume.proofs.Along.{at_some}
 use Rattle.multiset_subsume.proofs.Keeping.{is_taken_back_later, as_before-trans, as_back, placing_as, linked_as}
 use Rattle.multiset_subsume.proofs.Searching.{placed_nothing, stand_told, placed_told, linked_front, known_removed, row_length, cannot_stand}

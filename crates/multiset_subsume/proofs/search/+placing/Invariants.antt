@@ -1,6 +1,6 @@
 use Rattle.std.proofs.Common.{ℕ, ◌<◌, ◌+◌, ◌*◌, map, length}
 use Rattle.clause_form.specs.Facts.{fact_of}
-use Rattle.multiset_subsume.specs.Boards.{IsAsBefore, CanStandOn}
+use Rattle.fact_placing.specs.Boards.{IsAsBefore, CanStandOn}
 use Rattle.multiset_subsume.proofs.search.+placing.Given as goal
 
 abbrev pub decreases-can_place : goal.decreases-can_place

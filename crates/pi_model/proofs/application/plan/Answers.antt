@@ -2,11 +2,11 @@ use Rattle.std.proofs.Common.{◌≡◌, Result, IfOk, IfErr, sym, subst}
 use Rattle.spec_calculus.specs.Syntax.{Protocol}
 use Rattle.spec_calculus.specs.Runs.{Configuration}
 use Rattle.pi_tree.specs.Protocols.{protocol_of}
-use Rattle.pi_model.specs.declared.changes.Change.{Change}
+use Rattle.pi_configurations.specs.declared.changes.Change.{Change}
 use Rattle.pi_model.specs.declared.errors.ApplyError.{ApplyError}
 use Rattle.pi_model.specs.declared.steps.Step.{Step}
-use Rattle.pi_model.specs.Changes.{changed}
-use Rattle.pi_model.specs.Configurations.{configuration_of}
+use Rattle.pi_configurations.specs.Changes.{changed}
+use Rattle.pi_configurations.specs.Configurations.{configuration_of}
 use Rattle.pi_model.specs.Plans.{IsPossible, IsErrorOf}
 use Rattle.pi_model.specs.Steps.{step_of}
 use Rattle.pi_model.proofs.application.plan.Goals as goal

@@ -3,7 +3,7 @@ use Rattle.spec_calculus.specs.Refusals.{first_arity}
 use Rattle.pi_tree.specs.Protocols.{protocol_of}
 use Rattle.pi_tree.specs.Rules.{rule_of}
 use Rattle.pi_tree.specs.Values.{value_of}
-use Rattle.pi_model.specs.Configurations.{configuration_of}
+use Rattle.pi_configurations.specs.Configurations.{configuration_of}
 use Rattle.pi_model.proofs.Causes.{reduce-no_rule, reduce-large, reduce-possible}
 use Rattle.pi_model.proofs.attacker.reduce.Goals as goal
 

@@ -7,13 +7,13 @@ use Rattle.pi_tree.specs.Patterns.{pattern_of, expression_of}
 use Rattle.pi_tree.specs.Processes.{process_of}
 use Rattle.pi_tree.specs.Protocols.{protocol_of}
 use Rattle.pi_tree.specs.Values.{value_of}
-use Rattle.pi_model.specs.Configurations.{configuration_of}
+use Rattle.pi_configurations.specs.Configurations.{configuration_of}
 use Rattle.pi_model.specs.Plans.{Stands, IsPossible}
-use Rattle.pi_model.specs.Moves.{advanced}
+use Rattle.pi_configurations.specs.Moves.{advanced}
 use Rattle.spec_calculus.specs.Runs as calculus
 use Rattle.pi_model.proofs.ThreadSteps.{fail-matches, fail-large, fail-possible, of_fail}
 use Rattle.std.proofs.lemmas.Grind.{common_steps}
-use Rattle.pi_model.proofs.Points.{of_points}
+use Rattle.pi_configurations.proofs.Points.{of_points}
 use Rattle.pi_model.proofs.choices.fail.Goals as goal
 
 pub returns-then-branch-clause-refused : goal.returns-then-branch-clause-refused

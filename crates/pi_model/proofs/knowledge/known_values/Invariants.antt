@@ -1,7 +1,7 @@
 use Rattle.std.proofs.Common.{◌≡◌, ◌++◌, map, drop, option_map}
 use Rattle.spec_calculus.specs.Runs.{known_values}
 use Rattle.pi_tree.specs.Values.{value_of}
-use Rattle.pi_model.specs.Configurations.{configuration_of}
+use Rattle.pi_configurations.specs.Configurations.{configuration_of}
 use Rattle.pi_model.proofs.knowledge.known_values.Given as goal
 
 abbrev pub invariant-loop-number : goal.invariant-loop-number

@@ -1,7 +1,7 @@
 use Rattle.std.proofs.Common.{arith}
 use Rattle.std.proofs.lemmas.Grind.{common_steps}
 use Rattle.pi_model.proofs.ThreadSteps.{of_copy}
-use Rattle.pi_model.proofs.Points.{of_points}
+use Rattle.pi_configurations.proofs.Points.{of_points}
 use Rattle.pi_model.proofs.processes.copy.Goals as goal
 
 pub overflow_add-begun : goal.overflow_add-begun

@@ -1,7 +1,7 @@
 use Rattle.std.proofs.Common.{arith, ◌+◌, sym, ap, subst, ◌∙◌}
 use Rattle.std.proofs.lemmas.Grind.{common_steps}
 use Rattle.pi_model.proofs.ThreadSteps.{of_hear, hear-possible}
-use Rattle.pi_model.proofs.Points.{of_points}
+use Rattle.pi_configurations.proofs.Points.{of_points}
 use Rattle.std.specs.List.{list_any}
 use Rattle.spec_calculus.specs.Limits.{is_large, terms_at}
 use Rattle.spec_calculus.specs.Values.{values_of}
@@ -9,8 +9,8 @@ use Rattle.spec_calculus.specs.Runs as calculus
 use Rattle.pi_tree.specs.Processes.{process_of}
 use Rattle.pi_tree.specs.Protocols.{protocol_of}
 use Rattle.pi_tree.specs.Terms.{term_of}
-use Rattle.pi_model.specs.Configurations.{configuration_of}
-use Rattle.pi_model.specs.Moves.{advanced}
+use Rattle.pi_configurations.specs.Configurations.{configuration_of}
+use Rattle.pi_configurations.specs.Moves.{advanced}
 use Rattle.pi_model.specs.Plans.{Stands, IsPossible}
 use Rattle.pi_model.proofs.processes.hear.Goals as goal
 

@@ -1,7 +1,7 @@
 use Rattle.std.proofs.Common.{arith}
 use Rattle.std.proofs.lemmas.Grind.{common_steps}
 use Rattle.pi_model.proofs.ThreadSteps.{of_mark}
-use Rattle.pi_model.proofs.Points.{of_points}
+use Rattle.pi_configurations.proofs.Points.{of_points}
 use Rattle.pi_model.proofs.processes.mark.Goals as goal
 
 pub overflow_add-result : goal.overflow_add-result

@@ -2,11 +2,11 @@ use Rattle.std.proofs.Common.{◌+◌, ap, subst, ◌∙◌, arith}
 use Rattle.spec_calculus.specs.Points.{point_after}
 use Rattle.pi_tree.specs.Processes.{process_of}
 use Rattle.pi_tree.specs.Protocols.{protocol_of}
-use Rattle.pi_model.specs.Configurations.{configuration_of}
+use Rattle.pi_configurations.specs.Configurations.{configuration_of}
 use Rattle.pi_model.specs.Plans.{Stands}
 use Rattle.pi_model.proofs.ThreadSteps.{split-possible, of_split}
 use Rattle.std.proofs.lemmas.Grind.{common_steps}
-use Rattle.pi_model.proofs.Points.{of_points}
+use Rattle.pi_configurations.proofs.Points.{of_points}
 use Rattle.pi_model.proofs.processes.split.Goals as goal
 
 pub returns-in_ok-copy-in-Par-clause-possible : goal.returns-in_ok-copy-in-Par-clause-possible

@@ -11,12 +11,12 @@ use Rattle.pi_tree.specs.Patterns.{pattern_of}
 use Rattle.pi_tree.specs.Processes.{process_of}
 use Rattle.pi_tree.specs.Protocols.{protocol_of}
 use Rattle.pi_tree.specs.Terms.{term_of}
-use Rattle.pi_model.specs.Configurations.{configuration_of}
-use Rattle.pi_model.specs.Moves.{advanced}
+use Rattle.pi_configurations.specs.Configurations.{configuration_of}
+use Rattle.pi_configurations.specs.Moves.{advanced}
 use Rattle.pi_model.specs.Plans.{Stands, IsPossible}
 use Rattle.pi_model.proofs.Passing.{pass-differ, pass-large, pass-possible, of_meeting}
 use Rattle.std.proofs.lemmas.Grind.{common_steps}
-use Rattle.pi_model.proofs.Points.{of_points}
+use Rattle.pi_configurations.proofs.Points.{of_points}
 use Rattle.pi_model.proofs.receiving.meet.Goals as goal
 
 pub returns-then-not-same-clause-refused : goal.returns-then-not-same-clause-refused

@@ -1,5 +1,5 @@
 use Rattle.pi_tree.specs.Protocols.{protocol_of}
-use Rattle.pi_model.proofs.Points.{point-within}
+use Rattle.pi_configurations.proofs.Points.{point-within}
 use Rattle.pi_model.proofs.standing.standing_of.Goals as goal
 
 pub returns-in-At-clause-within : goal.returns-in-At-clause-within

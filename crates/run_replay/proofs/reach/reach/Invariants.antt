@@ -2,7 +2,7 @@ use Rattle.std.proofs.Common.{◌≡◌}
 use Rattle.std.specs.Prelude.{map}
 use Rattle.pi_tree.specs.Protocols.{protocol_of}
 use Rattle.pi_model.specs.Steps.{step_of}
-use Rattle.pi_model.specs.Configurations.{configuration_of, IsConfigurationOf}
+use Rattle.pi_configurations.specs.Configurations.{configuration_of, IsConfigurationOf}
 use Rattle.run_replay.proofs.Applying.{IsSoFar}
 use Rattle.run_replay.proofs.reach.reach.Given as goal
 

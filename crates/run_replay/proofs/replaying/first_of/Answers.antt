@@ -1,7 +1,7 @@
 use Rattle.std.proofs.Common.{map, sym, ◌∙◌}
 use Rattle.pi_model.specs.Steps.{step_of}
 use Rattle.pi_tree.specs.Protocols.{protocol_of}
-use Rattle.pi_model.specs.Configurations.{configuration_of}
+use Rattle.pi_configurations.specs.Configurations.{configuration_of}
 use Rattle.run_replay.proofs.Violations.{never_told, violated_told}
 use Rattle.run_replay.proofs.replaying.first_of.Goals as goal
 

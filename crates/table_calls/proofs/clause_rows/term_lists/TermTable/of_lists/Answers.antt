@@ -10,3 +10,9 @@ moved_text-requires-clause-variable c = known_at c.args.bank.now c.args.lefts.no
 
 pub moved_text-requires-clause-offset : goal.moved_text-requires-clause-offset
 moved_text-requires-clause-offset c = known_at c.args.bank.now c.args.rights.now 0 record { index = 0 } c.requires.rights (omega arith)
+
+pub tower_text-requires-clause-term : goal.tower_text-requires-clause-term
+tower_text-requires-clause-term c = known_at c.args.bank.now c.args.lefts.now 0 record { index = 0 } c.requires.lefts (omega arith)
+
+pub tower_text-requires-clause-variable : goal.tower_text-requires-clause-variable
+tower_text-requires-clause-variable c = known_at c.args.bank.now c.args.rights.now 0 record { index = 0 } c.requires.rights (omega arith)

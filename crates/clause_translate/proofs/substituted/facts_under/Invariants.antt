@@ -1,8 +1,0 @@
-use Rattle.spec_terms.specs.Binding.{resolved}
-use Rattle.unify_match.specs.Seen.{seen}
-use Rattle.clause_form.proofs.Renumber.{AreRenumbered}
-use Rattle.clause_translate.specs.Built.{AreBuilt}
-use Rattle.clause_translate.proofs.substituted.facts_under.Given as goal
-
-abbrev pub invariant-each : goal.invariant-each
-invariant-each g l = AreRenumbered (g.B.Bank.trees l.fn.bank) (g.B.Bank.trees l.bank) (resolved (seen (g.B.Bank.trees l.fn.bank) l.binds.pairs)) l.facts l.fact-index l.items.items × AreBuilt (g.B.Bank.trees l.bank) l.binds.pairs l.built

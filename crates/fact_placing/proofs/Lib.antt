@@ -1,0 +1,3 @@
+pub mod FactTerms
+pub mod Listing
+pub mod Putting

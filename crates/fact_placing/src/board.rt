@@ -1,0 +1,92 @@
+//! What is placed where: the hypotheses of the special clause, and those of the general one, firm and loose.
+
+ghost use Rattle.std.specs.Prelude.{◌≡◌, ◌++◌, [], ◌∷◌, cond, map, IfOk, OnOk};
+ghost use Rattle.spec_clauses.specs.Fact.{is_variable_known as is_variable_known_fact};
+ghost use Rattle.spec_clauses.specs.Subsumption.{firm};
+ghost use Rattle.spec_placements.specs.Placing.{known_variable as known_variable_of, loose_variables};
+ghost use Rattle.clause_form.specs.Facts.{fact_of};
+ghost use Rattle.clause_form.specs.Seen.{fact_at, IsFactIn, AreFactsIn, NameFacts};
+ghost use Rattle.fact_placing.specs.Boards.{facts_at};
+
+use clause_form::{Fact, is_variable_known};
+use std::alloc::{AllocError, Global};
+use term_tree::{Bank, Node};
+
+/// The hypotheses of the special clause, at whose positions those of the general one are placed, and the variables of
+/// which the general one has `att` hypotheses: their terms have to be known at further positions. Where it is divided,
+/// the hypotheses of the general clause fall into parts that share no variable that isn't bound.
+#[derive(Drop)]
+pub struct Board<'a, B> {
+    pub alloc: Global,
+    pub bank: &'a B,
+    pub hyps: &'a [Fact],
+    pub loose: &'a [u32],
+    pub is_divided: bool,
+}
+
+/// Adds a hypothesis, if it isn't `att` of a variable.
+fn add_firm<'a, B: Bank>(
+    bank: &B,
+    hyp: &'a Fact,
+    found: &mut Vec<&'a Fact>,
+) -> Result<(), AllocError>
+    requires { IsFactIn (B.trees bank.now) (fact_of hyp.now) }
+    ensures { OnOk result (map (λ f. fact_of f.now) found.new.items ≡ cond
+        (is_variable_known_fact (fact_at (B.trees bank.now) (fact_of hyp.now)))
+        (map (λ f. fact_of f.now) found.old.items)
+        (map (λ f. fact_of f.now) found.old.items ++ fact_of hyp.now ∷ [])) }
+{
+    if is_variable_known(bank, hyp) {
+        return Ok(());
+    }
+    found.push(hyp)?;
+    Ok(())
+}
+
+/// The hypotheses of a clause but `att` of a variable, in order.
+pub fn firm_of<'a, B: Bank>(
+    alloc: Global,
+    bank: &B,
+    hyps: &'a [Fact],
+) -> Result<Vec<&'a Fact>, AllocError>
+    requires { AreFactsIn (B.trees bank.now) (map fact_of hyps.now) }
+    ensures { let all = B.trees bank.now in IfOk result
+        (λ found. NameFacts all (map (λ f. fact_of f.now) found.items)
+        (firm (facts_at all (map fact_of hyps.now)))) }
+{
+    let mut found = Vec::new(alloc);
+    for hyp in hyps {
+        add_firm(bank, hyp, &mut found)?;
+    }
+    Ok(found)
+}
+
+/// The variable of which the fact is `att`.
+fn known_variable<B: Bank>(bank: &B, fact: &Fact) -> Option<u32>
+    requires { IsFactIn (B.trees bank.now) (fact_of fact.now) }
+    ensures { result ≡ known_variable_of (fact_at (B.trees bank.now) (fact_of fact.now)) }
+{
+    match fact {
+        Fact::Att(term) => match bank.node(*term) {
+            Node::Var(variable) => Some(variable),
+            Node::App(_, _) => None,
+        },
+        _ => None,
+    }
+}
+
+/// The variables of which there is an `att` among the hypotheses, in order.
+pub fn loose_of<B: Bank>(alloc: Global, bank: &B, hyps: &[Fact]) -> Result<Vec<u32>, AllocError>
+    requires { AreFactsIn (B.trees bank.now) (map fact_of hyps.now) }
+    ensures { IfOk result (λ found. found.items ≡ loose_variables
+        (facts_at (B.trees bank.now) (map fact_of hyps.now))) }
+{
+    let mut found = Vec::new(alloc);
+    for hyp in hyps {
+        match known_variable(bank, hyp) {
+            Some(variable) => found.push(variable)?,
+            None => {}
+        }
+    }
+    Ok(found)
+}

@@ -1,0 +1,99 @@
+//! Threads of a configuration.
+
+ghost use Rattle.std.specs.Prelude.{◌≡◌, [], ◌∷◌, ◌++◌, option_map, OnOk, OnErr};
+ghost use Rattle.spec_calculus.specs.Points.{numbered, replaced};
+ghost use Rattle.pi_configurations.specs.Threads.{thread_of};
+ghost use Rattle.pi_configurations.specs.Moves.{moved, moved_to};
+
+use std::alloc::AllocError;
+use std::marker::Model;
+use term_values::Environment;
+
+/// A thread: it stands at a point of the main process with what it has bound, or it has ended.
+#[derive(Drop)]
+pub enum Thread {
+    At(u32, Environment),
+    Ended,
+}
+
+/// Threads in order; they are numbered from 1.
+#[derive(Drop)]
+pub struct Threads {
+    pub items: Vec<Thread>,
+}
+
+impl Model for Threads {
+    ghost use Rattle.std.specs.Prelude.{List, map};
+    ghost use Rattle.spec_calculus.specs.Runs as calculus;
+    ghost use Rattle.spec_calculus.specs.Codes.{coded_threads};
+
+    ghost Value = { List calculus.Thread };
+
+    ghost coded = { coded_threads };
+
+    ghost use Rattle.pi_configurations.specs.Threads.{thread_of};
+
+    ghost view = { λ a. map thread_of a.items.items };
+}
+
+impl Thread {
+    /// Goes to another point, with the same bindings; a thread that has ended stays so.
+    fn advance(&mut self, point: u32)
+        ensures { thread_of self.new ≡ moved_to point (thread_of self.old) }
+    {
+        match self {
+            Thread::At(at, _) => *at = point,
+            Thread::Ended => {}
+        }
+    }
+}
+
+impl Threads {
+    /// The thread of that number, if there is one.
+    #[tactic(auto, using(term_values::proofs::Items::by_number))]
+    pub fn get(&self, number: u32) -> Option<&Thread>
+        ensures { option_map (λ t. thread_of t.now) result ≡ numbered self.now number }
+    {
+        match number.checked_sub(1) {
+            None => None,
+            Some(index) => self.items.get(index as usize),
+        }
+    }
+
+    /// The thread of that number becomes this one; where there is none nothing changes.
+    #[tactic(auto, using(crate::proofs::ThreadItems::of_threads))]
+    pub fn replace(&mut self, number: u32, thread: Thread)
+        ensures { self.new ≡ replaced self.old number (thread_of thread) }
+    {
+        if number == 0 {
+            return;
+        }
+        let index = (number - 1) as usize;
+        if index < self.items.len() {
+            self.items[index] = thread;
+        }
+    }
+
+    /// The thread of that number goes to another point, with the same bindings.
+    #[tactic(auto, using(crate::proofs::ThreadItems::of_threads))]
+    pub fn advance(&mut self, number: u32, point: u32)
+        ensures { self.new ≡ moved self.old number point }
+    {
+        if number == 0 {
+            return;
+        }
+        let index = (number - 1) as usize;
+        if index < self.items.len() {
+            self.items[index].advance(point);
+        }
+    }
+
+    /// A new last thread.
+    pub fn begin(&mut self, thread: Thread) -> Result<(), AllocError>
+        ensures begun { OnOk result (self.new ≡ self.old ++ thread_of thread ∷ []) }
+        ensures unchanged { OnErr result (self.new ≡ self.old) }
+    {
+        self.items.push(thread)?;
+        Ok(())
+    }
+}

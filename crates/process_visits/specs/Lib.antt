@@ -1,0 +1,16 @@
+pub mod Room
+pub mod Short
+pub mod ShortProps
+pub mod Places
+pub mod Sizes
+pub mod Built
+pub mod Numbers
+pub mod Spans
+pub mod Visits
+pub mod Forms
+pub mod Channels
+pub mod Processes
+pub mod Patterns
+pub mod Solving
+pub mod Ways
+pub mod Choices

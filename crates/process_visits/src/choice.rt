@@ -1,0 +1,22 @@
+//! What the choices of a `let` are made by.
+
+ghost use Rattle.spec_calculus.specs.Bounds.{most_points};
+ghost use Rattle.pi_tree.specs.Patterns.{pattern_of};
+ghost use Rattle.clause_terms.specs.Conditions.{IsShortPattern};
+ghost use Rattle.process_visits.specs.ShortProps.{short_props};
+ghost use Rattle.process_visits.specs.Visits.{HasFewCopies};
+
+use crate::place::Place;
+use crate::visit::Visit;
+use pi_tree::Pat;
+
+/// A `let` where it is visited, up to its expression: the place, what is known there, below few copies, and the pattern,
+/// whose tuples are short.
+#[derive(Clone, Copy)]
+pub struct Choosing<'a> {
+    pub place: &'a Place<'a>,
+    pub visit: &'a Visit,
+    pub pattern: &'a Pat,
+    ghost short: { IsShortPattern (pattern_of pattern.now) } by { Prim.hlevel short_props },
+    ghost copies: { HasFewCopies most_points visit.now } by { Prim.hlevel short_props },
+}

@@ -1,0 +1,23 @@
+//! What a visit of a process of each form adds to the clauses, and the visits below it (Blanchet 2016, section 3.3.2).
+#![tactic(auto)]
+
+mod built;
+mod channels;
+mod choice;
+pub mod choices;
+pub mod copies;
+pub mod events;
+pub mod forms;
+pub mod inputs;
+pub mod large;
+pub mod listing;
+pub mod names;
+mod numbers;
+pub mod outputs;
+pub mod place;
+mod points;
+mod raw;
+mod spans;
+mod substituted;
+mod unified;
+pub mod visit;
