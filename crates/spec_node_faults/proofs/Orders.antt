@@ -77,7 +77,7 @@ module _ (P : Protocol) where
       ∙ sym (ap (λ o. map (term_at all) (option_map_or (λ m. m ∷ []) o [] ++ flat_map item_values items)) e))
 
 module _ (cs : List (Clause Term)) where
-  term_there : (t : Term) → Has (table cs) t → term_at (table cs) (number_in (table cs) t) ≡ t
+  pub term_there : (t : Term) → Has (table cs) t → term_at (table cs) (number_in (table cs) t) ≡ t
   term_there t h = ap (λ o. unwrap_or o (Leaf 0)) (at_place (table cs) t h)
 
   one_in_order : (ts us : List Term) (u : Term) → ts ++ (u ∷ us) ≡ terms_in_order cs → Has (table cs) u → is_out_of_order (table cs) ts (number_in (table cs) u) ≡ false
@@ -94,7 +94,7 @@ module _ (cs : List (Clause Term)) where
       ∙ (ap (λ b. false || not b || not (is_front (completed (ts ++ (term_at (table cs) n ∷ []))) (table cs))) there
       ∙ ap (λ c. false || not true || not c) front)
 
-  numbers_in_order : (ts us : List Term) → ts ++ us ≡ terms_in_order cs → AllByRecursion (Has (table cs)) us → InOrder (table cs) ts (map (number_in (table cs)) us)
+  pub numbers_in_order : (ts us : List Term) → ts ++ us ≡ terms_in_order cs → AllByRecursion (Has (table cs)) us → InOrder (table cs) ts (map (number_in (table cs)) us)
   numbers_in_order ts [] whole stand = tt
   numbers_in_order ts (u ∷ us) whole stand =
       let later = numbers_in_order (ts ++ (u ∷ [])) us (append_assoc ts (u ∷ []) us ∙ whole) stand.1 in (
@@ -116,7 +116,7 @@ ordered_mapped f (c ∷ cs) =
     ∙ (ap (λ zs. zs ++ map (map_fact f) (flat_map facts_in_order cs)) (sym (map-append (map_fact f) c.hypotheses (c.conclusion ∷ [])))
     ∙ sym (map-append (map_fact f) (facts_in_order c) (flat_map facts_in_order cs)))
 
-values_mapped : (f : Term → ℕ) (cs : List (Clause Term)) → flat_map terms_of (flat_map in_order (map (map_clause f) cs)) ≡ map f (terms_in_order cs)
+pub values_mapped : (f : Term → ℕ) (cs : List (Clause Term)) → flat_map terms_of (flat_map in_order (map (map_clause f) cs)) ≡ map f (terms_in_order cs)
 values_mapped f cs = ap (flat_map terms_of) (ordered_mapped f cs) ∙ facts_mapped f (flat_map facts_in_order cs)
 
 module _ (P : Protocol) (cs : List (Clause Term)) (stand : AllByRecursion (Has (table cs)) (terms_in_order cs)) (items : List Item) (good : AllByRecursion (IsGood P) items) (values : flat_map item_values items ≡ flat_map terms_of (flat_map in_order (map (map_clause (number_in (table cs))) cs))) where

@@ -1,2 +1,12 @@
 mod Spelled
 mod ReportsOne
+mod FactsThere
+mod ClausesThere
+mod NodesThere
+mod NumberedThere
+mod RowsFound
+mod FactsFound
+mod ClausesFound
+mod NodesFound
+mod Goes
+mod NumberedFound

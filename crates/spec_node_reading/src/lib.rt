@@ -21,11 +21,13 @@ ghost use Rattle.spec_certificate_reading.specs.Terms.{Code, Syntax, Number, Sym
 ghost use Rattle.spec_certificate_reading.specs.Outcomes.{Found, Faulty};
 ghost use Rattle.spec_certificate_reading.specs.Reports.{Claim};
 ghost use Rattle.spec_certificate_text.specs.Examples.{sending, answering};
+ghost use Rattle.spec_node_tables.specs.Text.{text_with_nodes};
 ghost use Rattle.spec_node_tables.specs.Examples.{silent, silent_certificate};
 ghost use Rattle.spec_certificate_faults.specs.First.{IsFirstFault};
+ghost use Rattle.spec_node_faults.specs.Grammar.{IsNumberable};
 ghost use Rattle.spec_node_reading.specs.Clauses.{numbered_certificates, certificates_of_both};
 ghost use Rattle.spec_node_reading.specs.Readable.{SpellsNumbered, SpellsPlain, SpellsCertificate};
-ghost use Rattle.spec_node_reading.specs.Reading.{read_numbered};
+ghost use Rattle.spec_node_reading.specs.Reading.{read_numbered, read_in_both};
 ghost use Rattle.spec_node_reading.specs.Reports.{SpellsReport};
 
 /// The certificate of a name that nobody uses is read; without its last clause a node is never reached, which is told where
@@ -114,4 +116,26 @@ pub fn certificates_are_one()
 pub fn reports_are_one()
     ensures { (P : Protocol) (bytes : List ℕ) (claims others : List Claim) → HasNames P →
         SpellsReport P bytes claims → SpellsReport P bytes others → claims ≡ others }
+{}
+
+/// A certificate that was read is the one that the bytes spell, and then the rest: it may be written by a table, and its text by
+/// its table is there; or it may be written without one, and its text is there.
+pub fn what_is_read_is_spelled()
+    ensures numbered { (P : Protocol) (bytes : List ℕ) (at place : ℕ) (c : Certificate)
+        (rest : List ℕ) →
+        read_numbered P bytes at ≡ Found c place rest → SpellsNumbered P bytes c rest }
+    ensures both { (P : Protocol) (bytes : List ℕ) (at place : ℕ) (c : Certificate)
+        (rest : List ℕ) →
+        read_in_both P bytes at ≡ Found c place rest → SpellsCertificate P bytes c rest }
+{}
+
+/// The text of a certificate that may be written by a table is read as this certificate, whatever follows; so is a certificate in
+/// whichever format.
+pub fn texts_are_read()
+    ensures numbered { (P : Protocol) (c : Certificate) (rest : List ℕ) (at : ℕ) → HasNames P →
+        IsNumberable P c →
+        (place : ℕ) × (read_numbered P (text_with_nodes P c rest) at ≡ Found c place rest) }
+    ensures both { (P : Protocol) (bytes : List ℕ) (c : Certificate) (rest : List ℕ) (at : ℕ) →
+        HasNames P → SpellsCertificate P bytes c rest →
+        (place : ℕ) × (read_in_both P bytes at ≡ Found c place rest) }
 {}

@@ -1,0 +1,250 @@
+-- The texts of facts by numbers are read, where the walk may go through their numbers.
+use Rattle.std.proofs.Common.{◌≡◌, ℕ, zero, suc, ◌+◌, ◌<◌, ◌≤◌, ◌==◌, ◌||◌, if◌then◌else◌, true, false, List, [], ◌∷◌, ◌++◌, map, length, take, drop, Some, codes, refl, sym, ◌∙◌, ap, subst, arith, append_assoc, length-append}
+use Rattle.std.specs.Char.{is_ascii_digit}
+use Rattle.std.specs.Fmt.{decimal}
+use Rattle.std.specs.List.{list_all, prefix_len}
+use Rattle.std.proofs.Math.Seq.{drop-append_seam, take-append_seam}
+use Rattle.std.proofs.lemmas.Bool.Decides.{nat_tests}
+use Rattle.std.proofs.lemmas.Fmt.{decimal_nonempty}
+use Rattle.std.proofs.lemmas.List.{length-map}
+use Rattle.spec_trees.specs.Tree.{size}
+use Rattle.spec_calculus.specs.Bounds.{most_symbols}
+use Rattle.spec_calculus.specs.Syntax.{Protocol}
+use Rattle.spec_protocol_tokens.specs.Bytes.{begins_word, is_in_word}
+use Rattle.spec_terms.specs.Term.{Term}
+use Rattle.spec_clauses.specs.Fact.{Fact, Att, Mess, Ev, Mev, Bad, terms_of, map_fact}
+use Rattle.spec_certificate_text.specs.Words.{event_word}
+use Rattle.spec_certificate_text.specs.Spelled.{IsWord, Stops}
+use Rattle.spec_certificate_text.specs.OfProtocol.{IsShort, IsEvent, HasNames}
+use Rattle.spec_certificate_text.proofs.Names.{decimal_digits, event_word_is_word}
+use Rattle.spec_certificate_text.proofs.Runs.{both_left}
+use Rattle.spec_certificate_reading.specs.Names.{CalledEvent, event_called}
+use Rattle.spec_certificate_reading.specs.Terms.{Syntax, Arity, NodeOrder, NodeLarge}
+use Rattle.spec_certificate_reading.specs.Outcomes.{Outcome, Found, Faulty, next, front, ended, read_fixed, read_number}
+use Rattle.spec_certificate_reading.specs.Facts.{Performed, performed}
+use Rattle.spec_certificate_reading.proofs.Parts.{Finds, joined, when_true, when_false, other_byte, same_byte, fixed_found, run_stops, number_found}
+use Rattle.spec_certificate_reading.proofs.Called.{event_word_called}
+use Rattle.spec_node_tables.specs.Nodes.{term_at}
+use Rattle.spec_node_tables.specs.Text.{number_text, later_terms, terms_text, event_over, fact_over}
+use Rattle.spec_node_tables.specs.OfProtocol.{HasEvent}
+use Rattle.spec_node_tables.specs.Large.{most_certificate_symbols, is_over}
+use Rattle.spec_node_faults.specs.Clauses.{is_out_of_order}
+use Rattle.spec_node_faults.specs.Grammar.{MayBeHypothesis, MayBeConclusion}
+use Rattle.spec_node_reading.specs.Walked.{Walked, with_signs, with_term, MayFollow, MayFollowAll}
+use Rattle.spec_node_reading.specs.Loops.{Behind, with, row_from}
+use Rattle.spec_node_reading.specs.ReadClauses.{judged_number, one_term, read_terms, read_applied, event_named, read_event, read_att, read_mess, read_performed, read_bad, read_hypothesis, read_conclusion}
+
+module _ (P : Protocol) (names : HasNames P) (table : List Term) where
+  abbrev pub past_all : Walked → List ℕ → Walked
+  past_all w [] = w
+  past_all w (n ∷ ns) = past_all (with_term (term_at table n) w) ns
+
+  -- a number that may follow, before a byte that is no digit
+  one_found : (w : Walked) (n b : ℕ) (rest : List ℕ) (at : ℕ) → IsShort n → MayFollow table w n → is_ascii_digit b ≡ false → Finds (one_term P table w (decimal n ++ b ∷ rest) at) (with (term_at table n) (with_term (term_at table n) w)) (b ∷ rest)
+  one_found w n b rest at short may stops =
+      let t = term_at table n in
+      let small = may.clause in
+      let together = may.all in
+      let one : is_over most_symbols (w.clause + size t) ≡ false = grind (arith, nat_tests, small) in
+      let two : is_over most_certificate_symbols (w.all + size t) ≡ false = grind (arith, nat_tests, together) in
+      let within : (is_over most_symbols (w.clause + size t) || is_over most_certificate_symbols (w.all + size t)) ≡ false = ap (λ c. c || is_over most_certificate_symbols (w.all + size t)) one ∙ two in
+      joined (read_number (decimal n ++ b ∷ rest) at) (λ m p k. judged_number P table w at m p k) n (b ∷ rest) (with t (with_term t w)) (b ∷ rest) (number_found n b rest at short stops)
+      (λ p. when_false (is_out_of_order table w.seen n) (Faulty at NodeOrder) (if is_over most_symbols (w.clause + size t) || is_over most_certificate_symbols (w.all + size t) then Faulty at NodeLarge else Found (with t (with_term t w)) p (b ∷ rest)) (with t (with_term t w)) (b ∷ rest) may.in_order
+      (when_false (is_over most_symbols (w.clause + size t) || is_over most_certificate_symbols (w.all + size t)) (Faulty at NodeLarge) (Found (with t (with_term t w)) p (b ∷ rest)) (with t (with_term t w)) (b ∷ rest) within record { place = p; is = refl }))
+
+  -- Rows of numbers.
+
+  terms_more : (most : ℕ) (xs : Behind (List Term)) (bytes : List ℕ) (at : ℕ)
+      → row_from (one_term P table) 44 [] (codes ")") (suc most) xs bytes at
+      ≡ next (one_term P table xs.walked bytes at) (λ x p r.
+      if front r == 44 then next (read_fixed (44 ∷ []) r p) (λ _ p r. row_from (one_term P table) 44 [] (codes ")") most (with (xs.value ++ x.value ∷ []) x.walked) r p)
+      else next (read_fixed (codes ")") r p) (λ _ p r. Found (with (xs.value ++ x.value ∷ []) x.walked) p r))
+  unfolding row_from
+  terms_more most xs bytes at = refl
+
+  row_found : (most : ℕ) (ts : List Term) (w : Walked) (n : ℕ) (ns : List ℕ) (rest : List ℕ) (at : ℕ) → length ns + 1 ≤ most → MayFollowAll table w (n ∷ ns)
+      → Finds (row_from (one_term P table) 44 [] (codes ")") most (with ts w) (terms_text number_text P (n ∷ ns) (41 ∷ rest)) at) (with (ts ++ map (term_at table) (n ∷ ns)) (past_all w (n ∷ ns))) rest
+  row_found zero ts w n ns rest at room may = absurd (omega (arith, room))
+  row_found (suc most) ts w n [] rest at room may =
+      let t = term_at table n in
+      let v = with_term t w in
+      let bytes = decimal n ++ 41 ∷ rest in
+      let then_ : Behind Term → ℕ → List ℕ → Outcome (Behind (List Term)) = λ x p k. if front k == 44 then next (read_fixed (44 ∷ []) k p) (λ _ p r. row_from (one_term P table) 44 [] (codes ")") most (with (ts ++ x.value ∷ []) x.walked) r p) else next (read_fixed (codes ")") k p) (λ _ p r. Found (with (ts ++ x.value ∷ []) x.walked) p r) in
+      let found = joined (one_term P table w bytes at) then_ (with t v) (41 ∷ rest) (with (ts ++ t ∷ []) v) rest (one_found w n 41 rest at may.0 may.1 refl)
+      (λ p. joined (read_fixed (codes ")") (41 ∷ rest) p) (λ _ p r. Found (with (ts ++ t ∷ []) v) p r) tt rest (with (ts ++ t ∷ []) v) rest (fixed_found (codes ")") rest p) (λ q. record { place = q; is = refl })) in
+      record { place = found.place; is = terms_more most (with ts w) bytes at ∙ found.is }
+  row_found (suc most) ts w n (m ∷ ns) rest at room may =
+      let t = term_at table n in
+      let v = with_term t w in
+      let inner = terms_text number_text P (m ∷ ns) (41 ∷ rest) in
+      let bytes = decimal n ++ 44 ∷ inner in
+      let end = with (ts ++ map (term_at table) (n ∷ m ∷ ns)) (past_all v (m ∷ ns)) in
+      let then_ : Behind Term → ℕ → List ℕ → Outcome (Behind (List Term)) = λ x p k. if front k == 44 then next (read_fixed (44 ∷ []) k p) (λ _ p r. row_from (one_term P table) 44 [] (codes ")") most (with (ts ++ x.value ∷ []) x.walked) r p) else next (read_fixed (codes ")") k p) (λ _ p r. Found (with (ts ++ x.value ∷ []) x.walked) p r) in
+      let same : (ts ++ t ∷ []) ++ map (term_at table) (m ∷ ns) ≡ ts ++ map (term_at table) (n ∷ m ∷ ns) = append_assoc ts (t ∷ []) (map (term_at table) (m ∷ ns)) in
+      let found = joined (one_term P table w bytes at) then_ (with t v) (44 ∷ inner) end rest (one_found w n 44 inner at may.0 may.1 refl)
+      (λ p. joined (read_fixed (44 ∷ []) (44 ∷ inner) p) (λ _ p r. row_from (one_term P table) 44 [] (codes ")") most (with (ts ++ t ∷ []) v) r p) tt inner end rest (fixed_found (44 ∷ []) inner p)
+      (λ q. subst (λ us. Finds (row_from (one_term P table) 44 [] (codes ")") most (with (ts ++ t ∷ []) v) inner q) (with us (past_all v (m ∷ ns))) rest) same (row_found most (ts ++ t ∷ []) v m ns rest q (omega (arith, room)) may.2))) in
+      record { place = found.place; is = terms_more most (with ts w) bytes at ∙ found.is }
+
+  -- a row has as many bytes as numbers
+  row_long : (n : ℕ) (ns : List ℕ) (rest : List ℕ) → length ns ≤ length (terms_text number_text P (n ∷ ns) rest)
+  row_long n [] rest = omega arith
+  row_long n (m ∷ ns) rest = let more = row_long m ns rest in omega (arith, more, length-append (decimal n) (44 ∷ terms_text number_text P (m ∷ ns) rest))
+
+  terms_found : (w : Walked) (n : ℕ) (ns : List ℕ) (rest : List ℕ) (at : ℕ) → MayFollowAll table w (n ∷ ns) → Finds (read_terms P table w (terms_text number_text P (n ∷ ns) (41 ∷ rest)) at) (with (map (term_at table) (n ∷ ns)) (past_all w (n ∷ ns))) rest
+  terms_found w n ns rest at may = let long = row_long n ns (41 ∷ rest) in row_found (suc (length (terms_text number_text P (n ∷ ns) (41 ∷ rest)))) [] w n ns rest at (omega (arith, long)) may
+
+  -- Events.
+
+  word_front : (w rest : List ℕ) → IsWord w → begins_word (front (w ++ rest)) ≡ true
+  word_front [] rest is = absurd (let never : false ≡ true = is.begins in cc)
+  word_front (b ∷ w) rest is = is.begins
+
+  -- what stands behind the word of an event
+  abbrev applied_onto : List ℕ → List ℕ → List ℕ
+  applied_onto [] rest = rest
+  applied_onto (n ∷ ns) rest = 40 ∷ terms_text number_text P (n ∷ ns) (41 ∷ rest)
+
+  event_parts : (e : ℕ) (ns rest : List ℕ) → event_over number_text P e ns rest ≡ event_word P e ++ applied_onto ns rest
+  event_parts e [] rest = refl
+  event_parts e (n ∷ ns) rest = refl
+
+  applied_found : (w : Walked) (ns rest : List ℕ) (at : ℕ) → MayFollowAll table w ns → Finds (read_applied P table w (applied_onto ns (41 ∷ rest)) at) (with (map (term_at table) ns) (past_all w ns)) (41 ∷ rest)
+  applied_found w [] rest at may = record { place = at; is = refl }
+  applied_found w (n ∷ ns) rest at may =
+      let inner = terms_text number_text P (n ∷ ns) (41 ∷ 41 ∷ rest) in
+      joined (read_fixed (codes "(") (40 ∷ inner) at) (λ _ p k. read_terms P table w k p) tt inner (with (map (term_at table) (n ∷ ns)) (past_all w (n ∷ ns))) (41 ∷ rest) (fixed_found (codes "(") inner at)
+      (λ p. terms_found w n ns (41 ∷ rest) p may)
+
+  -- no byte of a word stands there
+  applied_stops : (ns rest : List ℕ) → Stops is_in_word (applied_onto ns (41 ∷ rest))
+  applied_stops [] rest = refl
+  applied_stops (n ∷ ns) rest = refl
+
+  applied_goes_on : {A : Type 0} (ns rest : List ℕ) (place : ℕ) (o : Outcome A) → ended place (applied_onto ns (41 ∷ rest)) o ≡ o
+  applied_goes_on [] rest place o = refl
+  applied_goes_on (n ∷ ns) rest place o = refl
+
+  event_found : (w : Walked) (e : ℕ) (ns : List ℕ) (rest : List ℕ) (at : ℕ) → IsEvent P e (length ns) → MayFollowAll table w ns
+      → Finds (read_event P table w (event_over number_text P e ns (41 ∷ rest)) at) (with (record { event = e; arguments = map (term_at table) ns }) (past_all w ns)) (41 ∷ rest)
+  event_found w e ns rest at is may =
+      let word = event_word P e in
+      let k = applied_onto ns (41 ∷ rest) in
+      let bytes = word ++ k in
+      let is_word = event_word_is_word P e (length ns) names is in
+      let called : CalledEvent = record { number = e; arity = length ns } in
+      let made : Performed = record { event = e; arguments = map (term_at table) ns } in
+      let v = past_all w ns in
+      let long = prefix_len is_in_word bytes in
+      let so : long ≡ length word = run_stops is_in_word word k is_word.goes_on (applied_stops ns rest) in
+      let first : take long bytes ≡ word = ap (λ n. take n bytes) so ∙ take-append_seam word k in
+      let later : drop long bytes ≡ k = ap (λ n. drop n bytes) so ∙ drop-append_seam word k in
+      let many : (length (map (term_at table) ns) == length ns) ≡ true = ap (λ n. n == length ns) (length-map ns (term_at table)) ∙ same_byte (length ns) in
+      let named : Finds (event_named P table (Some called) w at (at + long) k) (with made v) (41 ∷ rest) =
+      joined (read_applied P table w k (at + long)) (λ x p r. next (performed at called x.value p r) (λ f p r. Found (with f x.walked) p r)) (with (map (term_at table) ns) v) (41 ∷ rest) (with made v) (41 ∷ rest) (applied_found w ns rest (at + long) may)
+      (λ p. joined (performed at called (map (term_at table) ns) p (41 ∷ rest)) (λ f p r. Found (with f v) p r) made (41 ∷ rest) (with made v) (41 ∷ rest)
+      (when_true (length (map (term_at table) ns) == length ns) (Found made p (41 ∷ rest)) (Faulty at Arity) made (41 ∷ rest) many record { place = p; is = refl }) (λ q. record { place = q; is = refl })) in
+      let read : ended (at + long) (drop long bytes) (event_named P table (event_called P (take long bytes)) w at (at + long) (drop long bytes)) ≡ event_named P table (Some called) w at (at + long) k =
+      ap (λ bs. ended (at + long) bs (event_named P table (event_called P (take long bytes)) w at (at + long) bs)) later
+      ∙ (applied_goes_on ns rest (at + long) (event_named P table (event_called P (take long bytes)) w at (at + long) k)
+      ∙ (ap (λ o. event_named P table (event_called P o) w at (at + long) k) first ∙ ap (λ o. event_named P table o w at (at + long) k) (event_word_called P names e (length ns) is))) in
+      let whole : Finds (read_event P table w bytes at) (with made v) (41 ∷ rest) =
+      when_true (begins_word (front bytes)) (ended (at + long) (drop long bytes) (event_named P table (event_called P (take long bytes)) w at (at + long) (drop long bytes))) (Faulty at Syntax) (with made v) (41 ∷ rest) (word_front word k is_word) record { place = named.place; is = read ∙ named.is } in
+      subst (λ bs. Finds (read_event P table w bs at) (with made v) (41 ∷ rest)) (sym (event_parts e ns (41 ∷ rest))) whole
+
+  -- Facts.
+
+  -- symbols that stand before the terms of a fact
+  abbrev pub signs : {X : Type 0} → Fact X → ℕ
+  signs (Att t) = 1
+  signs (Mess t u) = 1
+  signs (Ev e ts) = 2
+  signs (Mev e ts) = 2
+  signs (Bad ts) = 1
+
+  -- the walk may go through the fact
+  abbrev pub MayGo : Walked → Fact ℕ → Type 0
+  MayGo w f = MayFollowAll table (with_signs (signs f) w) (terms_of f)
+
+  abbrev pub past_fact : Walked → Fact ℕ → Walked
+  past_fact w f = past_all (with_signs (signs f) w) (terms_of f)
+
+  abbrev pub read_as : Walked → Fact ℕ → Behind (Fact Term)
+  read_as w f = with (map_fact (term_at table) f) (past_fact w f)
+
+  att_found : (w : Walked) (n : ℕ) (rest : List ℕ) (at : ℕ) → MayGo w (Att n) → Finds (read_att P table w (fact_over number_text P (Att n) rest) at) (read_as w (Att n)) rest
+  att_found w n rest at may =
+      let v = with_signs 1 w in
+      let t = term_at table n in
+      let inner = decimal n ++ 41 ∷ rest in
+      joined (read_fixed (codes "att(") (codes "att(" ++ inner) at) (λ _ p r. next (one_term P table v r p) (λ x p r. next (read_fixed (codes ")") r p) (λ _ p r. Found (with (Att x.value) x.walked) p r))) tt inner (read_as w (Att n)) rest (fixed_found (codes "att(") inner at)
+      (λ p. joined (one_term P table v inner p) (λ x p r. next (read_fixed (codes ")") r p) (λ _ p r. Found (with (Att x.value) x.walked) p r)) (with t (with_term t v)) (41 ∷ rest) (read_as w (Att n)) rest (one_found v n 41 rest p may.0 may.1 refl)
+      (λ q. joined (read_fixed (codes ")") (41 ∷ rest) q) (λ _ p r. Found (with (Att t) (with_term t v)) p r) tt rest (read_as w (Att n)) rest (fixed_found (codes ")") rest q) (λ s. record { place = s; is = refl })))
+
+  mess_found : (w : Walked) (m n : ℕ) (rest : List ℕ) (at : ℕ) → MayGo w (Mess m n) → Finds (read_mess P table w (fact_over number_text P (Mess m n) rest) at) (read_as w (Mess m n)) rest
+  mess_found w m n rest at may =
+      let v = with_signs 1 w in
+      let t = term_at table m in
+      let u = term_at table n in
+      let x = with_term t v in
+      let y = with_term u x in
+      let second = decimal n ++ 41 ∷ rest in
+      let first = decimal m ++ 44 ∷ second in
+      joined (read_fixed (codes "mess(") (codes "mess(" ++ first) at) (λ _ p r. next (one_term P table v r p) (λ a p r. next (read_fixed (codes ",") r p) (λ _ p r. next (one_term P table a.walked r p) (λ b p r. next (read_fixed (codes ")") r p) (λ _ p r. Found (with (Mess a.value b.value) b.walked) p r)))))
+      tt first (read_as w (Mess m n)) rest (fixed_found (codes "mess(") first at)
+      (λ p. joined (one_term P table v first p) (λ a p r. next (read_fixed (codes ",") r p) (λ _ p r. next (one_term P table a.walked r p) (λ b p r. next (read_fixed (codes ")") r p) (λ _ p r. Found (with (Mess a.value b.value) b.walked) p r))))
+      (with t x) (44 ∷ second) (read_as w (Mess m n)) rest (one_found v m 44 second p may.0 may.1 refl)
+      (λ q. joined (read_fixed (codes ",") (44 ∷ second) q) (λ _ p r. next (one_term P table x r p) (λ b p r. next (read_fixed (codes ")") r p) (λ _ p r. Found (with (Mess t b.value) b.walked) p r)))
+      tt second (read_as w (Mess m n)) rest (fixed_found (codes ",") second q)
+      (λ s. joined (one_term P table x second s) (λ b p r. next (read_fixed (codes ")") r p) (λ _ p r. Found (with (Mess t b.value) b.walked) p r)) (with u y) (41 ∷ rest) (read_as w (Mess m n)) rest (one_found x n 41 rest s may.2.0 may.2.1 refl)
+      (λ i. joined (read_fixed (codes ")") (41 ∷ rest) i) (λ _ p r. Found (with (Mess t u) y) p r) tt rest (read_as w (Mess m n)) rest (fixed_found (codes ")") rest i) (λ j. record { place = j; is = refl })))))
+
+  performed_found : (word : List ℕ) (fact : ℕ → List Term → Fact Term) (w : Walked) (e : ℕ) (ns rest : List ℕ) (at : ℕ) → IsEvent P e (length ns) → MayFollowAll table (with_signs 2 w) ns
+      → Finds (read_performed P table word fact w (word ++ event_over number_text P e ns (41 ∷ rest)) at) (with (fact e (map (term_at table) ns)) (past_all (with_signs 2 w) ns)) rest
+  performed_found word fact w e ns rest at is may =
+      let v = with_signs 2 w in
+      let end = with (fact e (map (term_at table) ns)) (past_all v ns) in
+      let made : Performed = record { event = e; arguments = map (term_at table) ns } in
+      let inner = event_over number_text P e ns (41 ∷ rest) in
+      joined (read_fixed word (word ++ inner) at) (λ _ p r. next (read_event P table v r p) (λ f p r. next (read_fixed (codes ")") r p) (λ _ p r. Found (with (fact f.value.event f.value.arguments) f.walked) p r))) tt inner end rest (fixed_found word inner at)
+      (λ p. joined (read_event P table v inner p) (λ f p r. next (read_fixed (codes ")") r p) (λ _ p r. Found (with (fact f.value.event f.value.arguments) f.walked) p r)) (with made (past_all v ns)) (41 ∷ rest) end rest (event_found v e ns rest p is may)
+      (λ q. joined (read_fixed (codes ")") (41 ∷ rest) q) (λ _ p r. Found end p r) tt rest end rest (fixed_found (codes ")") rest q) (λ s. record { place = s; is = refl })))
+
+  -- no number begins with `)`
+  number_front : (n : ℕ) (k : List ℕ) → IsShort n → (front (decimal n ++ k) == 41) ≡ false
+  number_front n k short = by (decimal n) (decimal_digits n short) (decimal_nonempty n (omega arith))
+    where
+      no_digit : (b : ℕ) → is_ascii_digit b ≡ true → (b == 41) ≡ false
+      no_digit b is = other_byte b 41 (λ same. let never : false ≡ true = ap is_ascii_digit (sym same) ∙ is in cc)
+
+      by : (ds : List ℕ) → list_all is_ascii_digit ds ≡ true → 0 < length ds → (front (ds ++ k) == 41) ≡ false
+      by [] digits some = absurd (omega (arith, some))
+      by (d ∷ ds) digits some = no_digit d (both_left (is_ascii_digit d) (list_all is_ascii_digit ds) digits)
+
+  bad_found : (w : Walked) (ns rest : List ℕ) (at : ℕ) → MayGo w (Bad ns) → Finds (read_bad P table w (fact_over number_text P (Bad ns) rest) at) (read_as w (Bad ns)) rest
+  bad_found w [] rest at may =
+      let v = with_signs 1 w in
+      joined (read_fixed (codes "bad(") (codes "bad(" ++ (41 ∷ rest)) at)
+      (λ _ p r. if front r == 41 then next (read_fixed (codes ")") r p) (λ _ p r. Found (with (Bad []) v) p r) else next (read_terms P table v r p) (λ x p r. Found (with (Bad x.value) x.walked) p r)) tt (41 ∷ rest) (read_as w (Bad [])) rest (fixed_found (codes "bad(") (41 ∷ rest) at)
+      (λ p. joined (read_fixed (codes ")") (41 ∷ rest) p) (λ _ p r. Found (with (Bad []) v) p r) tt rest (read_as w (Bad [])) rest (fixed_found (codes ")") rest p) (λ q. record { place = q; is = refl }))
+  bad_found w (n ∷ ns) rest at may =
+      let v = with_signs 1 w in
+      let inner = terms_text number_text P (n ∷ ns) (41 ∷ rest) in
+      joined (read_fixed (codes "bad(") (codes "bad(" ++ inner) at)
+      (λ _ p r. if front r == 41 then next (read_fixed (codes ")") r p) (λ _ p r. Found (with (Bad []) v) p r) else next (read_terms P table v r p) (λ x p r. Found (with (Bad x.value) x.walked) p r)) tt inner (read_as w (Bad (n ∷ ns))) rest (fixed_found (codes "bad(") inner at)
+      (λ p. when_false (front inner == 41) (next (read_fixed (codes ")") inner p) (λ _ p r. Found (with (Bad []) v) p r)) (next (read_terms P table v inner p) (λ x p r. Found (with (Bad x.value) x.walked) p r)) (read_as w (Bad (n ∷ ns))) rest (number_front n (later_terms number_text P ns (41 ∷ rest)) may.0)
+      (joined (read_terms P table v inner p) (λ x p r. Found (with (Bad x.value) x.walked) p r) (with (map (term_at table) (n ∷ ns)) (past_all v (n ∷ ns))) rest (read_as w (Bad (n ∷ ns))) rest (terms_found v n ns rest p may) (λ q. record { place = q; is = refl })))
+
+  pub hypothesis_found : (w : Walked) (f : Fact ℕ) (rest : List ℕ) (at : ℕ) → HasEvent P f → MayBeHypothesis f → MayGo w f → Finds (read_hypothesis P table w (fact_over number_text P f rest) at) (read_as w f) rest
+  hypothesis_found w (Att n) rest at has may go = att_found w n rest at go
+  hypothesis_found w (Mess m n) rest at has may go = mess_found w m n rest at go
+  hypothesis_found w (Ev e ns) rest at has may go = performed_found (codes "ev(") (λ e ts. Ev e ts) w e ns rest at has go
+  hypothesis_found w (Mev e ns) rest at has may go = performed_found (codes "mev(") (λ e ts. Mev e ts) w e ns rest at has go
+  hypothesis_found w (Bad ns) rest at has may go = absurd may
+
+  pub conclusion_found : (w : Walked) (f : Fact ℕ) (rest : List ℕ) (at : ℕ) → HasEvent P f → MayBeConclusion f → MayGo w f → Finds (read_conclusion P table w (fact_over number_text P f rest) at) (read_as w f) rest
+  conclusion_found w (Att n) rest at has may go = att_found w n rest at go
+  conclusion_found w (Mess m n) rest at has may go = mess_found w m n rest at go
+  conclusion_found w (Ev e ns) rest at has may go = performed_found (codes "ev(") (λ e ts. Ev e ts) w e ns rest at has go
+  conclusion_found w (Mev e ns) rest at has may go = absurd may
+  conclusion_found w (Bad ns) rest at has may go = bad_found w ns rest at go

@@ -1,0 +1,459 @@
+-- Facts by numbers that were read are what the bytes begin with, and the walk has gone through them.
+use Rattle.std.proofs.Common.{◌≡◌, ℕ, zero, suc, ◌+◌, ◌≤◌, ◌==◌, ◌||◌, if◌then◌else◌, Bool, true, false, List, [], ◌∷◌, ◌++◌, map, length, take, drop, Option, Some, None, codes, refl, sym, ◌∙◌, ap, subst, arith, append_assoc}
+use Rattle.std.specs.Fmt.{decimal}
+use Rattle.std.specs.List.{AllByRecursion, prefix_len}
+use Rattle.std.proofs.lemmas.List.{append-nil, take-append-drop, length-map}
+use Rattle.std.proofs.lemmas.Bool.Decides.{nat_tests}
+use Rattle.spec_trees.specs.Tree.{size}
+use Rattle.spec_calculus.specs.Bounds.{most_symbols}
+use Rattle.spec_calculus.specs.Syntax.{Protocol}
+use Rattle.spec_protocol_tokens.specs.Bytes.{begins_word, is_in_word}
+use Rattle.spec_terms.specs.Term.{Term}
+use Rattle.spec_clauses.specs.Fact.{Fact, Att, Mess, Ev, Mev, Bad, terms_of, map_fact, total, fact_size}
+use Rattle.spec_certificate_text.specs.Words.{event_word}
+use Rattle.spec_certificate_text.specs.OfProtocol.{IsShort, IsEvent}
+use Rattle.spec_certificate_reading.specs.Names.{CalledEvent, event_called}
+use Rattle.spec_certificate_reading.specs.Terms.{Syntax, Arity, NodeOrder, NodeLarge}
+use Rattle.spec_certificate_reading.specs.Outcomes.{Found, Faulty, next, front, ended, read_fixed, read_number}
+use Rattle.spec_certificate_reading.specs.Facts.{Performed, performed}
+use Rattle.spec_certificate_reading.proofs.Parts.{parts, chosen, equal_byte, fixed_there, ended_found, number_there}
+use Rattle.spec_certificate_reading.proofs.Called.{event_called_is}
+use Rattle.spec_node_tables.specs.Nodes.{term_at}
+use Rattle.spec_node_tables.specs.Text.{number_text, terms_text, event_over, fact_over}
+use Rattle.spec_node_tables.specs.OfProtocol.{IsFactOver}
+use Rattle.spec_node_tables.specs.Large.{most_certificate_symbols, up_to_terms, up_to_fact, AreUpTo, is_over}
+use Rattle.spec_node_faults.specs.Clauses.{is_out_of_order}
+use Rattle.spec_node_faults.specs.Grammar.{MayBeHypothesis, MayBeConclusion}
+use Rattle.spec_node_faults.proofs.Orders.{InOrder}
+use Rattle.spec_node_reading.specs.Walked.{Walked, with_signs, with_term}
+use Rattle.spec_node_reading.specs.Loops.{Behind, with, row_from}
+use Rattle.spec_node_reading.specs.ReadClauses.{judged_number, one_term, read_terms, read_applied, event_named, read_event, read_att, read_mess, read_performed, read_bad, read_hypothesis, read_conclusion}
+
+-- what was found is one
+
+found_value : {A : Type 0} (x y : A) (p q : ℕ) (r s : List ℕ) → Found x p r ≡ Found y q s → x ≡ y
+found_value x y p q r s e = cc
+
+found_rest : {A : Type 0} (x y : A) (p q : ℕ) (r s : List ℕ) → Found x p r ≡ Found y q s → r ≡ s
+found_rest x y p q r s e = cc
+
+module _ (P : Protocol) (table : List Term) where
+  abbrev pub terms_at : List ℕ → List Term
+  terms_at ns = map (term_at table) ns
+
+  -- the walk has gone through the terms of these numbers
+  pub record Through (w : Walked) (ns : List ℕ) (v : Walked) : Type 0 where
+    pub order : InOrder table w.seen ns
+    pub seen : v.seen ≡ w.seen ++ terms_at ns
+    pub small : AreUpTo most_symbols (up_to_terms w.clause (terms_at ns))
+    pub together : AreUpTo most_certificate_symbols (up_to_terms w.all (terms_at ns))
+    pub clause : v.clause ≡ w.clause + total size (terms_at ns)
+    pub all : v.all ≡ w.all + total size (terms_at ns)
+
+  through_none : (w : Walked) → Through w [] w
+  through_none w = record { order = tt; seen = sym (append-nil w.seen); small = tt; together = tt; clause = omega arith; all = omega arith }
+
+  through_more : (w v : Walked) (n : ℕ) (ns : List ℕ) → is_out_of_order table w.seen n ≡ false → w.clause + size (term_at table n) ≤ most_symbols → w.all + size (term_at table n) ≤ most_certificate_symbols
+      → Through (with_term (term_at table n) w) ns v → Through w (n ∷ ns) v
+  through_more w v n ns order small together later =
+      let clause_is = later.clause in
+      let all_is = later.all in
+      record {
+        order = (order, later.order);
+        seen = later.seen ∙ append_assoc w.seen (term_at table n ∷ []) (terms_at ns);
+        small = (small, later.small);
+        together = (together, later.together);
+        clause = omega (arith, clause_is);
+        all = omega (arith, all_is);
+      }
+
+  -- a number was read that may follow
+  record NumberThere (w : Walked) (bytes : List ℕ) (x : Behind Term) (rest : List ℕ) : Type 0 where
+    number : ℕ
+    short : IsShort number
+    text : bytes ≡ decimal number ++ rest
+    order : is_out_of_order table w.seen number ≡ false
+    small : w.clause + size (term_at table number) ≤ most_symbols
+    together : w.all + size (term_at table number) ≤ most_certificate_symbols
+    is : with (term_at table number) (with_term (term_at table number) w) ≡ x
+
+  neither : (a b : Bool) → (a || b) ≡ false → (a ≡ false) × (b ≡ false)
+  neither true b e = absurd (cc)
+  neither false b e = (refl, e)
+
+  one_there : (w : Walked) (bytes : List ℕ) (at : ℕ) (x : Behind Term) (p : ℕ) (r : List ℕ) → one_term P table w bytes at ≡ Found x p r → NumberThere w bytes x r
+  one_there w bytes at x p r e =
+      let cut = parts (read_number bytes at) (λ n q k. judged_number P table w at n q k) x p r e in
+      let there = number_there bytes at cut.value cut.place cut.rest cut.first in
+      let n = cut.value in
+      let t = term_at table n in
+      let large = is_over most_symbols (w.clause + size t) || is_over most_certificate_symbols (w.all + size t) in
+      let found = Found (with t (with_term t w)) cut.place cut.rest in
+      chosen (is_out_of_order table w.seen n) (Faulty at NodeOrder) (if large then Faulty at NodeLarge else found) x p r (NumberThere w bytes x r) cut.later
+      (λ out never. absurd (cc))
+      (λ order later. chosen large (Faulty at NodeLarge) found x p r (NumberThere w bytes x r) later
+      (λ over never. absurd (cc))
+      (λ within end.
+      let (one, two) = neither (is_over most_symbols (w.clause + size t)) (is_over most_certificate_symbols (w.all + size t)) within in
+      let same : with t (with_term t w) ≡ x = cc in
+      let rests : cut.rest ≡ r = cc in
+      record { number = n; short = there.is; text = there.text ∙ ap (λ k. decimal n ++ k) rests; order = order; small = grind (arith, nat_tests, one); together = grind (arith, nat_tests, two); is = same }))
+
+  -- numbers in a row, one at least
+  record NumbersThere (w : Walked) (bytes : List ℕ) (x : Behind (List Term)) (before : List Term) (rest : List ℕ) : Type 0 where
+    first : ℕ
+    others : List ℕ
+    value : x.value ≡ before ++ terms_at (first ∷ others)
+    short : AllByRecursion IsShort (first ∷ others)
+    text : bytes ≡ terms_text number_text P (first ∷ others) (41 ∷ rest)
+    through : Through w (first ∷ others) x.walked
+
+  terms_more : (most : ℕ) (xs : Behind (List Term)) (bytes : List ℕ) (at : ℕ)
+      → row_from (one_term P table) 44 [] (codes ")") (suc most) xs bytes at
+      ≡ next (one_term P table xs.walked bytes at) (λ x p r.
+      if front r == 44 then next (read_fixed (44 ∷ []) r p) (λ _ p r. row_from (one_term P table) 44 [] (codes ")") most (with (xs.value ++ x.value ∷ []) x.walked) r p)
+      else next (read_fixed (codes ")") r p) (λ _ p r. Found (with (xs.value ++ x.value ∷ []) x.walked) p r))
+  unfolding row_from
+  terms_more most xs bytes at = refl
+
+  terms_none : (xs : Behind (List Term)) (bytes : List ℕ) (at : ℕ) → row_from (one_term P table) 44 [] (codes ")") 0 xs bytes at ≡ Faulty at Syntax
+  unfolding row_from
+  terms_none xs bytes at = refl
+
+  terms_there : (most : ℕ) (ts : List Term) (w : Walked) (bytes : List ℕ) (at : ℕ) (y : Behind (List Term)) (p : ℕ) (r : List ℕ) → row_from (one_term P table) 44 [] (codes ")") most (with ts w) bytes at ≡ Found y p r → NumbersThere w bytes y ts r
+  terms_there zero ts w bytes at y p r e = let never : Faulty at Syntax ≡ Found y p r = sym (terms_none (with ts w) bytes at) ∙ e in absurd (cc)
+  terms_there (suc most) ts w bytes at y p r e =
+      let cut = parts (one_term P table w bytes at) (λ x q k.
+      if front k == 44 then next (read_fixed (44 ∷ []) k q) (λ _ q k. row_from (one_term P table) 44 [] (codes ")") most (with (ts ++ x.value ∷ []) x.walked) k q)
+      else next (read_fixed (codes ")") k q) (λ _ q k. Found (with (ts ++ x.value ∷ []) x.walked) q k)) y p r (sym (terms_more most (with ts w) bytes at) ∙ e) in
+      let one = one_there w bytes at cut.value cut.place cut.rest cut.first in
+      by (λ us v bs from z q k told. terms_there most us v bs from z q k told) cut.value cut.place cut.rest one cut.later
+    where
+      by : ((us : List Term) (v : Walked) (bs : List ℕ) (from : ℕ) (z : Behind (List Term)) (q : ℕ) (k : List ℕ) → row_from (one_term P table) 44 [] (codes ")") most (with us v) bs from ≡ Found z q k → NumbersThere v bs z us k) → (x : Behind Term) (q : ℕ) (k : List ℕ) → NumberThere w bytes x k
+          → (if front k == 44 then next (read_fixed (44 ∷ []) k q) (λ _ q k. row_from (one_term P table) 44 [] (codes ")") most (with (ts ++ x.value ∷ []) x.walked) k q) else next (read_fixed (codes ")") k q) (λ _ q k. Found (with (ts ++ x.value ∷ []) x.walked) q k)) ≡ Found y p r
+          → NumbersThere w bytes y ts r
+      by again x q k one found =
+          let n = one.number in
+          let t = term_at table n in
+          let so = one.is in
+          let comma = next (read_fixed (44 ∷ []) k q) (λ _ q k. row_from (one_term P table) 44 [] (codes ")") most (with (ts ++ x.value ∷ []) x.walked) k q) in
+          let close = next (read_fixed (codes ")") k q) (λ _ q k. Found (with (ts ++ x.value ∷ []) x.walked) q k) in
+          chosen (front k == 44) comma close y p r (NumbersThere w bytes y ts r) found
+          (λ is goes.
+          let end = parts (read_fixed (44 ∷ []) k q) (λ _ q k. row_from (one_term P table) 44 [] (codes ")") most (with (ts ++ x.value ∷ []) x.walked) k q) y p r goes in
+          let commas = fixed_there (44 ∷ []) k q end.value end.place end.rest end.first in
+          let read : row_from (one_term P table) 44 [] (codes ")") most (with (ts ++ t ∷ []) (with_term t w)) end.rest end.place ≡ Found y p r =
+          ap (λ z. row_from (one_term P table) 44 [] (codes ")") most (with (ts ++ z.value ∷ []) z.walked) end.rest end.place) so ∙ end.later in
+          let others = again (ts ++ t ∷ []) (with_term t w) end.rest end.place y p r read in
+          record {
+            first = n;
+            others = others.first ∷ others.others;
+            value = others.value ∙ append_assoc ts (t ∷ []) (terms_at (others.first ∷ others.others));
+            short = (one.short, others.short);
+            text = one.text ∙ ap (λ s. decimal n ++ s) (commas ∙ ap (λ s. 44 ∷ s) others.text);
+            through = through_more w y.walked n (others.first ∷ others.others) one.order one.small one.together others.through;
+          })
+          (λ isnt ends.
+          let end = parts (read_fixed (codes ")") k q) (λ _ q k. Found (with (ts ++ x.value ∷ []) x.walked) q k) y p r ends in
+          let closes = fixed_there (codes ")") k q end.value end.place end.rest end.first in
+          let last : with (ts ++ x.value ∷ []) x.walked ≡ y = cc in
+          let rests : end.rest ≡ r = cc in
+          let whole : with (ts ++ t ∷ []) (with_term t w) ≡ y = ap (λ z. with (ts ++ z.value ∷ []) z.walked) so ∙ last in
+          record {
+            first = n;
+            others = [];
+            value = ap (λ z. z.value) (sym whole);
+            short = (one.short, tt);
+            text = one.text ∙ ap (λ s. decimal n ++ s) (closes ∙ ap (λ s. 41 ∷ s) rests);
+            through = through_more w y.walked n [] one.order one.small one.together (subst (λ z. Through (with_term t w) [] z.walked) whole (through_none (with_term t w)));
+          })
+
+  -- Events.
+
+  -- numbers behind the word of an event, or none
+  record AppliedThere (w : Walked) (word bytes : List ℕ) (x : Behind (List Term)) (rest : List ℕ) : Type 0 where
+    numbers : List ℕ
+    value : x.value ≡ terms_at numbers
+    short : AllByRecursion IsShort numbers
+    text : (e : ℕ) → event_word P e ≡ word → word ++ bytes ≡ event_over number_text P e numbers rest
+    through : Through w numbers x.walked
+
+  applied_there : (w : Walked) (word bytes : List ℕ) (at : ℕ) (x : Behind (List Term)) (p : ℕ) (r : List ℕ) → read_applied P table w bytes at ≡ Found x p r → AppliedThere w word bytes x r
+  applied_there w word bytes at x p r e =
+      chosen (front bytes == 40) (next (read_fixed (codes "(") bytes at) (λ _ q k. read_terms P table w k q)) (Found (with [] w) at bytes) x p r (AppliedThere w word bytes x r) e
+      (λ is goes.
+      let cut = parts (read_fixed (codes "(") bytes at) (λ _ q k. read_terms P table w k q) x p r goes in
+      let opens = fixed_there (codes "(") bytes at cut.value cut.place cut.rest cut.first in
+      let there = terms_there (suc (length cut.rest)) [] w cut.rest cut.place x p r cut.later in
+      record {
+        numbers = there.first ∷ there.others;
+        value = there.value;
+        short = there.short;
+        text = λ e same. ap (λ s. word ++ s) (opens ∙ ap (λ s. 40 ∷ s) there.text) ∙ ap (λ v. v ++ (40 ∷ terms_text number_text P (there.first ∷ there.others) (41 ∷ r))) (sym same);
+        through = there.through;
+      })
+      (λ isnt alone.
+      let same : with [] w ≡ x = cc in
+      let rests : bytes ≡ r = cc in
+      record {
+        numbers = [];
+        value = ap (λ z. z.value) (sym same);
+        short = tt;
+        text = λ e named. ap (λ s. word ++ s) rests ∙ ap (λ v. v ++ r) (sym named);
+        through = subst (λ z. Through w [] z.walked) same (through_none w);
+      })
+
+  record EventThere (w : Walked) (bytes : List ℕ) (x : Behind Performed) (rest : List ℕ) : Type 0 where
+    numbers : List ℕ
+    arguments : x.value.arguments ≡ terms_at numbers
+    event : IsEvent P x.value.event (length numbers)
+    short : AllByRecursion IsShort numbers
+    text : bytes ≡ event_over number_text P x.value.event numbers rest
+    through : Through w numbers x.walked
+
+  named_there : (w : Walked) (bytes word : List ℕ) (called : Option CalledEvent) (from q : ℕ) (k : List ℕ) (x : Behind Performed) (p : ℕ) (r : List ℕ) → bytes ≡ word ++ k → event_called P word ≡ called → event_named P table called w from q k ≡ Found x p r → EventThere w bytes x r
+  named_there w bytes word None from q k x p r text is found = absurd (cc)
+  named_there w bytes word (Some called) from q k x p r text is found =
+      let named = event_called_is P word called is in
+      let cut = parts (read_applied P table w k q) (λ y q k. next (performed from called y.value q k) (λ e q k. Found (with e y.walked) q k)) x p r found in
+      let there = applied_there w word k q cut.value cut.place cut.rest cut.first in
+      by cut.value cut.place cut.rest there cut.later named.has_word named.is_of
+    where
+      by : (y : Behind (List Term)) (q : ℕ) (s : List ℕ) → AppliedThere w word k y s → next (performed from called y.value q s) (λ e q k. Found (with e y.walked) q k) ≡ Found x p r → event_word P called.number ≡ word → IsEvent P called.number called.arity → EventThere w bytes x r
+      by y q s there later has_word is_of =
+          let made : Performed = record { event = called.number; arguments = y.value } in
+          let cut = parts (performed from called y.value q s) (λ e q k. Found (with e y.walked) q k) x p r later in
+          chosen (length y.value == called.arity) (Found made q s) (Faulty from Arity) cut.value cut.place cut.rest (EventThere w bytes x r) cut.first
+          (λ fits end.
+          let first : made ≡ cut.value = cc in
+          let place : s ≡ cut.rest = cc in
+          let last : with cut.value y.walked ≡ x = cc in
+          let rests : cut.rest ≡ r = cc in
+          let whole : with made y.walked ≡ x = ap (λ e. with e y.walked) first ∙ last in
+          let many : length y.value ≡ length there.numbers = ap length there.value ∙ length-map there.numbers (term_at table) in
+          subst (λ z. EventThere w bytes z r) whole record {
+            numbers = there.numbers;
+            arguments = there.value;
+            event = subst (IsEvent P called.number) (sym (equal_byte (length y.value) called.arity fits) ∙ many) is_of;
+            short = there.short;
+            text = text ∙ (there.text called.number has_word ∙ ap (event_over number_text P called.number there.numbers) (place ∙ rests));
+            through = there.through;
+          })
+          (λ misfits never. absurd (cc))
+
+  event_there : (w : Walked) (bytes : List ℕ) (at : ℕ) (x : Behind Performed) (p : ℕ) (r : List ℕ) → read_event P table w bytes at ≡ Found x p r → EventThere w bytes x r
+  event_there w bytes at x p r found =
+      let long = prefix_len is_in_word bytes in
+      let word = take long bytes in
+      let named = event_named P table (event_called P word) w at (at + long) (drop long bytes) in
+      chosen (begins_word (front bytes)) (ended (at + long) (drop long bytes) named) (Faulty at Syntax) x p r (EventThere w bytes x r) found
+      (λ begins some. named_there w bytes word (event_called P word) at (at + long) (drop long bytes) x p r (sym (take-append-drop long bytes)) refl (ended_found (at + long) (drop long bytes) named x p r some))
+      (λ none never. absurd (cc))
+
+  -- Facts.
+
+  -- a fact by numbers that means the one that was read, and the walk through it
+  pub record FactThere (May : Fact Term → Type 0) (w : Walked) (bytes : List ℕ) (x : Behind (Fact Term)) (rest : List ℕ) : Type 0 where
+    pub numbered : Fact ℕ
+    pub meant : map_fact (term_at table) numbered ≡ x.value
+    pub is : IsFactOver IsShort P numbered
+    pub text : bytes ≡ fact_over number_text P numbered rest
+    pub order : InOrder table w.seen (terms_of numbered)
+    pub seen : x.walked.seen ≡ w.seen ++ terms_at (terms_of numbered)
+    pub small : AreUpTo most_symbols (up_to_fact w.clause x.value)
+    pub together : AreUpTo most_certificate_symbols (up_to_fact w.all x.value)
+    pub clause : x.walked.clause ≡ w.clause + fact_size x.value
+    pub all : x.walked.all ≡ w.all + fact_size x.value
+    pub may : May x.value
+
+  att_there : (May : Fact Term → Type 0) → ((t : Term) → May (Att t)) → (w : Walked) (bytes : List ℕ) (at : ℕ) (x : Behind (Fact Term)) (p : ℕ) (r : List ℕ) → read_att P table w bytes at ≡ Found x p r → FactThere May w bytes x r
+  att_there May may w bytes at x p r e =
+      let begin = parts (read_fixed (codes "att(") bytes at) _ x p r e in
+      let opens = fixed_there (codes "att(") bytes at begin.value begin.place begin.rest begin.first in
+      let cut = parts (one_term P table (with_signs 1 w) begin.rest begin.place) _ x p r begin.later in
+      let one = one_there (with_signs 1 w) begin.rest begin.place cut.value cut.place cut.rest cut.first in
+      let end = parts (read_fixed (codes ")") cut.rest cut.place) _ x p r cut.later in
+      let closes = fixed_there (codes ")") cut.rest cut.place end.value end.place end.rest end.first in
+      let last : with (Att cut.value.value) cut.value.walked ≡ x = cc in
+      let rests : end.rest ≡ r = cc in
+      let n = one.number in
+      let t = term_at table n in
+      let so = one.is in
+      let whole : with (Att t) (with_term t (with_signs 1 w)) ≡ x = ap (λ y. with (Att y.value) y.walked) so ∙ last in
+      let through = through_more (with_signs 1 w) (with_term t (with_signs 1 w)) n [] one.order one.small one.together (through_none (with_term t (with_signs 1 w))) in
+      subst (λ y. FactThere May w bytes y r) whole record {
+        numbered = Att n;
+        meant = refl;
+        is = (tt, (one.short, tt));
+        text = opens ∙ ap (λ s. codes "att(" ++ s) (one.text ∙ ap (λ s. decimal n ++ s) (closes ∙ ap (λ s. 41 ∷ s) rests));
+        order = through.order;
+        seen = through.seen;
+        small = through.small;
+        together = through.together;
+        clause = omega arith;
+        all = omega arith;
+        may = may t;
+      }
+
+  -- two numbers that may follow one another
+  mess_of : (May : Fact Term → Type 0) → ((t u : Term) → May (Mess t u)) → (w : Walked) (bytes : List ℕ) (x : Behind (Fact Term)) (r : List ℕ)
+      → (m : ℕ) → IsShort m → is_out_of_order table w.seen m ≡ false → w.clause + 1 + size (term_at table m) ≤ most_symbols → w.all + 1 + size (term_at table m) ≤ most_certificate_symbols
+      → (y z : Behind Term) (n : ℕ) → IsShort n → with (term_at table m) (with_term (term_at table m) (with_signs 1 w)) ≡ y → is_out_of_order table y.walked.seen n ≡ false → y.walked.clause + size (term_at table n) ≤ most_symbols → y.walked.all + size (term_at table n) ≤ most_certificate_symbols
+      → with (term_at table n) (with_term (term_at table n) y.walked) ≡ z → bytes ≡ codes "mess(" ++ (decimal m ++ (44 ∷ (decimal n ++ (41 ∷ r)))) → with (Mess y.value z.value) z.walked ≡ x → FactThere May w bytes x r
+  mess_of May may w bytes x r m short order small together y z n short_n first order_n small_n together_n second text last =
+      let t = term_at table m in
+      let u = term_at table n in
+      let v : Walked = with_term t (with_signs 1 w) in
+      let end : Walked = with_term u v in
+      let ordered : is_out_of_order table v.seen n ≡ false = ap (λ b. is_out_of_order table b.walked.seen n) first ∙ order_n in
+      let fits : v.clause + size u ≤ most_symbols = subst (λ b. b.walked.clause + size u ≤ most_symbols) (sym first) small_n in
+      let all_fit : v.all + size u ≤ most_certificate_symbols = subst (λ b. b.walked.all + size u ≤ most_certificate_symbols) (sym first) together_n in
+      let through = through_more (with_signs 1 w) end m (n ∷ []) order small together (through_more v end n [] ordered fits all_fit (through_none end)) in
+      let whole : with (Mess t u) end ≡ x = ap (λ b. with (Mess b.value u) (with_term u b.walked)) first ∙ (ap (λ b. with (Mess y.value b.value) b.walked) second ∙ last) in
+      subst (λ b. FactThere May w bytes b r) whole record {
+        numbered = Mess m n;
+        meant = refl;
+        is = (tt, (short, (short_n, tt)));
+        text = text;
+        order = through.order;
+        seen = through.seen;
+        small = through.small;
+        together = through.together;
+        clause = omega arith;
+        all = omega arith;
+        may = may t u;
+      }
+
+  mess_there : (May : Fact Term → Type 0) → ((t u : Term) → May (Mess t u)) → (w : Walked) (bytes : List ℕ) (at : ℕ) (x : Behind (Fact Term)) (p : ℕ) (r : List ℕ) → read_mess P table w bytes at ≡ Found x p r → FactThere May w bytes x r
+  mess_there May may w bytes at x p r e =
+      let begin = parts (read_fixed (codes "mess(") bytes at) _ x p r e in
+      let opens = fixed_there (codes "mess(") bytes at begin.value begin.place begin.rest begin.first in
+      let cut = parts (one_term P table (with_signs 1 w) begin.rest begin.place) _ x p r begin.later in
+      let one = one_there (with_signs 1 w) begin.rest begin.place cut.value cut.place cut.rest cut.first in
+      let comma = parts (read_fixed (codes ",") cut.rest cut.place) _ x p r cut.later in
+      let commas = fixed_there (codes ",") cut.rest cut.place comma.value comma.place comma.rest comma.first in
+      let again = parts (one_term P table cut.value.walked comma.rest comma.place) _ x p r comma.later in
+      let two = one_there cut.value.walked comma.rest comma.place again.value again.place again.rest again.first in
+      let end = parts (read_fixed (codes ")") again.rest again.place) _ x p r again.later in
+      let closes = fixed_there (codes ")") again.rest again.place end.value end.place end.rest end.first in
+      let last = found_value (with (Mess cut.value.value again.value.value) again.value.walked) x end.place p end.rest r end.later in
+      let rests = found_rest (with (Mess cut.value.value again.value.value) again.value.walked) x end.place p end.rest r end.later in
+      let text = opens ∙ ap (λ s. codes "mess(" ++ s) (one.text ∙ ap (λ s. decimal one.number ++ s) (commas ∙ ap (λ s. 44 ∷ s) (two.text ∙ ap (λ s. decimal two.number ++ s) (closes ∙ ap (λ s. 41 ∷ s) rests)))) in
+      mess_of May may w bytes x r one.number one.short one.order one.small one.together cut.value again.value two.number two.short one.is two.order two.small two.together two.is text last
+
+  -- a fact of an event
+  performed_there : (May : Fact Term → Type 0) → (word : List ℕ) (by_numbers : ℕ → List ℕ → Fact ℕ) (fact : ℕ → List Term → Fact Term) → ((e : ℕ) (ns : List ℕ) → map_fact (term_at table) (by_numbers e ns) ≡ fact e (terms_at ns))
+      → ((e : ℕ) (ns : List ℕ) → IsEvent P e (length ns) → AllByRecursion IsShort ns → IsFactOver IsShort P (by_numbers e ns))
+      → ((e : ℕ) (ns : List ℕ) (rest : List ℕ) → word ++ event_over number_text P e ns (41 ∷ rest) ≡ fact_over number_text P (by_numbers e ns) rest) → ((e : ℕ) (ns : List ℕ) → terms_of (by_numbers e ns) ≡ ns)
+      → ((before e : ℕ) (ts : List Term) → up_to_fact before (fact e ts) ≡ up_to_terms (before + 2) ts) → ((e : ℕ) (ts : List Term) → fact_size (fact e ts) ≡ 2 + total size ts) → ((e : ℕ) (ts : List Term) → May (fact e ts))
+      → (w : Walked) (bytes : List ℕ) (at : ℕ) (x : Behind (Fact Term)) (p : ℕ) (r : List ℕ) → read_performed P table word fact w bytes at ≡ Found x p r → FactThere May w bytes x r
+  performed_there May word by_numbers fact means is_over text_of terms_are up_to sizes may w bytes at x p r e =
+      let begin = parts (read_fixed word bytes at) _ x p r e in
+      let opens = fixed_there word bytes at begin.value begin.place begin.rest begin.first in
+      let cut = parts (read_event P table (with_signs 2 w) begin.rest begin.place) _ x p r begin.later in
+      let one = event_there (with_signs 2 w) begin.rest begin.place cut.value cut.place cut.rest cut.first in
+      let end = parts (read_fixed (codes ")") cut.rest cut.place) _ x p r cut.later in
+      let closes = fixed_there (codes ")") cut.rest cut.place end.value end.place end.rest end.first in
+      let last : with (fact cut.value.value.event cut.value.value.arguments) cut.value.walked ≡ x = cc in
+      let rests : end.rest ≡ r = cc in
+      let ns = one.numbers in
+      let event = cut.value.value.event in
+      let v = cut.value.walked in
+      let whole : with (fact event (terms_at ns)) v ≡ x = ap (λ ts. with (fact event ts) v) (sym one.arguments) ∙ last in
+      let clause_is = one.through.clause in
+      let all_is = one.through.all in
+      let size_is = sizes event (terms_at ns) in
+      subst (λ y. FactThere May w bytes y r) whole record {
+        numbered = by_numbers event ns;
+        meant = means event ns;
+        is = is_over event ns one.event one.short;
+        text = opens ∙ (ap (λ s. word ++ s) (one.text ∙ ap (event_over number_text P event ns) (closes ∙ ap (λ s. 41 ∷ s) rests)) ∙ text_of event ns r);
+        order = subst (InOrder table w.seen) (sym (terms_are event ns)) one.through.order;
+        seen = one.through.seen ∙ ap (λ ms. w.seen ++ terms_at ms) (sym (terms_are event ns));
+        small = subst (AreUpTo most_symbols) (sym (up_to w.clause event (terms_at ns))) one.through.small;
+        together = subst (AreUpTo most_certificate_symbols) (sym (up_to w.all event (terms_at ns))) one.through.together;
+        clause = omega (arith, clause_is, size_is);
+        all = omega (arith, all_is, size_is);
+        may = may event (terms_at ns);
+      }
+
+  ev_there : (May : Fact Term → Type 0) → ((e : ℕ) (ts : List Term) → May (Ev e ts)) → (w : Walked) (bytes : List ℕ) (at : ℕ) (x : Behind (Fact Term)) (p : ℕ) (r : List ℕ) → read_performed P table (codes "ev(") (λ e ts. Ev e ts) w bytes at ≡ Found x p r → FactThere May w bytes x r
+  ev_there May may w bytes at x p r e =
+      performed_there May (codes "ev(") (λ e ns. Ev e ns) (λ e ts. Ev e ts) (λ e ns. refl) (λ e ns is short. (is, short)) (λ e ns rest. refl) (λ e ns. refl) (λ before e ts. refl) (λ e ts. refl) may w bytes at x p r e
+
+  mev_there : (May : Fact Term → Type 0) → ((e : ℕ) (ts : List Term) → May (Mev e ts)) → (w : Walked) (bytes : List ℕ) (at : ℕ) (x : Behind (Fact Term)) (p : ℕ) (r : List ℕ) → read_performed P table (codes "mev(") (λ e ts. Mev e ts) w bytes at ≡ Found x p r → FactThere May w bytes x r
+  mev_there May may w bytes at x p r e =
+      performed_there May (codes "mev(") (λ e ns. Mev e ns) (λ e ts. Mev e ts) (λ e ns. refl) (λ e ns is short. (is, short)) (λ e ns rest. refl) (λ e ns. refl) (λ before e ts. refl) (λ e ts. refl) may w bytes at x p r e
+
+  bad_there : (May : Fact Term → Type 0) → ((ts : List Term) → May (Bad ts)) → (w : Walked) (bytes : List ℕ) (at : ℕ) (x : Behind (Fact Term)) (p : ℕ) (r : List ℕ) → read_bad P table w bytes at ≡ Found x p r → FactThere May w bytes x r
+  bad_there May may w bytes at x p r e =
+      let begin = parts (read_fixed (codes "bad(") bytes at) _ x p r e in
+      let opens = fixed_there (codes "bad(") bytes at begin.value begin.place begin.rest begin.first in
+      chosen (front begin.rest == 41) (next (read_fixed (codes ")") begin.rest begin.place) (λ _ q k. Found (with (Bad []) (with_signs 1 w)) q k)) (next (read_terms P table (with_signs 1 w) begin.rest begin.place) (λ y q k. Found (with (Bad y.value) y.walked) q k)) x p r (FactThere May w bytes x r) begin.later
+      (λ is none.
+      let end = parts (read_fixed (codes ")") begin.rest begin.place) (λ _ q k. Found (with (Bad []) (with_signs 1 w)) q k) x p r none in
+      let closes = fixed_there (codes ")") begin.rest begin.place end.value end.place end.rest end.first in
+      let last : with (Bad []) (with_signs 1 w) ≡ x = cc in
+      let rests : end.rest ≡ r = cc in
+      subst (λ y. FactThere May w bytes y r) last record {
+        numbered = Bad [];
+        meant = refl;
+        is = (tt, tt);
+        text = opens ∙ ap (λ s. codes "bad(" ++ s) (closes ∙ ap (λ s. 41 ∷ s) rests);
+        order = tt;
+        seen = sym (append-nil w.seen);
+        small = tt;
+        together = tt;
+        clause = omega arith;
+        all = omega arith;
+        may = may [];
+      })
+      (λ isnt some.
+      let cut = parts (read_terms P table (with_signs 1 w) begin.rest begin.place) (λ y q k. Found (with (Bad y.value) y.walked) q k) x p r some in
+      let there = terms_there (suc (length begin.rest)) [] (with_signs 1 w) begin.rest begin.place cut.value cut.place cut.rest cut.first in
+      let last : with (Bad cut.value.value) cut.value.walked ≡ x = cc in
+      let rests : cut.rest ≡ r = cc in
+      let ns = there.first ∷ there.others in
+      let v = cut.value.walked in
+      let clause_is = there.through.clause in
+      let all_is = there.through.all in
+      let whole : with (Bad (terms_at ns)) v ≡ x = ap (λ ts. with (Bad ts) v) (sym there.value) ∙ last in
+      subst (λ y. FactThere May w bytes y r) whole record {
+        numbered = Bad ns;
+        meant = refl;
+        is = (tt, there.short);
+        text = opens ∙ ap (λ s. codes "bad(" ++ s) (there.text ∙ ap (λ s. terms_text number_text P ns (41 ∷ s)) rests);
+        order = there.through.order;
+        seen = there.through.seen;
+        small = there.through.small;
+        together = there.through.together;
+        clause = omega (arith, clause_is);
+        all = omega (arith, all_is);
+        may = may (terms_at ns);
+      })
+
+  pub hypothesis_there : (w : Walked) (bytes : List ℕ) (at : ℕ) (x : Behind (Fact Term)) (p : ℕ) (r : List ℕ) → read_hypothesis P table w bytes at ≡ Found x p r → FactThere MayBeHypothesis w bytes x r
+  hypothesis_there w bytes at x p r e =
+      let mev = read_performed P table (codes "mev(") (λ e ts. Mev e ts) w bytes at in
+      let ev = read_performed P table (codes "ev(") (λ e ts. Ev e ts) w bytes at in
+      let T = FactThere MayBeHypothesis w bytes x r in
+      chosen (front bytes == 109) (if front (drop 2 bytes) == 118 then mev else read_mess P table w bytes at) (if front bytes == 101 then ev else read_att P table w bytes at) x p r T e
+      (λ m found. chosen (front (drop 2 bytes) == 118) mev (read_mess P table w bytes at) x p r T found
+      (λ v told. mev_there MayBeHypothesis (λ e ts. tt) w bytes at x p r told)
+      (λ no_v told. mess_there MayBeHypothesis (λ t u. tt) w bytes at x p r told))
+      (λ no_m other. chosen (front bytes == 101) ev (read_att P table w bytes at) x p r T other
+      (λ v told. ev_there MayBeHypothesis (λ e ts. tt) w bytes at x p r told)
+      (λ no_v told. att_there MayBeHypothesis (λ t. tt) w bytes at x p r told))
+
+  pub conclusion_there : (w : Walked) (bytes : List ℕ) (at : ℕ) (x : Behind (Fact Term)) (p : ℕ) (r : List ℕ) → read_conclusion P table w bytes at ≡ Found x p r → FactThere MayBeConclusion w bytes x r
+  conclusion_there w bytes at x p r e =
+      let ev = read_performed P table (codes "ev(") (λ e ts. Ev e ts) w bytes at in
+      let bad_or = if front bytes == 98 then read_bad P table w bytes at else read_att P table w bytes at in
+      let T = FactThere MayBeConclusion w bytes x r in
+      chosen (front bytes == 109) (read_mess P table w bytes at) (if front bytes == 101 then ev else bad_or) x p r T e
+      (λ m told. mess_there MayBeConclusion (λ t u. tt) w bytes at x p r told)
+      (λ no_m other. chosen (front bytes == 101) ev bad_or x p r T other
+      (λ v told. ev_there MayBeConclusion (λ e ts. tt) w bytes at x p r told)
+      (λ no_v rest. chosen (front bytes == 98) (read_bad P table w bytes at) (read_att P table w bytes at) x p r T rest
+      (λ b told. bad_there MayBeConclusion (λ ts. tt) w bytes at x p r told)
+      (λ no_b told. att_there MayBeConclusion (λ t. tt) w bytes at x p r told)))
