@@ -13,9 +13,9 @@ use Rattle.spec_clauses.specs.Inclusion.{here, there, Has}
 use Rattle.spec_clauses.proofs.Equality.{same_term-decides}
 use Rattle.spec_node_tables.specs.Table.{walk, walk_row, place_in, number_in}
 use Rattle.spec_node_tables.proofs.Numbers.{at_place, place_within}
-use Rattle.term_tree.specs.Bank.{tree_at, Names, Grows}
+use Rattle.term_tree.specs.Bank.{tree_at, Names, Grows, AreShared}
 use Rattle.term_tree.specs.declared.bank.Id.{Id}
-use Rattle.term_store.specs.SharedBank.{AreShared, Finds, IsKnown, AddsNew}
+use Rattle.term_store.specs.SharedBank.{Finds, IsKnown, AddsNew}
 use Rattle.clause_form.specs.declared.plain.Tree.{Tree}
 use Rattle.clause_form.specs.Plain.{term_of}
 use Rattle.clause_form.proofs.Copying.{IsCopied, copied_on}

@@ -1,5 +1,5 @@
 use Rattle.std.proofs.Common.{subst}
-use Rattle.term_store.specs.SharedBank.{AreShared}
+use Rattle.term_tree.specs.Bank.{AreShared}
 use Rattle.node_table.proofs.Entering.{id_number}
 use Rattle.node_table.proofs.table.NodeTable.number_of.Goals as goal
 
