@@ -11,6 +11,9 @@ use Rattle.spec_certificates.specs.Certificate.{Numbered, numbered_from, Pair, p
 use Rattle.spec_verdicts.specs.FirstRows.{IsFirstCover, AreFirstCovers}
 use Rattle.spec_verdicts.specs.First.{resolvents_of, all_pairs}
 use Rattle.spec_verdicts.proofs.Building.{covers_append, give_append, append_none, one_gives, take_next, take_past, number_at, pairs_with_next, pairs_of_next}
+use Rattle.spec_fingerprints.specs.Fingerprints as print
+use Rattle.spec_fingerprints.specs.Fingerprints.{fingerprint_of, hypothesis_print, may_resolve}
+use Rattle.spec_fingerprints.proofs.Meeting.{hypothesis_apart}
 use Rattle.clause_resolve.specs.Answers.{Gives}
 use Rattle.cert_writer.specs.Adding.{AddsRows, AddsPairs, with_number, pairs_of_two, pairs_of_one, pairs_if_solved, MustClose, AreRowsOf}
 
@@ -58,6 +61,18 @@ module _ (clauses : List (Clause Term)) where
 
   pub pair_apart : (i j : ℕ) (solved unsolved : Clause Term) (rows : List (List ℕ)) → Gives solved unsolved NoUnifier → AddsPairs clauses (pairs_of_two i solved j unsolved) rows rows
   pair_apart i j solved unsolved rows g = pair_adds i j solved unsolved NoUnifier [] rows rows g refl (adds_none rows)
+
+  -- fingerprints tell that it is solved, or that there is no unifier
+  pub pair_told_apart : (i j : ℕ) (solved unsolved : Clause Term) (rows : List (List ℕ)) (conclusion : print.Fingerprint) (hypothesis : Option print.Fingerprint) → conclusion ≡ fingerprint_of solved.conclusion → hypothesis ≡ hypothesis_print unsolved → may_resolve conclusion hypothesis ≡ false
+      → AddsPairs clauses (pairs_of_two i solved j unsolved) rows rows
+  pair_told_apart i j solved unsolved rows conclusion hypothesis is also apart = go (select unsolved.hypotheses) refl
+    where
+      told : may_resolve (fingerprint_of solved.conclusion) (hypothesis_print unsolved) ≡ false
+      told = sym (λ k. may_resolve (is k) (also k)) ∙ apart
+
+      go : (o : Option Selection) → select unsolved.hypotheses ≡ o → AddsPairs clauses (pairs_of_two i solved j unsolved) rows rows
+      go None none = pair_unselected i j solved unsolved rows none
+      go (Some at) selected = pair_apart i j solved unsolved rows (record { at = at; is_selected = selected; gives = hypothesis_apart solved unsolved at selected told })
 
   pub pair_large : (solved unsolved : Clause Term) → MustClose clauses → Has clauses solved → Has clauses unsolved → is_solved solved.hypotheses ≡ true → Gives solved unsolved Large → ⊥
   pair_large solved unsolved closed h k s g = closed solved unsolved g.at Large h k s g.is_selected g.gives

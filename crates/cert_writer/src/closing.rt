@@ -1,14 +1,17 @@
 //! The rows of what pairs of a solved clause with an unsolved one give.
 
-ghost use Rattle.std.specs.Prelude.{◌≡◌, ◌<◌, ◌≤◌, ◌^◌, ℕ, true, length, take, OnOk};
+ghost use Rattle.std.specs.Prelude.{◌≡◌, ◌<◌, ◌≤◌, ◌^◌, ℕ, true, Some, length, map, slice_get, option_map, take, OnOk};
 ghost use Rattle.spec_terms.specs.Term.{Term};
 ghost use Rattle.spec_clauses.specs.Fact.{Clause as ClauseOf};
 ghost use Rattle.spec_clauses.specs.Selection.{select, is_solved as is_solved_list};
 ghost use Rattle.spec_clauses.specs.Inclusion.{Has};
 ghost use Rattle.spec_saturation.specs.Live.{MustBeCovered};
 ghost use Rattle.spec_certificates.specs.Certificate.{numbered_from, pairs_of};
+ghost use Rattle.spec_fingerprints.specs.Fingerprints.{fingerprint_of, hypothesis_print};
+ghost use Rattle.term_tree.specs.declared.bank.Id.{Id};
 ghost use Rattle.clause_form.specs.Seen.{clause_at};
 ghost use Rattle.clause_form.specs.Fit.{IsFit, AreFit, clauses_at};
+ghost use Rattle.fact_fingerprint.specs.Seen.{fingerprint_seen};
 ghost use Rattle.cert_writer.specs.Adding.{AddsRows, AddsPairs, MustClose};
 ghost use Rattle.cert_writer.specs.Adding.{pairs_of_two, pairs_of_one, pairs_if_solved};
 
@@ -17,6 +20,7 @@ use crate::writer::Writer;
 use cert_form::Rows;
 use clause_form::Clause;
 use clause_resolve::{Resolved, resolvents};
+use fact_fingerprint::{Fingerprint, conclusion_fingerprint, hypothesis_fingerprints, may_resolve};
 use literal_selection::{is_solved, selected};
 use std::alloc::AllocError;
 use term_tree::{Bank, Mark};
@@ -83,15 +87,61 @@ fn cover_pair<B: Bank>(
     }
 }
 
+/// A solved clause with the fingerprint of its conclusion, and the fingerprints of the selected hypotheses of the live clauses.
+#[derive(Clone, Copy)]
+pub(crate) struct Solving<'a> {
+    pub clause: &'a Clause,
+    pub print: Fingerprint,
+    pub prints: &'a [Option<Fingerprint>],
+}
+
+/// Adds the rows of what a solved clause gives with the live clause at a place, from 0: none, where fingerprints tell that there
+/// is no unifier, or where that clause is solved. The bank is as before.
+fn cover_met<B: Bank>(
+    bank: &mut B,
+    writer: &Writer<'_>,
+    solving: &Solving<'_>,
+    place: usize,
+    rows: &mut Rows,
+) -> Result<(), AllocError>
+    requires fit { AreFit (B.trees bank.old) writer.now.live.now }
+    requires few { length writer.now.live.now < 2 ^ 32 }
+    requires solved_fit { IsFit (B.trees bank.old) solving.now.clause.now }
+    requires place { place < length writer.now.live.now }
+    requires solved_live { let all = B.trees bank.old in
+        Has (clauses_at all writer.now.live.now) (clause_at all solving.now.clause.now) }
+    requires is_solved { is_solved_list
+        (clause_at (B.trees bank.old) solving.now.clause.now).hypotheses ≡ true }
+    requires closed { MustClose (clauses_at (B.trees bank.old) writer.now.live.now) }
+    requires print { fingerprint_seen solving.now.print ≡
+        fingerprint_of (clause_at (B.trees bank.old) solving.now.clause.now).conclusion }
+    requires prints { map (option_map fingerprint_seen) solving.now.prints.now ≡
+        map hypothesis_print (clauses_at (B.trees bank.old) writer.now.live.now) }
+    ensures rows { let all = B.trees bank.old in OnOk result ((c : ClauseOf Id) →
+        slice_get writer.now.live.now place ≡ Some c → (i j : ℕ) →
+        AddsPairs (clauses_at all writer.now.live.now)
+        (pairs_of_two i (clause_at all solving.now.clause.now) j (clause_at all c))
+        rows.old rows.new) }
+    ensures bank { B.trees bank.new ≡ B.trees bank.old }
+{
+    if !may_resolve(&solving.print, &solving.prints[place]) {
+        return Ok(());
+    }
+    cover_pair(bank, writer, solving.clause, &writer.live[place], rows)
+}
+
 /// Adds the rows of what a solved clause gives with each unsolved one. The bank is as before.
 fn cover_solved<B: Bank>(
     bank: &mut B,
     writer: &Writer<'_>,
+    prints: &[Option<Fingerprint>],
     solved: &Clause,
     rows: &mut Rows,
 ) -> Result<(), AllocError>
     requires fit { AreFit (B.trees bank.old) writer.now.live.now }
     requires few { length writer.now.live.now < 2 ^ 32 }
+    requires prints { map (option_map fingerprint_seen) prints.now ≡
+        map hypothesis_print (clauses_at (B.trees bank.old) writer.now.live.now) }
     requires solved_fit { IsFit (B.trees bank.old) solved.now }
     requires solved_live { let all = B.trees bank.old in
         Has (clauses_at all writer.now.live.now) (clause_at all solved.now) }
@@ -104,8 +154,13 @@ fn cover_solved<B: Bank>(
         rows.old rows.new) }
     ensures bank { B.trees bank.new ≡ B.trees bank.old }
 {
-    'each: for unsolved in writer.live {
-        cover_pair(bank, writer, solved, unsolved, rows)?;
+    let solving = Solving {
+        clause: solved,
+        print: conclusion_fingerprint(bank, solved),
+        prints,
+    };
+    'each: for place in 0..writer.live.len() {
+        cover_met(bank, writer, &solving, place, rows)?;
     }
     Ok(())
 }
@@ -114,11 +169,14 @@ fn cover_solved<B: Bank>(
 fn cover_one<B: Bank>(
     bank: &mut B,
     writer: &Writer<'_>,
+    prints: &[Option<Fingerprint>],
     solved: &Clause,
     rows: &mut Rows,
 ) -> Result<(), AllocError>
     requires fit { AreFit (B.trees bank.old) writer.now.live.now }
     requires few { length writer.now.live.now < 2 ^ 32 }
+    requires prints { map (option_map fingerprint_seen) prints.now ≡
+        map hypothesis_print (clauses_at (B.trees bank.old) writer.now.live.now) }
     requires solved_fit { IsFit (B.trees bank.old) solved.now }
     requires solved_live { let all = B.trees bank.old in
         Has (clauses_at all writer.now.live.now) (clause_at all solved.now) }
@@ -132,7 +190,7 @@ fn cover_one<B: Bank>(
     if !is_solved(bank, solved) {
         return Ok(());
     }
-    cover_solved(bank, writer, solved, rows)
+    cover_solved(bank, writer, prints, solved, rows)
 }
 
 /// Adds the rows of what all pairs give, solved clauses ascending, and for each the unsolved ones ascending. The bank is as
@@ -150,8 +208,9 @@ pub(crate) fn cover_pairs<B: Bank>(
         rows.old rows.new) }
     ensures bank { B.trees bank.new ≡ B.trees bank.old }
 {
+    let prints = hypothesis_fingerprints(writer.alloc, bank, writer.live)?;
     'each: for solved in writer.live {
-        cover_one(bank, writer, solved, rows)?;
+        cover_one(bank, writer, &prints, solved, rows)?;
     }
     Ok(())
 }

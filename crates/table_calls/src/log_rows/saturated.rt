@@ -103,7 +103,11 @@ fn saturated_text(
 
 /// The log of clauses and a budget, and its end: the lines that a row expects. Where a clause isn't its own norm within
 /// the limit of size, or there is none, it says so.
-pub fn log_text(alloc: Global, clauses: &[Box<PlainClause>], budget: u64) -> Result<String, AllocError> {
+pub fn log_text(
+    alloc: Global,
+    clauses: &[Box<PlainClause>],
+    budget: u64,
+) -> Result<String, AllocError> {
     let mut bank = TreeBank::new(alloc)?;
     let given = fit_clauses(alloc, &mut bank, clauses)?;
     if given.items.len() != clauses.len() {

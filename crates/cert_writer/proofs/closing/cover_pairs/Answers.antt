@@ -1,4 +1,4 @@
-use Rattle.std.proofs.Common.{◌∙◌, ℕ, List, sym, subst}
+use Rattle.std.proofs.Common.{◌≡◌, ◌∙◌, ℕ, List, map, option_map, ap, sym, subst}
 use Rattle.spec_terms.specs.Term.{Term}
 use Rattle.spec_clauses.specs.Inclusion.{Has}
 use Rattle.spec_certificates.specs.Certificate.{Numbered, numbered_from, pairs_of}
@@ -9,6 +9,8 @@ use Rattle.clause_form.proofs.Fit.{clause_fit_at}
 use Rattle.cert_writer.specs.Adding.{AddsPairs, pairs_if_solved, MustClose}
 use Rattle.cert_writer.proofs.Items.{item_at, item_has, numbers_past}
 use Rattle.cert_writer.proofs.Adding.{all_next}
+use Rattle.spec_fingerprints.specs.Fingerprints.{hypothesis_print}
+use Rattle.fact_fingerprint.specs.Seen.{fingerprint_seen}
 use Rattle.cert_writer.proofs.closing.cover_pairs.Goals as goal
 
 pub cover_one-requires-clause-solved_fit : goal.cover_one-requires-clause-solved_fit
@@ -50,3 +52,8 @@ cover_one-requires-clause-fit g c = subst (λ (all : List Term). AreFit all c.ar
 
 pub cover_one-requires-clause-closed : goal.cover_one-requires-clause-closed
 cover_one-requires-clause-closed g c = subst (λ (all : List Term). MustClose (clauses_at all c.args.writer.now.live.now)) (sym c.each.invariant.bank) c.requires.closed
+
+pub cover_one-requires-clause-prints : goal.cover_one-requires-clause-prints
+cover_one-requires-clause-prints g c =
+    let same : map (option_map fingerprint_seen) c.deref.result.now ≡ map hypothesis_print (clauses_at (g.B.Bank.trees c.args.bank.now) c.args.writer.now.live.now) = ap (map (option_map fingerprint_seen)) c.deref.ensures.value ∙ c.in_ok-prints.ensures in
+    same ∙ ap (λ (all : List Term). map hypothesis_print (clauses_at all c.args.writer.now.live.now)) (sym c.each.invariant.bank)

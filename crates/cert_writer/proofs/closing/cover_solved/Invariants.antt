@@ -9,5 +9,5 @@ abbrev pub invariant-each : goal.invariant-each
 invariant-each g l = record {
   bank : g.B.Bank.trees l.bank ≡ g.B.Bank.trees l.fn.bank;
   rows : (i : ℕ) → AddsPairs (clauses_at (g.B.Bank.trees l.fn.bank) l.writer.live.now)
-      (pairs_of_one i (clause_at (g.B.Bank.trees l.fn.bank) l.solved) (take l.unsolved-index (numbered_from 1 (clauses_at (g.B.Bank.trees l.fn.bank) l.writer.live.now)))) l.fn.rows l.rows;
+      (pairs_of_one i (clause_at (g.B.Bank.trees l.fn.bank) l.solved) (take l.place (numbered_from 1 (clauses_at (g.B.Bank.trees l.fn.bank) l.writer.live.now)))) l.fn.rows l.rows;
 }
