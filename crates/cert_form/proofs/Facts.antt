@@ -1,40 +1,153 @@
--- The texts of hypotheses are put one by one.
-use Rattle.std.proofs.Common.{◌≡◌, ℕ, zero, suc, ◌+◌, ◌<◌, ◌≤◌, List, [], ◌∷◌, length, map, get_or, refl, subst, arith}
+-- The texts of terms, hypotheses and clauses are written one by one, whatever the way in which terms are written.
+use Rattle.std.proofs.Common.{◌≡◌, ℕ, zero, suc, ◌+◌, ◌<◌, ◌≤◌, Bool, List, [], ◌∷◌, ◌++◌, length, map, get_or, refl, sym, ◌∙◌, ap, subst, arith}
+use Rattle.std.specs.Prelude.{codes, flat_map}
+use Rattle.std.proofs.lemmas.List.{append-nil}
+use Rattle.std.proofs.lemmas.Grind.{flat_map-append}
 use Rattle.spec_calculus.specs.Syntax.{Protocol}
 use Rattle.spec_terms.specs.Term.{Term}
-use Rattle.spec_clauses.specs.Fact.{Fact}
+use Rattle.spec_clauses.specs.Fact.{Fact, Mess, Ev, Mev, Bad, Clause, terms_of}
+use Rattle.clause_form.specs.declared.plain.Tree.{Tree}
 use Rattle.clause_form.specs.declared.plain.PlainFact.{PlainFact}
+use Rattle.clause_form.specs.Plain.{term_of}
 use Rattle.clause_form.specs.PlainFacts.{plain_fact_of}
-use Rattle.spec_certificate_text.specs.Text.{fact_text, hypotheses_text}
+use Rattle.spec_certificate_text.specs.Words.{event_word}
+use Rattle.spec_node_tables.specs.Table.{facts_in_order, terms_in_order}
+use Rattle.spec_node_tables.specs.Text.{terms_text, event_over, fact_over, hypotheses_over, clause_over, clause_lines_over}
 use Rattle.cert_form.specs.Appends.{Appends}
-use Rattle.cert_form.specs.Parts.{gap_at, gap_behind}
-use Rattle.cert_form.specs.Remaining.{HasPut, hypotheses_from}
-use Rattle.cert_form.proofs.Items.{then, GoesOn, one_more, all_put}
+use Rattle.cert_form.specs.Parts.{is_alone, word_opening, word_closing, comma_at, gap_at, gap_behind}
+use Rattle.cert_form.specs.Remaining.{terms_from, hypotheses_from, clauses_from}
+use Rattle.cert_form.specs.Writing.{Writes}
+use Rattle.cert_form.proofs.Items.{nothing, GoesOn}
+use Rattle.cert_form.proofs.TermTexts.{One, single, bytes_then, between, and_then, written_as, HasWritten, one_written, all_written}
 
--- the text of a hypothesis of that place
-hypothesis_text : Protocol → ℕ → Fact Term → List ℕ → List ℕ
-hypothesis_text P n f rest = gap_at n (fact_text P f rest)
+-- What goes on as it begins.
 
-hypotheses_go_on : (P : Protocol) → GoesOn (hypotheses_from P) (hypothesis_text P)
-unfolding hypothesis_text
-hypotheses_go_on P = record { is = λ n f fs rest. cases n f fs rest }
-  where
-    cases : (n : ℕ) (f : Fact Term) (fs : List (Fact Term)) (rest : List ℕ) → hypotheses_from P n (f ∷ fs) rest ≡ gap_at n (fact_text P f (hypotheses_from P (suc n) fs rest))
-    cases zero f fs rest = refl
-    cases (suc n) f fs rest = refl
+terms_go_on : (P : Protocol) (o : One) → GoesOn (terms_from o P) (λ n t rest. comma_at n (o t rest))
+terms_go_on P o = record { is = λ n t ts rest. cases n t ts rest } where
+  cases : (n : ℕ) (t : Term) (ts : List Term) (rest : List ℕ) → terms_from o P n (t ∷ ts) rest ≡ comma_at n (o t (terms_from o P (suc n) ts rest))
+  cases zero t ts rest = refl
+  cases (suc n) t ts rest = refl
 
--- one more hypothesis was put
-pub hypothesis_put : (P : Protocol) (fs : List (Fact Term)) (items : List PlainFact) (n : ℕ) (x : PlainFact) (start before middle after : List ℕ) → map plain_fact_of items ≡ fs → HasPut (hypotheses_from P) n fs start before → n < length items → x ≡ get_or items n x → Appends (gap_at n) before middle → Appends (fact_text P (plain_fact_of x)) middle after → HasPut (hypotheses_from P) (n + 1) fs start after
-unfolding hypothesis_text
-hypothesis_put P fs items n x start before middle after are has below is gap text =
-    one_more plain_fact_of (hypotheses_from P) (hypothesis_text P) (hypotheses_go_on P) fs items n x start before after are has below is (then (gap_at n) (fact_text P (plain_fact_of x)) before middle after gap text)
+hypotheses_go_on : (P : Protocol) (o : One) → GoesOn (hypotheses_from o P) (λ n f rest. gap_at n (fact_over o P f rest))
+hypotheses_go_on P o = record { is = λ n f fs rest. cases n f fs rest } where
+  cases : (n : ℕ) (f : Fact Term) (fs : List (Fact Term)) (rest : List ℕ) → hypotheses_from o P n (f ∷ fs) rest ≡ gap_at n (fact_over o P f (hypotheses_from o P (suc n) fs rest))
+  cases zero f fs rest = refl
+  cases (suc n) f fs rest = refl
 
--- all hypotheses were put, and what stands behind them
-pub hypotheses_put : (P : Protocol) (fs : List (Fact Term)) (items : List PlainFact) (n m : ℕ) (start listed after : List ℕ) → map plain_fact_of items ≡ fs → HasPut (hypotheses_from P) n fs start listed → length items ≤ n → n ≤ length items → m ≡ length items → Appends (gap_behind m) listed after → Appends (hypotheses_text P fs) start after
-hypotheses_put P fs items n m start listed after are has past within is gap =
-    let same : m ≡ n = omega arith in
-    all_put plain_fact_of (hypotheses_from P) gap_behind ends fs items n start listed after are has past (subst (λ k. Appends (gap_behind k) listed after) same gap)
-  where
-    ends : (k : ℕ) (rest : List ℕ) → hypotheses_from P k [] rest ≡ gap_behind k rest
-    ends zero rest = refl
-    ends (suc k) rest = refl
+clauses_go_on : (P : Protocol) (o : One) → GoesOn (clauses_from o P) (λ n c rest. 99 ∷ 32 ∷ clause_over o P c (10 ∷ rest))
+clauses_go_on P o = record { is = λ n c cs rest. refl }
+
+same_items : {X : Type 0} (xs : List X) → map (λ x. x) xs ≡ xs
+same_items [] = refl
+same_items (x ∷ xs) = ap (λ l. x ∷ l) (same_items xs)
+
+abbrev pub clause_of : List (Fact Term) → Fact Term → Clause Term
+clause_of hyps concl = record { hypotheses = hyps; conclusion = concl }
+
+module _ (kept_of : List Term → List Term) (all_one : Protocol → List Term → One) (P : Protocol) where
+  abbrev pub one : List Term → One
+  one = all_one P
+
+  -- Terms.
+
+  abbrev pub TermsWritten : ℕ → List Term → List Tree → List Term → List Term → List ℕ → List ℕ → Type 0
+  TermsWritten = HasWritten kept_of one term_of (λ t. t ∷ []) (λ o. terms_from o P)
+
+  pub term_written : (ts : List Term) (items : List Tree) (n : ℕ) (x : Tree) (kept now next : List Term) (start before middle after : List ℕ) → map term_of items ≡ ts → TermsWritten n ts items kept now start before → n < length items → x ≡ get_or items n x → Appends (comma_at n) before middle
+      → Writes kept_of one (term_of x ∷ []) (λ o. o (term_of x)) now next middle after → TermsWritten (n + 1) ts items kept next start after
+  term_written ts items n x kept now next start before middle after are has below is comma text =
+      one_written kept_of one term_of (λ t. t ∷ []) (λ o. terms_from o P) (λ o m t rest. comma_at m (o t rest)) (terms_go_on P) ts items n x kept now next start before after are has below is
+      (bytes_then kept_of one (comma_at n) (term_of x ∷ []) (λ o. o (term_of x)) now next before middle after comma text)
+
+  pub terms_written : (ts : List Term) (items : List Tree) (n : ℕ) (kept now : List Term) (start after : List ℕ) → map term_of items ≡ ts → TermsWritten n ts items kept now start after → length items ≤ n → Writes kept_of one ts (λ o. terms_text o P ts) kept now start after
+  terms_written ts items n kept now start after are has past =
+      written_as kept_of one (flat_map (λ t. t ∷ []) ts) ts (λ o. terms_text o P ts) (λ o. terms_text o P ts) kept now start after (single ts) (λ o rest. refl)
+      (all_written kept_of one term_of (λ t. t ∷ []) (λ o. terms_from o P) (λ m rest. rest) ends ts items n kept now start after after are has past (nothing after))
+    where
+      ends : (o : One) (m : ℕ) (rest : List ℕ) → terms_from o P m [] rest ≡ rest
+      ends o zero rest = refl
+      ends o (suc m) rest = refl
+
+  -- an event over terms
+  pub event_written : (e : ℕ) (ts : List Term) (kept now : List Term) (start opened listed after word : List ℕ) (alone : Bool) → word ≡ event_word P e → alone ≡ is_alone ts → Appends (word_opening word alone) start opened → Writes kept_of one ts (λ o. terms_text o P ts) kept now opened listed → Appends (word_closing alone) listed after
+      → Writes kept_of one ts (λ o. event_over o P e ts) kept now start after
+  event_written e ts kept now start opened listed after word alone named is opening terms closing =
+      written_as kept_of one ts ts (λ o rest. word_opening (event_word P e) (is_alone ts) (terms_text o P ts (word_closing (is_alone ts) rest))) (λ o. event_over o P e ts) kept now start after refl (parts ts)
+      (between kept_of one (word_opening (event_word P e) (is_alone ts)) ts (λ o. terms_text o P ts) (word_closing (is_alone ts)) kept now start opened listed after
+      (subst (λ b. Appends (word_opening (event_word P e) b) start opened) is (subst (λ w. Appends (word_opening w alone) start opened) named opening)) terms (subst (λ b. Appends (word_closing b) listed after) is closing))
+    where
+      parts : (us : List Term) (o : One) (rest : List ℕ) → word_opening (event_word P e) (is_alone us) (terms_text o P us (word_closing (is_alone us) rest)) ≡ event_over o P e us rest
+      parts [] o rest = refl
+      parts (u ∷ us) o rest = refl
+
+  -- Facts, by what is written before, between and behind their terms.
+
+  pub mess_written : (f : Fact Term) (t u : Term) (k m l : List Term) (a b c d e g : List ℕ) → f ≡ Mess t u → Appends (λ rest. codes "mess(" ++ rest) a b → Writes kept_of one (t ∷ []) (λ o. o t) k m b c → Appends (λ rest. codes "," ++ rest) c d → Writes kept_of one (u ∷ []) (λ o. o u) m l d e → Appends (λ rest. codes ")" ++ rest) e g
+      → Writes kept_of one (terms_of f) (λ o. fact_over o P f) k l a g
+  mess_written f t u k m l a b c d e g is opening first comma second closing = subst (λ h. Writes kept_of one (terms_of h) (λ o. fact_over o P h) k l a g) (sym is)
+      (between kept_of one (λ rest. codes "mess(" ++ rest) (t ∷ u ∷ []) (λ o rest. o t (codes "," ++ o u rest)) (λ rest. codes ")" ++ rest) k l a b e g opening
+      (and_then kept_of one (t ∷ []) (u ∷ []) (λ o. o t) (λ o rest. codes "," ++ o u rest) k m l b c e first
+      (bytes_then kept_of one (λ rest. codes "," ++ rest) (u ∷ []) (λ o. o u) m l c d e comma second)) closing)
+
+  pub ev_written : (f : Fact Term) (e : ℕ) (ts : List Term) (k l : List Term) (a b c d : List ℕ) → f ≡ Ev e ts → Appends (λ rest. codes "ev(" ++ rest) a b → Writes kept_of one ts (λ o. event_over o P e ts) k l b c → Appends (λ rest. codes ")" ++ rest) c d → Writes kept_of one (terms_of f) (λ o. fact_over o P f) k l a d
+  ev_written f e ts k l a b c d is opening text closing = subst (λ g. Writes kept_of one (terms_of g) (λ o. fact_over o P g) k l a d) (sym is)
+      (between kept_of one (λ rest. codes "ev(" ++ rest) ts (λ o. event_over o P e ts) (λ rest. codes ")" ++ rest) k l a b c d opening text closing)
+
+  pub mev_written : (f : Fact Term) (e : ℕ) (ts : List Term) (k l : List Term) (a b c d : List ℕ) → f ≡ Mev e ts → Appends (λ rest. codes "mev(" ++ rest) a b → Writes kept_of one ts (λ o. event_over o P e ts) k l b c → Appends (λ rest. codes ")" ++ rest) c d → Writes kept_of one (terms_of f) (λ o. fact_over o P f) k l a d
+  mev_written f e ts k l a b c d is opening text closing = subst (λ g. Writes kept_of one (terms_of g) (λ o. fact_over o P g) k l a d) (sym is)
+      (between kept_of one (λ rest. codes "mev(" ++ rest) ts (λ o. event_over o P e ts) (λ rest. codes ")" ++ rest) k l a b c d opening text closing)
+
+  pub bad_written : (f : Fact Term) (ts : List Term) (k l : List Term) (a b c d : List ℕ) → f ≡ Bad ts → Appends (λ rest. codes "bad(" ++ rest) a b → Writes kept_of one ts (λ o. terms_text o P ts) k l b c → Appends (λ rest. codes ")" ++ rest) c d → Writes kept_of one (terms_of f) (λ o. fact_over o P f) k l a d
+  bad_written f ts k l a b c d is opening text closing = subst (λ g. Writes kept_of one (terms_of g) (λ o. fact_over o P g) k l a d) (sym is)
+      (between kept_of one (λ rest. codes "bad(" ++ rest) ts (λ o. terms_text o P ts) (λ rest. codes ")" ++ rest) k l a b c d opening text closing)
+
+  -- Hypotheses.
+
+  abbrev pub HypothesesWritten : ℕ → List (Fact Term) → List PlainFact → List Term → List Term → List ℕ → List ℕ → Type 0
+  HypothesesWritten = HasWritten kept_of one plain_fact_of terms_of (λ o. hypotheses_from o P)
+
+  pub hypothesis_written : (fs : List (Fact Term)) (items : List PlainFact) (n : ℕ) (x : PlainFact) (kept now next : List Term) (start before middle after : List ℕ) → map plain_fact_of items ≡ fs → HypothesesWritten n fs items kept now start before → n < length items → x ≡ get_or items n x → Appends (gap_at n) before middle
+      → Writes kept_of one (terms_of (plain_fact_of x)) (λ o. fact_over o P (plain_fact_of x)) now next middle after → HypothesesWritten (n + 1) fs items kept next start after
+  hypothesis_written fs items n x kept now next start before middle after are has below is gap text =
+      one_written kept_of one plain_fact_of terms_of (λ o. hypotheses_from o P) (λ o m f rest. gap_at m (fact_over o P f rest)) (hypotheses_go_on P) fs items n x kept now next start before after are has below is
+      (bytes_then kept_of one (gap_at n) (terms_of (plain_fact_of x)) (λ o. fact_over o P (plain_fact_of x)) now next before middle after gap text)
+
+  pub hypotheses_written : (fs : List (Fact Term)) (items : List PlainFact) (n m : ℕ) (kept now : List Term) (start listed after : List ℕ) → map plain_fact_of items ≡ fs → HypothesesWritten n fs items kept now start listed → length items ≤ n → n ≤ length items → m ≡ length items → Appends (gap_behind m) listed after
+      → Writes kept_of one (flat_map terms_of fs) (λ o. hypotheses_over o P fs) kept now start after
+  hypotheses_written fs items n m kept now start listed after are has past within is gap =
+      let same : m ≡ n = omega arith in
+      all_written kept_of one plain_fact_of terms_of (λ o. hypotheses_from o P) gap_behind ends fs items n kept now start listed after are has past (subst (λ k. Appends (gap_behind k) listed after) same gap)
+    where
+      ends : (o : One) (k : ℕ) (rest : List ℕ) → hypotheses_from o P k [] rest ≡ gap_behind k rest
+      ends o zero rest = refl
+      ends o (suc k) rest = refl
+
+  -- Clauses.
+
+  pub clause_written : (c : Clause Term) (hyps : List (Fact Term)) (concl : Fact Term) (kept middle now : List Term) (start listed marked after : List ℕ) → clause_of hyps concl ≡ c → Writes kept_of one (flat_map terms_of hyps) (λ o. hypotheses_over o P hyps) kept middle start listed → Appends (λ rest. codes "=> " ++ rest) listed marked
+      → Writes kept_of one (terms_of concl) (λ o. fact_over o P concl) middle now marked after → Writes kept_of one (flat_map terms_of (facts_in_order c)) (λ o. clause_over o P c) kept now start after
+  clause_written c hyps concl kept middle now start listed marked after is hypotheses arrow conclusion =
+      let terms : flat_map terms_of hyps ++ terms_of concl ≡ flat_map terms_of (hyps ++ (concl ∷ [])) =
+      ap (λ l. flat_map terms_of hyps ++ l) (sym (append-nil (terms_of concl))) ∙ sym (flat_map-append terms_of hyps (concl ∷ [])) in
+      subst (λ d. Writes kept_of one (flat_map terms_of (facts_in_order d)) (λ o. clause_over o P d) kept now start after) is
+      (written_as kept_of one (flat_map terms_of hyps ++ terms_of concl) (flat_map terms_of (hyps ++ (concl ∷ []))) (λ o. clause_over o P (clause_of hyps concl)) (λ o. clause_over o P (clause_of hyps concl)) kept now start after terms (λ o rest. refl)
+      (and_then kept_of one (flat_map terms_of hyps) (terms_of concl) (λ o. hypotheses_over o P hyps) (λ o rest. codes "=> " ++ fact_over o P concl rest) kept middle now start listed after hypotheses
+      (bytes_then kept_of one (λ rest. codes "=> " ++ rest) (terms_of concl) (λ o. fact_over o P concl) middle now listed marked after arrow conclusion)))
+
+  abbrev pub ClausesWritten : ℕ → List (Clause Term) → List (Clause Term) → List Term → List Term → List ℕ → List ℕ → Type 0
+  ClausesWritten n cs items = HasWritten kept_of one (λ c. c) (λ c. flat_map terms_of (facts_in_order c)) (λ o. clauses_from o P) n cs items
+
+  pub line_written : (cs items : List (Clause Term)) (n : ℕ) (c : Clause Term) (kept now next : List Term) (start before opened listed after : List ℕ) → items ≡ cs → ClausesWritten n cs items kept now start before → n < length items → c ≡ get_or items n c → Appends (λ rest. codes "c " ++ rest) before opened
+      → Writes kept_of one (flat_map terms_of (facts_in_order c)) (λ o. clause_over o P c) now next opened listed → Appends (λ rest. codes "\n" ++ rest) listed after → ClausesWritten (n + 1) cs items kept next start after
+  line_written cs items n c kept now next start before opened listed after are has below is opening text closing =
+      one_written kept_of one (λ d. d) (λ d. flat_map terms_of (facts_in_order d)) (λ o. clauses_from o P) (λ o m d rest. 99 ∷ 32 ∷ clause_over o P d (10 ∷ rest)) (clauses_go_on P) cs items n c kept now next start before after (same_items items ∙ are) has below is
+      (between kept_of one (λ rest. codes "c " ++ rest) (flat_map terms_of (facts_in_order c)) (λ o. clause_over o P c) (λ rest. codes "\n" ++ rest) now next before opened listed after opening text closing)
+
+  pub lines_written : (cs items : List (Clause Term)) (n : ℕ) (kept now : List Term) (start after : List ℕ) → items ≡ cs → ClausesWritten n cs items kept now start after → length items ≤ n → Writes kept_of one (terms_in_order cs) (λ o. clause_lines_over o P cs) kept now start after
+  lines_written cs items n kept now start after are has past =
+      written_as kept_of one (flat_map (λ c. flat_map terms_of (facts_in_order c)) cs) (terms_in_order cs) (λ o. clause_lines_over o P cs) (λ o. clause_lines_over o P cs) kept now start after (nested cs) (λ o rest. refl)
+      (all_written kept_of one (λ c. c) (λ c. flat_map terms_of (facts_in_order c)) (λ o. clauses_from o P) (λ m rest. rest) (λ o m rest. refl) cs items n kept now start after after (same_items items ∙ are) has past (nothing after))
+    where
+      nested : (ds : List (Clause Term)) → flat_map (λ c. flat_map terms_of (facts_in_order c)) ds ≡ terms_in_order ds
+      nested [] = refl
+      nested (d ∷ ds) = ap (λ l. flat_map terms_of (facts_in_order d) ++ l) (nested ds) ∙ sym (flat_map-append terms_of (facts_in_order d) (flat_map facts_in_order ds))

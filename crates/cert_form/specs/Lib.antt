@@ -1,4 +1,5 @@
 pub mod Appends
 pub mod Parts
 pub mod Remaining
+pub mod Writing
 pub mod Codes

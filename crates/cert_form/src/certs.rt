@@ -1,14 +1,20 @@
 //! Certificates as owned trees and numbers, and their texts.
 
-ghost use Rattle.std.specs.Prelude.{◌≡◌, [], ◌∷◌, ◌++◌, IfOk, OnOk};
+ghost use Rattle.std.specs.Prelude.{◌≡◌, ◌⊎◌, [], ◌++◌, IfOk, OnOk};
 ghost use Rattle.pi_tree.specs.Protocols.{protocol_of};
-ghost use Rattle.spec_certificate_text.specs.Text.{clause_lines, numbers_text, row_lines, certificate_text};
+ghost use Rattle.spec_certificate_text.specs.Text.{numbers_text, row_lines};
+ghost use Rattle.spec_node_tables.specs.Large.{FitsInNodes};
 ghost use Rattle.cert_form.specs.Appends.{Appends};
+ghost use Rattle.cert_form.specs.Writing.{spelled_clauses, numbered_clauses, clauses_in, text_in, format_for};
 
-use crate::clause_text::put_clause;
+use crate::clause_text::put_clause_lines;
+use crate::nodes::put_nodes;
 use crate::parts::{put, put_number};
+use crate::writing::Spelled;
 use clause_form::PlainClause;
+use node_table::{NodeTable, is_large_in_nodes};
 use pi_tree::Protocol;
+use spec_node_tables::what_fits_in_nodes;
 use std::alloc::{AllocError, Global};
 use std::marker::Model;
 
@@ -68,30 +74,13 @@ impl Model for Cert {
     ghost view = { λ c. record { clauses = c.clauses; rows = c.rows; goals = c.goals } };
 }
 
-/// Puts a line for each clause.
-fn put_clauses(
-    out: &mut Vec<u8>,
-    protocol: &Protocol,
-    clauses: &PlainClauses,
-) -> Result<(), AllocError>
-    ensures { OnOk result (Appends (clause_lines (protocol_of protocol.now) clauses.now)
-        out.old.items out.new.items) }
-{
-    'each: for clause in &clauses.items {
-        put(out, b"c ")?;
-        put_clause(out, protocol, clause)?;
-        put(out, b"\n")?;
-    }
-    Ok(())
-}
-
 /// Puts numbers, a space before each.
 fn put_numbers(out: &mut Vec<u8>, numbers: &[u32]) -> Result<(), AllocError>
     ensures { OnOk result (Appends (numbers_text numbers.now) out.old.items out.new.items) }
 {
     'each: for number in numbers {
         put(out, b" ")?;
-        put_number(out, *number)?;
+        put_number(out, *number as u64)?;
     }
     Ok(())
 }
@@ -108,30 +97,110 @@ fn put_rows(out: &mut Vec<u8>, letter: u8, rows: &Rows) -> Result<(), AllocError
     Ok(())
 }
 
-/// Puts the text of a certificate at the end, each line ended by LF.
-///
-/// `Err` is want of memory. Nothing is said of the text then: it is to be let go.
-pub fn put_cert(out: &mut Vec<u8>, protocol: &Protocol, cert: &Cert) -> Result<(), AllocError>
-    ensures onto { OnOk result (Appends (certificate_text (protocol_of protocol.now) cert.now)
+/// The format in which each term of a certificate is written as it stands.
+const SPELLED: u8 = 1;
+
+/// The format in which a certificate begins with a table of nodes, and its clauses name terms by numbers.
+const BY_NODES: u8 = 2;
+
+/// The format in which a certificate is written where the one is wanted: without a table, where it is too large for one. Takes
+/// no memory.
+pub fn format_for(wanted: u8, cert: &Cert) -> u8
+    ensures format { result ≡ format_for wanted cert.now.clauses }
+    ensures fits { result ≡ 2 → FitsInNodes cert.now.clauses }
+{
+    what_fits_in_nodes();
+    if wanted == BY_NODES && is_large_in_nodes(&cert.clauses.items) {
+        SPELLED
+    } else {
+        wanted
+    }
+}
+
+/// Puts the first line, and the clauses, each term as it stands.
+fn put_spelled_clauses(
+    out: &mut Vec<u8>,
+    protocol: &Protocol,
+    clauses: &PlainClauses,
+) -> Result<(), AllocError>
+    ensures { OnOk result (Appends (spelled_clauses (protocol_of protocol.now) clauses.now)
         out.old.items out.new.items) }
-    ensures text { OnOk result (out.new.items ≡
-        out.old.items ++ certificate_text (protocol_of protocol.now) cert.now []) }
 {
     put(out, b"cert 1\n")?;
-    put_clauses(out, protocol, &cert.clauses)?;
+    put_clause_lines(out, protocol, &mut Spelled, clauses)
+}
+
+/// Puts the first line, the nodes, and the clauses by their numbers. These are made first, since they make the table.
+fn put_numbered_clauses(
+    out: &mut Vec<u8>,
+    protocol: &Protocol,
+    clauses: &PlainClauses,
+) -> Result<(), AllocError>
+    ensures { OnOk result (Appends (numbered_clauses (protocol_of protocol.now) clauses.now)
+        out.old.items out.new.items) }
+{
+    put(out, b"cert 2\n")?;
+    let mut table = NodeTable::new(*out.allocator())?;
+    let mut lines = Vec::new(*out.allocator());
+    put_clause_lines(&mut lines, protocol, &mut table, clauses)?;
+    put_nodes(out, protocol, &table)?;
+    put(out, &lines)
+}
+
+/// Puts the first line, with 2 the nodes, and the clauses.
+fn put_clauses(
+    out: &mut Vec<u8>,
+    protocol: &Protocol,
+    clauses: &PlainClauses,
+    format: u8,
+) -> Result<(), AllocError>
+    ensures { OnOk result (Appends (clauses_in format (protocol_of protocol.now) clauses.now)
+        out.old.items out.new.items) }
+{
+    if format == BY_NODES {
+        put_numbered_clauses(out, protocol, clauses)
+    } else {
+        put_spelled_clauses(out, protocol, clauses)
+    }
+}
+
+/// Puts the text of a certificate in a format at the end, each line ended by LF: with 2 by a table of nodes, and else each term
+/// as it stands.
+///
+/// `Err` is want of memory. Nothing is said of the text then: it is to be let go.
+pub fn put_cert(
+    out: &mut Vec<u8>,
+    protocol: &Protocol,
+    cert: &Cert,
+    format: u8,
+) -> Result<(), AllocError>
+    ensures onto { OnOk result (Appends (text_in format (protocol_of protocol.now) cert.now)
+        out.old.items out.new.items) }
+    ensures text { OnOk result (out.new.items ≡
+        out.old.items ++ text_in format (protocol_of protocol.now) cert.now []) }
+{
+    put_clauses(out, protocol, &cert.clauses, format)?;
     put_rows(out, b'r', &cert.rows)?;
     put_rows(out, b'g', &cert.goals)?;
     put(out, b"end\n")
 }
 
-/// The text of a certificate, each line ended by LF.
+/// The text of a certificate in format 1 or 2, each line ended by LF. One that is too large for a table is not written by
+/// one: `format_for` tells.
 ///
 /// `Err` is want of memory.
-pub fn write_cert(alloc: Global, protocol: &Protocol, cert: &Cert) -> Result<Vec<u8>, AllocError>
+pub fn write_cert(
+    alloc: Global,
+    protocol: &Protocol,
+    cert: &Cert,
+    format: u8,
+) -> Result<Vec<u8>, AllocError>
+    requires format { (format ≡ 1) ⊎ (format ≡ 2) }
+    requires fits { format ≡ 2 → FitsInNodes cert.now.clauses }
     ensures { IfOk result (λ text. text.items ≡
-        certificate_text (protocol_of protocol.now) cert.now []) }
+        text_in format (protocol_of protocol.now) cert.now []) }
 {
     let mut text = Vec::new(alloc);
-    put_cert(&mut text, protocol, cert)?;
+    put_cert(&mut text, protocol, cert, format)?;
     Ok(text)
 }

@@ -1,91 +1,162 @@
-//! The texts of facts and clauses.
+//! The texts of facts and clauses, whatever the way in which terms are written.
 
-ghost use Rattle.std.specs.Prelude.{◌≡◌, [], ◌++◌, IfOk, OnOk};
-ghost use Rattle.spec_trees.specs.Tree.{trees};
+ghost use Rattle.std.specs.Prelude.{◌≡◌, [], ◌++◌, flat_map, IfOk, OnOk};
 ghost use Rattle.pi_tree.specs.Protocols.{protocol_of};
-ghost use Rattle.clause_form.specs.Plain.{term_of};
+ghost use Rattle.spec_clauses.specs.Fact.{terms_of};
 ghost use Rattle.clause_form.specs.PlainFacts.{plain_fact_of};
-ghost use Rattle.spec_certificate_text.specs.Loose.{onto};
-ghost use Rattle.spec_certificate_text.specs.Written.{written_event};
-ghost use Rattle.spec_certificate_text.specs.Text.{fact_text, hypotheses_text, clause_text};
+ghost use Rattle.spec_certificate_text.specs.Text.{clause_text};
+ghost use Rattle.spec_node_tables.specs.Table.{facts_in_order, terms_in_order};
+ghost use Rattle.spec_node_tables.specs.Text.{terms_text, event_over, fact_over, hypotheses_over, clause_over, clause_lines_over};
 ghost use Rattle.cert_form.specs.Appends.{Appends};
+ghost use Rattle.cert_form.specs.Writing.{Writes};
 
-use crate::parts::{is_alone, put, put_gap, put_gap_end, put_word, put_word_end};
-use crate::term_text::{put_term, put_terms};
+use crate::certs::PlainClauses;
+use crate::parts::{is_alone, put, put_comma, put_gap, put_gap_end, put_word, put_word_end};
 use crate::words::declared_word;
+use crate::writing::{Spelled, TermWriter};
 use clause_form::{PlainClause, PlainFact, PlainFacts, Trees};
 use pi_tree::Protocol;
 use std::alloc::{AllocError, Global};
 
-/// Puts the text of an event of terms.
-fn put_event(
+/// Puts the texts of terms, a comma between each two.
+#[tactic(auto, using(crate::proofs::TermTexts::none_written))]
+fn put_terms<T: TermWriter>(
     out: &mut Vec<u8>,
     protocol: &Protocol,
+    writer: &mut T,
+    terms: &Trees,
+) -> Result<(), AllocError>
+    ensures { OnOk result (Writes T.kept_of (T.one (protocol_of protocol.now)) terms.now
+        (λ one. terms_text one (protocol_of protocol.now) terms.now) (T.kept writer.old)
+        (T.kept writer.new) out.old.items out.new.items) }
+{
+    'each: for (place, term) in terms.items.iter().enumerate() {
+        put_comma(out, place)?;
+        writer.put_term(out, protocol, term)?;
+    }
+    Ok(())
+}
+
+/// Puts the text of an event of terms.
+fn put_event<T: TermWriter>(
+    out: &mut Vec<u8>,
+    protocol: &Protocol,
+    writer: &mut T,
     event: u32,
     arguments: &Trees,
 ) -> Result<(), AllocError>
-    ensures { OnOk result (Appends (onto (written_event (protocol_of protocol.now) event
-        arguments.now)) out.old.items out.new.items) }
+    ensures { OnOk result (Writes T.kept_of (T.one (protocol_of protocol.now)) arguments.now
+        (λ one. event_over one (protocol_of protocol.now) event arguments.now)
+        (T.kept writer.old) (T.kept writer.new) out.old.items out.new.items) }
 {
     let alone = is_alone(arguments);
     put_word(out, declared_word(&protocol.events, event), alone)?;
-    put_terms(out, protocol, arguments)?;
+    put_terms(out, protocol, writer, arguments)?;
     put_word_end(out, alone)
 }
 
 /// Puts the text of a fact.
-fn put_fact(out: &mut Vec<u8>, protocol: &Protocol, fact: &PlainFact) -> Result<(), AllocError>
-    ensures { OnOk result (Appends (fact_text (protocol_of protocol.now) (plain_fact_of fact.now))
-        out.old.items out.new.items) }
+fn put_fact<T: TermWriter>(
+    out: &mut Vec<u8>,
+    protocol: &Protocol,
+    writer: &mut T,
+    fact: &PlainFact,
+) -> Result<(), AllocError>
+    ensures { OnOk result (Writes T.kept_of (T.one (protocol_of protocol.now))
+        (terms_of (plain_fact_of fact.now))
+        (λ one. fact_over one (protocol_of protocol.now) (plain_fact_of fact.now))
+        (T.kept writer.old) (T.kept writer.new) out.old.items out.new.items) }
 {
     match fact {
         PlainFact::Att(term) => {
             put(out, b"att(")?;
-            put_term(out, protocol, term)?;
+            writer.put_term(out, protocol, term)?;
             put(out, b")")
         }
         PlainFact::Mess(channel, message) => {
             put(out, b"mess(")?;
-            put_term(out, protocol, channel)?;
+            writer.put_term(out, protocol, channel)?;
             put(out, b",")?;
-            put_term(out, protocol, message)?;
+            writer.put_term(out, protocol, message)?;
             put(out, b")")
         }
         PlainFact::Ev(event, arguments) => {
             put(out, b"ev(")?;
-            put_event(out, protocol, *event, arguments)?;
+            put_event(out, protocol, writer, *event, arguments)?;
             put(out, b")")
         }
         PlainFact::Mev(event, arguments) => {
             put(out, b"mev(")?;
-            put_event(out, protocol, *event, arguments)?;
+            put_event(out, protocol, writer, *event, arguments)?;
             put(out, b")")
         }
         PlainFact::Bad(arguments) => {
             put(out, b"bad(")?;
-            put_terms(out, protocol, arguments)?;
+            put_terms(out, protocol, writer, arguments)?;
             put(out, b")")
         }
     }
 }
 
 /// Puts the texts of hypotheses.
-fn put_hypotheses(
+#[tactic(auto, using(crate::proofs::TermTexts::none_written))]
+fn put_hypotheses<T: TermWriter>(
     out: &mut Vec<u8>,
     protocol: &Protocol,
+    writer: &mut T,
     hyps: &PlainFacts,
 ) -> Result<(), AllocError>
-    ensures { OnOk result (Appends (hypotheses_text (protocol_of protocol.now) hyps.now)
-        out.old.items out.new.items) }
+    ensures { OnOk result (Writes T.kept_of (T.one (protocol_of protocol.now))
+        (flat_map terms_of hyps.now)
+        (λ one. hypotheses_over one (protocol_of protocol.now) hyps.now)
+        (T.kept writer.old) (T.kept writer.new) out.old.items out.new.items) }
 {
     'each: for (place, hyp) in hyps.items.iter().enumerate() {
         put_gap(out, place)?;
-        put_fact(out, protocol, hyp)?;
+        put_fact(out, protocol, writer, hyp)?;
     }
     put_gap_end(out, hyps.items.len())
 }
 
-/// Puts the text of a clause at the end, without a line feed.
+/// Puts the text of a clause.
+fn put_clause_with<T: TermWriter>(
+    out: &mut Vec<u8>,
+    protocol: &Protocol,
+    writer: &mut T,
+    clause: &PlainClause,
+) -> Result<(), AllocError>
+    ensures { OnOk result (Writes T.kept_of (T.one (protocol_of protocol.now))
+        (flat_map terms_of (facts_in_order clause.now))
+        (λ one. clause_over one (protocol_of protocol.now) clause.now)
+        (T.kept writer.old) (T.kept writer.new) out.old.items out.new.items) }
+{
+    put_hypotheses(out, protocol, writer, &clause.hyps)?;
+    put(out, b"=> ")?;
+    put_fact(out, protocol, writer, &clause.concl)
+}
+
+/// Puts a line for each clause.
+#[tactic(auto, using(crate::proofs::TermTexts::none_written))]
+pub(crate) fn put_clause_lines<T: TermWriter>(
+    out: &mut Vec<u8>,
+    protocol: &Protocol,
+    writer: &mut T,
+    clauses: &PlainClauses,
+) -> Result<(), AllocError>
+    ensures { OnOk result (Writes T.kept_of (T.one (protocol_of protocol.now))
+        (terms_in_order clauses.now)
+        (λ one. clause_lines_over one (protocol_of protocol.now) clauses.now)
+        (T.kept writer.old) (T.kept writer.new) out.old.items out.new.items) }
+{
+    'each: for clause in &clauses.items {
+        put(out, b"c ")?;
+        put_clause_with(out, protocol, writer, clause)?;
+        put(out, b"\n")?;
+    }
+    Ok(())
+}
+
+/// Puts the text of a clause at the end, without a line feed, each term as it stands.
 ///
 /// `Err` is want of memory. Nothing is said of the text then: it is to be let go.
 pub fn put_clause(
@@ -98,12 +169,10 @@ pub fn put_clause(
     ensures text { OnOk result (out.new.items ≡
         out.old.items ++ clause_text (protocol_of protocol.now) clause.now []) }
 {
-    put_hypotheses(out, protocol, &clause.hyps)?;
-    put(out, b"=> ")?;
-    put_fact(out, protocol, &clause.concl)
+    put_clause_with(out, protocol, &mut Spelled, clause)
 }
 
-/// The text of a clause, without a line feed.
+/// The text of a clause, without a line feed, each term as it stands.
 ///
 /// `Err` is want of memory.
 pub fn write_clause(

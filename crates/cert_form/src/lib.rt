@@ -3,9 +3,11 @@
 
 mod certs;
 mod clause_text;
+mod nodes;
 mod parts;
 mod term_text;
 mod words;
+mod writing;
 
-pub use crate::certs::{Cert, PlainClauses, Rows, put_cert, write_cert};
+pub use crate::certs::{Cert, PlainClauses, Rows, format_for, put_cert, write_cert};
 pub use crate::clause_text::{put_clause, write_clause};

@@ -22,7 +22,7 @@ pub fn put(out: &mut Vec<u8>, bytes: &[u8]) -> Result<(), AllocError>
 }
 
 /// Puts the digits of a number.
-pub fn put_number(out: &mut Vec<u8>, number: u32) -> Result<(), AllocError>
+pub fn put_number(out: &mut Vec<u8>, number: u64) -> Result<(), AllocError>
     ensures { OnOk result (Appends (λ rest. decimal_of number ++ rest) out.old.items
         out.new.items) }
 {
@@ -58,7 +58,7 @@ fn put_made(out: &mut Vec<u8>, protocol: &Protocol, point: u32) -> Result<(), Al
 {
     put(out, word_at(protocol, point))?;
     put(out, b"@")?;
-    put_number(out, point)?;
+    put_number(out, point as u64)?;
     put(out, b"[")
 }
 

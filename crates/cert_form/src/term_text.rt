@@ -1,49 +1,34 @@
-//! The texts of terms.
+//! The texts of terms as they stand.
 
-ghost use Rattle.std.specs.Prelude.{◌≡◌, OnOk};
-ghost use Rattle.spec_trees.specs.Tree.{trees};
+ghost use Rattle.std.specs.Prelude.{OnOk};
 ghost use Rattle.pi_tree.specs.Protocols.{protocol_of};
 ghost use Rattle.clause_form.specs.Plain.{term_of};
-ghost use Rattle.spec_certificate_text.specs.Loose.{row};
-ghost use Rattle.spec_certificate_text.specs.Written.{written_row};
 ghost use Rattle.spec_certificate_text.specs.Text.{term_text};
 ghost use Rattle.cert_form.specs.Appends.{Appends};
 
 use crate::parts::{is_alone, put, put_closing, put_comma, put_number, put_opening};
-use clause_form::{Tree, Trees};
+use clause_form::Tree;
 use pi_tree::Protocol;
 use std::alloc::AllocError;
 
 /// Puts the text of a term.
-pub fn put_term(out: &mut Vec<u8>, protocol: &Protocol, term: &Tree) -> Result<(), AllocError>
+pub fn put_spelled(out: &mut Vec<u8>, protocol: &Protocol, term: &Tree) -> Result<(), AllocError>
     ensures { OnOk result (Appends (term_text (protocol_of protocol.now) (term_of term.now))
         out.old.items out.new.items) }
 {
     match term {
         Tree::Var(number) => {
             put(out, b"v")?;
-            put_number(out, *number)
+            put_number(out, *number as u64)
         }
         Tree::App(symbol, arguments) => {
             let alone = is_alone(arguments);
             put_opening(out, protocol, *symbol, alone)?;
             'each: for (place, argument) in arguments.items.iter().enumerate() {
                 put_comma(out, place)?;
-                put_term(out, protocol, argument)?;
+                put_spelled(out, protocol, argument)?;
             }
             put_closing(out, *symbol, alone)
         }
     }
-}
-
-/// Puts the texts of terms, a comma between each two.
-pub fn put_terms(out: &mut Vec<u8>, protocol: &Protocol, terms: &Trees) -> Result<(), AllocError>
-    ensures { OnOk result (Appends (row (written_row (protocol_of protocol.now) (trees terms.now)))
-        out.old.items out.new.items) }
-{
-    'each: for (place, term) in terms.items.iter().enumerate() {
-        put_comma(out, place)?;
-        put_term(out, protocol, term)?;
-    }
-    Ok(())
 }

@@ -1,16 +1,14 @@
--- What is told of the clause of each entry: as the bank grows, as entries are marked, and with an entry more.
-use Rattle.std.proofs.Common.{◌≡◌, ◌∙◌, ℕ, zero, suc, List, [], ◌∷◌, ◌++◌, length, map, refl, ap, sym}
+-- What is told of the clause of each entry: as the bank grows, of entries with the same clauses, and with an entry more.
+use Rattle.std.proofs.Common.{◌≡◌, ◌∙◌, List, [], ◌∷◌, ◌++◌, length, map, refl, ap, sym}
 use Rattle.std.proofs.lemmas.List.{length-map, map-append}
 use Rattle.spec_terms.specs.Term.{Term}
 use Rattle.spec_clauses.specs.Fact.{Clause}
 use Rattle.term_tree.specs.Bank.{Grows}
-use Rattle.term_tree.specs.declared.bank.Id.{Id}
 use Rattle.clause_form.specs.Seen.{clause_at}
 use Rattle.clause_form.proofs.Copying.{NamesClause-grows}
 use Rattle.clause_form.specs.Fit.{AreFit}
 use Rattle.clause_saturate.specs.declared.log.Entry.{Entry}
-use Rattle.clause_saturate.specs.Beating.{clauses_of, AreMarked}
-use Rattle.clause_saturate.proofs.Marking.{MarkedTo}
+use Rattle.clause_saturate.specs.Beating.{clauses_of}
 
 abbrev pub told_of : {X : Type 0} → (Clause Term → X) → List Term → List Entry → List X
 told_of what all es = map (λ e. what (clause_at all e.clause)) es
@@ -22,23 +20,15 @@ module _ {X : Type 0} (what : Clause Term → X) where
       let first : what (clause_at b e.clause) ≡ what (clause_at a e.clause) = ap what (NamesClause-grows a b e.clause (clause_at a e.clause) grows (record { known = fit.0.known; is = refl })).is in
       λ i. first i ∷ told_grow a b es grows fit.1 i
 
-  pub told_marked : (all : List Term) (c : Clause Term) (number : ℕ) (olds news : List Entry) → AreMarked all c number olds news → told_of what all news ≡ told_of what all olds
-  told_marked all c number [] [] m = refl
-  told_marked all c number [] (e ∷ es) m = absurd m
-  told_marked all c number (d ∷ ds) [] m = absurd m
-  told_marked all c number (d ∷ ds) (e ∷ es) m =
-      let first : what (clause_at all e.clause) ≡ what (clause_at all d.clause) = ap (λ (x : Clause Id). what (clause_at all x)) m.0.clause in
-      λ i. first i ∷ told_marked all c number ds es m.1 i
-
-  -- the first i of them with their marks
-  pub told_marked_to : (all : List Term) (c : Clause Term) (number i : ℕ) (olds news : List Entry) → MarkedTo all c number i olds news → told_of what all news ≡ told_of what all olds
-  told_marked_to all c number zero olds news m = ap (told_of what all) m
-  told_marked_to all c number (suc i) [] [] m = refl
-  told_marked_to all c number (suc i) [] (e ∷ es) m = absurd m
-  told_marked_to all c number (suc i) (d ∷ ds) [] m = absurd m
-  told_marked_to all c number (suc i) (d ∷ ds) (e ∷ es) m =
-      let first : what (clause_at all e.clause) ≡ what (clause_at all d.clause) = ap (λ (x : Clause Id). what (clause_at all x)) m.0.clause in
-      λ j. first j ∷ told_marked_to all c number i ds es m.1 j
+  -- entries with the same clauses
+  pub told_same : (all : List Term) (olds news : List Entry) → clauses_of news ≡ clauses_of olds → told_of what all news ≡ told_of what all olds
+  told_same all [] [] same = refl
+  told_same all [] (e ∷ es) same = cc
+  told_same all (d ∷ ds) [] same = cc
+  told_same all (d ∷ ds) (e ∷ es) same =
+      let first : e.clause ≡ d.clause = cc in
+      let rest : clauses_of es ≡ clauses_of ds = cc in
+      λ i. what (clause_at all (first i)) ∷ told_same all ds es rest i
 
   -- with an entry more there is one more
   pub told_pushed : (all : List Term) (es : List Entry) (e : Entry) (was now : List X) (x : X) → was ≡ told_of what all es → now ≡ was ++ x ∷ [] → x ≡ what (clause_at all e.clause) → now ≡ told_of what all (es ++ e ∷ [])

@@ -23,12 +23,13 @@ use Rattle.clause_saturate.specs.declared.walk.Live.{Live}
 use Rattle.clause_saturate.specs.declared.walk.Walk.{Walk}
 use Rattle.clause_saturate.specs.declared.common.Common.{Common}
 use Rattle.clause_saturate.specs.Logs.{TellLog, IsSpentLog, IsLargeLog}
-use Rattle.clause_saturate.specs.Live.{AreNumbersOf, kept_lanes, kept_prints, AreListed}
+use Rattle.clause_saturate.specs.Live.{AreListed, IsSameLive}
 use Rattle.clause_saturate.specs.Walked.{IsTask, IsWalked, HasSpent, HasLarge}
 use Rattle.clause_saturate.specs.Common.{Shared, task_of, AreProper, begun_log, begun_size, IsCommonOf, IsSpentCommon, IsLargeCommon}
 use Rattle.clause_saturate.proofs.Fitting.{fit_normal, fit_small, walked_grows}
 use Rattle.clause_saturate.proofs.Found.{front_grows}
 use Rattle.clause_saturate.proofs.Giving.{goal_task, numbered_goal}
+use Rattle.clause_saturate.proofs.Listing.{listed_copied}
 use Rattle.clause_saturate.proofs.Telling.{log_length}
 use Rattle.term_tree.proofs.BankLaws.{Grows-length}
 
@@ -110,21 +111,16 @@ large_common all shared goal entries solved unsolved h = record {
 }
 
 -- from the common part the walk goes on with each goal
-pub walk_goes_on : (all : List Term) (shared : Shared) (goal : Clause Term) (common : Common) (walk : Walk) → IsCommonOf all shared common → IsNormal goal → IsWithinLimit goal → walk.items.items ≡ begun_log common → walk.live.solved.items ≡ common.live.solved.items → walk.live.unsolved.items ≡ common.live.unsolved.items → walk.live.features.items ≡ common.live.features.items → walk.live.prints.items ≡ common.live.prints.items → walk.budget ≡ common.budget
+pub walk_goes_on : (all : List Term) (shared : Shared) (goal : Clause Term) (common : Common) (walk : Walk) → IsCommonOf all shared common → IsNormal goal → IsWithinLimit goal → walk.items.items ≡ begun_log common → IsSameLive common.live walk.live → walk.budget ≡ common.budget
     → IsWalked all (task_of shared goal) walk (goal_key (with_goal shared.clauses goal) (length walk.items.items))
-walk_goes_on all shared goal common walk h own within items solved unsolved features prints budget =
+walk_goes_on all shared goal common walk h own within items live budget =
     walked_grows before all (task_of shared goal) walk (goal_key given (length walk.items.items)) (front_grows (begun_size common) all) (
       h.log,
       record {
         is_task = proper_task shared goal h.proper own within;
         budget = budget ∙ h.budget;
         tell = tell;
-        listed = record {
-          solved = subst (λ numbers. AreNumbersOf before walk.items.items true numbers) (sym solved) listed.solved;
-          unsolved = subst (λ numbers. AreNumbersOf before walk.items.items false numbers) (sym unsolved) listed.unsolved;
-          features = ap kept_lanes features ∙ listed.features;
-          prints = ap kept_prints prints ∙ listed.prints;
-        };
+        listed = listed_copied before walk.items.items common.live walk.live live listed;
         up_to = subst (λ n. IsLogUpTo given (Some (goal_key given n)) h.log) turn ready.up_to;
         within = ready.within;
         reached = (let count = log_length before walk.items.items h.log tell in omega (arith, count));

@@ -1,8 +1,7 @@
 -- What the features that are kept beside entries tell.
-use Rattle.std.proofs.Common.{◌≡◌, ◌∙◌, ℕ, zero, suc, ◌-◌, ◌<◌, Bool, true, false, Some, List, [], ◌∷◌, ◌++◌, length, get_or, true≢false, refl, ap, sym, subst, arith}
+use Rattle.std.proofs.Common.{◌≡◌, ◌∙◌, ℕ, zero, suc, ◌-◌, ◌<◌, Bool, true, false, Some, List, [], ◌∷◌, length, get_or, true≢false, ap, sym, subst, arith}
 use Rattle.std.specs.Prelude.{slice_get}
 use Rattle.std.specs.List.{list_all}
-use Rattle.std.proofs.lemmas.List.{length-map}
 use Rattle.spec_terms.specs.Term.{Term}
 use Rattle.spec_calculus.specs.Points.{numbered}
 use Rattle.spec_trees.proofs.Equality.{and_true}
@@ -10,15 +9,12 @@ use Rattle.spec_clauses.specs.Fact.{Clause}
 use Rattle.spec_clauses.specs.Flat.{is_flat}
 use Rattle.spec_clauses.specs.Subsumption.{Subsumes}
 use Rattle.spec_features.specs.Features.{features_of}
-use Rattle.term_tree.specs.Bank.{Grows}
 use Rattle.term_tree.specs.declared.bank.Id.{Id}
 use Rattle.clause_form.specs.Seen.{clause_at}
-use Rattle.clause_form.proofs.Copying.{NamesClause-grows}
 use Rattle.clause_form.specs.Fit.{IsFit, AreFit}
 use Rattle.feature_index.specs.declared.lanes.Features.{Features}
 use Rattle.clause_saturate.specs.declared.log.Entry.{Entry}
-use Rattle.clause_saturate.specs.Beating.{clauses_of, AreMarked}
-use Rattle.clause_saturate.proofs.Marking.{MarkedTo}
+use Rattle.clause_saturate.specs.Beating.{clauses_of}
 use Rattle.clause_saturate.specs.Live.{lanes_of, kept_lanes, HasFeatures, NumberCovers}
 
 -- what stands beside an entry are its clause's
@@ -42,6 +38,11 @@ pub fit_there : (all : List Term) (es : List Entry) (k : ℕ) (x : Entry) → Ar
 fit_there all [] k x fit at = cc
 fit_there all (e ∷ es) zero x fit at = let first : e ≡ x = cc in subst (λ (y : Entry). IsFit all y.clause) first fit.0
 fit_there all (e ∷ es) (suc k) x fit at = fit_there all es k x fit.1 at
+
+-- so is that of a number
+pub fit_numbered : (all : List Term) (es : List Entry) (n : ℕ) (x : Entry) → AreFit all (clauses_of es) → numbered es n ≡ Some x → IsFit all x.clause
+fit_numbered all es zero x fit at = cc
+fit_numbered all es (suc k) x fit at = fit_there all es k x fit at
 
 -- what is told of features: wherever the general clause subsumes the special one
 abbrev pub IsTold : Features → Features → Bool → Type 0

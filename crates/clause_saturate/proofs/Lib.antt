@@ -6,9 +6,13 @@ pub mod Fitting
 pub mod Pairing
 pub mod Found
 pub mod Living
+pub mod Numbers
 pub mod Beside
 pub mod Lanes
+pub mod Ending
+pub mod Chaining
 pub mod Listing
 pub mod Partners
+pub mod Covering
 pub mod Giving
 pub mod Commons

@@ -1,25 +1,32 @@
 -- The lists of live entries: as the bank grows, as entries are marked, and with an entry more.
-use Rattle.std.proofs.Common.{◌≡◌, ◌⊎◌, ◌∙◌, ℕ, zero, suc, ◌+◌, ◌<◌, ◌≤◌, Bool, true, false, Option, Some, None, List, [], ◌∷◌, ◌++◌, length, filter, refl, ap, sym, subst, inl, inr, arith}
+use Rattle.std.proofs.Common.{◌≡◌, ◌⊎◌, ◌∙◌, ℕ, zero, suc, ◌+◌, ◌<◌, ◌≤◌, Bool, true, false, Option, Some, None, List, [], ◌∷◌, ◌++◌, length, map, filter, refl, ap, sym, subst, inl, inr, arith}
 use Rattle.std.specs.Prelude.{slice_get}
+use Rattle.std.proofs.lemmas.List.{length-map, length-append, map-append}
 use Rattle.spec_terms.specs.Term.{Term}
 use Rattle.spec_calculus.specs.Points.{numbered}
 use Rattle.spec_clauses.specs.Fact.{Clause}
 use Rattle.spec_clauses.specs.Selection.{is_solved}
 use Rattle.spec_saturation.proofs.Places.{numbered_within}
 use Rattle.term_tree.specs.Bank.{Grows}
+use Rattle.term_tree.specs.declared.bank.Id.{Id}
 use Rattle.clause_form.specs.Seen.{clause_at}
 use Rattle.clause_form.proofs.Copying.{NamesClause-grows}
 use Rattle.clause_saturate.specs.declared.log.Entry.{Entry}
 use Rattle.clause_saturate.specs.declared.walk.Live.{Live}
 use Rattle.clause_form.specs.Fit.{AreFit}
 use Rattle.feature_index.specs.declared.lanes.Features.{Features}
-use Rattle.clause_saturate.specs.Logs.{is_unbeaten}
-use Rattle.clause_saturate.specs.Beating.{clauses_of, IsMarked, AreMarked}
 use Rattle.spec_features.specs.Features.{features_of}
 use Rattle.spec_fingerprints.specs.Fingerprints.{clause_print}
-use Rattle.std.proofs.lemmas.List.{map-append}
-use Rattle.clause_saturate.specs.Live.{IsAmong, IsAscending, IsLiveAt, AreNumbersOf, kept_lanes, lanes_of, kept_prints, prints_of, HasFeatures, AreListed, is_live_entry, is_live_at, IsNumberListed}
-use Rattle.clause_saturate.proofs.Beside.{told_grow, told_marked, told_pushed}
+use Rattle.clause_saturate.specs.Logs.{is_unbeaten}
+use Rattle.clause_saturate.specs.Beating.{clauses_of, IsMarked, AreMarked}
+use Rattle.clause_saturate.specs.Live.{IsAmong, IsAscending, IsLiveAt, AreNumbersOf, kept_lanes, lanes_of, kept_prints, prints_of, HasFeatures, AreUnclosed, AreListed, IsEmptyLive, IsSameLive, AreAlive, is_live_entry, is_live_at, IsNumberListed, IsListedBy, IsUnclosedListed, IsEndListed}
+use Rattle.clause_saturate.specs.Ends.{last_term, closed_end_of, ends_of, AreChained}
+use Rattle.clause_saturate.proofs.Numbers.{among_push, among_last, push_among, there_push, last_there, push_there}
+use Rattle.clause_saturate.proofs.Marking.{marked_clauses}
+use Rattle.clause_saturate.proofs.Ending.{end_grows}
+use Rattle.clause_saturate.proofs.Chaining.{none_chained, chains_same}
+use Rattle.clause_saturate.proofs.Lanes.{fit_numbered}
+use Rattle.clause_saturate.proofs.Beside.{told_grow, told_same, told_pushed}
 
 -- numbers that ascend from a number ascend from a lesser one
 from_less : (less least : ℕ) (ns : List ℕ) → less ≤ least → IsAscending least ns → IsAscending less ns
@@ -64,60 +71,6 @@ push_ascends : (least : ℕ) (ns : List ℕ) (n : ℕ) → IsAscending least ns 
 push_ascends least [] n up order all = (order, tt)
 push_ascends least (m ∷ ns) n up order all = (up.0, push_ascends (suc m) ns n up.1 (all m (inl refl)) (λ k among. all k (inr among)))
 
-among_push : (ns : List ℕ) (m n : ℕ) → IsAmong ns n → IsAmong (ns ++ m ∷ []) n
-among_push [] m n among = absurd among
-among_push (k ∷ ns) m n (inl same) = inl same
-among_push (k ∷ ns) m n (inr rest) = inr (among_push ns m n rest)
-
-among_last : (ns : List ℕ) (n : ℕ) → IsAmong (ns ++ n ∷ []) n
-among_last [] n = inl refl
-among_last (k ∷ ns) n = inr (among_last ns n)
-
-push_among : (ns : List ℕ) (m n : ℕ) → IsAmong (ns ++ m ∷ []) n → IsAmong ns n ⊎ (m ≡ n)
-push_among [] m n (inl same) = inr same
-push_among [] m n (inr rest) = absurd rest
-push_among (k ∷ ns) m n (inl same) = inl (inl same)
-push_among (k ∷ ns) m n (inr rest) = elim (push_among ns m n rest) [
-  | inl among ↦ inl (inr among)
-  | inr last ↦ inr last
-]
-
--- what has a number has it with an entry more, which gets the next number
-there_push : (es : List Entry) (e : Entry) (n : ℕ) (x : Entry) → numbered es n ≡ Some x → numbered (es ++ e ∷ []) n ≡ Some x
-there_push es e zero x at = cc
-there_push es e (suc k) x at = go es k at
-  where
-    go : (xs : List Entry) (k : ℕ) → slice_get xs k ≡ Some x → slice_get (xs ++ e ∷ []) k ≡ Some x
-    go [] k at = cc
-    go (y ∷ xs) zero at = at
-    go (y ∷ xs) (suc k) at = go xs k at
-
-last_there : (es : List Entry) (e : Entry) (n : ℕ) → n ≡ length es + 1 → numbered (es ++ e ∷ []) n ≡ Some e
-last_there es e zero is = absurd (omega (arith, is))
-last_there es e (suc k) is = go es k (omega (arith, is))
-  where
-    go : (xs : List Entry) (k : ℕ) → k ≡ length xs → slice_get (xs ++ e ∷ []) k ≡ Some e
-    go [] zero is = refl
-    go [] (suc k) is = absurd (omega (arith, is))
-    go (y ∷ xs) zero is = absurd (omega (arith, is))
-    go (y ∷ xs) (suc k) is = go xs k (omega (arith, is))
-
-push_there : (es : List Entry) (e : Entry) (n : ℕ) (x : Entry) → numbered (es ++ e ∷ []) n ≡ Some x → (numbered es n ≡ Some x) ⊎ ((n ≡ length es + 1) × (e ≡ x))
-push_there es e zero x at = cc
-push_there es e (suc k) x at = elim (go es k at) [
-  | inl before ↦ inl before
-  | inr last ↦ inr (let place = last.0 in (omega (arith, place), last.1))
-]
-  where
-    go : (xs : List Entry) (k : ℕ) → slice_get (xs ++ e ∷ []) k ≡ Some x → (slice_get xs k ≡ Some x) ⊎ ((k ≡ length xs) × (e ≡ x))
-    go [] zero at = inr (refl, cc)
-    go [] (suc k) at = cc
-    go (y ∷ xs) zero at = inl at
-    go (y ∷ xs) (suc k) at = elim (go xs k at) [
-      | inl before ↦ inl before
-      | inr last ↦ inr (let place = last.0 in (omega (arith, place), last.1))
-    ]
-
 -- as the bank grows, an entry names what it did
 pub same_clause : (a b : List Term) (entries : List Entry) (n : ℕ) (x : Entry) → Grows a b → AreFit a (clauses_of entries) → numbered entries n ≡ Some x → clause_at b x.clause ≡ clause_at a x.clause
 same_clause a b entries zero x grows fit at = cc
@@ -144,25 +97,63 @@ numbers_same a b es solved ns same h = record {
   every = λ n live. h.every n (live_same b a es solved n (λ m x at. sym (same m x at)) live);
 }
 
+-- so are those that don't end with closed terms
+ends_same : (a b : List Term) (es : List Entry) (n : ℕ) (x : Entry) → Grows a b → AreFit a (clauses_of es) → numbered es n ≡ Some x → closed_end_of b x.clause ≡ closed_end_of a x.clause
+ends_same a b es n x grows fit at = end_grows a b x.clause grows (fit_numbered a es n x fit at).known
+
+unclosed_same : (a b : List Term) (es : List Entry) (ns : List ℕ) → ((n : ℕ) (x : Entry) → numbered es n ≡ Some x → closed_end_of b x.clause ≡ closed_end_of a x.clause) → AreUnclosed a es ns → AreUnclosed b es ns
+unclosed_same a b es ns same h = record { within = h.within; every = λ n x at live none. h.every n x at live (sym (same n x at) ∙ none) }
+
 pub listed_grows : (a b : List Term) (es : List Entry) (live : Live) → Grows a b → AreFit a (clauses_of es) → AreListed a es live → AreListed b es live
 listed_grows a b es live grows fit h =
     let same : AreSame a b es = λ n x at. same_clause a b es n x grows fit at in
-    record { solved = numbers_same a b es true live.solved.items same h.solved; unsolved = numbers_same a b es false live.unsolved.items same h.unsolved; features = h.features ∙ sym (told_grow features_of a b es grows fit); prints = h.prints ∙ sym (told_grow clause_print a b es grows fit) }
+    record {
+      solved = numbers_same a b es true live.solved.items same h.solved;
+      unsolved = numbers_same a b es false live.unsolved.items same h.unsolved;
+      features = h.features ∙ sym (told_grow features_of a b es grows fit);
+      prints = h.prints ∙ sym (told_grow clause_print a b es grows fit);
+      unclosed = unclosed_same a b es live.unclosed.items (λ n x at. ends_same a b es n x grows fit at) h.unclosed;
+      chained = h.chained;
+    }
 
 pub listed_back : (a b : List Term) (es : List Entry) (live : Live) → Grows a b → AreFit a (clauses_of es) → AreListed b es live → AreListed a es live
 listed_back a b es live grows fit h =
     let same : AreSame b a es = λ n x at. sym (same_clause a b es n x grows fit at) in
-    record { solved = numbers_same b a es true live.solved.items same h.solved; unsolved = numbers_same b a es false live.unsolved.items same h.unsolved; features = h.features ∙ told_grow features_of a b es grows fit; prints = h.prints ∙ told_grow clause_print a b es grows fit }
+    record {
+      solved = numbers_same b a es true live.solved.items same h.solved;
+      unsolved = numbers_same b a es false live.unsolved.items same h.unsolved;
+      features = h.features ∙ told_grow features_of a b es grows fit;
+      prints = h.prints ∙ told_grow clause_print a b es grows fit;
+      unclosed = unclosed_same b a es live.unclosed.items (λ n x at. sym (ends_same a b es n x grows fit at)) h.unclosed;
+      chained = h.chained;
+    }
+
+-- as what is kept is copied
+pub listed_copied : (all : List Term) (es : List Entry) (old new : Live) → IsSameLive old new → AreListed all es old → AreListed all es new
+listed_copied all es old new same h = record {
+  solved = subst (λ (ns : List ℕ). AreNumbersOf all es true ns) (sym same.solved) h.solved;
+  unsolved = subst (λ (ns : List ℕ). AreNumbersOf all es false ns) (sym same.unsolved) h.unsolved;
+  features = ap kept_lanes same.features ∙ h.features;
+  prints = ap kept_prints same.prints ∙ h.prints;
+  unclosed = subst (λ (ns : List ℕ). AreUnclosed all es ns) (sym same.unclosed) h.unclosed;
+  chained = chains_same (ends_of es) old.chains new.chains same.last same.previous h.chained;
+}
 
 -- no entries have no numbers
-pub none_listed : (all : List Term) (es : List Entry) (live : Live) → es ≡ [] → live.solved.items ≡ [] → live.unsolved.items ≡ [] → live.features.items ≡ [] → live.prints.items ≡ [] → AreListed all es live
-none_listed all es live none solved unsolved features prints = record {
-  solved = go true live.solved.items solved;
-  unsolved = go false live.unsolved.items unsolved;
-  features = ap kept_lanes features ∙ ap (lanes_of all) (sym none);
-  prints = ap kept_prints prints ∙ ap (prints_of all) (sym none);
+pub none_listed : (all : List Term) (es : List Entry) (live : Live) → es ≡ [] → IsEmptyLive live → AreListed all es live
+none_listed all es live none empty = record {
+  solved = go true live.solved.items empty.solved;
+  unsolved = go false live.unsolved.items empty.unsolved;
+  features = ap kept_lanes empty.features ∙ ap (lanes_of all) (sym none);
+  prints = ap kept_prints empty.prints ∙ ap (prints_of all) (sym none);
+  unclosed = record { within = λ n among. absurd (subst (λ (ns : List ℕ). IsAmong ns n) empty.unclosed among); every = λ n x at live closed. absurd (no_entry n x (subst (λ (l : List Entry). numbered l n ≡ Some x) none at)) };
+  chained = subst (λ (l : List Entry). AreChained (ends_of l) live.chains.last.items live.chains.previous.items) (sym none) (none_chained live.chains.last.items live.chains.previous.items empty.last empty.previous);
 }
   where
+    no_entry : (n : ℕ) (x : Entry) → numbered [] n ≡ Some x → ⊥
+    no_entry zero x at = cc
+    no_entry (suc k) x at = cc
+
     nowhere : (kind : Bool) (n : ℕ) → IsLiveAt all [] kind n → ⊥
     nowhere kind zero h = let at = h.at in cc
     nowhere kind (suc k) h = let at = h.at in cc
@@ -281,43 +272,83 @@ other_numbers all es e solved ns other h = record {
     every m there (inr last) = absurd (other (ap (λ (x : Entry). is_solved (clause_at all x.clause).hypotheses) last.1 ∙ there.kind))
 
 pub marked_count : (all : List Term) (c : Clause Term) (number : ℕ) (olds news : List Entry) → AreMarked all c number olds news → length news ≡ length olds
-marked_count all c number [] [] m = refl
-marked_count all c number [] (e ∷ es) m = absurd m
-marked_count all c number (d ∷ ds) [] m = absurd m
-marked_count all c number (d ∷ ds) (e ∷ es) m = ap suc (marked_count all c number ds es m.1)
+marked_count all c number olds news m = sym (length-map news (λ e. e.clause)) ∙ (ap length (marked_clauses all c number olds news m) ∙ length-map olds (λ e. e.clause))
+
+-- those that don't end with closed terms, without those that are live no more
+marked_unclosed : (all : List Term) (c : Clause Term) (number : ℕ) (olds news : List Entry) (ns : List ℕ) → AreMarked all c number olds news → AreUnclosed all olds ns → AreUnclosed all news (filter (is_live_at news) ns)
+marked_unclosed all c number olds news ns marked h = record {
+  within = λ n among. (let w = h.within n (filter_among (is_live_at news) ns n among).0 in let count = marked_count all c number olds news marked in (w.0, omega (arith, w.1, count)));
+  every = λ n x at live none. every n x at live none (marked_from all c number olds news n x marked at);
+}
+  where
+    every : (n : ℕ) (x : Entry) → numbered news n ≡ Some x → x.by ≡ None → closed_end_of all x.clause ≡ None → IsMarkedAt all c number (numbered olds n) x → IsAmong (filter (is_live_at news) ns) n
+    every n x at live none from =
+        among_filter (is_live_at news) ns n
+        (h.every n from.before from.at (was_live all c number from.before x from.mark live) (sym (ap (closed_end_of all) from.mark.clause) ∙ none))
+        (there_live news n x at live)
+
+-- and with an entry more
+pushed_unclosed : (all : List Term) (es : List Entry) (e : Entry) (n : ℕ) (was now : List ℕ) → n ≡ length es + 1 → IsUnclosedListed (closed_end_of all e.clause) n was now → AreUnclosed all es was → AreUnclosed all (es ++ e ∷ []) now
+pushed_unclosed all es e n was now is listed h = go (closed_end_of all e.clause) refl listed
+  where
+    longer : length (es ++ e ∷ []) ≡ length es + 1
+    longer = length-append es (e ∷ [])
+
+    later : (ns : List ℕ) → ((m : ℕ) → IsAmong was m → IsAmong ns m) → (closed_end_of all e.clause ≡ None → IsAmong ns n) → (m : ℕ) (x : Entry) → closed_end_of all x.clause ≡ None → x.by ≡ None → (numbered es m ≡ Some x) ⊎ ((m ≡ length es + 1) × (e ≡ x)) → IsAmong ns m
+    later ns old new m x none live (inl before) = old m (h.every m x before live none)
+    later ns old new m x none live (inr last) = subst (λ k. IsAmong ns k) (is ∙ sym last.0) (new (ap (λ (y : Entry). closed_end_of all y.clause) last.1 ∙ none))
+
+    within_was : (m : ℕ) → IsAmong was m → (0 < m) × (m ≤ length (es ++ e ∷ []))
+    within_was m among = (let w = h.within m among in (w.0, omega (arith, w.1, longer)))
+
+    within_more : (m : ℕ) → IsAmong was m ⊎ (n ≡ m) → (0 < m) × (m ≤ length (es ++ e ∷ []))
+    within_more m (inl among) = within_was m among
+    within_more m (inr last) = (omega (arith, is, last), omega (arith, is, last, longer))
+
+    go : (o : Option Id) → closed_end_of all e.clause ≡ o → IsUnclosedListed o n was now → AreUnclosed all (es ++ e ∷ []) now
+    go None end l = subst (λ (ns : List ℕ). AreUnclosed all (es ++ e ∷ []) ns) (sym l) (record {
+      within = λ m among. within_more m (push_among was n m among);
+      every = λ m x at live none. later (was ++ n ∷ []) (λ k among. among_push was n k among) (λ _. among_last was n) m x none live (push_there es e m x at);
+    })
+    go (Some id) end l = subst (λ (ns : List ℕ). AreUnclosed all (es ++ e ∷ []) ns) (sym l) (record {
+      within = within_was;
+      every = λ m x at live none. later was (λ k among. among) (λ closed. let wrong : Some id ≡ None = sym end ∙ closed in absurd (cc)) m x none live (push_there es e m x at);
+    })
 
 -- what is kept beside marked entries
 pub marked_listed : (all : List Term) (c : Clause Term) (number : ℕ) (olds marked : List Entry) (was now : Live) → AreListed all olds was → AreMarked all c number olds marked
-    → now.solved.items ≡ filter (is_live_at marked) was.solved.items → now.unsolved.items ≡ filter (is_live_at marked) was.unsolved.items → now.features.items ≡ was.features.items → now.prints.items ≡ was.prints.items → AreListed all marked now
-marked_listed all c number olds marked was now h m solved unsolved same prints = record {
-  solved = subst (λ (ns : List ℕ). AreNumbersOf all marked true ns) (sym solved) (marked_numbers all c number olds marked true was.solved.items m h.solved);
-  unsolved = subst (λ (ns : List ℕ). AreNumbersOf all marked false ns) (sym unsolved) (marked_numbers all c number olds marked false was.unsolved.items m h.unsolved);
-  features = ap kept_lanes same ∙ (h.features ∙ sym (told_marked features_of all c number olds marked m));
-  prints = ap kept_prints prints ∙ (h.prints ∙ sym (told_marked clause_print all c number olds marked m));
+    → AreAlive marked was now → AreListed all marked now
+marked_listed all c number olds marked was now h m alive = record {
+  solved = subst (λ (ns : List ℕ). AreNumbersOf all marked true ns) (sym alive.solved) (marked_numbers all c number olds marked true was.solved.items m h.solved);
+  unsolved = subst (λ (ns : List ℕ). AreNumbersOf all marked false ns) (sym alive.unsolved) (marked_numbers all c number olds marked false was.unsolved.items m h.unsolved);
+  features = ap kept_lanes alive.features ∙ (h.features ∙ sym (told_same features_of all olds marked (marked_clauses all c number olds marked m)));
+  prints = ap kept_prints alive.prints ∙ (h.prints ∙ sym (told_same clause_print all olds marked (marked_clauses all c number olds marked m)));
+  unclosed = subst (λ (ns : List ℕ). AreUnclosed all marked ns) (sym alive.unclosed) (marked_unclosed all c number olds marked was.unclosed.items m h.unclosed);
+  chained = chains_same (ends_of marked) was.chains now.chains alive.last alive.previous (subst (λ (cs : List (Clause Id)). AreChained (map (λ (d : Clause Id). last_term d.conclusion) cs) was.chains.last.items was.chains.previous.items) (sym (marked_clauses all c number olds marked m)) h.chained);
 }
 
 -- and with a new entry
-pub pushed_listed : (all : List Term) (number : ℕ) (es news : List Entry) (entry : Entry) (f : Features) (was now : Live) → AreListed all es was → number ≡ length es + 1 → entry.by ≡ None → news ≡ es ++ entry ∷ []
-    → IsNumberListed (is_solved (clause_at all entry.clause).hypotheses) number was now → now.features.items ≡ was.features.items ++ f ∷ [] → HasFeatures all entry.clause f
-    → kept_prints now.prints.items ≡ kept_prints was.prints.items ++ clause_print (clause_at all entry.clause) ∷ [] → AreListed all news now
-pushed_listed all number es news entry f was now h next_number live is listed more has printed = subst (λ (l : List Entry). AreListed all l now) (sym is) (go (is_solved (clause_at all entry.clause).hypotheses) refl listed)
+ends_pushed : (es : List Entry) (e : Entry) → ends_of (es ++ e ∷ []) ≡ ends_of es ++ last_term e.clause.conclusion ∷ []
+ends_pushed [] e = refl
+ends_pushed (d ∷ es) e = ap (λ ends. last_term d.clause.conclusion ∷ ends) (ends_pushed es e)
+
+pub pushed_listed : (all : List Term) (number : ℕ) (es news : List Entry) (entry : Entry) (f : Features) (was mid now : Live) → AreListed all es was → number ≡ length es + 1 → entry.by ≡ None → news ≡ es ++ entry ∷ []
+    → IsListedBy (is_solved (clause_at all entry.clause).hypotheses) number f (clause_print (clause_at all entry.clause)) was mid → IsEndListed all entry.clause number mid now → HasFeatures all entry.clause f → AreListed all news now
+pushed_listed all number es news entry f was mid now h next_number live is listed ended has = subst (λ (l : List Entry). AreListed all l now) (sym is) (record {
+  solved = subst (λ (ns : List ℕ). AreNumbersOf all (es ++ entry ∷ []) true ns) (sym ended.solved) (go (is_solved (clause_at all entry.clause).hypotheses) refl listed.listed).0;
+  unsolved = subst (λ (ns : List ℕ). AreNumbersOf all (es ++ entry ∷ []) false ns) (sym ended.unsolved) (go (is_solved (clause_at all entry.clause).hypotheses) refl listed.listed).1;
+  features = told_pushed features_of all es entry (kept_lanes was.features.items) (kept_lanes now.features.items) f.lanes h.features (ap kept_lanes (ended.features ∙ listed.features) ∙ map-append (λ (k : Features). k.lanes) was.features.items (f ∷ [])) has;
+  prints = told_pushed clause_print all es entry (kept_prints was.prints.items) (kept_prints now.prints.items) (clause_print (clause_at all entry.clause)) h.prints (ap kept_prints ended.prints ∙ listed.prints) refl;
+  unclosed = pushed_unclosed all es entry number was.unclosed.items now.unclosed.items next_number (subst (λ (ns : List ℕ). IsUnclosedListed (closed_end_of all entry.clause) number ns now.unclosed.items) listed.unclosed ended.unclosed) h.unclosed;
+  chained = subst (λ ends. AreChained ends now.chains.last.items now.chains.previous.items) (sym (ends_pushed es entry)) (ended.chained (ends_of es) (chains_same (ends_of es) was.chains mid.chains listed.last listed.previous h.chained));
+})
   where
-    features : kept_lanes now.features.items ≡ lanes_of all (es ++ entry ∷ [])
-    features = told_pushed features_of all es entry (kept_lanes was.features.items) (kept_lanes now.features.items) f.lanes h.features (ap kept_lanes more ∙ map-append (λ (k : Features). k.lanes) was.features.items (f ∷ [])) has
-
-    prints : kept_prints now.prints.items ≡ prints_of all (es ++ entry ∷ [])
-    prints = told_pushed clause_print all es entry (kept_prints was.prints.items) (kept_prints now.prints.items) (clause_print (clause_at all entry.clause)) h.prints printed refl
-
-    go : (b : Bool) → is_solved (clause_at all entry.clause).hypotheses ≡ b → IsNumberListed b number was now → AreListed all (es ++ entry ∷ []) now
-    go true kind l = record {
-      solved = subst (λ (ns : List ℕ). AreNumbersOf all (es ++ entry ∷ []) true ns) (sym l.0) (pushed_numbers all es entry number true was.solved.items next_number live kind h.solved);
-      unsolved = subst (λ (ns : List ℕ). AreNumbersOf all (es ++ entry ∷ []) false ns) (sym l.1) (other_numbers all es entry false was.unsolved.items (λ other. let wrong : true ≡ false = sym kind ∙ other in cc) h.unsolved);
-      features = features;
-      prints = prints;
-    }
-    go false kind l = record {
-      solved = subst (λ (ns : List ℕ). AreNumbersOf all (es ++ entry ∷ []) true ns) (sym l.0) (other_numbers all es entry true was.solved.items (λ other. let wrong : true ≡ false = sym other ∙ kind in cc) h.solved);
-      unsolved = subst (λ (ns : List ℕ). AreNumbersOf all (es ++ entry ∷ []) false ns) (sym l.1) (pushed_numbers all es entry number false was.unsolved.items next_number live kind h.unsolved);
-      features = features;
-      prints = prints;
-    }
+    go : (b : Bool) → is_solved (clause_at all entry.clause).hypotheses ≡ b → IsNumberListed b number was mid → AreNumbersOf all (es ++ entry ∷ []) true mid.solved.items × AreNumbersOf all (es ++ entry ∷ []) false mid.unsolved.items
+    go true kind l = (
+      subst (λ (ns : List ℕ). AreNumbersOf all (es ++ entry ∷ []) true ns) (sym l.0) (pushed_numbers all es entry number true was.solved.items next_number live kind h.solved),
+      subst (λ (ns : List ℕ). AreNumbersOf all (es ++ entry ∷ []) false ns) (sym l.1) (other_numbers all es entry false was.unsolved.items (λ other. let wrong : true ≡ false = sym kind ∙ other in cc) h.unsolved),
+    )
+    go false kind l = (
+      subst (λ (ns : List ℕ). AreNumbersOf all (es ++ entry ∷ []) true ns) (sym l.0) (other_numbers all es entry true was.solved.items (λ other. let wrong : true ≡ false = sym other ∙ kind in cc) h.solved),
+      subst (λ (ns : List ℕ). AreNumbersOf all (es ++ entry ∷ []) false ns) (sym l.1) (pushed_numbers all es entry number false was.unsolved.items next_number live kind h.unsolved),
+    )

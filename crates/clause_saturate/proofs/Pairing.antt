@@ -31,7 +31,7 @@ use Rattle.clause_form.specs.Fit.{AreFit}
 use Rattle.clause_saturate.specs.Beating.{clauses_of, IsOfferMade}
 use Rattle.clause_saturate.proofs.Fitting.{walked_grows}
 use Rattle.clause_saturate.specs.Live.{AreListed}
-use Rattle.clause_saturate.specs.Pairs.{major, minor, IsDuePair, NoDuePair, AreApart, ArePassedBy, AllArePassedBy, IsFirstPair, GivesAnswer, IsMadeBy, IsFoundFor, AreSameOrMore}
+use Rattle.clause_saturate.specs.Pairs.{major, minor, IsDuePair, NoDuePair, ArePassedBy, AllArePassedBy, IsFirstPair, GivesAnswer, IsMadeBy, IsFoundFor, AreSameOrMore}
 use Rattle.clause_saturate.specs.Walked.{Task, IsAsked, IsAt, IsWalked, HasSpent, HasLarge}
 use Rattle.clause_saturate.proofs.Listing.{same_clause}
 use Rattle.clause_saturate.proofs.Telling.{log_length, unbeaten_none, none_unbeaten, IsSolvedAt-push, TellLog-grows}

@@ -1,5 +1,5 @@
 -- What is found by the lists of live entries: a partner, a due pair, and what covers a clause.
-use Rattle.std.proofs.Common.{◌≡◌, ◌⊎◌, ◌∙◌, ℕ, zero, suc, ◌+◌, ◌-◌, ◌<◌, ◌≤◌, Bool, true, false, not, max, min, true≢false, Option, Some, None, option_map, List, [], ◌∷◌, length, drop, get_or, MatchBool, ltb, ltb-true, ltb-false, refl, ap, sym, subst, inl, inr, arith}
+use Rattle.std.proofs.Common.{◌≡◌, ◌⊎◌, ◌∙◌, ℕ, zero, suc, ◌+◌, ◌-◌, ◌<◌, ◌≤◌, Bool, true, false, not, true≢false, Option, Some, None, option_map, List, [], ◌∷◌, length, drop, get_or, MatchBool, ltb, ltb-true, ltb-false, refl, ap, sym, subst, inl, inr, arith}
 use Rattle.std.specs.Prelude.{slice_get, is_some}
 use Rattle.std.specs.List.Sorted.{IsPartitionPoint}
 use Rattle.std.proofs.lemmas.Bool.{cases_lt}
@@ -20,7 +20,7 @@ use Rattle.clause_saturate.specs.declared.log.Entry.{Entry}
 use Rattle.clause_saturate.specs.declared.walk.Live.{Live}
 use Rattle.clause_saturate.specs.declared.walk.Pair.{Pair}
 use Rattle.clause_saturate.specs.Beating.{LiveCovers, SomeLiveCovers}
-use Rattle.clause_saturate.specs.Live.{IsAmong, IsAscending, IsLiveAt, AreNumbersOf, AreListed, kept_prints, prints_of, may_both, meets_at, NumberCovers, CoversAmong, IsPartner}
+use Rattle.clause_saturate.specs.Live.{IsAmong, IsAscending, AreNumbersOf, AreListed, kept_prints, prints_of, may_both, meets_at, NumberCovers, CoversAmong, IsPartner}
 use Rattle.clause_saturate.specs.Pairs.{major, minor, IsDuePair, NoDuePair, GivesAnswer, ArePassedBy, AllArePassedBy, IsFirstPair}
 use Rattle.clause_saturate.proofs.Found.{numbered_at, one_entry, later_solved, earlier_solved}
 
@@ -244,13 +244,13 @@ some_among all es ns c h = go h.number h.covers.at
     go (suc k) at = some_there all es k h.covers.entry c at h.covers.covers
 
 -- what covers is listed as solved or as unsolved
-record CoversAt (all : List Term) (es : List Entry) (c : Clause Term) : Type 0 where
-  place : ℕ
-  entry : Entry
-  at : slice_get es place ≡ Some entry
-  covers : LiveCovers all entry c
+pub record CoversAt (all : List Term) (es : List Entry) (c : Clause Term) : Type 0 where
+  pub place : ℕ
+  pub entry : Entry
+  pub at : slice_get es place ≡ Some entry
+  pub covers : LiveCovers all entry c
 
-covers_there : (all : List Term) (es : List Entry) (c : Clause Term) → SomeLiveCovers all es c → CoversAt all es c
+pub covers_there : (all : List Term) (es : List Entry) (c : Clause Term) → SomeLiveCovers all es c → CoversAt all es c
 covers_there all [] c h = absurd h
 covers_there all (e ∷ es) c (inl h) = record { place = zero; entry = e; at = refl; covers = h }
 covers_there all (e ∷ es) c (inr h) = let later = covers_there all es c h in record { place = suc later.place; entry = later.entry; at = later.at; covers = later.covers }

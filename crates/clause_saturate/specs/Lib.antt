@@ -1,6 +1,7 @@
 pub mod Codes
 pub mod Logs
 pub mod Beating
+pub mod Ends
 pub mod Live
 pub mod Walked
 pub mod Common

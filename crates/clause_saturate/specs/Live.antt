@@ -1,5 +1,6 @@
--- What is kept beside entries: the numbers of the live ones, the features of all; and what covers a clause among them.
-use Rattle.std.specs.Prelude.{◌≡◌, ◌⊎◌, ℕ, suc, ◌<◌, ◌≤◌, Bool, true, false, Option, Some, None, List, [], ◌∷◌, ◌++◌, map}
+-- What is kept beside entries: the numbers of the live ones, the features of all, and how they are found by the terms with
+-- which their conclusions end; and what covers a clause among them.
+use Rattle.std.specs.Prelude.{◌≡◌, ◌⊎◌, ℕ, suc, ◌<◌, ◌≤◌, Bool, true, false, Option, Some, None, List, [], ◌∷◌, ◌++◌, length, map, filter}
 use Rattle.spec_terms.specs.Term.{Term}
 use Rattle.spec_calculus.specs.Points.{numbered}
 use Rattle.spec_clauses.specs.Fact.{Clause}
@@ -15,7 +16,8 @@ use Rattle.fact_fingerprint.specs.Seen.{fingerprint_seen}
 use Rattle.clause_saturate.specs.declared.log.Entry.{Entry}
 use Rattle.clause_saturate.specs.declared.walk.Live.{Live}
 use Rattle.clause_saturate.specs.Logs.{is_unbeaten}
-use Rattle.clause_saturate.specs.Beating.{LiveCovers}
+use Rattle.clause_saturate.specs.Beating.{LiveCovers, BeatsLive}
+use Rattle.clause_saturate.specs.Ends.{last_term, closed_end_of, ends_of, AreChained}
 
 -- the number stands in the list
 abbrev pub IsAmong : List ℕ → ℕ → Type 0
@@ -58,12 +60,44 @@ kept_prints prints = map fingerprint_seen prints
 abbrev pub HasFeatures : List Term → Clause Id → Features → Type 0
 HasFeatures all clause features = features.lanes ≡ features_of (clause_at all clause)
 
--- both lists are those of these entries, and so are the features and the fingerprints
+-- they are numbers of entries, among them those of the live ones whose conclusions don't end with a closed term
+pub record AreUnclosed (all : List Term) (entries : List Entry) (numbers : List ℕ) : Type 0 where
+  pub within : (number : ℕ) → IsAmong numbers number → (0 < number) × (number ≤ length entries)
+  pub every : (number : ℕ) (entry : Entry) → numbered entries number ≡ Some entry → entry.by ≡ None → closed_end_of all entry.clause ≡ None → IsAmong numbers number
+
+-- they are those of the entries that end with the id
+pub record AreThose (ends : List (Option Id)) (id : Id) (numbers : List ℕ) : Type 0 where
+  pub those : (number : ℕ) → IsAmong numbers number → numbered ends number ≡ Some (Some id)
+  pub every : (number : ℕ) → numbered ends number ≡ Some (Some id) → IsAmong numbers number
+
+-- the lists are those of these entries, and so are the features, the fingerprints and the chains
 pub record AreListed (all : List Term) (entries : List Entry) (live : Live) : Type 0 where
   pub solved : AreNumbersOf all entries true live.solved.items
   pub unsolved : AreNumbersOf all entries false live.unsolved.items
   pub features : kept_lanes live.features.items ≡ lanes_of all entries
   pub prints : kept_prints live.prints.items ≡ prints_of all entries
+  pub unclosed : AreUnclosed all entries live.unclosed.items
+  pub chained : AreChained (ends_of entries) live.chains.last.items live.chains.previous.items
+
+-- nothing is kept, of no entries
+pub record IsEmptyLive (live : Live) : Type 0 where
+  pub solved : live.solved.items ≡ []
+  pub unsolved : live.unsolved.items ≡ []
+  pub features : live.features.items ≡ []
+  pub prints : live.prints.items ≡ []
+  pub unclosed : live.unclosed.items ≡ []
+  pub last : live.chains.last.items ≡ []
+  pub previous : live.chains.previous.items ≡ []
+
+-- what is kept is the same
+pub record IsSameLive (old new : Live) : Type 0 where
+  pub solved : new.solved.items ≡ old.solved.items
+  pub unsolved : new.unsolved.items ≡ old.unsolved.items
+  pub features : new.features.items ≡ old.features.items
+  pub prints : new.prints.items ≡ old.prints.items
+  pub unclosed : new.unclosed.items ≡ old.unclosed.items
+  pub last : new.chains.last.items ≡ old.chains.last.items
+  pub previous : new.chains.previous.items ≡ old.chains.previous.items
 
 -- whether there is an entry, and it is live
 abbrev pub is_live_entry : Option Entry → Bool
@@ -73,10 +107,43 @@ is_live_entry (Some entry) = is_unbeaten entry.by
 abbrev pub is_live_at : List Entry → ℕ → Bool
 is_live_at entries number = is_live_entry (numbered entries number)
 
+-- the numbers of entries that are live no more are gone
+pub record AreAlive (entries : List Entry) (old new : Live) : Type 0 where
+  pub solved : new.solved.items ≡ filter (is_live_at entries) old.solved.items
+  pub unsolved : new.unsolved.items ≡ filter (is_live_at entries) old.unsolved.items
+  pub features : new.features.items ≡ old.features.items
+  pub prints : new.prints.items ≡ old.prints.items
+  pub unclosed : new.unclosed.items ≡ filter (is_live_at entries) old.unclosed.items
+  pub last : new.chains.last.items ≡ old.chains.last.items
+  pub previous : new.chains.previous.items ≡ old.chains.previous.items
+
 -- the number stands at the end of the list of its kind, and the other list is the same
 abbrev pub IsNumberListed : Bool → ℕ → Live → Live → Type 0
 IsNumberListed true number old new = (new.solved.items ≡ old.solved.items ++ number ∷ []) × (new.unsolved.items ≡ old.unsolved.items)
 IsNumberListed false number old new = (new.solved.items ≡ old.solved.items) × (new.unsolved.items ≡ old.unsolved.items ++ number ∷ [])
+
+-- it does, the features and the fingerprint stand at the end of all, and what is kept of ends is the same
+pub record IsListedBy (solved : Bool) (number : ℕ) (kept : Features) (seen : print.Fingerprint) (old new : Live) : Type 0 where
+  pub listed : IsNumberListed solved number old new
+  pub features : new.features.items ≡ old.features.items ++ kept ∷ []
+  pub prints : kept_prints new.prints.items ≡ kept_prints old.prints.items ++ seen ∷ []
+  pub unclosed : new.unclosed.items ≡ old.unclosed.items
+  pub last : new.chains.last.items ≡ old.chains.last.items
+  pub previous : new.chains.previous.items ≡ old.chains.previous.items
+
+-- the number of an entry that doesn't end with a closed term stands at the end of those
+abbrev pub IsUnclosedListed : Option Id → ℕ → List ℕ → List ℕ → Type 0
+IsUnclosedListed None number old new = new ≡ old ++ number ∷ []
+IsUnclosedListed (Some id) number old new = new ≡ old
+
+-- so does that of the clause's entry, which the chains lead to, and all else is the same
+pub record IsEndListed (all : List Term) (clause : Clause Id) (number : ℕ) (old new : Live) : Type 0 where
+  pub solved : new.solved.items ≡ old.solved.items
+  pub unsolved : new.unsolved.items ≡ old.unsolved.items
+  pub features : new.features.items ≡ old.features.items
+  pub prints : new.prints.items ≡ old.prints.items
+  pub unclosed : IsUnclosedListed (closed_end_of all clause) number old.unclosed.items new.unclosed.items
+  pub chained : (ends : List (Option Id)) → AreChained ends old.chains.last.items old.chains.previous.items → AreChained (ends ++ last_term clause.conclusion ∷ []) new.chains.last.items new.chains.previous.items
 
 -- the entry of that number is live and subsumes the clause
 pub record NumberCovers (all : List Term) (entries : List Entry) (c : Clause Term) (number : ℕ) : Type 0 where
@@ -103,3 +170,8 @@ abbrev pub IsPartner : (ℕ → Bool) → List ℕ → ℕ → ℕ → Option �
 IsPartner passes numbers later from None = (number : ℕ) → IsAmong numbers number → from ≤ number → number < later → passes number ≡ false
 IsPartner passes numbers later from (Some first) = IsAmong numbers first × (from ≤ first) × (first < later)
     × ((number : ℕ) → IsAmong numbers number → from ≤ number → number < first → passes number ≡ false)
+
+-- they are numbers of entries, among them those of the live ones that the clause subsumes
+pub record AreBeatable (all : List Term) (entries : List Entry) (c : Clause Term) (numbers : List ℕ) : Type 0 where
+  pub within : (number : ℕ) → IsAmong numbers number → (0 < number) × (number ≤ length entries)
+  pub every : (number : ℕ) (entry : Entry) → numbered entries number ≡ Some entry → BeatsLive all c entry → IsAmong numbers number

@@ -15,7 +15,9 @@ ghost use Rattle.clause_saturate.specs.Logs.{TellLog, IsSpentLog, IsLargeLog, li
 ghost use Rattle.clause_saturate.specs.Common.{Shared, IsCommonOf, IsSpentCommon, IsLargeCommon};
 ghost use Rattle.clause_saturate.specs.Beating.{clauses_of};
 
+mod chains;
 pub mod common;
+mod ends;
 pub mod log;
 mod offering;
 mod pairs;

@@ -1,16 +1,18 @@
 //! Clauses that are offered to a log.
 
-ghost use Rattle.std.specs.Prelude.{◌≡◌, ◌+◌, ◌<◌, ◌≤◌, ℕ, false, Some, None, List, [], ◌∷◌, ◌++◌, length, filter, IfOk, OnOk, MatchBool};
+ghost use Rattle.std.specs.Prelude.{◌≡◌, ◌+◌, ◌<◌, ◌≤◌, ℕ, false, None, List, length, filter, IfOk, OnOk, MatchBool};
 ghost use Rattle.spec_clauses.specs.Selection.{is_solved as is_solved_list};
 ghost use Rattle.spec_clauses.specs.Subsumption.{Subsumes};
 ghost use Rattle.spec_saturation.specs.Key.{Key, Entry as EntryOf};
+ghost use Rattle.term_tree.specs.Bank.{AreShared};
 ghost use Rattle.spec_fingerprints.specs.Fingerprints.{clause_print};
-ghost use Rattle.clause_form.specs.Seen.{clause_at};
+ghost use Rattle.clause_form.specs.Seen.{clause_at, IsClauseIn};
 ghost use Rattle.clause_form.specs.Fit.{IsFit, AreFit};
 ghost use Rattle.clause_saturate.specs.Logs.{TellLog, IsOrigin};
 ghost use Rattle.clause_saturate.specs.Beating.{clauses_of, LiveCovers, SomeLiveCovers, BeatsLive, IsMarked, AreMarked, IsPushed, IsOfferMade};
-ghost use Rattle.clause_saturate.specs.Live.{IsAmong, HasFeatures, AreListed, is_live_at, IsNumberListed, NumberCovers, CoversAmong, kept_lanes, lanes_of, kept_prints};
+ghost use Rattle.clause_saturate.specs.Live.{IsAmong, HasFeatures, AreListed, is_live_at, AreAlive, IsListedBy, IsEndListed, NumberCovers, CoversAmong, AreBeatable, kept_lanes, lanes_of};
 
+use crate::ends::{closed_end, end_of, ending, shared_end};
 use crate::log::{Entry, Origin};
 use crate::walk::{Live, Offer, Walk};
 use clause_form::Clause;
@@ -113,8 +115,8 @@ fn covers_among<B: Bank>(
     Ok(false)
 }
 
-/// Whether a live entry subsumes the clause.
-fn is_covered<B: Bank>(walk: &Walk, bank: &B, offer: &Offer<'_>) -> Result<bool, AllocError>
+/// Whether a live entry subsumes the clause, whatever its conclusion ends with.
+fn is_covered_by_any<B: Bank>(walk: &Walk, bank: &B, offer: &Offer<'_>) -> Result<bool, AllocError>
     requires entries { AreFit (B.trees bank.now) (clauses_of walk.now.items.items) }
     requires listed { AreListed (B.trees bank.now) walk.now.items.items walk.now.live }
     requires clause { IsFit (B.trees bank.now) offer.now.clause.now }
@@ -129,6 +131,53 @@ fn is_covered<B: Bank>(walk: &Walk, bank: &B, offer: &Offer<'_>) -> Result<bool,
         return Ok(true);
     }
     let found = covers_among(walk, bank, &walk.live.unsolved, offer)?;
+    Ok(found)
+}
+
+/// Whether a live entry subsumes the clause, in a bank that is shared: it ends with no closed term, or with that of the
+/// clause.
+fn is_covered_by_end<B: Bank>(walk: &Walk, bank: &B, offer: &Offer<'_>) -> Result<bool, AllocError>
+    requires entries { AreFit (B.trees bank.now) (clauses_of walk.now.items.items) }
+    requires listed { AreListed (B.trees bank.now) walk.now.items.items walk.now.live }
+    requires clause { IsFit (B.trees bank.now) offer.now.clause.now }
+    requires features { HasFeatures (B.trees bank.now) offer.now.clause.now offer.now.features }
+    requires shared { AreShared (B.trees bank.now) }
+    ensures { IfOk result (λ yes. MatchBool yes
+        (SomeLiveCovers (B.trees bank.now) walk.now.items.items
+        (clause_at (B.trees bank.now) offer.now.clause.now))
+        (SomeLiveCovers (B.trees bank.now) walk.now.items.items
+        (clause_at (B.trees bank.now) offer.now.clause.now) → ⊥)) }
+{
+    if covers_among(walk, bank, &walk.live.unclosed, offer)? {
+        return Ok(true);
+    }
+    match closed_end(bank, offer.clause) {
+        None => Ok(false),
+        Some(id) => {
+            let numbers = ending(walk, id)?;
+            let found = covers_among(walk, bank, &numbers, offer)?;
+            Ok(found)
+        }
+    }
+}
+
+/// Whether a live entry subsumes the clause.
+fn is_covered<B: Bank>(walk: &Walk, bank: &B, offer: &Offer<'_>) -> Result<bool, AllocError>
+    requires entries { AreFit (B.trees bank.now) (clauses_of walk.now.items.items) }
+    requires listed { AreListed (B.trees bank.now) walk.now.items.items walk.now.live }
+    requires clause { IsFit (B.trees bank.now) offer.now.clause.now }
+    requires features { HasFeatures (B.trees bank.now) offer.now.clause.now offer.now.features }
+    ensures { IfOk result (λ yes. MatchBool yes
+        (SomeLiveCovers (B.trees bank.now) walk.now.items.items
+        (clause_at (B.trees bank.now) offer.now.clause.now))
+        (SomeLiveCovers (B.trees bank.now) walk.now.items.items
+        (clause_at (B.trees bank.now) offer.now.clause.now) → ⊥)) }
+{
+    if bank.is_shared() {
+        let found = is_covered_by_end(walk, bank, offer)?;
+        return Ok(found);
+    }
+    let found = is_covered_by_any(walk, bank, offer)?;
     Ok(found)
 }
 
@@ -153,7 +202,6 @@ fn beats<B: Bank>(
 
 /// Marks an entry with these features, if it is live and the clause subsumes it, as subsumed by the offer's entry. Whether it is marked.
 fn mark<B: Bank>(
-    alloc: Global,
     bank: &B,
     offer: &Offer<'_>,
     kept: Features,
@@ -170,58 +218,63 @@ fn mark<B: Bank>(
     if !may_cover(offer.features, kept) {
         return Ok(false);
     }
-    if beats(alloc, bank, offer.clause, entry)? {
+    if beats(offer.alloc, bank, offer.clause, entry)? {
         entry.by = Some(offer.number);
         return Ok(true);
     }
     Ok(false)
 }
 
-/// Marks each live entry that the clause subsumes as subsumed by the offer's entry. Whether some is.
-fn mark_all<B: Bank>(
-    alloc: Global,
+/// Marks those of the entries of these numbers that are live and that the clause subsumes as subsumed by the offer's entry.
+/// Whether some is.
+fn mark_among<B: Bank>(
     bank: &B,
     offer: &Offer<'_>,
+    numbers: &[usize],
     kept: &[Features],
     entries: &mut [Entry],
 ) -> Result<bool, AllocError>
     requires clause { IsFit (B.trees bank.now) offer.now.clause.now }
     requires features { HasFeatures (B.trees bank.now) offer.now.clause.now offer.now.features }
-    requires entries { AreFit (B.trees bank.now) (clauses_of entries.old) }
+    requires numbers { AreBeatable (B.trees bank.now) entries.old
+        (clause_at (B.trees bank.now) offer.now.clause.now) numbers.now }
     requires kept { kept_lanes kept.now ≡ lanes_of (B.trees bank.now) entries.old }
+    requires entries { AreFit (B.trees bank.now) (clauses_of entries.old) }
     ensures marked { OnOk result (AreMarked (B.trees bank.now)
         (clause_at (B.trees bank.now) offer.now.clause.now) offer.now.number entries.old
         entries.new) }
     ensures same { IfOk result (λ some. some ≡ false → entries.new ≡ entries.old) }
 {
     let mut some = false;
-    let mut i = 0;
-    'each: while i < entries.len() {
-        let yes = mark(alloc, bank, offer, kept[i], &mut entries[i])?;
+    'each: for number in numbers {
+        let place = *number - 1;
+        let yes = mark(bank, offer, kept[place], &mut entries[place])?;
         some = some | yes;
-        i += 1;
     }
     Ok(some)
 }
 
-/// Marks each live one of the entries that the clause subsumes as subsumed by the offer's entry. Whether some is.
+/// Marks each live one of the entries that the clause subsumes, all of which have these numbers, as subsumed by the offer's
+/// entry. Whether some is.
 fn mark_items<B: Bank>(
-    alloc: Global,
     bank: &B,
     offer: &Offer<'_>,
+    numbers: &[usize],
     kept: &[Features],
     items: &mut Vec<Entry>,
 ) -> Result<bool, AllocError>
     requires clause { IsFit (B.trees bank.now) offer.now.clause.now }
     requires features { HasFeatures (B.trees bank.now) offer.now.clause.now offer.now.features }
-    requires entries { AreFit (B.trees bank.now) (clauses_of items.old.items) }
+    requires numbers { AreBeatable (B.trees bank.now) items.old.items
+        (clause_at (B.trees bank.now) offer.now.clause.now) numbers.now }
     requires kept { kept_lanes kept.now ≡ lanes_of (B.trees bank.now) items.old.items }
+    requires entries { AreFit (B.trees bank.now) (clauses_of items.old.items) }
     ensures marked { OnOk result (AreMarked (B.trees bank.now)
         (clause_at (B.trees bank.now) offer.now.clause.now) offer.now.number items.old.items
         items.new.items) }
     ensures same { IfOk result (λ some. some ≡ false → items.new.items ≡ items.old.items) }
 {
-    let some = mark_all(alloc, bank, offer, kept, items)?;
+    let some = mark_among(bank, offer, numbers, kept, items)?;
     Ok(some)
 }
 
@@ -245,30 +298,23 @@ fn drop_dead(entries: &[Entry], numbers: &mut Vec<usize>)
     numbers.retain(|number| is_live(entries, *number));
 }
 
-/// Takes the numbers of entries that are live no more off both lists.
+/// Takes the numbers of entries that are live no more off the lists.
 fn drop_all(entries: &[Entry], live: &mut Live)
-    ensures solved { live.new.solved.items ≡
-        filter (is_live_at entries.now) live.old.solved.items }
-    ensures unsolved { live.new.unsolved.items ≡
-        filter (is_live_at entries.now) live.old.unsolved.items }
-    ensures features { live.new.features.items ≡ live.old.features.items }
-    ensures prints { live.new.prints.items ≡ live.old.prints.items }
+    ensures { AreAlive entries.now live.old live.new }
 {
     drop_dead(entries, &mut live.solved);
     drop_dead(entries, &mut live.unsolved);
+    drop_dead(entries, &mut live.unclosed);
 }
 
-/// Puts the number of a new entry at the end of the list of its kind, and its features and its fingerprint at the end of all.
+/// Puts the number of a new entry at the end of the list of its kind, and its features and its fingerprint at the
+/// end of all.
 fn list<B: Bank>(live: &mut Live, bank: &B, offer: &Offer<'_>) -> Result<(), AllocError>
     requires { IsFit (B.trees bank.now) offer.now.clause.now }
-    ensures listed { OnOk result (IsNumberListed
+    ensures { OnOk result (IsListedBy
         (is_solved_list (clause_at (B.trees bank.now) offer.now.clause.now).hypotheses)
-        offer.now.number live.old live.new) }
-    ensures features { OnOk result
-        (live.new.features.items ≡ live.old.features.items ++ offer.now.features ∷ []) }
-    ensures prints { OnOk result (kept_prints live.new.prints.items ≡
-        kept_prints live.old.prints.items ++
-        clause_print (clause_at (B.trees bank.now) offer.now.clause.now) ∷ []) }
+        offer.now.number offer.now.features
+        (clause_print (clause_at (B.trees bank.now) offer.now.clause.now)) live.old live.new) }
 {
     live.features.push(offer.features)?;
     live.prints.push(clause_fingerprint(bank, offer.clause))?;
@@ -278,6 +324,45 @@ fn list<B: Bank>(live: &mut Live, bank: &B, offer: &Offer<'_>) -> Result<(), All
     }
     live.unsolved.push(offer.number)?;
     Ok(())
+}
+
+/// Puts a new entry at the end of the chain of those that end as it does, and its number at the end of the unclosed ones, if
+/// it doesn't end with a closed term.
+fn list_end<B: Bank>(live: &mut Live, bank: &B, offer: &Offer<'_>) -> Result<(), AllocError>
+    requires { IsClauseIn (B.trees bank.now) offer.now.clause.now }
+    ensures { OnOk result (IsEndListed (B.trees bank.now) offer.now.clause.now offer.now.number
+        live.old live.new) }
+{
+    live.chains.push(end_of(offer.clause), bank.mark().len)?;
+    match closed_end(bank, offer.clause) {
+        None => {
+            live.unclosed.push(offer.number)?;
+            Ok(())
+        }
+        Some(_) => Ok(()),
+    }
+}
+
+/// The numbers of entries among which are all the live ones that the clause subsumes: those that end with the same closed
+/// term, in a bank that is shared, or all live ones.
+fn beatable<B: Bank>(walk: &Walk, bank: &B, offer: &Offer<'_>) -> Result<Vec<usize>, AllocError>
+    requires entries { AreFit (B.trees bank.now) (clauses_of walk.now.items.items) }
+    requires listed { AreListed (B.trees bank.now) walk.now.items.items walk.now.live }
+    requires clause { IsFit (B.trees bank.now) offer.now.clause.now }
+    ensures { IfOk result (λ numbers. AreBeatable (B.trees bank.now) walk.now.items.items
+        (clause_at (B.trees bank.now) offer.now.clause.now) numbers.items) }
+{
+    match shared_end(bank, offer.clause) {
+        Some(id) => {
+            let numbers = ending(walk, id)?;
+            Ok(numbers)
+        }
+        None => {
+            let mut numbers = walk.live.solved.to_vec(walk.alloc)?;
+            numbers.extend_from_slice(&walk.live.unsolved)?;
+            Ok(numbers)
+        }
+    }
 }
 
 /// Marks the live entries that the clause subsumes, and takes them off the lists.
@@ -293,13 +378,8 @@ fn beat<B: Bank>(walk: &mut Walk, bank: &B, offer: &Offer<'_>) -> Result<(), All
     ensures listed { OnOk result (AreListed (B.trees bank.now) walk.new.items.items
         walk.new.live) }
 {
-    if !mark_items(
-        walk.alloc,
-        bank,
-        offer,
-        &walk.live.features,
-        &mut walk.items,
-    )? {
+    let numbers = beatable(walk, bank, offer)?;
+    if !mark_items(bank, offer, &numbers, &walk.live.features, &mut walk.items)? {
         return Ok(());
     }
     drop_all(&walk.items, &mut walk.live);
@@ -326,6 +406,7 @@ fn add<B: Bank>(
 {
     beat(walk, bank, offer)?;
     list(&mut walk.live, bank, offer)?;
+    list_end(&mut walk.live, bank, offer)?;
     let clause = offer.clause.copy(walk.alloc)?;
     walk.items.push(Entry {
         clause,
@@ -357,6 +438,7 @@ pub(crate) fn offer<B: Bank>(
         walk.new.live) }
 {
     let offer = Offer {
+        alloc: walk.alloc,
         clause,
         features: features(bank, clause),
         number: walk.items.len() + 1,

@@ -9,6 +9,7 @@ ghost use Rattle.term_tree.specs.Bank.{Grows};
 ghost use Rattle.clause_form.specs.Seen.{clause_at};
 ghost use Rattle.clause_form.specs.Fit.{IsFit, AreFit};
 ghost use Rattle.clause_saturate.specs.Logs.{IsLogOf};
+ghost use Rattle.clause_saturate.specs.Live.{IsSameLive};
 ghost use Rattle.clause_saturate.specs.Walked.{HasStopped, HasPassed};
 ghost use Rattle.clause_saturate.specs.Common.{Shared, task_of, AreProper, begun_log, begun_size, log_of, IsCommonOf, IsBegun, EndsWith, saturated};
 
@@ -106,14 +107,7 @@ fn copies(alloc: Global, entries: &[Entry]) -> Result<Vec<Entry>, AllocError>
 /// A walk that stands where `begin` left it.
 fn begun_walk(common: &Common) -> Result<Walk, AllocError>
     ensures items { IfOk result (λ walk. walk.items.items ≡ begun_log common.now) }
-    ensures solved { IfOk result (λ walk.
-        walk.live.solved.items ≡ common.now.live.solved.items) }
-    ensures unsolved { IfOk result (λ walk.
-        walk.live.unsolved.items ≡ common.now.live.unsolved.items) }
-    ensures features { IfOk result (λ walk.
-        walk.live.features.items ≡ common.now.live.features.items) }
-    ensures prints { IfOk result (λ walk.
-        walk.live.prints.items ≡ common.now.live.prints.items) }
+    ensures live { IfOk result (λ walk. IsSameLive common.now.live walk.live) }
     ensures budget { IfOk result (λ walk. walk.budget ≡ common.now.budget) }
 {
     let live = common.live.copy(common.alloc)?;

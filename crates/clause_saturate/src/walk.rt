@@ -1,7 +1,9 @@
 //! What is walked along: a log, and why a walk along it stops.
 
-ghost use Rattle.std.specs.Prelude.{◌≡◌, [], IfOk};
+ghost use Rattle.std.specs.Prelude.{IfOk};
+ghost use Rattle.clause_saturate.specs.Live.{IsEmptyLive, IsSameLive};
 
+use crate::chains::Chains;
 use crate::log::Entry;
 use clause_form::Clause;
 use fact_fingerprint::Fingerprint;
@@ -9,18 +11,23 @@ use feature_index::Features;
 use std::alloc::{AllocError, Global};
 
 /// What is kept beside the entries of a log: the numbers of the live ones, ascending, of those that are solved and of the
-/// others; the features of each entry's clause, in order, and the fingerprint of the fact on which it is resolved.
+/// others; the features of each entry's clause, in order, and the fingerprint of the fact on which it is resolved; the
+/// numbers of the live ones whose conclusions don't end with a closed term; and the chains by which those that end with one
+/// are found.
 #[derive(Drop)]
 pub(crate) struct Live {
     pub solved: Vec<usize>,
     pub unsolved: Vec<usize>,
     pub features: Vec<Features>,
     pub prints: Vec<Fingerprint>,
+    pub unclosed: Vec<usize>,
+    pub chains: Chains,
 }
 
 /// A clause that is offered, its features, and the number that its entry is to have.
 #[derive(Drop)]
 pub(crate) struct Offer<'a> {
+    pub alloc: Global,
     pub clause: &'a Clause,
     pub features: Features,
     pub number: usize,
@@ -38,35 +45,35 @@ pub(crate) struct Walk {
 impl Live {
     /// No numbers.
     pub fn none(alloc: Global) -> Self
-        ensures solved { result.solved.items ≡ [] }
-        ensures unsolved { result.unsolved.items ≡ [] }
-        ensures features { result.features.items ≡ [] }
-        ensures prints { result.prints.items ≡ [] }
+        ensures { IsEmptyLive result }
     {
         Live {
             solved: Vec::new(alloc),
             unsolved: Vec::new(alloc),
             features: Vec::new(alloc),
             prints: Vec::new(alloc),
+            unclosed: Vec::new(alloc),
+            chains: Chains::none(alloc),
         }
     }
 
     /// A copy.
     pub fn copy(&self, alloc: Global) -> Result<Self, AllocError>
-        ensures solved { IfOk result (λ copied. copied.solved.items ≡ self.now.solved.items) }
-        ensures unsolved { IfOk result (λ copied. copied.unsolved.items ≡ self.now.unsolved.items) }
-        ensures features { IfOk result (λ copied. copied.features.items ≡ self.now.features.items) }
-        ensures prints { IfOk result (λ copied. copied.prints.items ≡ self.now.prints.items) }
+        ensures { IfOk result (λ copied. IsSameLive self.now copied) }
     {
         let solved = self.solved.to_vec(alloc)?;
         let unsolved = self.unsolved.to_vec(alloc)?;
         let features = self.features.to_vec(alloc)?;
         let prints = self.prints.to_vec(alloc)?;
+        let unclosed = self.unclosed.to_vec(alloc)?;
+        let chains = self.chains.copy(alloc)?;
         Ok(Live {
             solved,
             unsolved,
             features,
             prints,
+            unclosed,
+            chains,
         })
     }
 }

@@ -80,14 +80,14 @@ row_line-tells letter =
     (λ at u. row_tells numbers (EndsAt is_ascii_digit) 32 [] 10 [] read_number one_number one_number-as numbers_local numbers_tell record { apart = refl; comma = λ rest. refl; close = λ rest. refl })
 
 -- what begins with fixed bytes
-begun_long : (w : ℕ) (ws : List ℕ) (K : Kind) (May : List ℕ → Type 0) → Forms ⊥ K May → (bytes rest : List ℕ) → (behind (fixed (w ∷ ws)) K).Text bytes rest → length rest + 1 ≤ length bytes
+pub begun_long : (w : ℕ) (ws : List ℕ) (K : Kind) (May : List ℕ → Type 0) → Forms ⊥ K May → (bytes rest : List ℕ) → (behind (fixed (w ∷ ws)) K).Text bytes rest → length rest + 1 ≤ length bytes
 begun_long w ws K May forms bytes rest (mid, text, one) = omega (arith, shorter K May mid rest (forms.moved mid rest one), ap length text, length-append ws mid)
 
-begun_within : (w : ℕ) (ws : List ℕ) (K : Kind) (May : List ℕ → Type 0) → Forms ⊥ K May → (code : Code) (bytes there : List ℕ) → (behind (fixed (w ∷ ws)) K).Fault code bytes there → length there + 1 ≤ length bytes
+pub begun_within : (w : ℕ) (ws : List ℕ) (K : Kind) (May : List ℕ → Type 0) → Forms ⊥ K May → (code : Code) (bytes there : List ℕ) → (behind (fixed (w ∷ ws)) K).Fault code bytes there → length there + 1 ≤ length bytes
 begun_within w ws K May forms code bytes there (inl none) = absurd none
 begun_within w ws K May forms code bytes there (inr (mid, text, fault)) = omega (arith, there_shorter ⊥ K mid there (forms.past code mid there fault), ap length text, length-append ws mid)
 
-many_told : (K L : Kind) (test : List ℕ → Bool) (is : Bool) → IsToldBy K test is → IsToldBy L test is → IsToldBy (many K L) test is
+pub many_told : (K L : Kind) (test : List ℕ → Bool) (is : Bool) → IsToldBy K test is → IsToldBy L test is → IsToldBy (many K L) test is
 many_told K L test is first second = record { texts = λ bytes rest text. of_text bytes rest text; faults = λ code bytes there fault. of_fault code bytes there fault }
   where
     of_text : (bytes rest : List ℕ) → TextOfMany K L bytes rest → test bytes ≡ is
@@ -99,10 +99,10 @@ many_told K L test is first second = record { texts = λ bytes rest text. of_tex
     of_fault code bytes there (in_one fault) = first.faults code bytes there fault
     of_fault code bytes there (later mid one fault) = first.texts bytes mid one
 
-told_row : (letter : ℕ) (test : ℕ → Bool) (is : Bool) → test letter ≡ is → IsToldBy (row_lines letter) (λ bs. test (front bs)) is
+pub told_row : (letter : ℕ) (test : ℕ → Bool) (is : Bool) → test letter ≡ is → IsToldBy (row_lines letter) (λ bs. test (front bs)) is
 told_row letter test is told = told_by_fixed (letter ∷ 32 ∷ []) (row_of numbers (codes " ") (codes "\n")) (λ bs. test (front bs)) is (λ rest. told)
 
-row_lines-are : (letter : ℕ) (L : Kind) → (0 == letter) ≡ false → (letter == letter) ≡ true → IsToldBy L (λ bs. front bs == letter) false → AreLines (row_lines letter) L letter
+pub row_lines-are : (letter : ℕ) (L : Kind) → (0 == letter) ≡ false → (letter == letter) ≡ true → IsToldBy L (λ bs. front bs == letter) false → AreLines (row_lines letter) L letter
 row_lines-are letter L some same ends =
     let forms = (row_tells numbers (EndsAt is_ascii_digit) 32 [] 10 [] read_number one_number one_number-as numbers_local numbers_tell record { apart = refl; comma = λ rest. refl; close = λ rest. refl }).forms in
     let row = row_of numbers (codes " ") (codes "\n") in
@@ -114,15 +114,15 @@ row_lines-are letter L some same ends =
       within = begun_within letter (32 ∷ []) row Anything forms;
     }
 
-any_follows : (K L : Kind) → MayFollow K L Anything
+pub any_follows : (K L : Kind) → MayFollow K L Anything
 any_follows K L = record { one = λ bytes rest text. tt; other = λ bytes rest text. tt }
 
 -- Certificates.
 
-abbrev goals_and_end : Kind
+abbrev pub goals_and_end : Kind
 goals_and_end = many (row_lines 103) (fixed (codes "end\n"))
 
-told_end : (test : ℕ → Bool) (is : Bool) → test 103 ≡ is → test 101 ≡ is → IsToldBy goals_and_end (λ bs. test (front bs)) is
+pub told_end : (test : ℕ → Bool) (is : Bool) → test 103 ≡ is → test 101 ≡ is → IsToldBy goals_and_end (λ bs. test (front bs)) is
 told_end test is goals end = many_told (row_lines 103) (fixed (codes "end\n")) (λ bs. test (front bs)) is (told_row 103 test is goals) (told_alone (codes "end\n") (λ bs. test (front bs)) is (λ rest. end))
 
 abbrev certificate_of : List (Clause Term) → List (List ℕ) → List (List ℕ) → Certificate
@@ -134,7 +134,7 @@ with_goals-tell cs rows =
     (row_lines-are 103 (fixed (codes "end\n")) refl refl (told_alone (codes "end\n") (λ bs. front bs == 103) false (λ rest. refl))) (any_follows (row_lines 103) (fixed (codes "end\n")))
     (λ goals. closed_tells (codes "end\n") (certificate_of cs rows goals))
 
-end_tells : (cs : List (Clause Term)) → Tells ⊥ rows_and_end Anything Anything (certificate_end cs)
+pub end_tells : (cs : List (Clause Term)) → Tells ⊥ rows_and_end Anything Anything (certificate_end cs)
 end_tells cs =
     lines_tell (row_lines 114) goals_and_end Anything Anything 114 (row_line 114) (λ rows. then_read (read_rows 103) (λ at goals. closed_by (codes "end\n") (certificate_of cs rows goals))) (row_line-tells 114) (row_line-moves 114)
     (row_lines-are 114 goals_and_end refl refl (told_end (λ b. b == 114) false refl refl)) (any_follows (row_lines 114) goals_and_end) (λ rows. with_goals-tell cs rows)

@@ -62,17 +62,17 @@ arguments_tell P names = row_tells (terms P) EndsWord 44 [] 41 [] (one_term P) (
 
 -- The word.
 
-word_tests : AreTests begins_word is_in_word
+pub word_tests : AreTests begins_word is_in_word
 word_tests = record { passing = begins_word-in_word; first = 97; is_first = refl; stop = 41; is_stop = refl }
 
-judge_found : Option CalledEvent → Code ⊎ CalledEvent
+unfoldable pub judge_found : Option CalledEvent → Code ⊎ CalledEvent
 judge_found None = inl Symbol
 judge_found (Some called) = inr called
 
-judge_word : Protocol → List ℕ → Code ⊎ CalledEvent
+unfoldable pub judge_word : Protocol → List ℕ → Code ⊎ CalledEvent
 judge_word P w = judge_found (event_called P w)
 
-word_read : Protocol → Reader CalledEvent
+unfoldable pub word_read : Protocol → Reader CalledEvent
 word_read P = checked (judge_word P) (run_read begins_word is_in_word)
 
 found_judged : (found : Option CalledEvent) (code : Code) → judge_found found ≡ inl code → (found ≡ None) × (code ≡ Symbol)
@@ -139,21 +139,21 @@ word_judges P names = record {
     past_it NodeOrder bytes here = absurd here
     past_it NodeLarge bytes here = absurd here
 
-word_tells : (P : Protocol) → HasNames P → Tells ⊥ (marked words (WordFault P)) Anything (EndsAt is_in_word) (word_read P)
+pub word_tells : (P : Protocol) → HasNames P → Tells ⊥ (marked words (WordFault P)) Anything (EndsAt is_in_word) (word_read P)
 unfolding word_read
 word_tells P names = marked_tells words Anything (EndsAt is_in_word) (run_read begins_word is_in_word) (judge_word P) (WordFault P) (runs_tell begins_word is_in_word word_tests) (word_judges P names)
 
 -- What stands behind it.
 
-stands_alone : (bytes : List ℕ) → EndsAt is_in_word bytes → (front bytes == 40) ≡ false → EndsAt event_goes_on bytes
+pub stands_alone : (bytes : List ℕ) → EndsAt is_in_word bytes → (front bytes == 40) ≡ false → EndsAt event_goes_on bytes
 stands_alone [] ends other = absurd ends
 stands_alone (b ∷ bytes) ends other = or_false-both (is_in_word b) (b == 40) ends other
 
-not_applied : (bytes : List ℕ) → EndsAt event_goes_on bytes → (front bytes == 40) ≡ false
+pub not_applied : (bytes : List ℕ) → EndsAt event_goes_on bytes → (front bytes == 40) ≡ false
 not_applied [] ends = refl
 not_applied (b ∷ bytes) ends = (or_false (is_in_word b) (b == 40) ends).1
 
-ends_word : (bytes : List ℕ) → EndsAt event_goes_on bytes → EndsAt is_in_word bytes
+pub ends_word : (bytes : List ℕ) → EndsAt event_goes_on bytes → EndsAt is_in_word bytes
 ends_word [] ends = absurd ends
 ends_word (b ∷ bytes) ends = (or_false (is_in_word b) (b == 40) ends).0
 
@@ -241,7 +241,7 @@ record IsPerformedSo (P : Protocol) (event : ℕ) (ts : List Term) (bytes rest :
   is : word.run ≡ event_word P event
   there : (at : ℕ) → Finds (applied P mid at) ts rest
 
-word_run : (w bytes mid : List ℕ) → IsWord w → EndsAt is_in_word mid → bytes ≡ w ++ mid → (run : IsRun begins_word is_in_word bytes mid) × (run.run ≡ w)
+pub word_run : (w bytes mid : List ℕ) → IsWord w → EndsAt is_in_word mid → bytes ≡ w ++ mid → (run : IsRun begins_word is_in_word bytes mid) × (run.run ≡ w)
 word_run [] bytes mid is ends text = absurd (let never : false ≡ true = is.begins in cc)
 word_run (b ∷ w) bytes mid is ends text = (record { run = b ∷ w; some = omega arith; begin = is.begins; all = is.goes_on; ends = ends; text = text }, refl)
 
@@ -275,17 +275,17 @@ judged_performed x code e = by (length x.1 == x.0.arity) refl e
     by true same told = absurd (cc)
     by false other told = let codes : Arity ≡ code = cc in (λ same. let never : true ≡ false = sym (same_byte (length x.1)) ∙ (ap (λ n. length x.1 == n) (sym same) ∙ other) in cc, sym codes)
 
-word_is_read : (P : Protocol) (bytes mid : List ℕ) (at : ℕ) (called : CalledEvent) → (run : IsRun begins_word is_in_word bytes mid) → event_called P run.run ≡ Some called → word_read P bytes at ≡ Found called (at + length run.run) mid
+pub word_is_read : (P : Protocol) (bytes mid : List ℕ) (at : ℕ) (called : CalledEvent) → (run : IsRun begins_word is_in_word bytes mid) → event_called P run.run ≡ Some called → word_read P bytes at ≡ Found called (at + length run.run) mid
 unfolding word_read judge_word judge_found
 word_is_read P bytes mid at called run is =
     ap (λ o. next o (λ v q r. judged (judge_word P v) at q r)) (run_is_read begins_word is_in_word bytes mid at run) ∙ ap (λ found. judged (judge_found found) at (at + length run.run) mid) is
 
 -- what was read of the word
-record WordRead (P : Protocol) (bytes : List ℕ) (called : CalledEvent) (rest : List ℕ) : Type 0 where
-  run : IsRun begins_word is_in_word bytes rest
-  is : event_called P run.run ≡ Some called
+pub record WordRead (P : Protocol) (bytes : List ℕ) (called : CalledEvent) (rest : List ℕ) : Type 0 where
+  pub run : IsRun begins_word is_in_word bytes rest
+  pub is : event_called P run.run ≡ Some called
 
-word_was_read : (P : Protocol) (bytes : List ℕ) (at place : ℕ) (called : CalledEvent) (rest : List ℕ) → word_read P bytes at ≡ Found called place rest → WordRead P bytes called rest
+pub word_was_read : (P : Protocol) (bytes : List ℕ) (at place : ℕ) (called : CalledEvent) (rest : List ℕ) → word_read P bytes at ≡ Found called place rest → WordRead P bytes called rest
 unfolding word_read judge_word
 word_was_read P bytes at place called rest e =
     let cut = parts (run_read begins_word is_in_word bytes at) (λ v q r. judged (judge_word P v) at q r) called place rest e in

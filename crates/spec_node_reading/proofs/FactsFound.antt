@@ -91,7 +91,7 @@ module _ (P : Protocol) (names : HasNames P) (table : List Term) where
   row_long n [] rest = omega arith
   row_long n (m ∷ ns) rest = let more = row_long m ns rest in omega (arith, more, length-append (decimal n) (44 ∷ terms_text number_text P (m ∷ ns) rest))
 
-  terms_found : (w : Walked) (n : ℕ) (ns : List ℕ) (rest : List ℕ) (at : ℕ) → MayFollowAll table w (n ∷ ns) → Finds (read_terms P table w (terms_text number_text P (n ∷ ns) (41 ∷ rest)) at) (with (map (term_at table) (n ∷ ns)) (past_all w (n ∷ ns))) rest
+  pub terms_found : (w : Walked) (n : ℕ) (ns : List ℕ) (rest : List ℕ) (at : ℕ) → MayFollowAll table w (n ∷ ns) → Finds (read_terms P table w (terms_text number_text P (n ∷ ns) (41 ∷ rest)) at) (with (map (term_at table) (n ∷ ns)) (past_all w (n ∷ ns))) rest
   terms_found w n ns rest at may = let long = row_long n ns (41 ∷ rest) in row_found (suc (length (terms_text number_text P (n ∷ ns) (41 ∷ rest)))) [] w n ns rest at (omega (arith, long)) may
 
   -- Events.

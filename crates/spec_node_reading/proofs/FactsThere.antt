@@ -171,14 +171,14 @@ module _ (P : Protocol) (table : List Term) where
   -- Events.
 
   -- numbers behind the word of an event, or none
-  record AppliedThere (w : Walked) (word bytes : List ℕ) (x : Behind (List Term)) (rest : List ℕ) : Type 0 where
-    numbers : List ℕ
-    value : x.value ≡ terms_at numbers
-    short : AllByRecursion IsShort numbers
-    text : (e : ℕ) → event_word P e ≡ word → word ++ bytes ≡ event_over number_text P e numbers rest
-    through : Through w numbers x.walked
+  pub record AppliedThere (w : Walked) (word bytes : List ℕ) (x : Behind (List Term)) (rest : List ℕ) : Type 0 where
+    pub numbers : List ℕ
+    pub value : x.value ≡ terms_at numbers
+    pub short : AllByRecursion IsShort numbers
+    pub text : (e : ℕ) → event_word P e ≡ word → word ++ bytes ≡ event_over number_text P e numbers rest
+    pub through : Through w numbers x.walked
 
-  applied_there : (w : Walked) (word bytes : List ℕ) (at : ℕ) (x : Behind (List Term)) (p : ℕ) (r : List ℕ) → read_applied P table w bytes at ≡ Found x p r → AppliedThere w word bytes x r
+  pub applied_there : (w : Walked) (word bytes : List ℕ) (at : ℕ) (x : Behind (List Term)) (p : ℕ) (r : List ℕ) → read_applied P table w bytes at ≡ Found x p r → AppliedThere w word bytes x r
   applied_there w word bytes at x p r e =
       chosen (front bytes == 40) (next (read_fixed (codes "(") bytes at) (λ _ q k. read_terms P table w k q)) (Found (with [] w) at bytes) x p r (AppliedThere w word bytes x r) e
       (λ is goes.

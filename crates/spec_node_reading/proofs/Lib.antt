@@ -1,11 +1,11 @@
 mod Spelled
 mod ReportsOne
-mod FactsThere
+pub mod FactsThere
 mod ClausesThere
 mod NodesThere
 mod NumberedThere
 mod RowsFound
-mod FactsFound
+pub mod FactsFound
 mod ClausesFound
 mod NodesFound
 mod Goes

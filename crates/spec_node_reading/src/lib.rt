@@ -43,7 +43,8 @@ pub fn worked_certificates()
         (codes "c mess(4,2), att(4) => att(2)\nc att(2), att(4) => mess(2,4)\n" ++
         codes "r 1\nr 2\nr 3 1\nr 4\nr 5 1\nend\n")) 0 ≡
         Faulty 115 NodeOrder }
-    ensures twice { read_numbered silent (codes "cert 2\nn c\nn c\nn v0\n") 0 ≡ Faulty 13 NodeOrder }
+    ensures twice { read_numbered silent (codes "cert 2\nn c\nn c\nn v0\n") 0 ≡
+        Faulty 13 NodeOrder }
 {}
 
 /// Of nodes: a tuple of no number or of one, a variable with a number, a node that stands earlier before a byte that can't
@@ -74,8 +75,10 @@ pub fn worked_nodes()
 /// over a wrong count of numbers, before a byte that can't follow; and what stands behind the clauses where some node was
 /// never reached: this is told where a row or the last line begins, and else that no text goes on.
 pub fn worked_clauses()
-    ensures zero { read_numbered sending (codes "cert 2\nn c\nc => att(0#") 0 ≡ Faulty 20 NodeOrder }
-    ensures past { read_numbered sending (codes "cert 2\nn c\nc => att(2#") 0 ≡ Faulty 20 NodeOrder }
+    ensures zero { read_numbered sending (codes "cert 2\nn c\nc => att(0#") 0 ≡
+        Faulty 20 NodeOrder }
+    ensures past { read_numbered sending (codes "cert 2\nn c\nc => att(2#") 0 ≡
+        Faulty 20 NodeOrder }
     ensures not_next { read_numbered sending (codes "cert 2\nn c\nn v0\nc => att(2)\n") 0 ≡
         Faulty 25 NodeOrder }
     ensures leading { read_numbered sending (codes "cert 2\nn c\nc => att(01)\n") 0 ≡

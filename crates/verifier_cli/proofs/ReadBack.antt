@@ -70,7 +70,7 @@ not_zero n = grind (arith, nat_tests)
 spoken : (first : ℕ) (word behind : List ℕ) → IsOneLine (first ∷ word) → IsOneLine behind → IsReason ((first ∷ word) ++ behind)
 spoken first word behind is k = record { some = not_zero (length (word ++ behind)); one_line = joined (first ∷ word) behind is k }
 
-verdict_spelled : (P : Protocol) → HasWords P → (number : ℕ) (v : Verdict) (rest : List ℕ) → MayBeRead P v → SpellsClaim P number (claim_of v) rest (query_text number (codes " " ++ (verdict_text P v ++ rest)))
+verdict_spelled : (P : Protocol) → HasWords P → (number : ℕ) (v : Verdict) (rest : List ℕ) → MayBeRead P v → SpellsClaim P number (claim_of v) rest (query_text number (codes " " ++ (verdict_text 1 P v ++ rest)))
 verdict_spelled P words number (Proved certificate) rest is = (is, ap (λ k. query_text number (codes " proved\n" ++ k)) (certificate_followed P certificate [] rest))
 verdict_spelled P words number (Budget log due) rest is =
     unknown_spelled P number (codes "budget " ++ decimal (length log)) rest (spoken 98 (codes "udget ") (decimal (length log)) refl (decimal_in_line (length log)))
@@ -87,11 +87,11 @@ verdict_spelled P words number (Unmet log entry) rest is =
 grouped : (a b c d e : List ℕ) → a ++ b ++ c ++ d ++ e ≡ a ++ (b ++ (c ++ (d ++ e)))
 grouped a b c d e = simp append_assoc
 
-verdicts_spelled : (P : Protocol) → HasWords P → (number : ℕ) (vs : List Verdict) → AllByRecursion (MayBeRead P) vs → SpellsClaims P number (map claim_of vs) (verdict_lines number vs P)
+verdicts_spelled : (P : Protocol) → HasWords P → (number : ℕ) (vs : List Verdict) → AllByRecursion (MayBeRead P) vs → SpellsClaims P number (map claim_of vs) (verdict_lines 1 number vs P)
 verdicts_spelled P words number [] are = refl
 verdicts_spelled P words number (v ∷ vs) are =
-    let rest = verdict_lines (number + 1) vs P in
-    let same = grouped (codes "query ") (decimal number) (codes " ") (verdict_text P v) rest in
+    let rest = verdict_lines 1 (number + 1) vs P in
+    let same = grouped (codes "query ") (decimal number) (codes " ") (verdict_text 1 P v) rest in
     (rest, subst (SpellsClaim P number (claim_of v) rest) (sym same) (verdict_spelled P words number v rest are.0), verdicts_spelled P words (number + 1) vs are.1)
 
 -- Verdicts of queries: each certificate may stand in a report, where the law says so of each query.
@@ -122,7 +122,7 @@ one_for_each P budget (q ∷ qs) (v ∷ vs) are = omega (arith, one_for_each P b
 
 text_is_report : (P : Protocol) → HasWords P → (budget : ℕ) (vs : List Verdict)
     → ((q : Query) (cert : Certificate) → Contains P.queries q → IsVerdict P q budget (defined.Proved cert) → IsReadableCertificate P cert)
-    → AnswerQueries P budget P.queries vs → SpellsReport P (verdict_lines 1 vs P) (map claim_of vs)
+    → AnswerQueries P budget P.queries vs → SpellsReport P (verdict_lines 1 1 vs P) (map claim_of vs)
 text_is_report P words budget vs stand are = record {
   each = verdicts_spelled P words 1 vs (answers_may_be_read P budget P.queries vs stand are);
   all = length-map vs claim_of ∙ one_for_each P budget P.queries vs are;
@@ -189,7 +189,7 @@ pub record WayBack : Type 0 where
   pub accepted : (P : Protocol) (q : Query) (budget : ℕ) (cert : Certificate) → IsWithinLimits P → IsSmallQuery q → IsVerdict P q budget (defined.Proved cert) → IsRuled P q cert certificates.Accepted
   pub one_ruling : (P : Protocol) (q : Query) (cert : Certificate) (a b : certificates.Ruling) → IsRuled P q cert a → IsRuled P q cert b → a ≡ b
 
-pub read_back : WayBack → (bytes : List ℕ) (P : Protocol) (budget : ℕ) (outcome : Outcome) → budget ≤ most_budget → Spells bytes P → Verifies bytes budget outcome → IsReadBack bytes (outcome_bytes (Some P) outcome) outcome
+pub read_back : WayBack → (bytes : List ℕ) (P : Protocol) (budget : ℕ) (outcome : Outcome) → budget ≤ most_budget → Spells bytes P → Verifies bytes budget outcome → IsReadBack bytes (outcome_bytes 1 (Some P) outcome) outcome
 read_back laws bytes P budget (Verified vs) within spelled verified = λ fits answer checks.
     let are : AnswerQueries P budget P.queries vs = verified.accepts P spelled in
     let small = (laws.limits bytes P spelled).asked in
@@ -197,6 +197,6 @@ read_back laws bytes P budget (Verified vs) within spelled verified = λ fits an
       one = laws.one_ruling P;
       accepted = λ q cert has is. laws.accepted P q budget cert (laws.limits bytes P spelled) (each-contains IsSmallQuery P.queries q small has) is;
     } in
-    let spells : SpellsReport P (verdict_lines 1 vs P) (map claim_of vs) = text_is_report P (laws.names bytes P spelled).words budget vs (λ q cert has is. laws.stand bytes P q budget cert spelled has within is) are in
+    let spells : SpellsReport P (verdict_lines 1 1 vs P) (map claim_of vs) = text_is_report P (laws.names bytes P spelled).words budget vs (λ q cert has is. laws.stand bytes P q budget cert spelled has within is) are in
     check_found P budget vs answer accepted are ((checks.accepts P spelled).accepts (map claim_of vs) (fits, spells))
 read_back laws bytes P budget _ within spelled verified = tt

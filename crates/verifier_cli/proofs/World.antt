@@ -45,16 +45,16 @@ becomes_after wanted found after (inr e) (inl h) = inr (h ∙ e)
 becomes_after wanted found after e (inr h) = inr h
 
 -- the text of a call for nothing has no words of a protocol
-pub usage_bytes : (words : Option Protocol) (outcome : Outcome) → Becomes Usage outcome → outcome_bytes words outcome ≡ outcome_bytes None outcome
-usage_bytes words outcome (inl e) = subst (λ (o : Outcome). outcome_bytes words o ≡ outcome_bytes None o) (sym e) refl
-usage_bytes words outcome (inr e) = subst (λ (o : Outcome). outcome_bytes words o ≡ outcome_bytes None o) (sym e) refl
+pub usage_bytes : (words : Option Protocol) (outcome : Outcome) → Becomes Usage outcome → outcome_bytes 1 words outcome ≡ outcome_bytes 1 None outcome
+usage_bytes words outcome (inl e) = subst (λ (o : Outcome). outcome_bytes 1 words o ≡ outcome_bytes 1 None o) (sym e) refl
+usage_bytes words outcome (inr e) = subst (λ (o : Outcome). outcome_bytes 1 words o ≡ outcome_bytes 1 None o) (sym e) refl
 
 -- the law of verdicts that are read back, and the budgets that the words may name
 pub record BackLaws (asked : Request) : Type 0 where
-  pub back : (bytes : List ℕ) (P : Protocol) (budget : ℕ) (outcome : Outcome) → budget ≤ 1000000 → Spells bytes P → Verifies bytes budget outcome → IsReadBack bytes (outcome_bytes (Some P) outcome) outcome
+  pub back : (bytes : List ℕ) (P : Protocol) (budget : ℕ) (outcome : Outcome) → budget ≤ 1000000 → Spells bytes P → Verifies bytes budget outcome → IsReadBack bytes (outcome_bytes 1 (Some P) outcome) outcome
   pub within : (file : List ℕ) (budget : ℕ) → asked ≡ Verify file budget → budget ≤ 1000000
 
-verdicts_back : (asked : Request) → BackLaws asked → (files : Outside) (words : Option Protocol) (outcome : Outcome) (c : ComesTo asked files words outcome) → HasText words outcome → IsReadBack c.protocol (outcome_bytes words outcome) outcome
+verdicts_back : (asked : Request) → BackLaws asked → (files : Outside) (words : Option Protocol) (outcome : Outcome) (c : ComesTo asked files words outcome) → HasText words outcome → IsReadBack c.protocol (outcome_bytes 1 words outcome) outcome
 verdicts_back (Verify file budget) laws files (Some P) (Verified vs) c worded = laws.back c.protocol P budget (Verified vs) (laws.within file budget refl) c.spelled (c.defined (λ e. cc))
 verdicts_back (Verify file budget) laws files None (Verified vs) c worded = let never : true ≡ false = worded in absurd (cc)
 verdicts_back (Check file report) laws files words (Verified vs) c worded = absurd (c.defined (λ e. cc)).answers
@@ -65,7 +65,7 @@ verdicts_back asked laws files words _ c worded = tt
 
 -- one world, where the words of the text are those of the protocol that was read
 pub world_of : (asked : Request) → BackLaws asked → (files : Outside) (words given : Option Protocol) (found after : Outcome) (Writes : List ℕ → Type 0) → given ≡ words
-    → ComesTo asked files words found → Becomes found after → HasText given after → Writes (outcome_bytes given after) → World asked files after Writes
+    → ComesTo asked files words found → Becomes found after → HasText given after → Writes (outcome_bytes 1 given after) → World asked files after Writes
 world_of asked laws files words given found after Writes same comes becomes worded written =
     let c : ComesTo asked files given after = comes_after asked files given found after becomes (subst (λ (P : Option Protocol). ComesTo asked files P found) (sym same) comes) in
     record {

@@ -12,7 +12,8 @@ use Rattle.spec_protocol_scope.specs.Spells as spells
 use Rattle.spec_protocol_scope.specs.Spells.{Lexical, Scoped}
 use Rattle.spec_terms.specs.Term.{Term}
 use Rattle.spec_clauses.specs.Fact.{Clause}
-use Rattle.spec_certificate_text.specs.Text.{clause_text, certificate_text}
+use Rattle.spec_certificate_text.specs.Text.{clause_text}
+use Rattle.cert_form.specs.Writing.{text_in, format_for}
 use Rattle.clause_saturate.specs.declared.log.PlainEntry.{PlainEntry}
 use Rattle.spec_certificate_reading.specs.Terms as report
 use Rattle.cert_checker.specs.declared.ruling.Ruling.{Ruling}
@@ -33,27 +34,27 @@ abbrev pub entry_text : syntax.Protocol → Option PlainEntry → List ℕ
 entry_text P None = []
 entry_text P (Some entry) = clause_text P entry.clause []
 
--- how a verdict is spelled, behind the query's number; a certificate follows its line
-abbrev pub verdict_text : syntax.Protocol → Verdict → List ℕ
-verdict_text P (Proved certificate) = line (codes "proved") ++ certificate_text P certificate []
-verdict_text P (Budget log due) = line (codes "unknown budget " ++ decimal (length log))
-verdict_text P (SizePair log solved unsolved) = line (codes "unknown size pair " ++ decimal solved ++ codes " " ++ decimal unsolved)
-verdict_text P (SizePoint point) = line (codes "unknown size point " ++ decimal point)
-verdict_text P (Unmet log number) = line (codes "unknown clause " ++ entry_text P (numbered log number))
-
--- the verdicts of the queries, the first of which has this number
-abbrev pub verdict_lines : ℕ → List Verdict → syntax.Protocol → List ℕ
-verdict_lines number [] P = []
-verdict_lines number (verdict ∷ verdicts) P =
-    codes "query " ++ decimal number ++ codes " " ++ verdict_text P verdict ++ verdict_lines (number + 1) verdicts P
-
--- the same on one line, without a certificate
+-- how a verdict is spelled on one line, behind the query's number, without a certificate
 abbrev pub verdict_line : syntax.Protocol → Verdict → List ℕ
 verdict_line P (Proved certificate) = line (codes "proved")
-verdict_line P (Budget log due) = verdict_text P (Budget log due)
-verdict_line P (SizePair log solved unsolved) = verdict_text P (SizePair log solved unsolved)
-verdict_line P (SizePoint point) = verdict_text P (SizePoint point)
-verdict_line P (Unmet log number) = verdict_text P (Unmet log number)
+verdict_line P (Budget log due) = line (codes "unknown budget " ++ decimal (length log))
+verdict_line P (SizePair log solved unsolved) = line (codes "unknown size pair " ++ decimal solved ++ codes " " ++ decimal unsolved)
+verdict_line P (SizePoint point) = line (codes "unknown size point " ++ decimal point)
+verdict_line P (Unmet log number) = line (codes "unknown clause " ++ entry_text P (numbered log number))
+
+-- with its certificate, in the format, or without a table where it is too large for one
+abbrev pub verdict_text : ℕ → syntax.Protocol → Verdict → List ℕ
+verdict_text format P (Proved certificate) = line (codes "proved") ++ text_in (format_for format certificate.clauses) P certificate []
+verdict_text format P (Budget log due) = verdict_line P (Budget log due)
+verdict_text format P (SizePair log solved unsolved) = verdict_line P (SizePair log solved unsolved)
+verdict_text format P (SizePoint point) = verdict_line P (SizePoint point)
+verdict_text format P (Unmet log number) = verdict_line P (Unmet log number)
+
+-- the verdicts of the queries, the first of which has this number
+abbrev pub verdict_lines : ℕ → ℕ → List Verdict → syntax.Protocol → List ℕ
+verdict_lines format number [] P = []
+verdict_lines format number (verdict ∷ verdicts) P =
+    codes "query " ++ decimal number ++ codes " " ++ verdict_text format P verdict ++ verdict_lines format (number + 1) verdicts P
 
 -- what is ruled of a certificate: it is accepted, or the first obligation that isn't met
 abbrev pub ruling_text : Ruling → List ℕ
@@ -180,19 +181,19 @@ abbrev pub HasText : Option syntax.Protocol → Outcome → Type 0
 HasText None outcome = prints_clauses outcome ≡ false
 HasText (Some P) outcome = Unit {0}
 
--- all that a call writes, in the words of its protocol
-abbrev pub outcome_bytes : Option syntax.Protocol → Outcome → List ℕ
-outcome_bytes P Usage = line (codes "usage: verify FILE [--budget N] | check FILE REPORT | list FILE QUERY | replay FILE RUN | ring N")
-outcome_bytes P (Verified verdicts) = in_words (verdict_lines 1 verdicts) P
-outcome_bytes P (Checked findings) = finding_lines 1 findings
-outcome_bytes P (Listed clauses) = in_words (λ own. clause_lines own clauses) P
-outcome_bytes P (ListLarge point) = line (codes "size point " ++ decimal point)
-outcome_bytes P (NoQuery query) = line (codes "no query " ++ decimal query)
-outcome_bytes P (Replayed replay) = replay_text replay
-outcome_bytes P (Ring ring) = in_words (summary_lines ring) P
-outcome_bytes P (Refused refusal) = line (refusal_text refusal)
-outcome_bytes P ReadFault = line (codes "read fault")
-outcome_bytes P Memory = line (codes "want of memory")
+-- all that a call writes, in the words of its protocol, with certificates in the format
+abbrev pub outcome_bytes : ℕ → Option syntax.Protocol → Outcome → List ℕ
+outcome_bytes format P Usage = line (codes "usage: verify FILE [--budget N] | check FILE REPORT | list FILE QUERY | replay FILE RUN | ring N")
+outcome_bytes format P (Verified verdicts) = in_words (verdict_lines format 1 verdicts) P
+outcome_bytes format P (Checked findings) = finding_lines 1 findings
+outcome_bytes format P (Listed clauses) = in_words (λ own. clause_lines own clauses) P
+outcome_bytes format P (ListLarge point) = line (codes "size point " ++ decimal point)
+outcome_bytes format P (NoQuery query) = line (codes "no query " ++ decimal query)
+outcome_bytes format P (Replayed replay) = replay_text replay
+outcome_bytes format P (Ring ring) = in_words (summary_lines ring) P
+outcome_bytes format P (Refused refusal) = line (refusal_text refusal)
+outcome_bytes format P ReadFault = line (codes "read fault")
+outcome_bytes format P Memory = line (codes "want of memory")
 
 -- whether the verdict is that the query is proved
 abbrev pub is_proved : Verdict → Bool

@@ -98,8 +98,8 @@ pub record World (asked : Request) (files : Outside) (outcome : Outcome) (Writes
   pub headline : NoneViolated comes.protocol outcome
   -- what is written is the outcome's text, in these words where clauses are printed
   pub printed : HasText words outcome
-  pub written : Writes (outcome_bytes words outcome)
+  pub written : Writes (outcome_bytes 1 words outcome)
   -- what `check` finds in it, where it is the text of verdicts
-  pub read_back : IsReadBack comes.protocol (outcome_bytes words outcome) outcome
+  pub read_back : IsReadBack comes.protocol (outcome_bytes 1 words outcome) outcome
   -- where the bytes of its files are accepted and no fault is counted, the request comes to an outcome of its own
   pub complete : AreAccepted asked comes.protocol comes.other → ((name : List ℕ) → IsFaulty files name → ⊥) → IsOwnOutcome asked outcome × IsOfAnswer (status_of outcome)

@@ -31,6 +31,9 @@ use std::alloc::Global;
 /// The status of a call whose text could not all be written.
 const NOT_WRITTEN: u8 = 6;
 
+/// The format of the certificates that are printed: each term as it stands.
+const FORMAT: u8 = 1;
+
 /// What the words and the files that they name come to.
 fn decide<F: Files>(alloc: Global, words: &[String], files: &mut F) -> Decision
     ensures held_stays { (name : List ℕ) → F.held files.new name ≡ F.held files.old name }
@@ -101,13 +104,13 @@ fn respond<S: Sink>(
     ensures fault { result.status ≡ 6 → IsFaultCounted (S.faults out.old) (S.faults out.new) }
     ensures status { result.status ≢ 6 → result.status ≡ status_of (outcome_of result.outcome) }
     ensures written { IsWritten result.status (S.written out.old) (S.written out.new)
-        (outcome_bytes (words_of protocol.entry) (outcome_of result.outcome)) }
+        (outcome_bytes 1 (words_of protocol.entry) (outcome_of result.outcome)) }
 {
     match outcome {
         Outcome::Usage => finish(outcome, USAGE, out),
         Outcome::ReadFault => finish(outcome, READ_FAULT, out),
         Outcome::Memory => finish(outcome, WANT_OF_MEMORY, out),
-        _ => match outcome_text(alloc, protocol, &outcome) {
+        _ => match outcome_text(alloc, protocol, &outcome, FORMAT) {
             Ok(text) => finish(outcome, &text, out),
             Err(_) => {
                 drop(outcome);
@@ -133,7 +136,7 @@ pub fn top<F: Files, S: Sink>(alloc: Global, words: &[String], files: &mut F, ou
         IsNoCommand (map string_bytes words.now) }
     ensures usage_text { IsNoCommand (map string_bytes words.now) →
         IsWritten result.status (S.written out.old) (S.written out.new)
-        (outcome_bytes None (outcome_of result.outcome)) }
+        (outcome_bytes 1 None (outcome_of result.outcome)) }
     ensures usage_loads { IsNoCommand (map string_bytes words.now) →
         F.loads files.new ≡ F.loads files.old }
 

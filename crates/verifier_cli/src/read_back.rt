@@ -20,7 +20,7 @@ use spec_verdicts::first_certificates_are_accepted;
 pub(crate) fn verdicts_are_read_back()
     ensures { (bytes : List ℕ) (P : Protocol) (budget : ℕ) (outcome : own.Outcome) →
         budget ≤ most_budget → Spells bytes P → Verifies bytes budget outcome →
-        IsReadBack bytes (outcome_bytes (Some P) outcome) outcome }
+        IsReadBack bytes (outcome_bytes 1 (Some P) outcome) outcome }
 {
     spelled_protocols_have_names();
     within_limits();

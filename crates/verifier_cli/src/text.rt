@@ -1,9 +1,9 @@
 //! The text of an outcome, and the status that the program ends with.
 
-ghost use Rattle.std.specs.Prelude.{◌≡◌, ◌++◌, codes, decimal, is_none, option_copied, IfOk, OnOk, []};
+ghost use Rattle.std.specs.Prelude.{◌≡◌, ◌⊎◌, ◌++◌, codes, decimal, is_none, option_copied, IfOk, OnOk, []};
 ghost use Rattle.std.specs.List.{list_all};
 ghost use Rattle.spec_calculus.specs.Points.{numbered};
-ghost use Rattle.spec_certificate_text.specs.Text.{certificate_text};
+ghost use Rattle.cert_form.specs.Writing.{text_in, format_for};
 ghost use Rattle.verifier_cli.specs.SeenOutcome.{outcome_of, refusal_of};
 ghost use Rattle.pi_model.specs.Errors as errors;
 ghost use Rattle.cert_checker.specs.declared.ruling.Ruling.TheVariants as ruling;
@@ -11,7 +11,7 @@ ghost use Rattle.verifier_cli.specs.Outcome as own;
 ghost use Rattle.verifier_cli.specs.Seen.{refusal_by, report_refusal_by, run_refusal_by, replay_of};
 ghost use Rattle.pi_tree.specs.Protocols.{protocol_of};
 ghost use Rattle.verifier_cli.specs.Listing.{words_of};
-ghost use Rattle.verifier_cli.specs.Text.{line, clause_lines, in_words, outcome_bytes, status_of, refusal_text, entry_text, verdict_text, verdict_lines, is_proved, first_text, first_lines, done_text, replay_text, is_without_violation};
+ghost use Rattle.verifier_cli.specs.Text.{line, clause_lines, in_words, outcome_bytes, status_of, refusal_text, entry_text, verdict_line, verdict_text, verdict_lines, is_proved, first_text, first_lines, done_text, replay_text, is_without_violation};
 ghost use Rattle.verifier_cli.specs.Text.{ruling_text, finding_text, finding_lines, is_accepted};
 ghost use Rattle.verifier_cli.specs.Text.{summary_lines};
 
@@ -21,7 +21,7 @@ use crate::outcome::{
 };
 use crate::summary::put_summary;
 use cert_checker::Ruling;
-use cert_form::{Cert, PlainClauses, put_cert, put_clause};
+use cert_form::{Cert, PlainClauses, format_for, put_cert, put_clause};
 use clause_saturate::{PlainEntry, PlainLog};
 use hv_io::put_words;
 use pi_model::StepError;
@@ -51,12 +51,17 @@ fn entry_at(log: &PlainLog, number: usize) -> Option<&PlainEntry>
 }
 
 /// Puts what is written behind the number of a query that is proved: its line's end, and the certificate.
-fn put_proved(out: &mut Vec<u8>, protocol: &Protocol, cert: &Cert) -> Result<(), AllocError>
-    ensures { OnOk result (out.new.items ≡ out.old.items ++
-        (line (codes "proved") ++ certificate_text (protocol_of protocol.now) cert.now [])) }
+fn put_proved(
+    out: &mut Vec<u8>,
+    protocol: &Protocol,
+    cert: &Cert,
+    format: u8,
+) -> Result<(), AllocError>
+    ensures { OnOk result (out.new.items ≡ out.old.items ++ (line (codes "proved") ++
+        text_in (format_for format cert.now.clauses) (protocol_of protocol.now) cert.now [])) }
 {
     out.extend_from_slice(b"proved\n")?;
-    put_cert(out, protocol, cert)
+    put_cert(out, protocol, cert, format_for(format, cert))
 }
 
 /// Puts the clause of an entry, if there is one.
@@ -99,17 +104,17 @@ fn put_pair(out: &mut Vec<u8>, solved: usize, unsolved: usize) -> Result<(), All
     put_words(out, format_args!("unknown size pair {solved} {unsolved}\n"))
 }
 
-/// Puts what is written behind the number of a query, its line and a certificate.
-pub(crate) fn put_verdict(
+/// Puts what is written behind the number of a query, on one line: no certificate follows.
+pub(crate) fn put_verdict_line(
     out: &mut Vec<u8>,
     protocol: &Protocol,
     verdict: &Verdict,
 ) -> Result<(), AllocError>
     ensures { OnOk result (out.new.items ≡
-        out.old.items ++ verdict_text (protocol_of protocol.now) verdict.now) }
+        out.old.items ++ verdict_line (protocol_of protocol.now) verdict.now) }
 {
     match verdict {
-        Verdict::Proved(cert) => put_proved(out, protocol, cert),
+        Verdict::Proved(_) => out.extend_from_slice(b"proved\n"),
         Verdict::Budget(log, _) => {
             let entries = log.items.len();
             put_words(out, format_args!("unknown budget {entries}\n"))
@@ -117,6 +122,22 @@ pub(crate) fn put_verdict(
         Verdict::SizePair(_, solved, unsolved) => put_pair(out, *solved, *unsolved),
         Verdict::SizePoint(point) => put_words(out, format_args!("unknown size point {point}\n")),
         Verdict::Unmet(log, number) => put_unmet(out, protocol, log, *number),
+    }
+}
+
+/// Puts what is written behind the number of a query, its line and a certificate.
+fn put_verdict(
+    out: &mut Vec<u8>,
+    protocol: &Protocol,
+    verdict: &Verdict,
+    format: u8,
+) -> Result<(), AllocError>
+    ensures { OnOk result (out.new.items ≡
+        out.old.items ++ verdict_text format (protocol_of protocol.now) verdict.now) }
+{
+    match verdict {
+        Verdict::Proved(cert) => put_proved(out, protocol, cert, format),
+        _ => put_verdict_line(out, protocol, verdict),
     }
 }
 
@@ -133,13 +154,14 @@ fn put_verdicts(
     out: &mut Vec<u8>,
     protocol: &Protocol,
     verdicts: &Verdicts,
+    format: u8,
 ) -> Result<(), AllocError>
     ensures { OnOk result (out.new.items ≡
-        out.old.items ++ verdict_lines 1 verdicts.now (protocol_of protocol.now)) }
+        out.old.items ++ verdict_lines format 1 verdicts.now (protocol_of protocol.now)) }
 {
     'each: for (place, verdict) in verdicts.items.iter().enumerate() {
         put_query(out, place as u64 + 1)?;
-        put_verdict(out, protocol, verdict)?;
+        put_verdict(out, protocol, verdict, format)?;
     }
     Ok(())
 }
@@ -330,12 +352,13 @@ fn put_verified(
     out: &mut Vec<u8>,
     protocol: Option<&Protocol>,
     verdicts: &Verdicts,
+    format: u8,
 ) -> Result<(), AllocError>
     ensures { OnOk result (out.new.items ≡ out.old.items ++
-        in_words (verdict_lines 1 verdicts.now) (words_of protocol.entry)) }
+        in_words (verdict_lines format 1 verdicts.now) (words_of protocol.entry)) }
 {
     match protocol {
-        Some(protocol) => put_verdicts(out, protocol, verdicts),
+        Some(protocol) => put_verdicts(out, protocol, verdicts, format),
         None => Ok(()),
     }
 }
@@ -371,13 +394,14 @@ fn put_outcome(
     out: &mut Vec<u8>,
     protocol: Option<&Protocol>,
     outcome: &Outcome,
+    format: u8,
 ) -> Result<(), AllocError>
     ensures { OnOk result (out.new.items ≡ out.old.items ++
-        outcome_bytes (words_of protocol.entry) (outcome_of outcome.now)) }
+        outcome_bytes format (words_of protocol.entry) (outcome_of outcome.now)) }
 {
     match outcome {
         Outcome::Usage => out.extend_from_slice(USAGE),
-        Outcome::Verified(verdicts) => put_verified(out, protocol, verdicts),
+        Outcome::Verified(verdicts) => put_verified(out, protocol, verdicts, format),
         Outcome::Checked(findings) => put_findings(out, findings),
         Outcome::Listed(clauses) => put_listed(out, protocol, clauses),
         Outcome::ListLarge(point) => put_words(out, format_args!("size point {point}\n")),
@@ -391,17 +415,20 @@ fn put_outcome(
 }
 
 /// All that a call writes whose outcome is this, each line ended by LF. Verdicts and clauses are written in the words of
-/// the protocol, and not at all where none is given.
+/// the protocol, and not at all where none is given; certificates in format 1 or 2, but one that is too large for a table of
+/// nodes in format 1.
 pub fn outcome_text(
     alloc: Global,
     protocol: Option<&Protocol>,
     outcome: &Outcome,
+    format: u8,
 ) -> Result<Vec<u8>, AllocError>
+    requires { (format ≡ 1) ⊎ (format ≡ 2) }
     ensures { IfOk result (λ text. text.items ≡
-        outcome_bytes (words_of protocol.entry) (outcome_of outcome.now)) }
+        outcome_bytes format (words_of protocol.entry) (outcome_of outcome.now)) }
 {
     let mut text = Vec::new(alloc);
-    put_outcome(&mut text, protocol, outcome)?;
+    put_outcome(&mut text, protocol, outcome, format)?;
     Ok(text)
 }
 

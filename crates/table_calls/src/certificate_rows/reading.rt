@@ -1,7 +1,7 @@
 //! The readers of certificates and reports, and the writer.
 
 use crate::certificate_rows::lines::{Change, changed, line_count};
-use cert_form::{Cert, write_cert};
+use cert_form::{Cert, format_for, write_cert};
 use cert_text::{CertError, Claim, Claims, code_and_place, read_cert, read_report};
 use pi_tree::Protocol;
 use std::alloc::{AllocError, Global};
@@ -42,9 +42,36 @@ fn report_of(alloc: Global, protocol: &Protocol, bytes: &[u8]) -> Result<Claims,
     }
 }
 
-/// The text of a certificate.
+/// The text of a certificate, each term as it stands.
 fn written(alloc: Global, protocol: &Protocol, cert: &Cert) -> Result<Vec<u8>, AllocError> {
-    write_cert(alloc, protocol, cert)
+    write_cert(alloc, protocol, cert, 1)
+}
+
+/// A text on one line, with `/` for each line feed.
+fn on_one_line(alloc: Global, bytes: &[u8]) -> Result<String, AllocError> {
+    let mut text = String::new(alloc);
+    for byte in bytes {
+        text.push(if *byte == b'\n' { '/' } else { *byte as char })?;
+    }
+    Ok(text)
+}
+
+/// The text of a certificate by a table of nodes, on one line, where it isn't too large for one.
+fn nodes_text(alloc: Global, protocol: &Protocol, cert: &Cert) -> Result<String, AllocError> {
+    let format = format_for(2, cert);
+    if format == 2 {
+        on_one_line(alloc, &write_cert(alloc, protocol, cert, format)?)
+    } else {
+        String::from_str(alloc, "too large")
+    }
+}
+
+/// The same of the certificate at the front of the bytes.
+pub fn nodes(alloc: Global, protocol: &Protocol, bytes: &[u8]) -> Result<String, AllocError> {
+    match certificate_in(alloc, protocol, bytes) {
+        Ok((cert, _)) => nodes_text(alloc, protocol, &cert),
+        Err(refusal) => refusal_text(alloc, &refusal),
+    }
 }
 
 /// The name of a code, by its number.

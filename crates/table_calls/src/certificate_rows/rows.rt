@@ -2,10 +2,10 @@
 //!
 //! A row with the name of an error expects it where the mark of its text stands, and a row with `ok` expects that its text
 //! is read: of a certificate up to the mark, and as the text that is written of it. A row with another word expects a text,
-//! of the report that was set last.
+//! of the report or the certificate that was set last.
 
 use crate::certificate_rows::lines::Change;
-use crate::certificate_rows::reading::{answer, changes, claims, fronts};
+use crate::certificate_rows::reading::{answer, changes, claims, fronts, nodes};
 use crate::certificate_rows::settings::Setting;
 use crate::certificate_rows::texts::text_of;
 use pi_tree::Protocol;
@@ -13,16 +13,18 @@ use std::alloc::{AllocError, Global};
 use table_protocols::spelled;
 use table_rows::{Line, compared, named};
 
-/// A row about the report that was set last.
+/// A row about the text that was set last.
 #[derive(Clone, Copy)]
 enum Row {
+    Nodes,
     Claims,
     Fronts,
     Changes(Change),
 }
 
 /// The first words of these rows.
-const ROWS: [(&str, Row); 5] = [
+const ROWS: [(&str, Row); 6] = [
+    ("nodes", Row::Nodes),
     ("claims", Row::Claims),
     ("fronts", Row::Fronts),
     ("left_out", Row::Changes(Change::LeftOut)),
@@ -63,9 +65,10 @@ fn line_for(
     }
 }
 
-/// What a row about the report that was set last shows.
+/// What a row about the text that was set last shows.
 fn shown(alloc: Global, protocol: &Protocol, file: &[u8], row: Row) -> Result<String, AllocError> {
     match row {
+        Row::Nodes => nodes(alloc, protocol, file),
         Row::Claims => claims(alloc, protocol, file),
         Row::Fronts => fronts(alloc, protocol, file),
         Row::Changes(change) => changes(alloc, protocol, file, change),

@@ -1,6 +1,6 @@
 use Rattle.pi_tree.specs.Protocols.{protocol_of}
-use Rattle.cert_form.specs.Remaining.{HasPut, hypotheses_from}
+use Rattle.cert_form.proofs.Facts.{HypothesesWritten}
 use Rattle.cert_form.proofs.clause_text.put_hypotheses.Given as goal
 
 abbrev pub invariant-each : goal.invariant-each
-invariant-each l = HasPut (hypotheses_from (protocol_of l.protocol)) l.place l.hyps l.initial.out.items l.out.items
+invariant-each g l = HypothesesWritten g.T.TermWriter.kept_of g.T.TermWriter.one (protocol_of l.protocol) l.place l.hyps l.hyp-items (g.T.TermWriter.kept l.initial.writer) (g.T.TermWriter.kept l.writer) l.initial.out.items l.out.items

@@ -15,7 +15,7 @@ run-requires g c = λ κs h. (
     let task : Task = record { given = map (clause_at all) c.args.given.now; budget = c.args.budget; asked = false } in
     let none : c.new.result.items ≡ [] = search rules in
     let walk : Walk = record { alloc = c.args.alloc; items = c.new.result; live = c.none.result; budget = c.args.budget } in
-    (h, (c.requires.some, (refl, (c.requires.fit, (refl, walk_begins all task walk (fit_task all c.args.given.now c.args.budget c.requires.some c.requires.fit) none refl refl (none_listed all c.new.result.items c.none.result none c.none.ensures.solved c.none.ensures.unsolved c.none.ensures.features c.none.ensures.prints)))))))
+    (h, (c.requires.some, (refl, (c.requires.fit, (refl, walk_begins all task walk (fit_task all c.args.given.now c.args.budget c.requires.some c.requires.fit) none refl refl (none_listed all c.new.result.items c.none.result none c.none.ensures)))))))
 
 pub returns-in-Ok-clause-log : goal.returns-in-Ok-clause-log
 returns-in-Ok-clause-log g c =

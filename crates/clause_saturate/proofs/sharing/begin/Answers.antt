@@ -16,7 +16,7 @@ walk_to_goal-requires g c = λ κs h. (
     let shared : Shared = record { clauses = map (clause_at all) c.args.given.now; budget = c.args.budget } in
     let none : c.new.result.items ≡ [] = search rules in
     let walk : Walk = record { alloc = c.args.alloc; items = c.new.result; live = c.none.result; budget = c.args.budget } in
-    (h, ((some_goal, refl), (c.requires.fit, (refl, walk_begins all (task_of shared some_goal) walk (some_task shared (fit_proper all c.args.given.now c.requires.fit)) none refl refl (none_listed all c.new.result.items c.none.result none c.none.ensures.solved c.none.ensures.unsolved c.none.ensures.features c.none.ensures.prints))))))
+    (h, ((some_goal, refl), (c.requires.fit, (refl, walk_begins all (task_of shared some_goal) walk (some_task shared (fit_proper all c.args.given.now c.requires.fit)) none refl refl (none_listed all c.new.result.items c.none.result none c.none.ensures))))))
 
 pub returns-in-Ok-clause-begun : goal.returns-in-Ok-clause-begun
 returns-in-Ok-clause-begun g c =

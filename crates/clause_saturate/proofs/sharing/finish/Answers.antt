@@ -14,7 +14,7 @@ walk_from_goal-requires g c = λ κs h. (
     let number = goal_number all g.shared c.args.common.now goal_clause c.requires.1.0 in
     let walk = c.in_ok-walk.walk in
     let as_begun = c.in_ok-walk.ensures in
-    (h, (number.0, (number.1, (c.requires.1.1, (refl, walk_goes_on all g.shared goal_clause c.args.common.now walk c.requires.1.0 c.requires.1.1.normal c.requires.1.1.small as_begun.items as_begun.solved as_begun.unsolved as_begun.features as_begun.prints as_begun.budget))))))
+    (h, (number.0, (number.1, (c.requires.1.1, (refl, walk_goes_on all g.shared goal_clause c.args.common.now walk c.requires.1.0 c.requires.1.1.normal c.requires.1.1.small as_begun.items as_begun.live as_begun.budget))))))
 
 pub returns-in-Ok-clause-common : goal.returns-in-Ok-clause-common
 returns-in-Ok-clause-common g c =

@@ -12,9 +12,9 @@ use Rattle.verifier_cli.proofs.call.respond.Goals as goal
 
 -- the text of an outcome that is known was written, or a part of it
 written_of : (status : ℕ) (old new : Option (List ℕ)) (text : List ℕ) (P : Option syntax.Protocol) (found known : Outcome) → found ≡ known
-    → (status ≢ 6 → new ≡ appended old text) → (status ≡ 6 → AppendsPart old new text) → outcome_bytes P (outcome_of known) ≡ text → IsWritten status old new (outcome_bytes P (outcome_of found))
+    → (status ≢ 6 → new ≡ appended old text) → (status ≡ 6 → AppendsPart old new text) → outcome_bytes 1 P (outcome_of known) ≡ text → IsWritten status old new (outcome_bytes 1 P (outcome_of found))
 written_of status old new text P found known is whole part bytes =
-    subst (IsWritten status old new) (sym (ap (λ (o : Outcome). outcome_bytes P (outcome_of o)) is ∙ bytes)) (whole, part)
+    subst (IsWritten status old new) (sym (ap (λ (o : Outcome). outcome_bytes 1 P (outcome_of o)) is ∙ bytes)) (whole, part)
 
 pub returns-in-Usage-clause-written : goal.returns-in-Usage-clause-written
 returns-in-Usage-clause-written g c =

@@ -1,11 +1,13 @@
-use Rattle.std.proofs.Common.{codes, []}
+use Rattle.std.proofs.Common.{codes, ℕ, List, ◌++◌, ◌∙◌, ap, []}
 use Rattle.std.proofs.lemmas.Result.{on_ok_weaker}
 use Rattle.pi_tree.specs.Protocols.{protocol_of}
-use Rattle.spec_certificate_text.specs.Text.{certificate_text}
+use Rattle.cert_form.specs.Writing.{text_in}
 use Rattle.verifier_cli.specs.Text.{line}
 use Rattle.verifier_cli.proofs.Lines.{two_put}
 use Rattle.verifier_cli.proofs.text.put_proved.Goals as goal
 
 pub returns : goal.returns
 returns c =
-    on_ok_weaker c.put_cert.result (two_put c.args.out.now.items c.extend_from_slice.new.self.items c.put_cert.new.out.items (line (codes "proved")) (certificate_text (protocol_of c.args.protocol.now) c.args.cert.now []) c.in_ok-extend_from_slice.ensures.items) c.put_cert.ensures.text
+    let text : ℕ → List ℕ = λ format. text_in format (protocol_of c.args.protocol.now) c.args.cert.now [] in
+    on_ok_weaker c.put_cert.result (λ put. two_put c.args.out.now.items c.extend_from_slice.new.self.items c.put_cert.new.out.items (line (codes "proved")) (text c.format_for.result) c.in_ok-extend_from_slice.ensures.items put
+    ∙ ap (λ format. c.args.out.now.items ++ (line (codes "proved") ++ text format)) c.format_for.ensures.format) c.put_cert.ensures.text

@@ -6,4 +6,4 @@ use Rattle.verifier_cli.proofs.text.put_verdicts.Given as goal
 
 abbrev pub invariant-each : goal.invariant-each
 invariant-each l =
-    l.out.items ++ verdict_lines (l.place + 1) (drop l.place l.verdict-items) (protocol_of l.protocol) ≡ l.initial.out.items ++ verdict_lines 1 l.verdict-items (protocol_of l.protocol)
+    l.out.items ++ verdict_lines l.format (l.place + 1) (drop l.place l.verdict-items) (protocol_of l.protocol) ≡ l.initial.out.items ++ verdict_lines l.format 1 l.verdict-items (protocol_of l.protocol)

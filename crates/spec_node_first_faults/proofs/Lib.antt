@@ -1,0 +1,12 @@
+pub mod InState
+pub mod InClosed
+pub mod InMany
+pub mod Alike
+pub mod InRows
+pub mod WalkedNumbers
+pub mod WalkedEvents
+pub mod WalkedFacts
+pub mod WalkedClauses
+pub mod InEnds
+pub mod ReachedRows
+pub mod BehindNodes
