@@ -6,3 +6,4 @@ pub mod Meeting
 pub mod Telling
 pub mod Verdicts
 pub mod Fits
+pub mod Prints

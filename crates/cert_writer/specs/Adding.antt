@@ -1,5 +1,5 @@
 -- Rows that are added to others: the first of clauses, and of what pairs give.
-use Rattle.std.specs.Prelude.{◌≡◌, ℕ, true, Some, List, ◌++◌, map, flat_map}
+use Rattle.std.specs.Prelude.{◌≡◌, ℕ, true, Some, List, ◌++◌, flat_map}
 use Rattle.spec_terms.specs.Term.{Term}
 use Rattle.spec_clauses.specs.Fact.{Clause}
 use Rattle.spec_clauses.specs.Selection.{Selection, select, is_solved}

@@ -2,3 +2,4 @@ pub mod Living
 pub mod Adding
 pub mod Goals
 pub mod Certifying
+pub mod Ready

@@ -14,12 +14,13 @@ ghost use Rattle.clause_form.specs.Seen.{AreClausesIn};
 ghost use Rattle.query_derive.specs.GoalRows.{OfQuery};
 ghost use Rattle.clause_form.specs.Fit.{AreFit, clauses_at};
 ghost use Rattle.clause_saturate.specs.Logs.{IsClosedLog};
+ghost use Rattle.cert_writer.specs.Ready.{IsReady};
 ghost use Rattle.cert_writer.specs.Adding.{MustClose, AreRowsOf};
 ghost use Rattle.cert_writer.specs.Certifying.{IsWritten, IsVerdictOf, IsAcceptedIfCert, HoldsIfCert};
 
 use crate::certified::Certified;
 use crate::closing::cover_pairs;
-use crate::covering::cover_all;
+use crate::covering::{conclusion_prints, cover_all};
 use crate::living::{live_of, plain_of};
 use crate::satisfying::{Goals, goal_rows};
 use crate::writer::Writer;
@@ -33,8 +34,7 @@ use term_tree::Bank;
 
 /// The first rows of the given clauses, and then of what all pairs of live clauses give. The bank is as before.
 fn rows_of<B: Bank>(bank: &mut B, writer: &Writer<'_>, given: &[Clause]) -> Result<Rows, AllocError>
-    requires fit { AreFit (B.trees bank.old) writer.now.live.now }
-    requires few { length writer.now.live.now < 2 ^ 32 }
+    requires ready { IsReady (B.trees bank.old) writer.now }
     requires given { AreFit (B.trees bank.old) given.now }
     requires covered { let all = B.trees bank.old in (c : ClauseOf Term) →
         Has (clauses_at all given.now) c → MustBeCovered (clauses_at all writer.now.live.now) c }
@@ -58,8 +58,7 @@ fn cert_of<B: Bank>(
     given: &[Clause],
     goals: Rows,
 ) -> Result<Cert, AllocError>
-    requires fit { AreFit (B.trees bank.old) writer.now.live.now }
-    requires few { length writer.now.live.now < 2 ^ 32 }
+    requires ready { IsReady (B.trees bank.old) writer.now }
     requires given { AreFit (B.trees bank.old) given.now }
     requires covered { let all = B.trees bank.old in (c : ClauseOf Term) →
         Has (clauses_at all given.now) c → MustBeCovered (clauses_at all writer.now.live.now) c }
@@ -112,11 +111,13 @@ pub fn certify<B: Bank>(
     ensures bank { B.trees bank.new ≡ B.trees bank.old }
 {
     let live = live_of(alloc, log)?;
+    let prints = conclusion_prints(alloc, bank, &live.items)?;
     let writer = Writer {
         alloc,
         protocol,
         query,
         live: &live.items,
+        prints: &prints,
     };
     match goal_rows(bank, &writer, log)? {
         Goals::Unsatisfied(number) => Ok(Certified::Unsatisfied(number)),

@@ -1,6 +1,6 @@
 //! The rows of what pairs of a solved clause with an unsolved one give.
 
-ghost use Rattle.std.specs.Prelude.{◌≡◌, ◌<◌, ◌≤◌, ◌^◌, ℕ, true, Some, length, map, slice_get, option_map, take, OnOk};
+ghost use Rattle.std.specs.Prelude.{◌≡◌, ◌<◌, ◌≤◌, ℕ, true, Some, length, map, slice_get, option_map, take, OnOk};
 ghost use Rattle.spec_terms.specs.Term.{Term};
 ghost use Rattle.spec_clauses.specs.Fact.{Clause as ClauseOf};
 ghost use Rattle.spec_clauses.specs.Selection.{select, is_solved as is_solved_list};
@@ -12,6 +12,7 @@ ghost use Rattle.term_tree.specs.declared.bank.Id.{Id};
 ghost use Rattle.clause_form.specs.Seen.{clause_at};
 ghost use Rattle.clause_form.specs.Fit.{IsFit, AreFit, clauses_at};
 ghost use Rattle.fact_fingerprint.specs.Seen.{fingerprint_seen};
+ghost use Rattle.cert_writer.specs.Ready.{IsReady};
 ghost use Rattle.cert_writer.specs.Adding.{AddsRows, AddsPairs, MustClose};
 ghost use Rattle.cert_writer.specs.Adding.{pairs_of_two, pairs_of_one, pairs_if_solved};
 
@@ -34,8 +35,7 @@ fn cover_made<B: Bank>(
     rows: &mut Rows,
 ) -> Result<(), AllocError>
     requires mark { mark.len ≤ length (B.trees bank.old) }
-    requires fit { AreFit (take mark.len (B.trees bank.old)) writer.now.live.now }
-    requires few { length writer.now.live.now < 2 ^ 32 }
+    requires ready { IsReady (take mark.len (B.trees bank.old)) writer.now }
     requires made { AreFit (B.trees bank.old) made.now }
     requires covered { (c : ClauseOf Term) → Has (clauses_at (B.trees bank.old) made.now) c →
         MustBeCovered (clauses_at (take mark.len (B.trees bank.old)) writer.now.live.now) c }
@@ -57,8 +57,7 @@ fn cover_pair<B: Bank>(
     unsolved: &Clause,
     rows: &mut Rows,
 ) -> Result<(), AllocError>
-    requires fit { AreFit (B.trees bank.old) writer.now.live.now }
-    requires few { length writer.now.live.now < 2 ^ 32 }
+    requires ready { IsReady (B.trees bank.old) writer.now }
     requires solved_fit { IsFit (B.trees bank.old) solved.now }
     requires unsolved_fit { IsFit (B.trees bank.old) unsolved.now }
     requires solved_live { let all = B.trees bank.old in
@@ -104,8 +103,7 @@ fn cover_met<B: Bank>(
     place: usize,
     rows: &mut Rows,
 ) -> Result<(), AllocError>
-    requires fit { AreFit (B.trees bank.old) writer.now.live.now }
-    requires few { length writer.now.live.now < 2 ^ 32 }
+    requires ready { IsReady (B.trees bank.old) writer.now }
     requires solved_fit { IsFit (B.trees bank.old) solving.now.clause.now }
     requires place { place < length writer.now.live.now }
     requires solved_live { let all = B.trees bank.old in
@@ -138,8 +136,7 @@ fn cover_solved<B: Bank>(
     solved: &Clause,
     rows: &mut Rows,
 ) -> Result<(), AllocError>
-    requires fit { AreFit (B.trees bank.old) writer.now.live.now }
-    requires few { length writer.now.live.now < 2 ^ 32 }
+    requires ready { IsReady (B.trees bank.old) writer.now }
     requires prints { map (option_map fingerprint_seen) prints.now ≡
         map hypothesis_print (clauses_at (B.trees bank.old) writer.now.live.now) }
     requires solved_fit { IsFit (B.trees bank.old) solved.now }
@@ -173,8 +170,7 @@ fn cover_one<B: Bank>(
     solved: &Clause,
     rows: &mut Rows,
 ) -> Result<(), AllocError>
-    requires fit { AreFit (B.trees bank.old) writer.now.live.now }
-    requires few { length writer.now.live.now < 2 ^ 32 }
+    requires ready { IsReady (B.trees bank.old) writer.now }
     requires prints { map (option_map fingerprint_seen) prints.now ≡
         map hypothesis_print (clauses_at (B.trees bank.old) writer.now.live.now) }
     requires solved_fit { IsFit (B.trees bank.old) solved.now }
@@ -200,8 +196,7 @@ pub(crate) fn cover_pairs<B: Bank>(
     writer: &Writer<'_>,
     rows: &mut Rows,
 ) -> Result<(), AllocError>
-    requires fit { AreFit (B.trees bank.old) writer.now.live.now }
-    requires few { length writer.now.live.now < 2 ^ 32 }
+    requires ready { IsReady (B.trees bank.old) writer.now }
     requires closed { MustClose (clauses_at (B.trees bank.old) writer.now.live.now) }
     ensures rows { let live = clauses_at (B.trees bank.old) writer.now.live.now in
         OnOk result (AddsPairs live (pairs_of (numbered_from 1 live) (numbered_from 1 live))

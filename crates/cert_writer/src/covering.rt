@@ -1,21 +1,26 @@
 //! Cover rows: the first that show that the live clauses cover others.
 
-ghost use Rattle.std.specs.Prelude.{◌≡◌, ◌<◌, ◌^◌, ◌∷◌, length, map, IfOk, OnOk};
+ghost use Rattle.std.specs.Prelude.{◌≡◌, ◌<◌, ℕ, List, ◌∷◌, Some, length, map, slice_get, MatchOption, IfOk, OnOk};
 ghost use Rattle.spec_terms.specs.Term.{Term};
 ghost use Rattle.spec_clauses.specs.Fact.{Clause as ClauseOf};
 ghost use Rattle.spec_clauses.specs.Limits.{IsWithinLimit};
 ghost use Rattle.spec_clauses.specs.Inclusion.{Has};
+ghost use Rattle.spec_clauses.specs.Subsumption.{RowHolds, IsFirstRow};
 ghost use Rattle.spec_saturation.specs.Live.{MustBeCovered};
 ghost use Rattle.spec_verdicts.specs.FirstRows.{IsFirstCover};
+ghost use Rattle.term_tree.specs.declared.bank.Id.{Id};
 ghost use Rattle.clause_form.specs.Seen.{clause_at, IsClauseIn};
 ghost use Rattle.clause_form.specs.Fit.{AreFit, clauses_at};
+ghost use Rattle.fact_fingerprint.specs.Seen.{fingerprint_seen};
 ghost use Rattle.cert_writer.specs.Adding.{AddsRows};
+ghost use Rattle.cert_writer.specs.Ready.{conclusion_print, IsReady};
 
 use crate::writer::Writer;
 use cert_form::Rows;
 use clause_form::Clause;
+use fact_fingerprint::{Fingerprint, conclusion_fingerprint, fingerprint_of_fact, may_meet};
 use multiset_subsume::{Row, cover_row};
-use std::alloc::AllocError;
+use std::alloc::{AllocError, Global};
 use term_tree::Bank;
 
 /// A clause's number, and then the positions.
@@ -27,6 +32,49 @@ fn numbered(number: u32, row: Row) -> Result<Vec<u32>, AllocError>
     Ok(items)
 }
 
+/// The fingerprints of the conclusions of clauses, in their order.
+pub(crate) fn conclusion_prints<B: Bank>(
+    alloc: Global,
+    bank: &B,
+    clauses: &[Clause],
+) -> Result<Vec<Fingerprint>, AllocError>
+    requires { AreFit (B.trees bank.now) clauses.now }
+    ensures { IfOk result (λ prints. map fingerprint_seen prints.items ≡
+        map conclusion_print (clauses_at (B.trees bank.now) clauses.now)) }
+{
+    let mut prints = Vec::with_capacity(alloc, clauses.len())?;
+    'each: for clause in clauses {
+        prints.push(conclusion_fingerprint(bank, clause))?;
+    }
+    Ok(prints)
+}
+
+/// The first row by which the live clause at a place, from 0, covers the clause, of whose conclusion this is the fingerprint: none,
+/// where fingerprints tell that its conclusion has no such instance.
+fn cover_at<B: Bank>(
+    bank: &B,
+    writer: &Writer<'_>,
+    place: usize,
+    clause: &Clause,
+    print: &Fingerprint,
+) -> Result<Option<Row>, AllocError>
+    requires ready { IsReady (B.trees bank.now) writer.now }
+    requires place { place < length writer.now.live.now }
+    requires known { IsClauseIn (B.trees bank.now) clause.now }
+    requires small { IsWithinLimit (clause_at (B.trees bank.now) clause.now) }
+    requires print { fingerprint_seen print.now ≡
+        conclusion_print (clause_at (B.trees bank.now) clause.now) }
+    ensures { let all = B.trees bank.now in IfOk result (λ found. (general : ClauseOf Id) →
+        slice_get writer.now.live.now place ≡ Some general → MatchOption found
+        ((row : List ℕ) → RowHolds (clause_at all general) (clause_at all clause.now) row → ⊥)
+        (λ row. IsFirstRow (clause_at all general) (clause_at all clause.now) row)) }
+{
+    if !may_meet(&writer.prints[place], print) {
+        return Ok(None);
+    }
+    cover_row(writer.alloc, bank, &writer.live[place], clause)
+}
+
 /// The first row that shows that the live clauses cover the clause: the least number of one that subsumes it, and then the
 /// first positions.
 fn first_cover<B: Bank>(
@@ -34,8 +82,7 @@ fn first_cover<B: Bank>(
     writer: &Writer<'_>,
     clause: &Clause,
 ) -> Result<Vec<u32>, AllocError>
-    requires fit { AreFit (B.trees bank.now) writer.now.live.now }
-    requires few { length writer.now.live.now < 2 ^ 32 }
+    requires ready { IsReady (B.trees bank.now) writer.now }
     requires known { IsClauseIn (B.trees bank.now) clause.now }
     requires small { IsWithinLimit (clause_at (B.trees bank.now) clause.now) }
     requires covered { MustBeCovered (clauses_at (B.trees bank.now) writer.now.live.now)
@@ -44,9 +91,10 @@ fn first_cover<B: Bank>(
         (clauses_at (B.trees bank.now) writer.now.live.now)
         (clause_at (B.trees bank.now) clause.now) row.items) }
 {
-    'each: for (k, general) in writer.live.iter().enumerate() {
-        match cover_row(writer.alloc, bank, general, clause)? {
-            Some(row) => return numbered(k as u32 + 1, row),
+    let print = fingerprint_of_fact(bank, &clause.concl);
+    'each: for place in 0..writer.live.len() {
+        match cover_at(bank, writer, place, clause, &print)? {
+            Some(row) => return numbered(place as u32 + 1, row),
             None => {}
         }
     }
@@ -60,8 +108,7 @@ pub(crate) fn cover_all<B: Bank>(
     clauses: &[Clause],
     rows: &mut Rows,
 ) -> Result<(), AllocError>
-    requires fit { AreFit (B.trees bank.now) writer.now.live.now }
-    requires few { length writer.now.live.now < 2 ^ 32 }
+    requires ready { IsReady (B.trees bank.now) writer.now }
     requires clauses { AreFit (B.trees bank.now) clauses.now }
     requires covered { let all = B.trees bank.now in (c : ClauseOf Term) →
         Has (clauses_at all clauses.now) c → MustBeCovered (clauses_at all writer.now.live.now) c }

@@ -8,7 +8,8 @@ use Rattle.spec_saturation.proofs.Places.{numbered_within}
 use Rattle.term_tree.specs.declared.bank.Id.{Id}
 use Rattle.clause_saturate.specs.declared.chains.Chains.{Chains}
 use Rattle.clause_saturate.specs.Ends.{IsLastBefore, AreChained}
-use Rattle.clause_saturate.specs.Live.{IsAmong, AreThose}
+use Rattle.clause_saturate.specs.Live.{AreThose}
+use Rattle.clause_saturate.specs.Numbers.{IsAmong}
 use Rattle.clause_saturate.proofs.Numbers.{there_push, last_there, push_there, among_push, among_last, push_among}
 
 abbrev id_at : ℕ → Id

@@ -15,11 +15,13 @@ use Rattle.clause_saturate.specs.declared.log.Entry.{Entry}
 use Rattle.clause_saturate.specs.declared.walk.Live.{Live}
 use Rattle.clause_saturate.specs.Beating.{clauses_of, LiveCovers, SomeLiveCovers, BeatsLive}
 use Rattle.clause_saturate.specs.Ends.{last_term, closed_end_of, ends_of}
-use Rattle.clause_saturate.specs.Live.{IsAmong, AreListed, AreThose, CoversAmong, AreBeatable}
+use Rattle.clause_saturate.specs.Live.{AreListed, AreThose, CoversAmong, AreBeatable}
+use Rattle.clause_saturate.specs.Numbers.{IsAmong}
 use Rattle.clause_saturate.proofs.Numbers.{seen_there, among_left, among_right, among_either}
 use Rattle.clause_saturate.proofs.Ending.{closed_is, closed_subsumes}
 use Rattle.clause_saturate.proofs.Lanes.{fit_there, fit_numbered}
-use Rattle.clause_saturate.proofs.Partners.{place_among, covers_there, some_among}
+use Rattle.clause_saturate.proofs.Scanning.{place_among}
+use Rattle.clause_saturate.proofs.Partners.{covers_there, some_among}
 
 -- an entry that ends with a closed term is among those that end with it
 ended_there : (all : List Term) (es : List Entry) (id : Id) (numbers : List ℕ) (n : ℕ) (x : Entry) → AreThose (ends_of es) id numbers → numbered es n ≡ Some x → closed_end_of all x.clause ≡ Some id → IsAmong numbers n

@@ -1,11 +1,16 @@
--- What the features that are kept beside entries tell.
-use Rattle.std.proofs.Common.{◌≡◌, ◌∙◌, ℕ, zero, suc, ◌-◌, ◌<◌, Bool, true, false, Some, List, [], ◌∷◌, length, get_or, true≢false, ap, sym, subst, arith}
+-- What the features and the fingerprints of conclusions that are kept beside entries tell.
+use Rattle.std.proofs.Common.{◌≡◌, ◌∙◌, ℕ, zero, suc, ◌-◌, Bool, true, false, Some, List, [], ◌∷◌, get_or, true≢false, ap, sym, subst, arith}
 use Rattle.std.specs.Prelude.{slice_get}
 use Rattle.std.specs.List.{list_all}
-use Rattle.spec_terms.specs.Term.{Term}
+use Rattle.spec_terms.specs.Term.{Term, Subst}
 use Rattle.spec_calculus.specs.Points.{numbered}
 use Rattle.spec_trees.proofs.Equality.{and_true}
-use Rattle.spec_clauses.specs.Fact.{Clause}
+use Rattle.spec_trees.specs.Tree.{after}
+use Rattle.spec_clauses.specs.Fact.{Fact, Clause, fact_under}
+use Rattle.spec_clauses.proofs.Facts.{fact_under-fact_under}
+use Rattle.spec_fingerprints.specs.Fingerprints.{fingerprint_of}
+use Rattle.fact_fingerprint.specs.declared.fingerprints.Fingerprint.{Fingerprint}
+use Rattle.fact_fingerprint.specs.Seen.{fingerprint_seen}
 use Rattle.spec_clauses.specs.Flat.{is_flat}
 use Rattle.spec_clauses.specs.Subsumption.{Subsumes}
 use Rattle.spec_features.specs.Features.{features_of}
@@ -15,23 +20,8 @@ use Rattle.clause_form.specs.Fit.{IsFit, AreFit}
 use Rattle.feature_index.specs.declared.lanes.Features.{Features}
 use Rattle.clause_saturate.specs.declared.log.Entry.{Entry}
 use Rattle.clause_saturate.specs.Beating.{clauses_of}
-use Rattle.clause_saturate.specs.Live.{lanes_of, kept_lanes, HasFeatures, NumberCovers}
-
--- what stands beside an entry are its clause's
-pub kept_there : (all : List Term) (es : List Entry) (fs : List Features) (k : ℕ) (x : Entry) (f : Features) → kept_lanes fs ≡ lanes_of all es → slice_get es k ≡ Some x → f ≡ get_or fs k f → HasFeatures all x.clause f
-kept_there all [] fs k x f same at is = cc
-kept_there all (e ∷ es) [] k x f same at is = cc
-kept_there all (e ∷ es) (g ∷ fs) zero x f same at is =
-    let here : g.lanes ≡ features_of (clause_at all e.clause) = cc in
-    let first : e ≡ x = cc in
-    ap (λ (h : Features). h.lanes) is ∙ (here ∙ ap (λ (y : Entry). features_of (clause_at all y.clause)) first)
-kept_there all (e ∷ es) (g ∷ fs) (suc k) x f same at is = let rest : kept_lanes fs ≡ lanes_of all es = cc in kept_there all es fs k x f rest at is
-
-pub kept_got : (all : List Term) (es : List Entry) (fs : List Features) (i : ℕ) (x : Entry) (f : Features) → kept_lanes fs ≡ lanes_of all es → i < length es → HasFeatures all (get_or es i x).clause (get_or fs i f)
-kept_got all [] fs i x f same within = absurd (omega arith)
-kept_got all (e ∷ es) [] i x f same within = cc
-kept_got all (e ∷ es) (g ∷ fs) zero x f same within = cc
-kept_got all (e ∷ es) (g ∷ fs) (suc i) x f same within = let rest : kept_lanes fs ≡ lanes_of all es = cc in kept_got all es fs i x f rest (omega arith)
+use Rattle.clause_saturate.specs.Live.{lanes_of, kept_lanes, HasFeatures, HasConclusion, kept_prints, conclusion_prints, NumberCovers}
+use Rattle.clause_saturate.proofs.Beside.{conclusion_seen, told_there}
 
 -- an entry among fit ones is fit
 pub fit_there : (all : List Term) (es : List Entry) (k : ℕ) (x : Entry) → AreFit all (clauses_of es) → slice_get es k ≡ Some x → IsFit all x.clause
@@ -63,5 +53,28 @@ number_apart all es fs number clause f g found fit same is has told none h = go 
     go zero is at = cc
     go (suc k) is at =
         let place : suc k - 1 ≡ k = omega arith in
-        let stands = kept_there all es fs k h.entry f same at (subst (λ j. f ≡ get_or fs j f) place is) in
+        let stands = told_there features_of (λ (l : Features). l.lanes) all es fs k h.entry f same at (subst (λ j. f ≡ get_or fs j f) place is) in
         told_apart all h.entry.clause clause f g found (fit_there all es k h.entry fit at) stands has told none h.covers.1
+
+-- what is told of fingerprints: of facts with a common instance
+abbrev pub IsMetBy : Fingerprint → Fingerprint → Bool → Type 0
+IsMetBy f g found = (c d : Fact Term) (s t : Subst) → fingerprint_seen f ≡ fingerprint_of c → fingerprint_seen g ≡ fingerprint_of d → fact_under s c ≡ fact_under t d → found ≡ true
+
+-- where they tell that the conclusions don't meet, the clause doesn't subsume the other
+pub conclusions_apart : (all : List Term) (general special : Clause Id) (f g : Fingerprint) (found : Bool) → HasConclusion all general f → HasConclusion all special g → IsMetBy f g found → found ≡ false → Subsumes (clause_at all general) (clause_at all special) → ⊥
+conclusions_apart all general special f g found first second told none h =
+    let c = clause_at all general in
+    let d = clause_at all special in
+    let one : fact_under (after h.by h.by) c.conclusion ≡ fact_under h.by d.conclusion = sym (fact_under-fact_under h.by h.by c.conclusion) ∙ ap (fact_under h.by) h.conclusion in
+    true≢false (sym (told c.conclusion d.conclusion (after h.by h.by) h.by first second one) ∙ none)
+
+-- nor does the entry of a number, where it is the one that stands beside it
+pub conclusion_apart : (all : List Term) (es : List Entry) (ps : List Fingerprint) (number : ℕ) (clause : Clause Id) (f g : Fingerprint) (found : Bool) → kept_prints ps ≡ conclusion_prints all es → f ≡ get_or ps (number - 1) f → HasConclusion all clause g → IsMetBy f g found → found ≡ false → NumberCovers all es (clause_at all clause) number → ⊥
+conclusion_apart all es ps number clause f g found same is has told none h = go number is h.at
+  where
+    go : (n : ℕ) → f ≡ get_or ps (n - 1) f → numbered es n ≡ Some h.entry → ⊥
+    go zero is at = cc
+    go (suc k) is at =
+        let place : suc k - 1 ≡ k = omega arith in
+        let stands = told_there conclusion_seen fingerprint_seen all es ps k h.entry f same at (subst (λ j. f ≡ get_or ps j f) place is) in
+        conclusions_apart all h.entry.clause clause f g found stands has told none h.covers.1

@@ -7,6 +7,8 @@ pub mod Pairing
 pub mod Found
 pub mod Living
 pub mod Numbers
+pub mod Classing
+pub mod Scanning
 pub mod Beside
 pub mod Lanes
 pub mod Ending

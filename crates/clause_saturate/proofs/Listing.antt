@@ -1,6 +1,7 @@
 -- The lists of live entries: as the bank grows, as entries are marked, and with an entry more.
 use Rattle.std.proofs.Common.{◌≡◌, ◌⊎◌, ◌∙◌, ℕ, zero, suc, ◌+◌, ◌<◌, ◌≤◌, Bool, true, false, Option, Some, None, List, [], ◌∷◌, ◌++◌, length, map, filter, refl, ap, sym, subst, inl, inr, arith}
 use Rattle.std.specs.Prelude.{slice_get}
+use Rattle.std.proofs.lemmas.Bool.{false≢true}
 use Rattle.std.proofs.lemmas.List.{length-map, length-append, map-append}
 use Rattle.spec_terms.specs.Term.{Term}
 use Rattle.spec_calculus.specs.Points.{numbered}
@@ -13,63 +14,27 @@ use Rattle.clause_form.specs.Seen.{clause_at}
 use Rattle.clause_form.proofs.Copying.{NamesClause-grows}
 use Rattle.clause_saturate.specs.declared.log.Entry.{Entry}
 use Rattle.clause_saturate.specs.declared.walk.Live.{Live}
+use Rattle.clause_saturate.specs.declared.walk.Looks.{Looks}
+use Rattle.clause_saturate.specs.declared.classes.Classes.{Classes}
+use Rattle.clause_saturate.specs.Classes.{class_of, listed, AreSameClasses, AreClassed}
 use Rattle.clause_form.specs.Fit.{AreFit}
 use Rattle.feature_index.specs.declared.lanes.Features.{Features}
 use Rattle.spec_features.specs.Features.{features_of}
+use Rattle.spec_fingerprints.specs.Fingerprints as print
 use Rattle.spec_fingerprints.specs.Fingerprints.{clause_print}
+use Rattle.fact_fingerprint.specs.Seen.{fingerprint_seen}
 use Rattle.clause_saturate.specs.Logs.{is_unbeaten}
 use Rattle.clause_saturate.specs.Beating.{clauses_of, IsMarked, AreMarked}
-use Rattle.clause_saturate.specs.Live.{IsAmong, IsAscending, IsLiveAt, AreNumbersOf, kept_lanes, lanes_of, kept_prints, prints_of, HasFeatures, AreUnclosed, AreListed, IsEmptyLive, IsSameLive, AreAlive, is_live_entry, is_live_at, IsNumberListed, IsListedBy, IsUnclosedListed, IsEndListed}
+use Rattle.clause_saturate.specs.Live.{IsLiveAt, AreNumbersOf, kept_lanes, lanes_of, kept_prints, prints_of, conclusion_prints, HasLooks, AreUnclosed, AreListed, IsEmptyLive, IsSameLive, AreAlive, IsNumberListed, IsListedBy, IsUnclosedListed, IsEndListed}
+use Rattle.clause_saturate.specs.Numbers.{IsAmong, is_live_entry, is_live_at}
 use Rattle.clause_saturate.specs.Ends.{last_term, closed_end_of, ends_of, AreChained}
-use Rattle.clause_saturate.proofs.Numbers.{among_push, among_last, push_among, there_push, last_there, push_there}
+use Rattle.clause_saturate.proofs.Numbers.{among_push, among_last, push_among, there_push, last_there, push_there, filter_ascends, among_filter, filter_among, push_ascends, more_within}
+use Rattle.clause_saturate.proofs.Classing.{classed_same, classes_kept, none_classed, put_classed, other_classed}
 use Rattle.clause_saturate.proofs.Marking.{marked_clauses}
 use Rattle.clause_saturate.proofs.Ending.{end_grows}
 use Rattle.clause_saturate.proofs.Chaining.{none_chained, chains_same}
 use Rattle.clause_saturate.proofs.Lanes.{fit_numbered}
-use Rattle.clause_saturate.proofs.Beside.{told_grow, told_same, told_pushed}
-
--- numbers that ascend from a number ascend from a lesser one
-from_less : (less least : ℕ) (ns : List ℕ) → less ≤ least → IsAscending least ns → IsAscending less ns
-from_less less least [] order up = tt
-from_less less least (m ∷ ns) order up = (let first = up.0 in omega (arith, first, order), up.1)
-
--- those that pass a test ascend too
-filter_ascends : (p : ℕ → Bool) (least : ℕ) (ns : List ℕ) → IsAscending least ns → IsAscending least (filter p ns)
-filter_ascends p least [] up = tt
-filter_ascends p least (m ∷ ns) up = go (p m) refl (filter_ascends p (suc m) ns up.1)
-  where
-    go : (b : Bool) → p m ≡ b → IsAscending (suc m) (filter p ns) → IsAscending least (filter p (m ∷ ns))
-    go true e h = rw e (up.0, h)
-    go false e h = rw e (from_less least (suc m) (filter p ns) (let first = up.0 in omega (arith, first)) h)
-
-among_filter : (p : ℕ → Bool) (ns : List ℕ) (n : ℕ) → IsAmong ns n → p n ≡ true → IsAmong (filter p ns) n
-among_filter p [] n among told = absurd among
-among_filter p (m ∷ ns) n (inl same) told = (let first : p m ≡ true = ap p same ∙ told in rw first (inl same))
-among_filter p (m ∷ ns) n (inr rest) told = go (p m) refl (among_filter p ns n rest told)
-  where
-    go : (b : Bool) → p m ≡ b → IsAmong (filter p ns) n → IsAmong (filter p (m ∷ ns)) n
-    go true e h = rw e (inr h)
-    go false e h = rw e h
-
-filter_among : (p : ℕ → Bool) (ns : List ℕ) (n : ℕ) → IsAmong (filter p ns) n → IsAmong ns n × (p n ≡ true)
-filter_among p [] n among = absurd among
-filter_among p (m ∷ ns) n among = go (p m) refl among (filter_among p ns n)
-  where
-    go : (b : Bool) → p m ≡ b → IsAmong (filter p (m ∷ ns)) n → (IsAmong (filter p ns) n → IsAmong ns n × (p n ≡ true)) → IsAmong (m ∷ ns) n × (p n ≡ true)
-    go true e h later =
-        let kept : (m ≡ n) ⊎ IsAmong (filter p ns) n = rw e at h in
-        elim kept as (λ _. IsAmong (m ∷ ns) n × (p n ≡ true)) [
-          | inl same ↦ (inl same, ap p (sym same) ∙ e)
-          | inr rest ↦ (inr (later rest).0, (later rest).1)
-        ]
-    go false e h later =
-        let kept : IsAmong (filter p ns) n = rw e at h in
-        (inr (later kept).0, (later kept).1)
-
--- a number that is greater than all, at the end
-push_ascends : (least : ℕ) (ns : List ℕ) (n : ℕ) → IsAscending least ns → least ≤ n → ((m : ℕ) → IsAmong ns m → m < n) → IsAscending least (ns ++ n ∷ [])
-push_ascends least [] n up order all = (order, tt)
-push_ascends least (m ∷ ns) n up order all = (up.0, push_ascends (suc m) ns n up.1 (all m (inl refl)) (λ k among. all k (inr among)))
+use Rattle.clause_saturate.proofs.Beside.{conclusion_seen, told_grow, told_same, told_pushed, told_length}
 
 -- as the bank grows, an entry names what it did
 pub same_clause : (a b : List Term) (entries : List Entry) (n : ℕ) (x : Entry) → Grows a b → AreFit a (clauses_of entries) → numbered entries n ≡ Some x → clause_at b x.clause ≡ clause_at a x.clause
@@ -114,6 +79,9 @@ listed_grows a b es live grows fit h =
       prints = h.prints ∙ sym (told_grow clause_print a b es grows fit);
       unclosed = unclosed_same a b es live.unclosed.items (λ n x at. ends_same a b es n x grows fit at) h.unclosed;
       chained = h.chained;
+      conclusions = h.conclusions ∙ sym (told_grow conclusion_seen a b es grows fit);
+      solved_classes = h.solved_classes;
+      unsolved_classes = h.unsolved_classes;
     }
 
 pub listed_back : (a b : List Term) (es : List Entry) (live : Live) → Grows a b → AreFit a (clauses_of es) → AreListed b es live → AreListed a es live
@@ -126,6 +94,9 @@ listed_back a b es live grows fit h =
       prints = h.prints ∙ told_grow clause_print a b es grows fit;
       unclosed = unclosed_same b a es live.unclosed.items (λ n x at. sym (ends_same a b es n x grows fit at)) h.unclosed;
       chained = h.chained;
+      conclusions = h.conclusions ∙ told_grow conclusion_seen a b es grows fit;
+      solved_classes = h.solved_classes;
+      unsolved_classes = h.unsolved_classes;
     }
 
 -- as what is kept is copied
@@ -137,6 +108,9 @@ listed_copied all es old new same h = record {
   prints = ap kept_prints same.prints ∙ h.prints;
   unclosed = subst (λ (ns : List ℕ). AreUnclosed all es ns) (sym same.unclosed) h.unclosed;
   chained = chains_same (ends_of es) old.chains new.chains same.last same.previous h.chained;
+  conclusions = ap kept_prints same.conclusions ∙ h.conclusions;
+  solved_classes = classed_same es old.prints.items new.prints.items old.solved.items new.solved.items old.solved_classes new.solved_classes same.prints same.solved same.solved_classes h.solved_classes;
+  unsolved_classes = classed_same es old.prints.items new.prints.items old.unsolved.items new.unsolved.items old.unsolved_classes new.unsolved_classes same.prints same.unsolved same.unsolved_classes h.unsolved_classes;
 }
 
 -- no entries have no numbers
@@ -148,6 +122,9 @@ none_listed all es live none empty = record {
   prints = ap kept_prints empty.prints ∙ ap (prints_of all) (sym none);
   unclosed = record { within = λ n among. absurd (subst (λ (ns : List ℕ). IsAmong ns n) empty.unclosed among); every = λ n x at live closed. absurd (no_entry n x (subst (λ (l : List Entry). numbered l n ≡ Some x) none at)) };
   chained = subst (λ (l : List Entry). AreChained (ends_of l) live.chains.last.items live.chains.previous.items) (sym none) (none_chained live.chains.last.items live.chains.previous.items empty.last empty.previous);
+  conclusions = ap kept_prints empty.conclusions ∙ ap (conclusion_prints all) (sym none);
+  solved_classes = none_classed es (kept_prints live.prints.items) live.solved.items live.solved_classes empty.solved empty.solved_classes;
+  unsolved_classes = none_classed es (kept_prints live.prints.items) live.unsolved.items live.unsolved_classes empty.unsolved empty.unsolved_classes;
 }
   where
     no_entry : (n : ℕ) (x : Entry) → numbered [] n ≡ Some x → ⊥
@@ -241,6 +218,27 @@ marked_numbers all c number olds news solved ns marked h = record {
         }))
         (there_live news n now.entry now.at now.live)
 
+pub marked_count : (all : List Term) (c : Clause Term) (number : ℕ) (olds news : List Entry) → AreMarked all c number olds news → length news ≡ length olds
+marked_count all c number olds news m = sym (length-map news (λ e. e.clause)) ∙ (ap length (marked_clauses all c number olds news m) ∙ length-map olds (λ e. e.clause))
+
+-- an entry that is live after the marks was so before
+marked_live : (all : List Term) (c : Clause Term) (number : ℕ) (olds news : List Entry) (n : ℕ) → AreMarked all c number olds news → is_live_at news n ≡ true → is_live_at olds n ≡ true
+marked_live all c number olds news n marked told = go (numbered news n) refl (ap is_live_entry refl ∙ told)
+  where
+    go : (o : Option Entry) → numbered news n ≡ o → is_live_entry o ≡ true → is_live_at olds n ≡ true
+    go None at live = absurd (false≢true live)
+    go (Some x) at live =
+        let from = marked_from all c number olds news n x marked at in
+        there_live olds n from.before from.at (was_live all c number from.before x from.mark (unbeaten_live x.by live))
+
+-- so classes are of the numbers without those of entries that are live no more
+marked_classed : (all : List Term) (c : Clause Term) (number : ℕ) (olds news : List Entry) (prints : List print.Fingerprint) (ns : List ℕ) (classes : Classes) → AreMarked all c number olds news → AreClassed olds prints ns classes → AreClassed news prints (filter (is_live_at news) ns) classes
+marked_classed all c number olds news prints ns classes marked h = λ class. record {
+  within = more_within (length olds) (length news) (listed classes class) (let count = marked_count all c number olds news marked in omega (arith, count)) (h class).within;
+  live = λ n among told. among_filter (is_live_at news) ns n ((h class).live n among (marked_live all c number olds news n marked told)) told;
+  every = λ n among is. (h class).every n (filter_among (is_live_at news) ns n among).0 is;
+}
+
 -- the numbers with an entry more, of their kind or of the other
 pushed_numbers : (all : List Term) (es : List Entry) (e : Entry) (n : ℕ) (solved : Bool) (ns : List ℕ) → n ≡ length es + 1 → e.by ≡ None → is_solved (clause_at all e.clause).hypotheses ≡ solved → AreNumbersOf all es solved ns → AreNumbersOf all (es ++ e ∷ []) solved (ns ++ n ∷ [])
 pushed_numbers all es e n solved ns is live kind h = record {
@@ -270,9 +268,6 @@ other_numbers all es e solved ns other h = record {
     every : (m : ℕ) (there : IsLiveAt all (es ++ e ∷ []) solved m) → (numbered es m ≡ Some there.entry) ⊎ ((m ≡ length es + 1) × (e ≡ there.entry)) → IsAmong ns m
     every m there (inl before) = h.every m (record { entry = there.entry; at = before; live = there.live; kind = there.kind })
     every m there (inr last) = absurd (other (ap (λ (x : Entry). is_solved (clause_at all x.clause).hypotheses) last.1 ∙ there.kind))
-
-pub marked_count : (all : List Term) (c : Clause Term) (number : ℕ) (olds news : List Entry) → AreMarked all c number olds news → length news ≡ length olds
-marked_count all c number olds news m = sym (length-map news (λ e. e.clause)) ∙ (ap length (marked_clauses all c number olds news m) ∙ length-map olds (λ e. e.clause))
 
 -- those that don't end with closed terms, without those that are live no more
 marked_unclosed : (all : List Term) (c : Clause Term) (number : ℕ) (olds news : List Entry) (ns : List ℕ) → AreMarked all c number olds news → AreUnclosed all olds ns → AreUnclosed all news (filter (is_live_at news) ns)
@@ -324,6 +319,9 @@ marked_listed all c number olds marked was now h m alive = record {
   features = ap kept_lanes alive.features ∙ (h.features ∙ sym (told_same features_of all olds marked (marked_clauses all c number olds marked m)));
   prints = ap kept_prints alive.prints ∙ (h.prints ∙ sym (told_same clause_print all olds marked (marked_clauses all c number olds marked m)));
   unclosed = subst (λ (ns : List ℕ). AreUnclosed all marked ns) (sym alive.unclosed) (marked_unclosed all c number olds marked was.unclosed.items m h.unclosed);
+  conclusions = ap kept_prints alive.conclusions ∙ (h.conclusions ∙ sym (told_same conclusion_seen all olds marked (marked_clauses all c number olds marked m)));
+  solved_classes = classed_same marked was.prints.items now.prints.items (filter (is_live_at marked) was.solved.items) now.solved.items was.solved_classes now.solved_classes alive.prints alive.solved alive.solved_classes (marked_classed all c number olds marked (kept_prints was.prints.items) was.solved.items was.solved_classes m h.solved_classes);
+  unsolved_classes = classed_same marked was.prints.items now.prints.items (filter (is_live_at marked) was.unsolved.items) now.unsolved.items was.unsolved_classes now.unsolved_classes alive.prints alive.unsolved alive.unsolved_classes (marked_classed all c number olds marked (kept_prints was.prints.items) was.unsolved.items was.unsolved_classes m h.unsolved_classes);
   chained = chains_same (ends_of marked) was.chains now.chains alive.last alive.previous (subst (λ (cs : List (Clause Id)). AreChained (map (λ (d : Clause Id). last_term d.conclusion) cs) was.chains.last.items was.chains.previous.items) (sym (marked_clauses all c number olds marked m)) h.chained);
 }
 
@@ -332,23 +330,54 @@ ends_pushed : (es : List Entry) (e : Entry) → ends_of (es ++ e ∷ []) ≡ end
 ends_pushed [] e = refl
 ends_pushed (d ∷ es) e = ap (λ ends. last_term d.clause.conclusion ∷ ends) (ends_pushed es e)
 
-pub pushed_listed : (all : List Term) (number : ℕ) (es news : List Entry) (entry : Entry) (f : Features) (was mid now : Live) → AreListed all es was → number ≡ length es + 1 → entry.by ≡ None → news ≡ es ++ entry ∷ []
-    → IsListedBy (is_solved (clause_at all entry.clause).hypotheses) number f (clause_print (clause_at all entry.clause)) was mid → IsEndListed all entry.clause number mid now → HasFeatures all entry.clause f → AreListed all news now
-pushed_listed all number es news entry f was mid now h next_number live is listed ended has = subst (λ (l : List Entry). AreListed all l now) (sym is) (record {
-  solved = subst (λ (ns : List ℕ). AreNumbersOf all (es ++ entry ∷ []) true ns) (sym ended.solved) (go (is_solved (clause_at all entry.clause).hypotheses) refl listed.listed).0;
-  unsolved = subst (λ (ns : List ℕ). AreNumbersOf all (es ++ entry ∷ []) false ns) (sym ended.unsolved) (go (is_solved (clause_at all entry.clause).hypotheses) refl listed.listed).1;
-  features = told_pushed features_of all es entry (kept_lanes was.features.items) (kept_lanes now.features.items) f.lanes h.features (ap kept_lanes (ended.features ∙ listed.features) ∙ map-append (λ (k : Features). k.lanes) was.features.items (f ∷ [])) has;
-  prints = told_pushed clause_print all es entry (kept_prints was.prints.items) (kept_prints now.prints.items) (clause_print (clause_at all entry.clause)) h.prints (ap kept_prints ended.prints ∙ listed.prints) refl;
-  unclosed = pushed_unclosed all es entry number was.unclosed.items now.unclosed.items next_number (subst (λ (ns : List ℕ). IsUnclosedListed (closed_end_of all entry.clause) number ns now.unclosed.items) listed.unclosed ended.unclosed) h.unclosed;
-  chained = subst (λ ends. AreChained ends now.chains.last.items now.chains.previous.items) (sym (ends_pushed es entry)) (ended.chained (ends_of es) (chains_same (ends_of es) was.chains mid.chains listed.last listed.previous h.chained));
+pub pushed_listed : (all : List Term) (number : ℕ) (es news : List Entry) (entry : Entry) (looks : Looks) (was mid now : Live) → AreListed all es was → number ≡ length es + 1 → entry.by ≡ None → news ≡ es ++ entry ∷ []
+    → IsListedBy (is_solved (clause_at all entry.clause).hypotheses) number looks (clause_print (clause_at all entry.clause)) was mid → IsEndListed all entry.clause number mid now → HasLooks all entry.clause looks → AreListed all news now
+pushed_listed all number es news entry looks was mid now h next_number live is put ended has = subst (λ (l : List Entry). AreListed all l now) (sym is) (record {
+  solved = subst (λ (ns : List ℕ). AreNumbersOf all (es ++ entry ∷ []) true ns) (sym ended.solved) (go (is_solved (clause_at all entry.clause).hypotheses) refl put.listed).0;
+  unsolved = subst (λ (ns : List ℕ). AreNumbersOf all (es ++ entry ∷ []) false ns) (sym ended.unsolved) (go (is_solved (clause_at all entry.clause).hypotheses) refl put.listed).1;
+  features = told_pushed features_of all es entry (kept_lanes was.features.items) (kept_lanes now.features.items) looks.features.lanes h.features (ap kept_lanes (ended.features ∙ put.features) ∙ map-append (λ (k : Features). k.lanes) was.features.items (looks.features ∷ [])) has.features;
+  prints = told_pushed clause_print all es entry (kept_prints was.prints.items) (kept_prints now.prints.items) (clause_print (clause_at all entry.clause)) h.prints printed refl;
+  unclosed = pushed_unclosed all es entry number was.unclosed.items now.unclosed.items next_number (subst (λ (ns : List ℕ). IsUnclosedListed (closed_end_of all entry.clause) number ns now.unclosed.items) put.unclosed ended.unclosed) h.unclosed;
+  chained = subst (λ ends. AreChained ends now.chains.last.items now.chains.previous.items) (sym (ends_pushed es entry)) (ended.chained (ends_of es) (chains_same (ends_of es) was.chains mid.chains put.last put.previous h.chained));
+  conclusions = told_pushed conclusion_seen all es entry (kept_prints was.conclusions.items) (kept_prints now.conclusions.items) (fingerprint_seen looks.conclusion) h.conclusions (ap kept_prints (ended.conclusions ∙ put.conclusions) ∙ map-append fingerprint_seen was.conclusions.items (looks.conclusion ∷ [])) has.conclusion;
+  solved_classes = classes_on now.solved.items mid.solved.items mid.solved_classes now.solved_classes ended.solved ended.solved_classes (classes (is_solved (clause_at all entry.clause).hypotheses) put.listed).0;
+  unsolved_classes = classes_on now.unsolved.items mid.unsolved.items mid.unsolved_classes now.unsolved_classes ended.unsolved ended.unsolved_classes (classes (is_solved (clause_at all entry.clause).hypotheses) put.listed).1;
 })
   where
-    go : (b : Bool) → is_solved (clause_at all entry.clause).hypotheses ≡ b → IsNumberListed b number was mid → AreNumbersOf all (es ++ entry ∷ []) true mid.solved.items × AreNumbersOf all (es ++ entry ∷ []) false mid.unsolved.items
+    seen : print.Fingerprint
+    seen = clause_print (clause_at all entry.clause)
+
+    printed : kept_prints now.prints.items ≡ kept_prints was.prints.items ++ seen ∷ []
+    printed = ap kept_prints ended.prints ∙ put.prints
+
+    many : length (kept_prints was.prints.items) ≡ length es
+    many = length-map was.prints.items fingerprint_seen ∙ told_length clause_print fingerprint_seen all es was.prints.items h.prints
+
+    few : (b : Bool) (ns : List ℕ) → AreNumbersOf all es b ns → (n : ℕ) → IsAmong ns n → (0 < n) × (n ≤ length es)
+    few b ns numbers n among = let there = numbers.live n among in numbered_within es n there.entry there.at
+
+    classes_on : (numbers before : List ℕ) (old new : Classes) → numbers ≡ before → AreSameClasses old new → AreClassed (es ++ entry ∷ []) (kept_prints was.prints.items ++ seen ∷ []) before old → AreClassed (es ++ entry ∷ []) (kept_prints now.prints.items) numbers new
+    classes_on numbers before old new same kept classed =
+        subst (λ (ps : List print.Fingerprint). AreClassed (es ++ entry ∷ []) ps numbers new) (sym printed)
+        (classes_kept (es ++ entry ∷ []) (kept_prints was.prints.items ++ seen ∷ []) before numbers old new same kept classed)
+
+    classes : (b : Bool) → IsNumberListed b number (class_of seen) was mid
+        → AreClassed (es ++ entry ∷ []) (kept_prints was.prints.items ++ seen ∷ []) mid.solved.items mid.solved_classes × AreClassed (es ++ entry ∷ []) (kept_prints was.prints.items ++ seen ∷ []) mid.unsolved.items mid.unsolved_classes
+    classes true l = (
+      put_classed es entry (kept_prints was.prints.items) seen was.solved.items mid.solved.items was.solved_classes mid.solved_classes number next_number many (few true was.solved.items h.solved) l.numbers l.classes h.solved_classes,
+      other_classed es entry (kept_prints was.prints.items) seen was.unsolved.items mid.unsolved.items was.unsolved_classes mid.unsolved_classes many (few false was.unsolved.items h.unsolved) l.others l.other_classes h.unsolved_classes,
+    )
+    classes false l = (
+      other_classed es entry (kept_prints was.prints.items) seen was.solved.items mid.solved.items was.solved_classes mid.solved_classes many (few true was.solved.items h.solved) l.others l.other_classes h.solved_classes,
+      put_classed es entry (kept_prints was.prints.items) seen was.unsolved.items mid.unsolved.items was.unsolved_classes mid.unsolved_classes number next_number many (few false was.unsolved.items h.unsolved) l.numbers l.classes h.unsolved_classes,
+    )
+
+    go : (b : Bool) → is_solved (clause_at all entry.clause).hypotheses ≡ b → IsNumberListed b number (class_of seen) was mid → AreNumbersOf all (es ++ entry ∷ []) true mid.solved.items × AreNumbersOf all (es ++ entry ∷ []) false mid.unsolved.items
     go true kind l = (
-      subst (λ (ns : List ℕ). AreNumbersOf all (es ++ entry ∷ []) true ns) (sym l.0) (pushed_numbers all es entry number true was.solved.items next_number live kind h.solved),
-      subst (λ (ns : List ℕ). AreNumbersOf all (es ++ entry ∷ []) false ns) (sym l.1) (other_numbers all es entry false was.unsolved.items (λ other. let wrong : true ≡ false = sym kind ∙ other in cc) h.unsolved),
+      subst (λ (ns : List ℕ). AreNumbersOf all (es ++ entry ∷ []) true ns) (sym l.numbers) (pushed_numbers all es entry number true was.solved.items next_number live kind h.solved),
+      subst (λ (ns : List ℕ). AreNumbersOf all (es ++ entry ∷ []) false ns) (sym l.others) (other_numbers all es entry false was.unsolved.items (λ other. let wrong : true ≡ false = sym kind ∙ other in cc) h.unsolved),
     )
     go false kind l = (
-      subst (λ (ns : List ℕ). AreNumbersOf all (es ++ entry ∷ []) true ns) (sym l.0) (other_numbers all es entry true was.solved.items (λ other. let wrong : true ≡ false = sym other ∙ kind in cc) h.solved),
-      subst (λ (ns : List ℕ). AreNumbersOf all (es ++ entry ∷ []) false ns) (sym l.1) (pushed_numbers all es entry number false was.unsolved.items next_number live kind h.unsolved),
+      subst (λ (ns : List ℕ). AreNumbersOf all (es ++ entry ∷ []) true ns) (sym l.others) (other_numbers all es entry true was.solved.items (λ other. let wrong : true ≡ false = sym other ∙ kind in cc) h.solved),
+      subst (λ (ns : List ℕ). AreNumbersOf all (es ++ entry ∷ []) false ns) (sym l.numbers) (pushed_numbers all es entry number false was.unsolved.items next_number live kind h.unsolved),
     )

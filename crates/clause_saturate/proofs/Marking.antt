@@ -11,7 +11,8 @@ use Rattle.clause_form.specs.Seen.{clause_at, IsClauseIn, AreClausesIn}
 use Rattle.clause_saturate.specs.declared.log.Entry.{Entry}
 use Rattle.clause_form.specs.Fit.{IsFit, AreFit}
 use Rattle.clause_saturate.specs.Beating.{clauses_of, BeatsLive, IsMarked, AreMarked}
-use Rattle.clause_saturate.specs.Live.{IsAmong, AreBeatable}
+use Rattle.clause_saturate.specs.Live.{AreBeatable}
+use Rattle.clause_saturate.specs.Numbers.{IsAmong}
 
 -- what a test tells
 pub when_true : (P Q : Type 0) (b : Bool) → b ≡ true → MatchBool b P Q → P

@@ -1,10 +1,10 @@
 -- Numbers in lists, and items by their numbers, with one more at the end.
-use Rattle.std.proofs.Common.{◌≡◌, ◌⊎◌, ◌∙◌, ℕ, zero, suc, ◌+◌, Some, List, [], ◌∷◌, ◌++◌, length, map, refl, ap, inl, inr, arith}
+use Rattle.std.proofs.Common.{◌≡◌, ◌⊎◌, ◌∙◌, ℕ, zero, suc, ◌+◌, ◌<◌, ◌≤◌, Bool, true, false, Some, List, [], ◌∷◌, ◌++◌, length, map, filter, refl, ap, sym, inl, inr, arith}
 use Rattle.std.specs.Prelude.{slice_get}
 use Rattle.std.specs.Option.{option_map}
 use Rattle.std.proofs.lemmas.Option.{slice_get-map}
 use Rattle.spec_calculus.specs.Points.{numbered}
-use Rattle.clause_saturate.specs.Live.{IsAmong}
+use Rattle.clause_saturate.specs.Numbers.{IsAmong, IsAscending, AreNumbersWithin}
 
 pub among_push : (ns : List ℕ) (m n : ℕ) → IsAmong ns n → IsAmong (ns ++ m ∷ []) n
 among_push [] m n among = absurd among
@@ -82,3 +82,73 @@ push_there xs y (suc k) x at = elim (go xs y k x at) [
 pub seen_there : {X Y : Type 0} (f : X → Y) (xs : List X) (n : ℕ) (x : X) → numbered xs n ≡ Some x → numbered (map f xs) n ≡ Some (f x)
 seen_there f xs zero x at = cc
 seen_there f xs (suc k) x at = slice_get-map f xs k ∙ ap (option_map f) at
+
+-- numbers that ascend from a number ascend from a lesser one
+pub from_less : (less least : ℕ) (ns : List ℕ) → less ≤ least → IsAscending least ns → IsAscending less ns
+from_less less least [] order up = tt
+from_less less least (m ∷ ns) order up = (let first = up.0 in omega (arith, first, order), up.1)
+
+-- those that pass a test ascend too
+pub filter_ascends : (p : ℕ → Bool) (least : ℕ) (ns : List ℕ) → IsAscending least ns → IsAscending least (filter p ns)
+filter_ascends p least [] up = tt
+filter_ascends p least (m ∷ ns) up = go (p m) refl (filter_ascends p (suc m) ns up.1)
+  where
+    go : (b : Bool) → p m ≡ b → IsAscending (suc m) (filter p ns) → IsAscending least (filter p (m ∷ ns))
+    go true e h = rw e (up.0, h)
+    go false e h = rw e (from_less least (suc m) (filter p ns) (let first = up.0 in omega (arith, first)) h)
+
+pub among_filter : (p : ℕ → Bool) (ns : List ℕ) (n : ℕ) → IsAmong ns n → p n ≡ true → IsAmong (filter p ns) n
+among_filter p [] n among told = absurd among
+among_filter p (m ∷ ns) n (inl same) told = (let first : p m ≡ true = ap p same ∙ told in rw first (inl same))
+among_filter p (m ∷ ns) n (inr rest) told = go (p m) refl (among_filter p ns n rest told)
+  where
+    go : (b : Bool) → p m ≡ b → IsAmong (filter p ns) n → IsAmong (filter p (m ∷ ns)) n
+    go true e h = rw e (inr h)
+    go false e h = rw e h
+
+pub filter_among : (p : ℕ → Bool) (ns : List ℕ) (n : ℕ) → IsAmong (filter p ns) n → IsAmong ns n × (p n ≡ true)
+filter_among p [] n among = absurd among
+filter_among p (m ∷ ns) n among = go (p m) refl among (filter_among p ns n)
+  where
+    go : (b : Bool) → p m ≡ b → IsAmong (filter p (m ∷ ns)) n → (IsAmong (filter p ns) n → IsAmong ns n × (p n ≡ true)) → IsAmong (m ∷ ns) n × (p n ≡ true)
+    go true e h later =
+        let kept : (m ≡ n) ⊎ IsAmong (filter p ns) n = rw e at h in
+        elim kept as (λ _. IsAmong (m ∷ ns) n × (p n ≡ true)) [
+          | inl same ↦ (inl same, ap p (sym same) ∙ e)
+          | inr rest ↦ (inr (later rest).0, (later rest).1)
+        ]
+    go false e h later =
+        let kept : IsAmong (filter p ns) n = rw e at h in
+        (inr (later kept).0, (later kept).1)
+
+-- a number that is greater than all, at the end
+pub push_ascends : (least : ℕ) (ns : List ℕ) (n : ℕ) → IsAscending least ns → least ≤ n → ((m : ℕ) → IsAmong ns m → m < n) → IsAscending least (ns ++ n ∷ [])
+push_ascends least [] n up order all = (order, tt)
+push_ascends least (m ∷ ns) n up order all = (up.0, push_ascends (suc m) ns n up.1 (all m (inl refl)) (λ k among. all k (inr among)))
+
+-- one more number, which is greater than all, and numbers among one more
+pub push_within : (count more : ℕ) (ns : List ℕ) (n : ℕ) → more ≡ count + 1 → n ≡ more → AreNumbersWithin count ns → AreNumbersWithin more (ns ++ n ∷ [])
+push_within count more ns n longer is h = record {
+  ascend = push_ascends 1 ns n h.ascend (omega (arith, longer, is)) (λ m among. (let few = (h.within m among).1 in omega (arith, few, longer, is)));
+  within = λ m among. go m (push_among ns n m among);
+}
+  where
+    go : (m : ℕ) → IsAmong ns m ⊎ (n ≡ m) → (0 < m) × (m ≤ more)
+    go m (inl among) = (let there = h.within m among in (there.0, (let few = there.1 in omega (arith, few, longer))))
+    go m (inr last) = (omega (arith, longer, is, last), omega (arith, is, last))
+
+pub more_within : (count more : ℕ) (ns : List ℕ) → count ≤ more → AreNumbersWithin count ns → AreNumbersWithin more ns
+more_within count more ns longer h = record {
+  ascend = h.ascend;
+  within = λ m among. (let there = h.within m among in (there.0, (let few = there.1 in omega (arith, few, longer))));
+}
+
+-- what has a number with an item more, where it isn't that item's
+pub numbered_kept : {X : Type 0} (xs : List X) (y : X) (n : ℕ) → 0 < n → n ≤ length xs → numbered (xs ++ y ∷ []) n ≡ numbered xs n
+numbered_kept xs y zero some few = absurd (omega (arith, some))
+numbered_kept xs y (suc k) some few = go xs y k (omega (arith, few))
+  where
+    go : {X : Type 0} (xs : List X) (y : X) (k : ℕ) → k < length xs → slice_get (xs ++ y ∷ []) k ≡ slice_get xs k
+    go [] y k few = absurd (omega (arith, few))
+    go (z ∷ xs) y zero few = refl
+    go (z ∷ xs) y (suc k) few = go xs y k (omega (arith, few))

@@ -1,8 +1,6 @@
 -- What is found by the lists of live entries: a partner, a due pair, and what covers a clause.
-use Rattle.std.proofs.Common.{◌≡◌, ◌⊎◌, ◌∙◌, ℕ, zero, suc, ◌+◌, ◌-◌, ◌<◌, ◌≤◌, Bool, true, false, not, true≢false, Option, Some, None, option_map, List, [], ◌∷◌, length, drop, get_or, MatchBool, ltb, ltb-true, ltb-false, refl, ap, sym, subst, inl, inr, arith}
+use Rattle.std.proofs.Common.{◌≡◌, ◌⊎◌, ◌∙◌, ℕ, zero, suc, ◌+◌, ◌-◌, ◌<◌, ◌≤◌, Bool, true, false, not, true≢false, Option, Some, None, option_map, List, [], ◌∷◌, length, drop, get_or, MatchBool, refl, ap, sym, subst, inl, inr, arith}
 use Rattle.std.specs.Prelude.{slice_get, is_some}
-use Rattle.std.specs.List.Sorted.{IsPartitionPoint}
-use Rattle.std.proofs.lemmas.Bool.{cases_lt}
 use Rattle.std.proofs.lemmas.Option.{slice_get-map}
 use Rattle.spec_terms.specs.Term.{Term}
 use Rattle.spec_calculus.specs.Points.{numbered}
@@ -20,73 +18,12 @@ use Rattle.clause_saturate.specs.declared.log.Entry.{Entry}
 use Rattle.clause_saturate.specs.declared.walk.Live.{Live}
 use Rattle.clause_saturate.specs.declared.walk.Pair.{Pair}
 use Rattle.clause_saturate.specs.Beating.{LiveCovers, SomeLiveCovers}
-use Rattle.clause_saturate.specs.Live.{IsAmong, IsAscending, AreNumbersOf, AreListed, kept_prints, prints_of, may_both, meets_at, NumberCovers, CoversAmong, IsPartner}
+use Rattle.clause_saturate.specs.Logs.{is_unbeaten}
+use Rattle.clause_saturate.specs.Classes.{class_of, class_if, class_at}
+use Rattle.clause_saturate.specs.Live.{AreNumbersOf, AreListed, kept_prints, prints_of, may_both, meets_at, NumberCovers, CoversAmong, IsPartner}
+use Rattle.clause_saturate.specs.Numbers.{IsAmong, AreNumbersWithin, is_live_entry, is_live_at}
 use Rattle.clause_saturate.specs.Pairs.{major, minor, IsDuePair, NoDuePair, GivesAnswer, ArePassedBy, AllArePassedBy, IsFirstPair}
 use Rattle.clause_saturate.proofs.Found.{numbered_at, one_entry, later_solved, earlier_solved}
-
-at_least : (least : ℕ) (ns : List ℕ) (j d : ℕ) → IsAscending least ns → j < length ns → least ≤ get_or ns j d
-at_least least [] j d up within = absurd (omega arith)
-at_least least (m ∷ ns) zero d up within = up.0
-at_least least (m ∷ ns) (suc j) d up within = let first = up.0 in let later = at_least (suc m) ns j d up.1 (omega arith) in omega (arith, first, later)
-
--- numbers that ascend fall nowhere
-pub rising : (least : ℕ) (ns : List ℕ) → IsAscending least ns → (i j d : ℕ) → i ≤ j → j < length ns → get_or ns i d ≤ get_or ns j d
-rising least [] up i j d order within = absurd (omega arith)
-rising least (m ∷ ns) up zero zero d order within = omega arith
-rising least (m ∷ ns) up zero (suc j) d order within = let later = at_least (suc m) ns j d up.1 (omega arith) in omega (arith, later)
-rising least (m ∷ ns) up (suc i) zero d order within = absurd (omega arith)
-rising least (m ∷ ns) up (suc i) (suc j) d order within = rising (suc m) ns up.1 i j d (omega arith) (omega arith)
-
--- what stands at a place stands in the list, and the other way round
-pub place_among : (ns : List ℕ) (j d : ℕ) → j < length ns → IsAmong ns (get_or ns j d)
-place_among [] j d within = absurd (omega arith)
-place_among (m ∷ ns) zero d within = inl refl
-place_among (m ∷ ns) (suc j) d within = inr (place_among ns j d (omega arith))
-
-among_place : (ns : List ℕ) (n : ℕ) → IsAmong ns n → (j : ℕ) × (j < length ns) × (get_or ns j 0 ≡ n)
-among_place [] n among = absurd among
-among_place (m ∷ ns) n (inl same) = (zero, omega arith, same)
-among_place (m ∷ ns) n (inr rest) = let later = among_place ns n rest in (suc later.0, (let within = later.1 in omega (arith, within)), later.2)
-
--- the place before which all numbers are less than one
-abbrev pub IsPlaceOf : List ℕ → ℕ → ℕ → Type 0
-IsPlaceOf ns from place = IsPartitionPoint (λ n. ltb n from ≡ true) (λ n. ltb n from ≡ false) ns place
-
--- None of the numbers before a place, from one on, passes the test.
-abbrev pub NonePasses : (ℕ → Bool) → List ℕ → ℕ → ℕ → Type 0
-NonePasses passes ns from place = (j : ℕ) → j < place → from ≤ get_or ns j 0 → passes (get_or ns j 0) ≡ false
-
-pub none_at_start : (passes : ℕ → Bool) (ns : List ℕ) (from place : ℕ) → IsPlaceOf ns from place → place ≤ length ns → NonePasses passes ns from place
-none_at_start passes ns from place point within = λ j before least. (let less = ltb-true (get_or ns j 0) from (point.0 j 0 (omega arith) before) in absurd (omega (arith, less, least)))
-
-pub none_so_far : (passes : ℕ → Bool) (ns : List ℕ) (from place : ℕ) → NonePasses passes ns from place → passes (get_or ns place 0) ≡ false → NonePasses passes ns from (place + 1)
-none_so_far passes ns from place was here = λ j before least. elim (cases_lt j place) as (λ _. passes (get_or ns j 0) ≡ false) [
-  | inl earlier ↦ was j earlier least
-  | inr behind ↦ (let same : j ≡ place = omega (arith, before, behind) in subst (λ k. passes (get_or ns k 0) ≡ false) (sym same) here)
-]
-
--- so none does that stands before the place
-none_among : (passes : ℕ → Bool) (ns : List ℕ) (from place n : ℕ) → NonePasses passes ns from place → IsAmong ns n → from ≤ n → ((j : ℕ) → j < length ns → get_or ns j 0 ≡ n → place ≤ j → ⊥) → passes n ≡ false
-none_among passes ns from place n was among least elsewhere =
-    let there = among_place ns n among in
-    elim (cases_lt there.0 place) as (λ _. passes n ≡ false) [
-      | inl before ↦ (let is = there.2 in subst (λ k. passes k ≡ false) is (was there.0 before (omega (arith, is, least))))
-      | inr behind ↦ absurd (elsewhere there.0 there.1 there.2 behind)
-    ]
-
-pub partner_past : (passes : ℕ → Bool) (ns : List ℕ) (later from place : ℕ) → NonePasses passes ns from place → length ns ≤ place → IsPartner passes ns later from None
-partner_past passes ns later from place was past = λ n among least order. none_among passes ns from place n was among least (λ j within is behind. omega (arith, within, behind, past))
-
-pub partner_late : (passes : ℕ → Bool) (ns : List ℕ) (later from place : ℕ) → IsAscending 1 ns → NonePasses passes ns from place → later ≤ get_or ns place 0 → IsPartner passes ns later from None
-partner_late passes ns later from place up was late = λ n among least order. none_among passes ns from place n was among least (λ j within is behind. (let rises = rising 1 ns up place j 0 behind within in omega (arith, rises, is, order, late)))
-
-pub partner_found : (passes : ℕ → Bool) (ns : List ℕ) (later from start place : ℕ) → IsAscending 1 ns → IsPlaceOf ns from start → start ≤ place → NonePasses passes ns from place → place < length ns → get_or ns place 0 < later → IsPartner passes ns later from (Some (get_or ns place 0))
-partner_found passes ns later from start place up point behind_start was within order = (
-  place_among ns place 0 within,
-  ltb-false (get_or ns place 0) from (point.1 place 0 behind_start within),
-  order,
-  λ n among least less. none_among passes ns from place n was among least (λ j inside is behind. (let rises = rising 1 ns up place j 0 behind inside in omega (arith, rises, is, less))),
-)
 
 -- the fingerprint of an entry by its number
 number_printed : (all : List Term) (es : List Entry) (ps : List Fingerprint) (n : ℕ) (x : Entry) → kept_prints ps ≡ prints_of all es → numbered es n ≡ Some x → numbered (kept_prints ps) n ≡ Some (clause_print (clause_at all x.clause))
@@ -308,3 +245,19 @@ listed_within all es b ns ms same numbers n among =
 -- what is told of the same numbers
 pub covers_seen : (all : List Term) (es : List Entry) (ns ms : List ℕ) (c : Clause Term) (found : Bool) → ms ≡ ns → MatchBool found (CoversAmong all es ms c) (CoversAmong all es ms c → ⊥) → MatchBool found (CoversAmong all es ns c) (CoversAmong all es ns c → ⊥)
 covers_seen all es ns ms c found numbers h = subst (λ (l : List ℕ). MatchBool found (CoversAmong all es l c) (CoversAmong all es l c → ⊥)) numbers h
+
+-- numbers of live entries of a kind are of so many, and of live ones
+pub kind_within : (all : List Term) (es : List Entry) (b : Bool) (ns ms : List ℕ) (count : ℕ) → ms ≡ ns → count ≡ length es → AreNumbersOf all es b ns → AreNumbersWithin count ms
+kind_within all es b ns ms count same many numbers = subst (λ (l : List ℕ). AreNumbersWithin count l) (sym same) (record {
+  ascend = numbers.ascend;
+  within = λ n among. (let there = listed_within all es b ns ns refl numbers n among in (there.0, (let few = there.1 in omega (arith, few, many))));
+})
+
+pub kind_alive : (all : List Term) (es : List Entry) (b : Bool) (ns ms : List ℕ) → ms ≡ ns → AreNumbersOf all es b ns → (n : ℕ) → IsAmong ms n → is_live_at es n ≡ true
+kind_alive all es b ns ms same numbers n among =
+    let there = numbers.live n (subst (λ (l : List ℕ). IsAmong l n) same among) in
+    ap is_live_entry there.at ∙ ap is_unbeaten there.live
+
+-- the class of a number is that of its fingerprint
+pub class_there : (ps : List Fingerprint) (later : ℕ) (p : Fingerprint) (o : Option ℕ) → p ≡ get_or ps (later - 1) p → 0 < later → later ≤ length ps → o ≡ class_of (fingerprint_seen p) → class_at (kept_prints ps) later ≡ o
+class_there ps later p o is some within told = ap class_if (kept_at ps later p (numbered_at ps later p is some within)) ∙ sym told

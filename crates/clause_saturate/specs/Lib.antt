@@ -2,6 +2,8 @@ pub mod Codes
 pub mod Logs
 pub mod Beating
 pub mod Ends
+pub mod Numbers
+pub mod Classes
 pub mod Live
 pub mod Walked
 pub mod Common

@@ -1,6 +1,6 @@
 -- What is kept beside entries: the numbers of the live ones, the features of all, and how they are found by the terms with
 -- which their conclusions end; and what covers a clause among them.
-use Rattle.std.specs.Prelude.{◌≡◌, ◌⊎◌, ℕ, suc, ◌<◌, ◌≤◌, Bool, true, false, Option, Some, None, List, [], ◌∷◌, ◌++◌, length, map, filter}
+use Rattle.std.specs.Prelude.{◌≡◌, ℕ, ◌<◌, ◌≤◌, Bool, true, false, ◌&&◌, Option, Some, None, List, [], ◌∷◌, ◌++◌, length, map, filter}
 use Rattle.spec_terms.specs.Term.{Term}
 use Rattle.spec_calculus.specs.Points.{numbered}
 use Rattle.spec_clauses.specs.Fact.{Clause}
@@ -9,25 +9,18 @@ use Rattle.spec_features.specs.Features.{features_of}
 use Rattle.term_tree.specs.declared.bank.Id.{Id}
 use Rattle.clause_form.specs.Seen.{clause_at}
 use Rattle.spec_fingerprints.specs.Fingerprints as print
-use Rattle.spec_fingerprints.specs.Fingerprints.{may_meet, clause_print}
+use Rattle.spec_fingerprints.specs.Fingerprints.{may_meet, clause_print, fingerprint_of}
 use Rattle.feature_index.specs.declared.lanes.Features.{Features}
 use Rattle.fact_fingerprint.specs.declared.fingerprints.Fingerprint.{Fingerprint}
 use Rattle.fact_fingerprint.specs.Seen.{fingerprint_seen}
 use Rattle.clause_saturate.specs.declared.log.Entry.{Entry}
 use Rattle.clause_saturate.specs.declared.walk.Live.{Live}
-use Rattle.clause_saturate.specs.Logs.{is_unbeaten}
+use Rattle.clause_saturate.specs.declared.walk.Looks.{Looks}
 use Rattle.clause_saturate.specs.Beating.{LiveCovers, BeatsLive}
 use Rattle.clause_saturate.specs.Ends.{last_term, closed_end_of, ends_of, AreChained}
-
--- the number stands in the list
-abbrev pub IsAmong : List ℕ → ℕ → Type 0
-IsAmong [] number = ⊥
-IsAmong (n ∷ ns) number = (n ≡ number) ⊎ IsAmong ns number
-
--- each number is greater than the one before it, and the first no less than `least`
-abbrev pub IsAscending : ℕ → List ℕ → Type 0
-IsAscending least [] = Unit {0}
-IsAscending least (n ∷ ns) = (least ≤ n) × IsAscending (suc n) ns
+use Rattle.clause_saturate.specs.Numbers.{IsAmong, IsAscending, is_live_at}
+use Rattle.clause_saturate.specs.declared.classes.Classes.{Classes}
+use Rattle.clause_saturate.specs.Classes.{class_of, AreClassed, IsEmptyClasses, AreSameClasses, IsClassListed}
 
 -- the entry of that number is live, and solved or not as told
 pub record IsLiveAt (all : List Term) (entries : List Entry) (solved : Bool) (number : ℕ) : Type 0 where
@@ -56,9 +49,21 @@ prints_of all entries = map (λ entry. clause_print (clause_at all entry.clause)
 abbrev pub kept_prints : List Fingerprint → List print.Fingerprint
 kept_prints prints = map fingerprint_seen prints
 
+-- the fingerprints of the conclusions of entries
+abbrev pub conclusion_prints : List Term → List Entry → List print.Fingerprint
+conclusion_prints all entries = map (λ entry. fingerprint_of (clause_at all entry.clause).conclusion) entries
+
 -- they are the clause's
 abbrev pub HasFeatures : List Term → Clause Id → Features → Type 0
 HasFeatures all clause features = features.lanes ≡ features_of (clause_at all clause)
+
+-- it is that of the clause's conclusion
+abbrev pub HasConclusion : List Term → Clause Id → Fingerprint → Type 0
+HasConclusion all clause seen = fingerprint_seen seen ≡ fingerprint_of (clause_at all clause).conclusion
+
+pub record HasLooks (all : List Term) (clause : Clause Id) (looks : Looks) : Type 0 where
+  pub features : HasFeatures all clause looks.features
+  pub conclusion : HasConclusion all clause looks.conclusion
 
 -- they are numbers of entries, among them those of the live ones whose conclusions don't end with a closed term
 pub record AreUnclosed (all : List Term) (entries : List Entry) (numbers : List ℕ) : Type 0 where
@@ -70,7 +75,7 @@ pub record AreThose (ends : List (Option Id)) (id : Id) (numbers : List ℕ) : T
   pub those : (number : ℕ) → IsAmong numbers number → numbered ends number ≡ Some (Some id)
   pub every : (number : ℕ) → numbered ends number ≡ Some (Some id) → IsAmong numbers number
 
--- the lists are those of these entries, and so are the features, the fingerprints and the chains
+-- the lists are those of these entries, and so are the features, the fingerprints, the chains and the classes
 pub record AreListed (all : List Term) (entries : List Entry) (live : Live) : Type 0 where
   pub solved : AreNumbersOf all entries true live.solved.items
   pub unsolved : AreNumbersOf all entries false live.unsolved.items
@@ -78,6 +83,9 @@ pub record AreListed (all : List Term) (entries : List Entry) (live : Live) : Ty
   pub prints : kept_prints live.prints.items ≡ prints_of all entries
   pub unclosed : AreUnclosed all entries live.unclosed.items
   pub chained : AreChained (ends_of entries) live.chains.last.items live.chains.previous.items
+  pub conclusions : kept_prints live.conclusions.items ≡ conclusion_prints all entries
+  pub solved_classes : AreClassed entries (kept_prints live.prints.items) live.solved.items live.solved_classes
+  pub unsolved_classes : AreClassed entries (kept_prints live.prints.items) live.unsolved.items live.unsolved_classes
 
 -- nothing is kept, of no entries
 pub record IsEmptyLive (live : Live) : Type 0 where
@@ -88,6 +96,9 @@ pub record IsEmptyLive (live : Live) : Type 0 where
   pub unclosed : live.unclosed.items ≡ []
   pub last : live.chains.last.items ≡ []
   pub previous : live.chains.previous.items ≡ []
+  pub conclusions : live.conclusions.items ≡ []
+  pub solved_classes : IsEmptyClasses live.solved_classes
+  pub unsolved_classes : IsEmptyClasses live.unsolved_classes
 
 -- what is kept is the same
 pub record IsSameLive (old new : Live) : Type 0 where
@@ -98,14 +109,9 @@ pub record IsSameLive (old new : Live) : Type 0 where
   pub unclosed : new.unclosed.items ≡ old.unclosed.items
   pub last : new.chains.last.items ≡ old.chains.last.items
   pub previous : new.chains.previous.items ≡ old.chains.previous.items
-
--- whether there is an entry, and it is live
-abbrev pub is_live_entry : Option Entry → Bool
-is_live_entry None = false
-is_live_entry (Some entry) = is_unbeaten entry.by
-
-abbrev pub is_live_at : List Entry → ℕ → Bool
-is_live_at entries number = is_live_entry (numbered entries number)
+  pub conclusions : new.conclusions.items ≡ old.conclusions.items
+  pub solved_classes : AreSameClasses old.solved_classes new.solved_classes
+  pub unsolved_classes : AreSameClasses old.unsolved_classes new.unsolved_classes
 
 -- the numbers of entries that are live no more are gone
 pub record AreAlive (entries : List Entry) (old new : Live) : Type 0 where
@@ -116,17 +122,27 @@ pub record AreAlive (entries : List Entry) (old new : Live) : Type 0 where
   pub unclosed : new.unclosed.items ≡ filter (is_live_at entries) old.unclosed.items
   pub last : new.chains.last.items ≡ old.chains.last.items
   pub previous : new.chains.previous.items ≡ old.chains.previous.items
+  pub conclusions : new.conclusions.items ≡ old.conclusions.items
+  pub solved_classes : AreSameClasses old.solved_classes new.solved_classes
+  pub unsolved_classes : AreSameClasses old.unsolved_classes new.unsolved_classes
 
--- the number stands at the end of the list of its kind, and the other list is the same
-abbrev pub IsNumberListed : Bool → ℕ → Live → Live → Type 0
-IsNumberListed true number old new = (new.solved.items ≡ old.solved.items ++ number ∷ []) × (new.unsolved.items ≡ old.unsolved.items)
-IsNumberListed false number old new = (new.solved.items ≡ old.solved.items) × (new.unsolved.items ≡ old.unsolved.items ++ number ∷ [])
+-- the number stands at the end of the lists of its kind and of its class, and those of the other kind are the same
+pub record IsNumberPut (number : ℕ) (class : Option ℕ) (was now other_was other_now : List ℕ) (old new other_old other_new : Classes) : Type 0 where
+  pub numbers : now ≡ was ++ number ∷ []
+  pub others : other_now ≡ other_was
+  pub classes : IsClassListed class number old new
+  pub other_classes : AreSameClasses other_old other_new
 
--- it does, the features and the fingerprint stand at the end of all, and what is kept of ends is the same
-pub record IsListedBy (solved : Bool) (number : ℕ) (kept : Features) (seen : print.Fingerprint) (old new : Live) : Type 0 where
-  pub listed : IsNumberListed solved number old new
-  pub features : new.features.items ≡ old.features.items ++ kept ∷ []
+abbrev pub IsNumberListed : Bool → ℕ → Option ℕ → Live → Live → Type 0
+IsNumberListed true number class old new = IsNumberPut number class old.solved.items new.solved.items old.unsolved.items new.unsolved.items old.solved_classes new.solved_classes old.unsolved_classes new.unsolved_classes
+IsNumberListed false number class old new = IsNumberPut number class old.unsolved.items new.unsolved.items old.solved.items new.solved.items old.unsolved_classes new.unsolved_classes old.solved_classes new.solved_classes
+
+-- it does, what the clause shows stands at the end of all, and what is kept of ends is the same
+pub record IsListedBy (solved : Bool) (number : ℕ) (looks : Looks) (seen : print.Fingerprint) (old new : Live) : Type 0 where
+  pub listed : IsNumberListed solved number (class_of seen) old new
+  pub features : new.features.items ≡ old.features.items ++ looks.features ∷ []
   pub prints : kept_prints new.prints.items ≡ kept_prints old.prints.items ++ seen ∷ []
+  pub conclusions : new.conclusions.items ≡ old.conclusions.items ++ looks.conclusion ∷ []
   pub unclosed : new.unclosed.items ≡ old.unclosed.items
   pub last : new.chains.last.items ≡ old.chains.last.items
   pub previous : new.chains.previous.items ≡ old.chains.previous.items
@@ -142,6 +158,9 @@ pub record IsEndListed (all : List Term) (clause : Clause Id) (number : ℕ) (ol
   pub unsolved : new.unsolved.items ≡ old.unsolved.items
   pub features : new.features.items ≡ old.features.items
   pub prints : new.prints.items ≡ old.prints.items
+  pub conclusions : new.conclusions.items ≡ old.conclusions.items
+  pub solved_classes : AreSameClasses old.solved_classes new.solved_classes
+  pub unsolved_classes : AreSameClasses old.unsolved_classes new.unsolved_classes
   pub unclosed : IsUnclosedListed (closed_end_of all clause) number old.unclosed.items new.unclosed.items
   pub chained : (ends : List (Option Id)) → AreChained ends old.chains.last.items old.chains.previous.items → AreChained (ends ++ last_term clause.conclusion ∷ []) new.chains.last.items new.chains.previous.items
 
@@ -164,6 +183,10 @@ may_both _ _ = false
 
 abbrev pub meets_at : List print.Fingerprint → ℕ → ℕ → Bool
 meets_at prints later number = may_both (numbered prints number) (numbered prints later)
+
+-- whether the entry of a number is live, and they may
+abbrev pub is_met_at : List Entry → List print.Fingerprint → ℕ → ℕ → Bool
+is_met_at entries prints later number = is_live_at entries number && meets_at prints later number
 
 -- the first of the numbers from one on and before the later one that passes the test, if there is one
 abbrev pub IsPartner : (ℕ → Bool) → List ℕ → ℕ → ℕ → Option ℕ → Type 0

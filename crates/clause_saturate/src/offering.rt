@@ -10,13 +10,15 @@ ghost use Rattle.clause_form.specs.Seen.{clause_at, IsClauseIn};
 ghost use Rattle.clause_form.specs.Fit.{IsFit, AreFit};
 ghost use Rattle.clause_saturate.specs.Logs.{TellLog, IsOrigin};
 ghost use Rattle.clause_saturate.specs.Beating.{clauses_of, LiveCovers, SomeLiveCovers, BeatsLive, IsMarked, AreMarked, IsPushed, IsOfferMade};
-ghost use Rattle.clause_saturate.specs.Live.{IsAmong, HasFeatures, AreListed, is_live_at, AreAlive, IsListedBy, IsEndListed, NumberCovers, CoversAmong, AreBeatable, kept_lanes, lanes_of};
+ghost use Rattle.clause_saturate.specs.Live.{HasFeatures, HasConclusion, HasLooks, AreListed, AreAlive, IsListedBy, IsEndListed, NumberCovers, CoversAmong, AreBeatable, kept_lanes, lanes_of, kept_prints, conclusion_prints};
+ghost use Rattle.clause_saturate.specs.Numbers.{IsAmong, is_live_at};
 
+use crate::classes::class_of;
 use crate::ends::{closed_end, end_of, ending, shared_end};
 use crate::log::{Entry, Origin};
-use crate::walk::{Live, Offer, Walk};
+use crate::walk::{Live, Looks, Offer, Walk};
 use clause_form::Clause;
-use fact_fingerprint::clause_fingerprint;
+use fact_fingerprint::{Fingerprint, clause_fingerprint, conclusion_fingerprint, may_meet};
 use feature_index::{Features, features, may_cover};
 use literal_selection::is_solved;
 use multiset_subsume::cover_row;
@@ -61,7 +63,8 @@ fn covers<B: Bank>(
     }
 }
 
-/// Whether the entry of that number is live and subsumes the clause. Most that don't are told by their features.
+/// Whether the entry of that number is live and subsumes the clause. Most that don't are told by their features and the
+/// fingerprints of their conclusions.
 fn covers_at<B: Bank>(
     walk: &Walk,
     bank: &B,
@@ -73,7 +76,7 @@ fn covers_at<B: Bank>(
     requires some { 0 < number }
     requires within { number ≤ length walk.now.items.items }
     requires clause { IsFit (B.trees bank.now) offer.now.clause.now }
-    requires features { HasFeatures (B.trees bank.now) offer.now.clause.now offer.now.features }
+    requires looks { HasLooks (B.trees bank.now) offer.now.clause.now offer.now.looks }
     ensures { IfOk result (λ yes. MatchBool yes
         (NumberCovers (B.trees bank.now) walk.now.items.items
         (clause_at (B.trees bank.now) offer.now.clause.now) number)
@@ -81,7 +84,11 @@ fn covers_at<B: Bank>(
         (clause_at (B.trees bank.now) offer.now.clause.now) number → ⊥)) }
 {
     let kept = walk.live.features[number - 1];
-    if !may_cover(kept, offer.features) {
+    if !may_cover(kept, offer.looks.features) {
+        return Ok(false);
+    }
+    let conclusion = &walk.live.conclusions[number - 1];
+    if !may_meet(conclusion, &offer.looks.conclusion) {
         return Ok(false);
     }
     let yes = covers(walk.alloc, bank, &walk.items[number - 1], offer.clause)?;
@@ -100,7 +107,7 @@ fn covers_among<B: Bank>(
     requires numbers { (number : ℕ) → IsAmong numbers.now number →
         (0 < number) × (number ≤ length walk.now.items.items) }
     requires clause { IsFit (B.trees bank.now) offer.now.clause.now }
-    requires features { HasFeatures (B.trees bank.now) offer.now.clause.now offer.now.features }
+    requires looks { HasLooks (B.trees bank.now) offer.now.clause.now offer.now.looks }
     ensures { IfOk result (λ yes. MatchBool yes
         (CoversAmong (B.trees bank.now) walk.now.items.items numbers.now
         (clause_at (B.trees bank.now) offer.now.clause.now))
@@ -120,7 +127,7 @@ fn is_covered_by_any<B: Bank>(walk: &Walk, bank: &B, offer: &Offer<'_>) -> Resul
     requires entries { AreFit (B.trees bank.now) (clauses_of walk.now.items.items) }
     requires listed { AreListed (B.trees bank.now) walk.now.items.items walk.now.live }
     requires clause { IsFit (B.trees bank.now) offer.now.clause.now }
-    requires features { HasFeatures (B.trees bank.now) offer.now.clause.now offer.now.features }
+    requires looks { HasLooks (B.trees bank.now) offer.now.clause.now offer.now.looks }
     ensures { IfOk result (λ yes. MatchBool yes
         (SomeLiveCovers (B.trees bank.now) walk.now.items.items
         (clause_at (B.trees bank.now) offer.now.clause.now))
@@ -140,7 +147,7 @@ fn is_covered_by_end<B: Bank>(walk: &Walk, bank: &B, offer: &Offer<'_>) -> Resul
     requires entries { AreFit (B.trees bank.now) (clauses_of walk.now.items.items) }
     requires listed { AreListed (B.trees bank.now) walk.now.items.items walk.now.live }
     requires clause { IsFit (B.trees bank.now) offer.now.clause.now }
-    requires features { HasFeatures (B.trees bank.now) offer.now.clause.now offer.now.features }
+    requires looks { HasLooks (B.trees bank.now) offer.now.clause.now offer.now.looks }
     requires shared { AreShared (B.trees bank.now) }
     ensures { IfOk result (λ yes. MatchBool yes
         (SomeLiveCovers (B.trees bank.now) walk.now.items.items
@@ -166,7 +173,7 @@ fn is_covered<B: Bank>(walk: &Walk, bank: &B, offer: &Offer<'_>) -> Result<bool,
     requires entries { AreFit (B.trees bank.now) (clauses_of walk.now.items.items) }
     requires listed { AreListed (B.trees bank.now) walk.now.items.items walk.now.live }
     requires clause { IsFit (B.trees bank.now) offer.now.clause.now }
-    requires features { HasFeatures (B.trees bank.now) offer.now.clause.now offer.now.features }
+    requires looks { HasLooks (B.trees bank.now) offer.now.clause.now offer.now.looks }
     ensures { IfOk result (λ yes. MatchBool yes
         (SomeLiveCovers (B.trees bank.now) walk.now.items.items
         (clause_at (B.trees bank.now) offer.now.clause.now))
@@ -200,22 +207,28 @@ fn beats<B: Bank>(
     }
 }
 
-/// Marks an entry with these features, if it is live and the clause subsumes it, as subsumed by the offer's entry. Whether it is marked.
+/// Marks an entry with these features and this fingerprint of its conclusion, if it is live and the clause subsumes it, as
+/// subsumed by the offer's entry. Whether it is marked.
 fn mark<B: Bank>(
     bank: &B,
     offer: &Offer<'_>,
     kept: Features,
+    conclusion: &Fingerprint,
     entry: &mut Entry,
 ) -> Result<bool, AllocError>
     requires clause { IsFit (B.trees bank.now) offer.now.clause.now }
-    requires features { HasFeatures (B.trees bank.now) offer.now.clause.now offer.now.features }
+    requires looks { HasLooks (B.trees bank.now) offer.now.clause.now offer.now.looks }
     requires entry { IsFit (B.trees bank.now) entry.old.clause }
     requires kept { HasFeatures (B.trees bank.now) entry.old.clause kept }
+    requires conclusion { HasConclusion (B.trees bank.now) entry.old.clause conclusion.now }
     ensures marked { OnOk result (IsMarked (B.trees bank.now)
         (clause_at (B.trees bank.now) offer.now.clause.now) offer.now.number entry.old entry.new) }
     ensures same { IfOk result (λ yes. yes ≡ false → entry.new ≡ entry.old) }
 {
-    if !may_cover(offer.features, kept) {
+    if !may_cover(offer.looks.features, kept) {
+        return Ok(false);
+    }
+    if !may_meet(&offer.looks.conclusion, conclusion) {
         return Ok(false);
     }
     if beats(offer.alloc, bank, offer.clause, entry)? {
@@ -231,14 +244,16 @@ fn mark_among<B: Bank>(
     bank: &B,
     offer: &Offer<'_>,
     numbers: &[usize],
-    kept: &[Features],
+    live: &Live,
     entries: &mut [Entry],
 ) -> Result<bool, AllocError>
     requires clause { IsFit (B.trees bank.now) offer.now.clause.now }
-    requires features { HasFeatures (B.trees bank.now) offer.now.clause.now offer.now.features }
+    requires looks { HasLooks (B.trees bank.now) offer.now.clause.now offer.now.looks }
     requires numbers { AreBeatable (B.trees bank.now) entries.old
         (clause_at (B.trees bank.now) offer.now.clause.now) numbers.now }
-    requires kept { kept_lanes kept.now ≡ lanes_of (B.trees bank.now) entries.old }
+    requires kept { kept_lanes live.now.features.items ≡ lanes_of (B.trees bank.now) entries.old }
+    requires conclusions { kept_prints live.now.conclusions.items ≡
+        conclusion_prints (B.trees bank.now) entries.old }
     requires entries { AreFit (B.trees bank.now) (clauses_of entries.old) }
     ensures marked { OnOk result (AreMarked (B.trees bank.now)
         (clause_at (B.trees bank.now) offer.now.clause.now) offer.now.number entries.old
@@ -248,7 +263,14 @@ fn mark_among<B: Bank>(
     let mut some = false;
     'each: for number in numbers {
         let place = *number - 1;
-        let yes = mark(bank, offer, kept[place], &mut entries[place])?;
+        let kept = live.features[place];
+        let yes = mark(
+            bank,
+            offer,
+            kept,
+            &live.conclusions[place],
+            &mut entries[place],
+        )?;
         some = some | yes;
     }
     Ok(some)
@@ -260,26 +282,28 @@ fn mark_items<B: Bank>(
     bank: &B,
     offer: &Offer<'_>,
     numbers: &[usize],
-    kept: &[Features],
+    live: &Live,
     items: &mut Vec<Entry>,
 ) -> Result<bool, AllocError>
     requires clause { IsFit (B.trees bank.now) offer.now.clause.now }
-    requires features { HasFeatures (B.trees bank.now) offer.now.clause.now offer.now.features }
+    requires looks { HasLooks (B.trees bank.now) offer.now.clause.now offer.now.looks }
     requires numbers { AreBeatable (B.trees bank.now) items.old.items
         (clause_at (B.trees bank.now) offer.now.clause.now) numbers.now }
-    requires kept { kept_lanes kept.now ≡ lanes_of (B.trees bank.now) items.old.items }
+    requires kept { kept_lanes live.now.features.items ≡ lanes_of (B.trees bank.now) items.old.items }
+    requires conclusions { kept_prints live.now.conclusions.items ≡
+        conclusion_prints (B.trees bank.now) items.old.items }
     requires entries { AreFit (B.trees bank.now) (clauses_of items.old.items) }
     ensures marked { OnOk result (AreMarked (B.trees bank.now)
         (clause_at (B.trees bank.now) offer.now.clause.now) offer.now.number items.old.items
         items.new.items) }
     ensures same { IfOk result (λ some. some ≡ false → items.new.items ≡ items.old.items) }
 {
-    let some = mark_among(bank, offer, numbers, kept, items)?;
+    let some = mark_among(bank, offer, numbers, live, items)?;
     Ok(some)
 }
 
 /// Whether there is an entry of that number, and it is live.
-fn is_live(entries: &[Entry], number: usize) -> bool
+pub(crate) fn is_live(entries: &[Entry], number: usize) -> bool
     ensures { result ≡ is_live_at entries.now number }
 {
     if number == 0 {
@@ -307,21 +331,27 @@ fn drop_all(entries: &[Entry], live: &mut Live)
     drop_dead(entries, &mut live.unclosed);
 }
 
-/// Puts the number of a new entry at the end of the list of its kind, and its features and its fingerprint at the
-/// end of all.
+/// Puts the number of a new entry at the end of the lists of its kind and of its class, and what its clause shows at the end
+/// of all.
 fn list<B: Bank>(live: &mut Live, bank: &B, offer: &Offer<'_>) -> Result<(), AllocError>
     requires { IsFit (B.trees bank.now) offer.now.clause.now }
     ensures { OnOk result (IsListedBy
         (is_solved_list (clause_at (B.trees bank.now) offer.now.clause.now).hypotheses)
-        offer.now.number offer.now.features
+        offer.now.number offer.now.looks
         (clause_print (clause_at (B.trees bank.now) offer.now.clause.now)) live.old live.new) }
 {
-    live.features.push(offer.features)?;
-    live.prints.push(clause_fingerprint(bank, offer.clause))?;
+    let print = clause_fingerprint(bank, offer.clause);
+    let class = class_of(&print);
+    live.features.push(offer.looks.features)?;
+    live.conclusions.push(offer.looks.conclusion)?;
+    live.prints.push(print)?;
     if is_solved(bank, offer.clause) {
+        live.solved_classes.push(offer.alloc, class, offer.number)?;
         live.solved.push(offer.number)?;
         return Ok(());
     }
+    live.unsolved_classes
+        .push(offer.alloc, class, offer.number)?;
     live.unsolved.push(offer.number)?;
     Ok(())
 }
@@ -370,7 +400,7 @@ fn beat<B: Bank>(walk: &mut Walk, bank: &B, offer: &Offer<'_>) -> Result<(), All
     requires entries { AreFit (B.trees bank.now) (clauses_of walk.old.items.items) }
     requires listed { AreListed (B.trees bank.now) walk.old.items.items walk.old.live }
     requires clause { IsFit (B.trees bank.now) offer.now.clause.now }
-    requires features { HasFeatures (B.trees bank.now) offer.now.clause.now offer.now.features }
+    requires looks { HasLooks (B.trees bank.now) offer.now.clause.now offer.now.looks }
     ensures kept { walk.new.budget ≡ walk.old.budget }
     ensures marked { OnOk result (AreMarked (B.trees bank.now)
         (clause_at (B.trees bank.now) offer.now.clause.now) offer.now.number
@@ -379,7 +409,7 @@ fn beat<B: Bank>(walk: &mut Walk, bank: &B, offer: &Offer<'_>) -> Result<(), All
         walk.new.live) }
 {
     let numbers = beatable(walk, bank, offer)?;
-    if !mark_items(bank, offer, &numbers, &walk.live.features, &mut walk.items)? {
+    if !mark_items(bank, offer, &numbers, &walk.live, &mut walk.items)? {
         return Ok(());
     }
     drop_all(&walk.items, &mut walk.live);
@@ -396,7 +426,7 @@ fn add<B: Bank>(
     requires entries { AreFit (B.trees bank.now) (clauses_of walk.old.items.items) }
     requires listed { AreListed (B.trees bank.now) walk.old.items.items walk.old.live }
     requires clause { IsFit (B.trees bank.now) offer.now.clause.now }
-    requires features { HasFeatures (B.trees bank.now) offer.now.clause.now offer.now.features }
+    requires looks { HasLooks (B.trees bank.now) offer.now.clause.now offer.now.looks }
     requires number { offer.now.number ≡ length walk.old.items.items + 1 }
     ensures kept { walk.new.budget ≡ walk.old.budget }
     ensures pushed { OnOk result (IsPushed (B.trees bank.now) walk.old.items.items record
@@ -437,10 +467,14 @@ pub(crate) fn offer<B: Bank>(
     ensures listed { OnOk result (AreListed (B.trees bank.now) walk.new.items.items
         walk.new.live) }
 {
+    let looks = Looks {
+        features: features(bank, clause),
+        conclusion: conclusion_fingerprint(bank, clause),
+    };
     let offer = Offer {
         alloc: walk.alloc,
         clause,
-        features: features(bank, clause),
+        looks,
         number: walk.items.len() + 1,
     };
     if is_covered(walk, bank, &offer)? {

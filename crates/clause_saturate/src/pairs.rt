@@ -1,17 +1,20 @@
 //! Pairs of entries, and what they give.
 
-ghost use Rattle.std.specs.Prelude.{◌≡◌, ◌+◌, ◌<◌, ◌≤◌, ℕ, length, take, IfOk, OnOk};
+ghost use Rattle.std.specs.Prelude.{◌≡◌, ◌+◌, ◌<◌, ◌≤◌, ◌++◌, ℕ, true, length, take, get_or, IfSome, IfOk, OnOk};
 ghost use Rattle.spec_saturation.specs.Key.{key};
 ghost use Rattle.term_tree.specs.Bank.{Grows};
 ghost use Rattle.clause_resolve.specs.Answers.{LeavesBank};
 ghost use Rattle.clause_form.specs.Fit.{AreFit};
 ghost use Rattle.clause_saturate.specs.Beating.{clauses_of};
-ghost use Rattle.clause_saturate.specs.Live.{IsAmong, IsAscending, AreListed, kept_prints, meets_at, IsPartner};
+ghost use Rattle.clause_saturate.specs.Live.{AreListed, kept_prints, meets_at, is_met_at, IsPartner};
+ghost use Rattle.clause_saturate.specs.Numbers.{IsAmong, AreNumbersWithin, is_live_at};
+ghost use Rattle.clause_saturate.specs.Classes.{AreClassed};
 ghost use Rattle.clause_saturate.specs.Pairs.{major, minor, IsNextPair, IsDuePair, IsMadeBy, IsFoundFor, AreSameOrMore, IsTidy};
 ghost use Rattle.clause_saturate.specs.Walked.{Task, IsWalked, HasOffered, HasPassed};
 
+use crate::classes::{Classes, class_of};
 use crate::log::{Entry, Origin};
-use crate::offering::offer;
+use crate::offering::{is_live, offer};
 use crate::walk::{Live, Pair, Stop, Walk};
 use clause_form::Clause;
 use clause_resolve::{Resolved, resolvents};
@@ -33,28 +36,85 @@ fn meet(live: &Live, later: usize, number: usize) -> bool
     may_meet(left, right)
 }
 
-/// The first of the numbers from one on and before the later one whose fingerprint may meet that of the later one, if there
-/// is one.
-fn partner(live: &Live, numbers: &[usize], later: usize, from: usize) -> Option<usize>
-    requires ascending { IsAscending 1 numbers.now }
-    requires within { (number : ℕ) → IsAmong numbers.now number →
-        (0 < number) × (number ≤ length live.now.prints.items) }
+/// Whether the entry of a number is live, and its fingerprint and the later one's may meet.
+fn is_met(walk: &Walk, later: usize, number: usize) -> bool
     requires some { 0 < later }
-    requires later_within { later ≤ length live.now.prints.items }
-    ensures { IsPartner (meets_at (kept_prints live.now.prints.items) later) numbers.now later from
-        result }
+    requires within { later ≤ length walk.now.live.prints.items }
+    requires some_number { 0 < number }
+    requires number_within { number ≤ length walk.now.live.prints.items }
+    ensures { result ≡ is_met_at walk.now.items.items (kept_prints walk.now.live.prints.items)
+        later number }
 {
-    let start = numbers.partition_point(|number| *number < from);
-    'each: for place in start..numbers.len() {
-        let number = numbers[place];
+    is_live(&walk.items, number) && meet(&walk.live, later, number)
+}
+
+/// The number at a place, or the bound, where there is none.
+fn number_at(numbers: &[usize], place: usize, bound: usize) -> usize
+    ensures { result ≡ get_or numbers.now place bound }
+{
+    if numbers.len() <= place {
+        return bound;
+    }
+    numbers[place]
+}
+
+/// The first of the numbers of two lists, from one on and before the later one, of which the entry is live and the
+/// fingerprint may meet that of the later one, if there is one.
+fn partner(walk: &Walk, left: &[usize], right: &[usize], later: usize, from: usize) -> Option<usize>
+    requires left { AreNumbersWithin (length walk.now.live.prints.items) left.now }
+    requires right { AreNumbersWithin (length walk.now.live.prints.items) right.now }
+    requires some { 0 < later }
+    requires within { later ≤ length walk.now.live.prints.items }
+    ensures partner { IsPartner
+        (is_met_at walk.now.items.items (kept_prints walk.now.live.prints.items) later)
+        (left.now ++ right.now) later from result }
+    ensures met { IfSome result (λ number. is_met_at walk.now.items.items
+        (kept_prints walk.now.live.prints.items) later number ≡ true) }
+{
+    let mut i = left.partition_point(|number| *number < from);
+    let mut j = right.partition_point(|number| *number < from);
+    'each: loop {
+        let first = number_at(left, i, later);
+        let second = number_at(right, j, later);
+        let number = first.min(second);
         if later <= number {
             return None;
         }
-        if meet(live, later, number) {
+        if is_met(walk, later, number) {
             return Some(number);
         }
+        if first <= second {
+            i += 1;
+        } else {
+            j += 1;
+        }
     }
-    None
+}
+
+/// The first of these numbers from one on and before the later one whose fingerprint may meet that of the later one, if
+/// there is one: looked for among those of its class and of none, if it has a class.
+fn class_partner(
+    walk: &Walk,
+    numbers: &[usize],
+    classes: &Classes,
+    later: usize,
+    from: usize,
+) -> Option<usize>
+    requires numbers { AreNumbersWithin (length walk.now.live.prints.items) numbers.now }
+    requires alive { (number : ℕ) → IsAmong numbers.now number →
+        is_live_at walk.now.items.items number ≡ true }
+    requires classed { AreClassed walk.now.items.items (kept_prints walk.now.live.prints.items)
+        numbers.now classes.now }
+    requires many { length walk.now.live.prints.items ≡ length walk.now.items.items }
+    requires some { 0 < later }
+    requires within { later ≤ length walk.now.live.prints.items }
+    ensures { IsPartner (meets_at (kept_prints walk.now.live.prints.items) later) numbers.now
+        later from result }
+{
+    match class_of(&walk.live.prints[later - 1]) {
+        None => partner(walk, numbers, &[], later, from),
+        Some(class) => partner(walk, classes.of(class), &classes.rest, later, from),
+    }
 }
 
 /// The next due pair of an entry with an earlier one from a number on, if there is one. Due pairs whose facts have no unifier
@@ -71,13 +131,25 @@ pub(crate) fn next_pair<B: Bank>(walk: &Walk, bank: &B, later: usize, from: usiz
         return None;
     }
     if is_solved(bank, &last.clause) {
-        let earlier = partner(&walk.live, &walk.live.unsolved, later, from)?;
+        let earlier = class_partner(
+            walk,
+            &walk.live.unsolved,
+            &walk.live.unsolved_classes,
+            later,
+            from,
+        )?;
         return Some(Pair {
             solved: later,
             unsolved: earlier,
         });
     }
-    let earlier = partner(&walk.live, &walk.live.solved, later, from)?;
+    let earlier = class_partner(
+        walk,
+        &walk.live.solved,
+        &walk.live.solved_classes,
+        later,
+        from,
+    )?;
     Some(Pair {
         solved: earlier,
         unsolved: later,

@@ -4,6 +4,7 @@ ghost use Rattle.std.specs.Prelude.{IfOk};
 ghost use Rattle.clause_saturate.specs.Live.{IsEmptyLive, IsSameLive};
 
 use crate::chains::Chains;
+use crate::classes::Classes;
 use crate::log::Entry;
 use clause_form::Clause;
 use fact_fingerprint::Fingerprint;
@@ -11,9 +12,10 @@ use feature_index::Features;
 use std::alloc::{AllocError, Global};
 
 /// What is kept beside the entries of a log: the numbers of the live ones, ascending, of those that are solved and of the
-/// others; the features of each entry's clause, in order, and the fingerprint of the fact on which it is resolved; the
-/// numbers of the live ones whose conclusions don't end with a closed term; and the chains by which those that end with one
-/// are found.
+/// others; the features of each entry's clause, in order, the fingerprint of the fact on which it is resolved, and that of
+/// its conclusion; the numbers of the live ones whose conclusions don't end with a closed term; the chains by which those
+/// that end with one are found; and the numbers of solved entries and of the others by the classes of these facts, in which
+/// some may be live no more.
 #[derive(Drop)]
 pub(crate) struct Live {
     pub solved: Vec<usize>,
@@ -22,14 +24,24 @@ pub(crate) struct Live {
     pub prints: Vec<Fingerprint>,
     pub unclosed: Vec<usize>,
     pub chains: Chains,
+    pub conclusions: Vec<Fingerprint>,
+    pub solved_classes: Classes,
+    pub unsolved_classes: Classes,
 }
 
-/// A clause that is offered, its features, and the number that its entry is to have.
+/// What a clause shows at a look: its features, and the fingerprint of its conclusion.
+#[derive(Clone, Copy)]
+pub(crate) struct Looks {
+    pub features: Features,
+    pub conclusion: Fingerprint,
+}
+
+/// A clause that is offered, what it shows, and the number that its entry is to have.
 #[derive(Drop)]
 pub(crate) struct Offer<'a> {
     pub alloc: Global,
     pub clause: &'a Clause,
-    pub features: Features,
+    pub looks: Looks,
     pub number: usize,
 }
 
@@ -54,6 +66,9 @@ impl Live {
             prints: Vec::new(alloc),
             unclosed: Vec::new(alloc),
             chains: Chains::none(alloc),
+            conclusions: Vec::new(alloc),
+            solved_classes: Classes::none(alloc),
+            unsolved_classes: Classes::none(alloc),
         }
     }
 
@@ -67,6 +82,9 @@ impl Live {
         let prints = self.prints.to_vec(alloc)?;
         let unclosed = self.unclosed.to_vec(alloc)?;
         let chains = self.chains.copy(alloc)?;
+        let conclusions = self.conclusions.to_vec(alloc)?;
+        let solved_classes = self.solved_classes.copy(alloc)?;
+        let unsolved_classes = self.unsolved_classes.copy(alloc)?;
         Ok(Live {
             solved,
             unsolved,
@@ -74,6 +92,9 @@ impl Live {
             prints,
             unclosed,
             chains,
+            conclusions,
+            solved_classes,
+            unsolved_classes,
         })
     }
 }

@@ -1,10 +1,12 @@
-use Rattle.std.proofs.Common.{◌≡◌, ◌∙◌, ◌<◌, ◌^◌, List, length, sym, subst}
+use Rattle.std.proofs.Common.{◌≡◌, ◌∙◌, ◌<◌, ◌^◌, List, length, map, ap, sym, subst}
 use Rattle.spec_clauses.specs.Fact.{Clause}
 use Rattle.spec_saturation.specs.Live.{MustBeCovered}
 use Rattle.spec_verdicts.proofs.Accepting.{proved_accepted}
 use Rattle.pi_tree.specs.Protocols.{protocol_of}
 use Rattle.term_tree.specs.declared.bank.Id.{Id}
 use Rattle.clause_form.specs.Fit.{AreFit, clauses_at}
+use Rattle.fact_fingerprint.specs.Seen.{fingerprint_seen}
+use Rattle.cert_writer.specs.Ready.{conclusion_print}
 use Rattle.cert_writer.specs.Living.{live_ids}
 use Rattle.cert_writer.specs.Adding.{MustClose}
 use Rattle.cert_writer.specs.Goals.{AreGoalsOf}
@@ -26,17 +28,24 @@ returns-in-Unsatisfied-clause-verdict g c =
     λ q at budget closed. unmet_verdict all P q c.args.given.now (c.requires.translation q at) budget c.args.log.now c.in-Unsatisfied.number closed
     (subst (λ (goals : Goals). AreGoalsOf P q all c.args.log.now goals) c.in-Unsatisfied.is (c.in_ok-number.ensures q at))
 
-pub cert_of-requires-clause-fit : goal.cert_of-requires-clause-fit
-cert_of-requires-clause-fit g c =
+pub conclusion_prints-requires : goal.conclusion_prints-requires
+conclusion_prints-requires g c =
     let all = g.B.Bank.trees c.args.bank.now in
     let P = protocol_of c.args.protocol.now in
     let same : c.deref.result.now ≡ live_ids c.args.log.now = c.deref.ensures.value ∙ (c.live.view_is ∙ c.in_ok-live.ensures) in
     subst (λ (cs : List (Clause Id)). AreFit all cs) (sym same) (lives_fit all P c.args.query c.args.given.now c.requires.limits c.requires.there c.requires.translation c.args.log.now c.requires.closed)
 
-pub cert_of-requires-clause-few : goal.cert_of-requires-clause-few
-cert_of-requires-clause-few g c =
-    let same : c.deref.result.now ≡ live_ids c.args.log.now = c.deref.ensures.value ∙ (c.live.view_is ∙ c.in_ok-live.ensures) in
-    subst (λ (cs : List (Clause Id)). length cs < 2 ^ 32) (sym same) (live_few c.args.log.now (2 ^ 32) c.requires.few)
+pub cert_of-requires-clause-ready : goal.cert_of-requires-clause-ready
+cert_of-requires-clause-ready g c =
+    let all = g.B.Bank.trees c.args.bank.now in
+    let P = protocol_of c.args.protocol.now in
+    let same : c.deref-2.result.now ≡ live_ids c.args.log.now = c.deref-2.ensures.value ∙ (c.live.view_is ∙ c.in_ok-live.ensures) in
+    let asked_of : c.deref.result.now ≡ c.deref-2.result.now = c.deref.ensures.value ∙ sym c.deref-2.ensures.value in
+    record {
+      fit = subst (λ (cs : List (Clause Id)). AreFit all cs) (sym same) (lives_fit all P c.args.query c.args.given.now c.requires.limits c.requires.there c.requires.translation c.args.log.now c.requires.closed);
+      few = subst (λ (cs : List (Clause Id)). length cs < 2 ^ 32) (sym same) (live_few c.args.log.now (2 ^ 32) c.requires.few);
+      prints = ap (map fingerprint_seen) c.deref-3.ensures.value ∙ (c.in_ok-prints.ensures ∙ ap (λ (cs : List (Clause Id)). map conclusion_print (clauses_at all cs)) asked_of);
+    }
 
 pub cert_of-requires-clause-given : goal.cert_of-requires-clause-given
 cert_of-requires-clause-given g c =
@@ -46,7 +55,7 @@ pub cert_of-requires-clause-covered : goal.cert_of-requires-clause-covered
 cert_of-requires-clause-covered g c =
     let all = g.B.Bank.trees c.args.bank.now in
     let P = protocol_of c.args.protocol.now in
-    let same : c.deref.result.now ≡ live_ids c.args.log.now = c.deref.ensures.value ∙ (c.live.view_is ∙ c.in_ok-live.ensures) in
+    let same : c.deref-2.result.now ≡ live_ids c.args.log.now = c.deref-2.ensures.value ∙ (c.live.view_is ∙ c.in_ok-live.ensures) in
     let (q, at) = asked all P c.args.query c.args.given.now c.requires.limits c.requires.there c.requires.translation in
     λ d h. subst (λ (cs : List (Clause Id)). MustBeCovered (clauses_at all cs) d) (sym same) (live_covers all P q c.args.given.now (c.requires.translation q at) c.requires.closed.0 c.args.log.now c.requires.closed.1 d h)
 
@@ -54,7 +63,7 @@ pub cert_of-requires-clause-closed : goal.cert_of-requires-clause-closed
 cert_of-requires-clause-closed g c =
     let all = g.B.Bank.trees c.args.bank.now in
     let P = protocol_of c.args.protocol.now in
-    let same : c.deref.result.now ≡ live_ids c.args.log.now = c.deref.ensures.value ∙ (c.live.view_is ∙ c.in_ok-live.ensures) in
+    let same : c.deref-2.result.now ≡ live_ids c.args.log.now = c.deref-2.ensures.value ∙ (c.live.view_is ∙ c.in_ok-live.ensures) in
     let (q, at) = asked all P c.args.query c.args.given.now c.requires.limits c.requires.there c.requires.translation in
     subst (λ (cs : List (Clause Id)). MustClose (clauses_at all cs)) (sym same) (live_closed all P q c.args.given.now (c.requires.translation q at) c.requires.closed.0 c.args.log.now c.requires.closed.1)
 
@@ -64,7 +73,7 @@ returns-clause-verdict g c =
     let P = protocol_of c.args.protocol.now in
     let goals = c.in-Rows.goals in
     let cert = c.in_ok-cert-in-Rows.cert in
-    let same : c.deref.result.now ≡ live_ids c.args.log.now = c.deref.ensures.value ∙ (c.live.view_is ∙ c.in_ok-live.ensures) in
+    let same : c.deref-2.result.now ≡ live_ids c.args.log.now = c.deref-2.ensures.value ∙ (c.live.view_is ∙ c.in_ok-live.ensures) in
     let written = subst (λ (cs : List (Clause Id)). IsWritten (clauses_at all cs) (clauses_at all c.args.given.now) goals cert) same c.in_ok-cert-in-Rows.ensures.cert in
     λ q at budget closed. written_proved all P q c.args.given.now (c.requires.translation q at) budget c.args.log.now goals cert closed
     (subst (λ (found : Goals). AreGoalsOf P q all c.args.log.now found) c.in-Rows.is (c.in_ok-number.ensures q at)) written
@@ -75,7 +84,7 @@ returns-clause-accepted g c =
     let P = protocol_of c.args.protocol.now in
     let goals = c.in-Rows.goals in
     let cert = c.in_ok-cert-in-Rows.cert in
-    let same : c.deref.result.now ≡ live_ids c.args.log.now = c.deref.ensures.value ∙ (c.live.view_is ∙ c.in_ok-live.ensures) in
+    let same : c.deref-2.result.now ≡ live_ids c.args.log.now = c.deref-2.ensures.value ∙ (c.live.view_is ∙ c.in_ok-live.ensures) in
     let written = subst (λ (cs : List (Clause Id)). IsWritten (clauses_at all cs) (clauses_at all c.args.given.now) goals cert) same c.in_ok-cert-in-Rows.ensures.cert in
     λ q at. proved_accepted P q c.requires.closed.0 cert c.requires.limits (query_small P c.args.query q c.requires.limits at) (written_proved all P q c.args.given.now (c.requires.translation q at) c.requires.closed.0 c.args.log.now goals cert c.requires.closed.1
     (subst (λ (found : Goals). AreGoalsOf P q all c.args.log.now found) c.in-Rows.is (c.in_ok-number.ensures q at)) written)
@@ -86,7 +95,7 @@ returns-clause-holds g c =
     let P = protocol_of c.args.protocol.now in
     let goals = c.in-Rows.goals in
     let cert = c.in_ok-cert-in-Rows.cert in
-    let same : c.deref.result.now ≡ live_ids c.args.log.now = c.deref.ensures.value ∙ (c.live.view_is ∙ c.in_ok-live.ensures) in
+    let same : c.deref-2.result.now ≡ live_ids c.args.log.now = c.deref-2.ensures.value ∙ (c.live.view_is ∙ c.in_ok-live.ensures) in
     let written = subst (λ (cs : List (Clause Id)). IsWritten (clauses_at all cs) (clauses_at all c.args.given.now) goals cert) same c.in_ok-cert-in-Rows.ensures.cert in
     λ q at proper. c.proved_queries_hold.ensures P q c.requires.closed.0 cert proper (written_proved all P q c.args.given.now (c.requires.translation q at) c.requires.closed.0 c.args.log.now goals cert c.requires.closed.1
     (subst (λ (found : Goals). AreGoalsOf P q all c.args.log.now found) c.in-Rows.is (c.in_ok-number.ensures q at)) written)

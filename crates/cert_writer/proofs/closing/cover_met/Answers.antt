@@ -33,7 +33,7 @@ returns-then-not-may_resolve-clause-rows g c = λ d there i j.
     c.requires.print (print_there all live solving.prints.now c.args.place no_clause _ c.requires.prints c.requires.place) (sym c.may_resolve.ensures ∙ c.if-not-may_resolve.true)))
 
 pub cover_pair-requires-clause-unsolved_fit : goal.cover_pair-requires-clause-unsolved_fit
-cover_pair-requires-clause-unsolved_fit g c = fit_in (g.B.Bank.trees c.args.bank.now) c.args.writer.now.live.now c.args.place c.index-writer-place.result c.requires.fit c.requires.place
+cover_pair-requires-clause-unsolved_fit g c = fit_in (g.B.Bank.trees c.args.bank.now) c.args.writer.now.live.now c.args.place c.index-writer-place.result c.requires.ready.fit c.requires.place
 
 pub cover_pair-requires-clause-unsolved_live : goal.cover_pair-requires-clause-unsolved_live
 cover_pair-requires-clause-unsolved_live g c =

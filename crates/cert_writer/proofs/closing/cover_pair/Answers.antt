@@ -9,6 +9,7 @@ use Rattle.term_tree.proofs.BankLaws.{take-grows, Grows-length}
 use Rattle.clause_form.specs.Seen.{clause_at}
 use Rattle.clause_form.specs.Fit.{AreFit, clauses_at}
 use Rattle.clause_resolve.proofs.Answering.{fit_low}
+use Rattle.cert_writer.specs.Ready.{IsReady}
 use Rattle.cert_writer.specs.Adding.{AddsRows, AddsPairs, pairs_of_two}
 use Rattle.cert_writer.proofs.Pairing.{found_apart, found_large, made_fit, made_covered, made_added}
 use Rattle.clause_resolve.specs.Answers.{LeavesBank}
@@ -79,12 +80,12 @@ returns-in-Clauses-clause-bank g c =
 pub cover_made-requires-clause-mark : goal.cover_made-requires-clause-mark
 cover_made-requires-clause-mark g c = omega (arith, c.mark-mark.ensures, Grows-length (g.B.Bank.trees c.args.bank.now) (g.B.Bank.trees c.resolvents.new.bank) c.resolvents.ensures.grows)
 
-pub cover_made-requires-clause-fit : goal.cover_made-requires-clause-fit
-cover_made-requires-clause-fit g c =
+pub cover_made-requires-clause-ready : goal.cover_made-requires-clause-ready
+cover_made-requires-clause-ready g c =
     let all = g.B.Bank.trees c.args.bank.now in
     let now = g.B.Bank.trees c.resolvents.new.bank in
     let back : take c.mark-mark.result.len now ≡ all = ap (λ n. take n now) c.mark-mark.ensures ∙ take-grows all now c.resolvents.ensures.grows in
-    subst (λ (before : List Term). AreFit before c.args.writer.now.live.now) (sym back) c.requires.fit
+    subst (λ (before : List Term). IsReady before c.args.writer.now) (sym back) c.requires.ready
 
 pub returns-in-NoUnifier-clause-bank : goal.returns-in-NoUnifier-clause-bank
 returns-in-NoUnifier-clause-bank g c = subst (λ (found : Resolved). LeavesBank (g.B.Bank.trees c.args.bank.now) (g.B.Bank.trees c.resolvents.new.bank) found) c.in-NoUnifier.is c.in_ok-resolvents-in-Some.ensures.as_before

@@ -4,8 +4,9 @@ use Rattle.spec_clauses.specs.Inclusion.{Has}
 use Rattle.spec_certificates.specs.Certificate.{Numbered, numbered_from, pairs_of}
 use Rattle.spec_verdicts.proofs.Building.{take_past}
 use Rattle.clause_form.specs.Seen.{clause_at}
-use Rattle.clause_form.specs.Fit.{IsFit, AreFit, clauses_at}
+use Rattle.clause_form.specs.Fit.{IsFit, clauses_at}
 use Rattle.clause_form.proofs.Fit.{clause_fit_at}
+use Rattle.cert_writer.specs.Ready.{IsReady}
 use Rattle.cert_writer.specs.Adding.{AddsPairs, pairs_if_solved, MustClose}
 use Rattle.cert_writer.proofs.Items.{item_at, item_has, numbers_past}
 use Rattle.cert_writer.proofs.Adding.{all_next}
@@ -16,7 +17,7 @@ use Rattle.cert_writer.proofs.closing.cover_pairs.Goals as goal
 pub cover_one-requires-clause-solved_fit : goal.cover_one-requires-clause-solved_fit
 cover_one-requires-clause-solved_fit g c =
     subst (λ (all : List Term). IsFit all c.solved-item.result) (sym c.each.invariant.bank)
-    (clause_fit_at (g.B.Bank.trees c.args.bank.now) c.args.writer.now.live.now c.each.solved-index c.solved-item.result c.solved-item.is c.requires.fit c.each-test.true)
+    (clause_fit_at (g.B.Bank.trees c.args.bank.now) c.args.writer.now.live.now c.each.solved-index c.solved-item.result c.solved-item.is c.requires.ready.fit c.each-test.true)
 
 pub cover_one-requires-clause-solved_live : goal.cover_one-requires-clause-solved_live
 cover_one-requires-clause-solved_live g c =
@@ -47,8 +48,8 @@ returns-clause-rows g c =
 pub returns-in_err-cover_one-clause-bank : goal.returns-in_err-cover_one-clause-bank
 returns-in_err-cover_one-clause-bank g c = c.cover_one.ensures.bank ∙ c.each.invariant.bank
 
-pub cover_one-requires-clause-fit : goal.cover_one-requires-clause-fit
-cover_one-requires-clause-fit g c = subst (λ (all : List Term). AreFit all c.args.writer.now.live.now) (sym c.each.invariant.bank) c.requires.fit
+pub cover_one-requires-clause-ready : goal.cover_one-requires-clause-ready
+cover_one-requires-clause-ready g c = subst (λ (all : List Term). IsReady all c.args.writer.now) (sym c.each.invariant.bank) c.requires.ready
 
 pub cover_one-requires-clause-closed : goal.cover_one-requires-clause-closed
 cover_one-requires-clause-closed g c = subst (λ (all : List Term). MustClose (clauses_at all c.args.writer.now.live.now)) (sym c.each.invariant.bank) c.requires.closed

@@ -4,7 +4,8 @@ use Rattle.spec_clauses.specs.Inclusion.{Has}
 use Rattle.spec_certificates.specs.Certificate.{Numbered, numbered_from}
 use Rattle.spec_verdicts.proofs.Building.{take_past}
 use Rattle.clause_form.specs.Seen.{clause_at}
-use Rattle.clause_form.specs.Fit.{IsFit, AreFit, clauses_at}
+use Rattle.clause_form.specs.Fit.{IsFit, clauses_at}
+use Rattle.cert_writer.specs.Ready.{IsReady}
 use Rattle.cert_writer.specs.Adding.{AddsPairs, pairs_of_two, pairs_of_one, MustClose}
 use Rattle.cert_writer.proofs.Items.{numbers_past}
 use Rattle.cert_writer.proofs.Adding.{one_next}
@@ -53,8 +54,8 @@ returns-clause-rows g c =
 pub returns-in_err-cover_met-clause-bank : goal.returns-in_err-cover_met-clause-bank
 returns-in_err-cover_met-clause-bank g c = c.cover_met.ensures.bank ∙ c.each.invariant.bank
 
-pub cover_met-requires-clause-fit : goal.cover_met-requires-clause-fit
-cover_met-requires-clause-fit g c = subst (λ (all : List Term). AreFit all c.args.writer.now.live.now) (sym c.each.invariant.bank) c.requires.fit
+pub cover_met-requires-clause-ready : goal.cover_met-requires-clause-ready
+cover_met-requires-clause-ready g c = subst (λ (all : List Term). IsReady all c.args.writer.now) (sym c.each.invariant.bank) c.requires.ready
 
 pub cover_met-requires-clause-solved_live : goal.cover_met-requires-clause-solved_live
 cover_met-requires-clause-solved_live g c =

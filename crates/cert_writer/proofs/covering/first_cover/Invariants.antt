@@ -4,4 +4,4 @@ use Rattle.clause_form.specs.Fit.{clauses_at}
 use Rattle.cert_writer.proofs.covering.first_cover.Given as goal
 
 abbrev pub invariant-each : goal.invariant-each
-invariant-each g l = NoneBefore (clauses_at (g.B.Bank.trees l.bank) l.writer.live.now) (clause_at (g.B.Bank.trees l.bank) l.clause) l.k
+invariant-each g l = NoneBefore (clauses_at (g.B.Bank.trees l.bank) l.writer.live.now) (clause_at (g.B.Bank.trees l.bank) l.clause) l.place

@@ -29,4 +29,4 @@ returns-clause-listed g c =
     let count = marked_count all (clause_at all offer.clause.now) offer.number olds marks c.in_ok-beat.ensures.marked in
     let number : offer.number ≡ length marks + 1 = omega (arith, count, c.requires.number) in
     let news : c.push.new.self.items ≡ marks ++ entry ∷ [] = c.in_ok-push.ensures.items ∙ ap (λ (d : Clause Id). marks ++ record { clause = d; origin = c.args.origin; by = None } ∷ []) c.in_ok-clause.ensures in
-    pushed_listed all offer.number marks c.push.new.self.items entry offer.features c.beat.new.walk.live c.list.new.live c.list_end.new.live c.in_ok-beat.ensures.listed number refl news c.in_ok-list.ensures c.in_ok-list_end.ensures c.requires.features
+    pushed_listed all offer.number marks c.push.new.self.items entry offer.looks c.beat.new.walk.live c.list.new.live c.list_end.new.live c.in_ok-beat.ensures.listed number refl news c.in_ok-list.ensures c.in_ok-list_end.ensures c.requires.looks

@@ -20,6 +20,6 @@ pub returns-clause-listed : goal.returns-clause-listed
 returns-clause-listed g c =
     let all = g.B.Bank.trees c.args.bank.now in
     let marks : List Entry = c.mark_items.new.items.items in
-    let same : c.deref-3.result.now ≡ marks = c.deref-3.ensures.value in
+    let same : c.deref-2.result.now ≡ marks = c.deref-2.ensures.value in
     marked_listed all (clause_at all c.args.offer.now.clause.now) c.args.offer.now.number c.args.walk.now.items.items marks c.args.walk.now.live c.drop_all.new.live c.requires.listed c.in_ok-mark_items.ensures.marked
     (subst (λ (es : List Entry). AreAlive es c.args.walk.now.live c.drop_all.new.live) same c.drop_all.ensures)

@@ -2,7 +2,8 @@ use Rattle.std.proofs.Common.{get_or, arith}
 use Rattle.clause_form.specs.Seen.{clause_at}
 use Rattle.clause_saturate.specs.Live.{NumberCovers}
 use Rattle.clause_saturate.proofs.Marking.{when_true, when_false}
-use Rattle.clause_saturate.proofs.Partners.{place_among, covers_behind, covers_none}
+use Rattle.clause_saturate.proofs.Scanning.{place_among}
+use Rattle.clause_saturate.proofs.Partners.{covers_behind, covers_none}
 use Rattle.clause_saturate.proofs.offering.covers_among.Goals as goal
 
 pub covers_at-requires-clause-some : goal.covers_at-requires-clause-some

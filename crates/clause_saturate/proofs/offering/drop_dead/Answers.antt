@@ -1,6 +1,6 @@
 use Rattle.std.proofs.Common.{rules}
 use Rattle.std.proofs.lemmas.Fn.{filter_same}
-use Rattle.clause_saturate.specs.Live.{is_live_at}
+use Rattle.clause_saturate.specs.Numbers.{is_live_at}
 use Rattle.clause_saturate.proofs.offering.drop_dead.Goals as goal
 
 pub returns : goal.returns

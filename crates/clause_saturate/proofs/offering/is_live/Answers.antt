@@ -2,7 +2,7 @@ use Rattle.std.proofs.Common.{◌≡◌, ◌∙◌, ℕ, Bool, true, false, not,
 use Rattle.std.specs.Prelude.{is_some}
 use Rattle.clause_saturate.specs.declared.log.Entry.{Entry}
 use Rattle.clause_saturate.specs.Logs.{is_unbeaten}
-use Rattle.clause_saturate.specs.Live.{is_live_entry}
+use Rattle.clause_saturate.specs.Numbers.{is_live_entry}
 use Rattle.clause_saturate.proofs.Found.{numbered_at}
 use Rattle.clause_saturate.proofs.offering.is_live.Goals as goal
 

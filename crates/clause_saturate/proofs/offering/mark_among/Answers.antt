@@ -1,9 +1,9 @@
-use Rattle.std.proofs.Common.{[], get_or, ◌-◌, ◌∙◌, refl, sym, arith}
+use Rattle.std.proofs.Common.{get_or, length, ◌-◌, ◌<◌, ◌∙◌, refl, ap, sym, arith, rules}
 use Rattle.clause_form.specs.Seen.{clause_at}
 use Rattle.spec_features.specs.Features.{features_of}
 use Rattle.feature_index.specs.declared.lanes.Features.{Features}
-use Rattle.clause_saturate.proofs.Beside.{told_length, told_same}
-use Rattle.clause_saturate.proofs.Lanes.{kept_got}
+use Rattle.fact_fingerprint.specs.Seen.{fingerprint_seen}
+use Rattle.clause_saturate.proofs.Beside.{conclusion_seen, told_length, told_same, told_got}
 use Rattle.clause_saturate.proofs.Marking.{none_yet, but_clauses, but_length, but_fit, marked_on, marked_all, none_marked, got_at}
 use Rattle.clause_saturate.proofs.Covering.{number_there}
 use Rattle.clause_saturate.proofs.offering.mark_among.Goals as goal
@@ -20,23 +20,25 @@ overflow_sub-place g c =
     let some = there.0 in
     omega (arith, some)
 
-pub bounds-kept-place : goal.bounds-kept-place
-bounds-kept-place g c =
+pub index-kept-requires : goal.index-kept-requires
+index-kept-requires g c =
     let all = g.B.Bank.trees c.args.bank.now in
     let there = number_there all c.args.entries.now (clause_at all c.args.offer.now.clause.now) c.args.numbers.now c.each.number-index c.requires.numbers c.each-test.true in
     let some = there.0 in
     let few = there.1 in
-    let kept = told_length features_of (λ (f : Features). f.lanes) all c.args.entries.now c.args.kept.now c.requires.kept in
-    omega (arith, some, few, kept)
+    let kept = told_length features_of (λ (f : Features). f.lanes) all c.args.entries.now c.args.live.now.features.items c.requires.kept in
+    let within : get_or c.args.numbers.now c.each.number-index 0 - 1 < length c.args.live.now.features.items = omega (arith, some, few, kept) in
+    search rules
 
-pub offset_bounds-kept-place : goal.offset_bounds-kept-place
-offset_bounds-kept-place g c =
+pub index-requires : goal.index-requires
+index-requires g c =
     let all = g.B.Bank.trees c.args.bank.now in
     let there = number_there all c.args.entries.now (clause_at all c.args.offer.now.clause.now) c.args.numbers.now c.each.number-index c.requires.numbers c.each-test.true in
     let some = there.0 in
     let few = there.1 in
-    let kept = told_length features_of (λ (f : Features). f.lanes) all c.args.entries.now c.args.kept.now c.requires.kept in
-    omega (arith, some, few, kept)
+    let kept = told_length conclusion_seen fingerprint_seen all c.args.entries.now c.args.live.now.conclusions.items c.requires.conclusions in
+    let within : get_or c.args.numbers.now c.each.number-index 0 - 1 < length c.args.live.now.conclusions.items = omega (arith, some, few, kept) in
+    search rules
 
 pub bounds-entries-place : goal.bounds-entries-place
 bounds-entries-place g c =
@@ -73,8 +75,20 @@ mark-requires-clause-kept g c =
     let some = there.0 in
     let few = there.1 in
     let same = but_length all (clause_at all c.args.offer.now.clause.now) c.args.offer.now.number _ c.args.entries.now c.each.entries c.each.invariant.marked in
-    let lanes = told_same features_of all c.args.entries.now c.each.entries (but_clauses all (clause_at all c.args.offer.now.clause.now) c.args.offer.now.number _ 1 c.args.entries.now c.each.entries c.each.invariant.marked) in
-    kept_got all c.each.entries c.args.kept.now (get_or c.args.numbers.now c.each.number-index 0 - 1) c.index-entries-place.result (record { lanes = [] }) (c.requires.kept ∙ sym lanes) (omega (arith, some, few, same))
+    let clauses = but_clauses all (clause_at all c.args.offer.now.clause.now) c.args.offer.now.number _ 1 c.args.entries.now c.each.entries c.each.invariant.marked in
+    ap (λ (f : Features). f.lanes) c.index-kept.ensures
+    ∙ told_got features_of (λ (f : Features). f.lanes) all c.each.entries c.args.live.now.features.items (get_or c.args.numbers.now c.each.number-index 0 - 1) c.index-entries-place.result c.index-kept.result.now (c.requires.kept ∙ sym (told_same features_of all c.args.entries.now c.each.entries clauses)) (omega (arith, some, few, same))
+
+pub mark-requires-clause-conclusion : goal.mark-requires-clause-conclusion
+mark-requires-clause-conclusion g c =
+    let all = g.B.Bank.trees c.args.bank.now in
+    let there = number_there all c.args.entries.now (clause_at all c.args.offer.now.clause.now) c.args.numbers.now c.each.number-index c.requires.numbers c.each-test.true in
+    let some = there.0 in
+    let few = there.1 in
+    let same = but_length all (clause_at all c.args.offer.now.clause.now) c.args.offer.now.number _ c.args.entries.now c.each.entries c.each.invariant.marked in
+    let clauses = but_clauses all (clause_at all c.args.offer.now.clause.now) c.args.offer.now.number _ 1 c.args.entries.now c.each.entries c.each.invariant.marked in
+    ap fingerprint_seen c.index.ensures
+    ∙ told_got conclusion_seen fingerprint_seen all c.each.entries c.args.live.now.conclusions.items (get_or c.args.numbers.now c.each.number-index 0 - 1) c.index-entries-place.result c.index.result.now (c.requires.conclusions ∙ sym (told_same conclusion_seen all c.args.entries.now c.each.entries clauses)) (omega (arith, some, few, same))
 
 pub each-preserved : goal.each-preserved
 each-preserved g c =

@@ -1,43 +1,74 @@
-use Rattle.std.proofs.Common.{◌≡◌, ◌∙◌, ℕ, Option, None, Some, List, true, false, sym, subst, rules, arith}
+use Rattle.std.proofs.Common.{◌≡◌, ◌∙◌, ℕ, Option, None, Some, List, true, false, length, sym, subst, rules, arith}
 use Rattle.spec_fingerprints.specs.Fingerprints.{clause_print}
 use Rattle.fact_fingerprint.specs.Seen.{fingerprint_seen}
 use Rattle.clause_saturate.specs.declared.walk.Pair.{Pair}
 use Rattle.clause_saturate.specs.Live.{kept_prints, meets_at, IsPartner}
+use Rattle.clause_saturate.specs.Classes.{AreClassed}
 use Rattle.clause_saturate.specs.Pairs.{IsNextPair}
 use Rattle.clause_saturate.proofs.Beside.{told_length}
 use Rattle.clause_saturate.proofs.Found.{numbered_at, entry_known}
-use Rattle.clause_saturate.proofs.Partners.{no_next, next_solved, next_unsolved, none_dead, listed_within}
+use Rattle.clause_saturate.proofs.Partners.{no_next, next_solved, next_unsolved, none_dead, kind_within, kind_alive}
 use Rattle.clause_saturate.proofs.pairs.next_pair.Goals as goal
 
 pub is_solved-requires : goal.is_solved-requires
 is_solved-requires g c = entry_known (g.B.Bank.trees c.args.bank.now) c.args.walk.now.items.items c.args.later c.index-last.result.now c.index-last.ensures c.requires.some c.requires.within c.requires.entries
 
-pub partner-requires-clause-within : goal.partner-requires-clause-within
-partner-requires-clause-within g c = λ number among.
-    (let all = g.B.Bank.trees c.args.bank.now in
+pub class_partner-requires-clause-numbers : goal.class_partner-requires-clause-numbers
+class_partner-requires-clause-numbers g c =
+    let all = g.B.Bank.trees c.args.bank.now in
     let walk = c.args.walk.now in
     let same : c.deref.result.now ≡ walk.live.unsolved.items = search rules in
-    let count = told_length clause_print fingerprint_seen all walk.items.items walk.live.prints.items c.requires.listed.prints in
-    let there = listed_within all walk.items.items false walk.live.unsolved.items c.deref.result.now same c.requires.listed.unsolved number among in
-    (there.0, omega (arith, there.1, count)))
+    kind_within all walk.items.items false walk.live.unsolved.items c.deref.result.now (length walk.live.prints.items) same (told_length clause_print fingerprint_seen all walk.items.items walk.live.prints.items c.requires.listed.prints) c.requires.listed.unsolved
 
-pub partner-requires-clause-later_within : goal.partner-requires-clause-later_within
-partner-requires-clause-later_within g c =
+pub class_partner-requires-clause-alive : goal.class_partner-requires-clause-alive
+class_partner-requires-clause-alive g c =
+    let walk = c.args.walk.now in
+    let same : c.deref.result.now ≡ walk.live.unsolved.items = search rules in
+    kind_alive (g.B.Bank.trees c.args.bank.now) walk.items.items false walk.live.unsolved.items c.deref.result.now same c.requires.listed.unsolved
+
+pub class_partner-requires-clause-classed : goal.class_partner-requires-clause-classed
+class_partner-requires-clause-classed g c =
+    let walk = c.args.walk.now in
+    let same : c.deref.result.now ≡ walk.live.unsolved.items = search rules in
+    subst (λ (ns : List ℕ). AreClassed walk.items.items (kept_prints walk.live.prints.items) ns walk.live.unsolved_classes) (sym same) c.requires.listed.unsolved_classes
+
+pub class_partner-requires-clause-many : goal.class_partner-requires-clause-many
+class_partner-requires-clause-many g c =
+    let walk = c.args.walk.now in
+    told_length clause_print fingerprint_seen (g.B.Bank.trees c.args.bank.now) walk.items.items walk.live.prints.items c.requires.listed.prints
+
+pub class_partner-requires-clause-within : goal.class_partner-requires-clause-within
+class_partner-requires-clause-within g c =
     let walk = c.args.walk.now in
     let count = told_length clause_print fingerprint_seen (g.B.Bank.trees c.args.bank.now) walk.items.items walk.live.prints.items c.requires.listed.prints in
     omega (arith, c.requires.within, count)
 
-pub partner-requires-2-clause-within : goal.partner-requires-2-clause-within
-partner-requires-2-clause-within g c = λ number among.
-    (let all = g.B.Bank.trees c.args.bank.now in
+pub class_partner-requires-2-clause-numbers : goal.class_partner-requires-2-clause-numbers
+class_partner-requires-2-clause-numbers g c =
+    let all = g.B.Bank.trees c.args.bank.now in
     let walk = c.args.walk.now in
     let same : c.deref-2.result.now ≡ walk.live.solved.items = search rules in
-    let count = told_length clause_print fingerprint_seen all walk.items.items walk.live.prints.items c.requires.listed.prints in
-    let there = listed_within all walk.items.items true walk.live.solved.items c.deref-2.result.now same c.requires.listed.solved number among in
-    (there.0, omega (arith, there.1, count)))
+    kind_within all walk.items.items true walk.live.solved.items c.deref-2.result.now (length walk.live.prints.items) same (told_length clause_print fingerprint_seen all walk.items.items walk.live.prints.items c.requires.listed.prints) c.requires.listed.solved
 
-pub partner-requires-2-clause-later_within : goal.partner-requires-2-clause-later_within
-partner-requires-2-clause-later_within g c =
+pub class_partner-requires-2-clause-alive : goal.class_partner-requires-2-clause-alive
+class_partner-requires-2-clause-alive g c =
+    let walk = c.args.walk.now in
+    let same : c.deref-2.result.now ≡ walk.live.solved.items = search rules in
+    kind_alive (g.B.Bank.trees c.args.bank.now) walk.items.items true walk.live.solved.items c.deref-2.result.now same c.requires.listed.solved
+
+pub class_partner-requires-2-clause-classed : goal.class_partner-requires-2-clause-classed
+class_partner-requires-2-clause-classed g c =
+    let walk = c.args.walk.now in
+    let same : c.deref-2.result.now ≡ walk.live.solved.items = search rules in
+    subst (λ (ns : List ℕ). AreClassed walk.items.items (kept_prints walk.live.prints.items) ns walk.live.solved_classes) (sym same) c.requires.listed.solved_classes
+
+pub class_partner-requires-2-clause-many : goal.class_partner-requires-2-clause-many
+class_partner-requires-2-clause-many g c =
+    let walk = c.args.walk.now in
+    told_length clause_print fingerprint_seen (g.B.Bank.trees c.args.bank.now) walk.items.items walk.live.prints.items c.requires.listed.prints
+
+pub class_partner-requires-2-clause-within : goal.class_partner-requires-2-clause-within
+class_partner-requires-2-clause-within g c =
     let walk = c.args.walk.now in
     let count = told_length clause_print fingerprint_seen (g.B.Bank.trees c.args.bank.now) walk.items.items walk.live.prints.items c.requires.listed.prints in
     omega (arith, c.requires.within, count)
