@@ -289,7 +289,8 @@ fn mark_items<B: Bank>(
     requires looks { HasLooks (B.trees bank.now) offer.now.clause.now offer.now.looks }
     requires numbers { AreBeatable (B.trees bank.now) items.old.items
         (clause_at (B.trees bank.now) offer.now.clause.now) numbers.now }
-    requires kept { kept_lanes live.now.features.items ≡ lanes_of (B.trees bank.now) items.old.items }
+    requires kept { kept_lanes live.now.features.items ≡
+        lanes_of (B.trees bank.now) items.old.items }
     requires conclusions { kept_prints live.now.conclusions.items ≡
         conclusion_prints (B.trees bank.now) items.old.items }
     requires entries { AreFit (B.trees bank.now) (clauses_of items.old.items) }

@@ -1,16 +1,14 @@
 //! The first row.
 
-ghost use Rattle.std.specs.Prelude.{◌≡◌, ◌<◌, ◌∷◌, ℕ, List, [], length, map, IfOk, MatchOption};
-ghost use Rattle.spec_terms.specs.Binding.{Binding};
+ghost use Rattle.std.specs.Prelude.{◌<◌, ◌∷◌, ℕ, List, map, IfOk, MatchOption};
 ghost use Rattle.spec_clauses.specs.Norm.{IsNormal};
 ghost use Rattle.spec_clauses.specs.Limits.{IsWithinLimit};
 ghost use Rattle.spec_clauses.specs.Subsumption.{Subsumes, RowHolds, IsFirstRow};
-ghost use Rattle.spec_placements.specs.Placing.{FactMatched, AreLinked};
 ghost use Rattle.clause_form.specs.Facts.{fact_of};
-ghost use Rattle.clause_form.specs.Seen.{fact_at, clause_at, IsFactIn, AreFactsIn, IsClauseIn};
-ghost use Rattle.fact_placing.specs.Boards.{facts_at, IsBoard, IsPlacing, IsAsBefore};
+ghost use Rattle.clause_form.specs.Seen.{clause_at, IsFactIn, AreFactsIn, IsClauseIn};
+ghost use Rattle.fact_placing.specs.Boards.{IsBoard, IsPlacing, IsAsBefore};
 ghost use Rattle.fact_placing.specs.Boards.{AreLinkedOn, CanPlaceOn, HoldsOn, IsLeastRow};
-ghost use Rattle.fact_placing.specs.Boards.{IsNextRow, IsFirstByOn, IsFirstWith, NowhereWith};
+ghost use Rattle.fact_placing.specs.Boards.{IsNextRow, IsFirstByOn};
 
 use crate::parts::{placed_apart, stands_apart};
 use crate::quick::shows_no_row;
@@ -144,33 +142,6 @@ fn first_row<B: Bank>(
     }
 }
 
-/// The first row for the facts, if the conclusions match and there is one.
-fn first_matched<B: Bank>(
-    board: &Board<'_, B>,
-    facts: &[&Fact],
-    general: &Fact,
-    special: &Fact,
-) -> Result<Option<Row>, AllocError>
-    requires board { IsBoard (B.trees board.now.bank.now) (map fact_of board.now.hyps.now) }
-    requires facts { AreFactsIn (B.trees board.now.bank.now) (map (λ f. fact_of f.now) facts.now) }
-    requires general { IsFactIn (B.trees board.now.bank.now) (fact_of general.now) }
-    requires special { IsFactIn (B.trees board.now.bank.now) (fact_of special.now) }
-    requires linked { let all = B.trees board.now.bank.now in (bs : List Binding) → FactMatched []
-        bs (fact_at all (fact_of general.now)) (fact_at all (fact_of special.now)) → AreLinked bs
-        board.now.loose.now (facts_at all (map (λ f. fact_of f.now) facts.now)) }
-    ensures { IfOk result (λ found. MatchOption found
-        (NowhereWith (B.trees board.now.bank.now) (map fact_of board.now.hyps.now)
-        board.now.loose.now (map (λ f. fact_of f.now) facts.now) (fact_of general.now)
-        (fact_of special.now)) (λ row. IsFirstWith (B.trees board.now.bank.now)
-        (map fact_of board.now.hyps.now) board.now.loose.now (map (λ f. fact_of f.now) facts.now)
-        (fact_of general.now) (fact_of special.now) row)) }
-{
-    match begun(board, general, special)? {
-        None => Ok(None),
-        Some(placing) => first_row(board, placing, facts),
-    }
-}
-
 /// The first row that holds for the two clauses, in dictionary order, or `None` where there is none, and the general
 /// clause doesn't subsume the special one. The conditions hold of norms within the limit of size. Where predicates or
 /// numbers of hypotheses differ, so that no row holds, it takes no memory.
@@ -198,14 +169,23 @@ pub fn cover_row<B: Bank>(
     if shows_no_row(bank, general, special) {
         return Ok(None);
     }
-    let facts = firm_of(alloc, bank, &general.hyps.items)?;
-    let loose = loose_of(alloc, bank, &general.hyps.items)?;
-    let board = Board {
+    let matching = Board {
         alloc,
         bank,
         hyps: &special.hyps.items,
-        loose: &loose,
+        loose: &[],
         is_divided: false,
     };
-    first_matched(&board, &facts, &general.concl, &special.concl)
+    match begun(&matching, &general.concl, &special.concl)? {
+        None => Ok(None),
+        Some(placing) => {
+            let facts = firm_of(alloc, bank, &general.hyps.items)?;
+            let loose = loose_of(alloc, bank, &general.hyps.items)?;
+            let board = Board {
+                loose: &loose,
+                ..matching
+            };
+            first_row(&board, placing, &facts)
+        }
+    }
 }

@@ -268,7 +268,7 @@ at_begin-explained P names bytes total b k at (o ∷ heads) of_heads placed text
 
 -- A word ended.
 
-variable_digits : (word : List ℕ) → is_variable word ≡ true → AreDigits (drop 1 word) × (1 ≤ length (drop 1 word))
+pub variable_digits : (word : List ℕ) → is_variable word ≡ true → AreDigits (drop 1 word) × (1 ≤ length (drop 1 word))
 variable_digits [] e = absurd (cc)
 variable_digits (b ∷ []) e = absurd (cc)
 variable_digits (b ∷ d ∷ ds) e = (both_right (b == 118) (list_all is_ascii_digit (d ∷ ds)) e, omega arith)

@@ -77,7 +77,7 @@ no_numeral digits wrong = by (numeral digits) refl
 variable_word : (digits : List ℕ) → AreNoNumber digits → IsWord (118 ∷ digits)
 variable_word digits wrong = record { begins = refl; goes_on = digits_in_word digits wrong.all }
 
-is_variable_word : (digits : List ℕ) → AreNoNumber digits → is_variable (118 ∷ digits) ≡ true
+pub is_variable_word : (digits : List ℕ) → AreNoNumber digits → is_variable (118 ∷ digits) ≡ true
 is_variable_word [] wrong = absurd (let some = wrong.some in omega (arith, some))
 is_variable_word (d ∷ ds) wrong = wrong.all
 
@@ -141,7 +141,7 @@ number_told P here there (inr is) = by is.behind is.ends is.stand
 
 -- Words.
 
-plain_is : (s : Sym) → IsWorded s → IsPlain s
+pub plain_is : (s : Sym) → IsWorded s → IsPlain s
 plain_is (Ctor f) is = tt
 plain_is (Data f) is = tt
 plain_is (Free a) is = tt
@@ -186,7 +186,7 @@ nothing_told P here is at heads from before =
     (λ one. told_behind P bytes at start (is.next ∷ is.behind) in_word bytes Symbol one
     (told_there P is.next is.behind one.place in_word bytes Symbol at Symbol (nothing_step P here is one.place heads at) (sym one.counted) (omega arith))))
 
-no_name : (P : Protocol) (here : List ℕ) → (is : NamesNoRestriction P here) → name_called P is.word is.point ≡ None
+pub no_name : (P : Protocol) (here : List ℕ) → (is : NamesNoRestriction P here) → name_called P is.word is.point ≡ None
 no_name P here is = by (name_called P is.word is.point) refl
   where
     by : (found : Option Named) → name_called P is.word is.point ≡ found → name_called P is.word is.point ≡ None

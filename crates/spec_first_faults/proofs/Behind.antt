@@ -103,7 +103,7 @@ same_fault o p q c d is places codes = is ∙ (ap (λ r. Faulty r c) places ∙ 
 abbrev pub then_read : {A B : Type 0} → Reader A → (ℕ → A → Reader B) → Reader B
 then_read r m bytes at = next (r bytes at) (λ x p k. m at x k p)
 
-found_both : {A B : Type 0} (Last : Type 0) (K L : Kind) (Of On May Must : List ℕ → Type 0) (r : Reader A) (m : ℕ → A → Reader B) → Tells ⊥ K Of May r → ((at : ℕ) (x : A) → Tells Last L On Must (m at x)) → ((bs mid : List ℕ) → Of bs → K.Text bs mid → On mid)
+pub found_both : {A B : Type 0} (Last : Type 0) (K L : Kind) (Of On May Must : List ℕ → Type 0) (r : Reader A) (m : ℕ → A → Reader B) → Tells ⊥ K Of May r → ((at : ℕ) (x : A) → Tells Last L On Must (m at x)) → ((bs mid : List ℕ) → Of bs → K.Text bs mid → On mid)
     → (bytes : List ℕ) (at place : ℕ) (y : B) (rest : List ℕ) → Of bytes → (o : Outcome A) → r bytes at ≡ o → next o (λ x p k. m at x k p) ≡ Found y place rest
     → (behind K L).Text bytes rest × (place + length rest ≡ at + length bytes)
 found_both Last K L Of On May Must r m first second on bytes at place y rest of (Faulty p c) is told = absurd (cc)
@@ -151,7 +151,7 @@ pub later_early : (Last : Type 0) (place q : ℕ) (rest mid : List ℕ) (total :
 later_early Last place q rest mid total e (inl early) = inl (omega (arith, early, e))
 later_early Last place q rest mid total e (inr last) = inr (last.0, omega (arith, last.1, e))
 
-texts_both : {A B : Type 0} (Last : Type 0) (K L : Kind) (Of On May Must : List ℕ → Type 0) (r : Reader A) (m : ℕ → A → Reader B) → Tells ⊥ K Of May r → ((at : ℕ) (x : A) → Tells Last L On Must (m at x)) → Forms Last L Must → ((bs mid : List ℕ) → Of bs → K.Text bs mid → On mid)
+pub texts_both : {A B : Type 0} (Last : Type 0) (K L : Kind) (Of On May Must : List ℕ → Type 0) (r : Reader A) (m : ℕ → A → Reader B) → Tells ⊥ K Of May r → ((at : ℕ) (x : A) → Tells Last L On Must (m at x)) → Forms Last L Must → ((bs mid : List ℕ) → Of bs → K.Text bs mid → On mid)
     → (bytes mid rest : List ℕ) (at : ℕ) → Of bytes → K.Text bytes mid → L.Text mid rest → TextRead Last (then_read r m bytes at) bytes at rest
 texts_both {A} {B} Last K L Of On May Must r m first second forms on bytes mid rest at of one two =
     either (first.texts bytes mid at of one)
@@ -168,7 +168,7 @@ texts_both {A} {B} Last K L Of On May Must r m first second forms on bytes mid r
       other = stops.other;
     })
 
-told_both : {A B : Type 0} (Last : Type 0) (K L : Kind) (Of On May Must : List ℕ → Type 0) (r : Reader A) (m : ℕ → A → Reader B) → Tells ⊥ K Of May r → ((at : ℕ) (x : A) → Tells Last L On Must (m at x)) → Forms Last L Must → ((bs mid : List ℕ) → Of bs → K.Text bs mid → On mid)
+pub told_both : {A B : Type 0} (Last : Type 0) (K L : Kind) (Of On May Must : List ℕ → Type 0) (r : Reader A) (m : ℕ → A → Reader B) → Tells ⊥ K Of May r → ((at : ℕ) (x : A) → Tells Last L On Must (m at x)) → Forms Last L Must → ((bs mid : List ℕ) → Of bs → K.Text bs mid → On mid)
     → (code : Code) (bytes there : List ℕ) (at : ℕ) → Of bytes → (behind K L).Fault code bytes there → ToldIt (then_read r m bytes at) bytes at there code
 told_both {A} {B} Last K L Of On May Must r m first second forms on code bytes there at of (inl fault) =
     let told = first.told code bytes there at of fault in

@@ -151,7 +151,7 @@ clause_lines-are P names =
       within = begun_within 99 (32 ∷ []) inner Anything forms;
     }
 
-clauses_and_rows : (P : Protocol) → HasNames P → (most : ℕ) → Tells ⊥ (at_most most 99 (clause_lines P) rows_and_end) Anything Anything (lines_then 99 (clause_line P) most [] (λ cs. certificate_end cs))
+pub clauses_and_rows : (P : Protocol) → HasNames P → (most : ℕ) → Tells ⊥ (at_most most 99 (clause_lines P) rows_and_end) Anything Anything (lines_then 99 (clause_line P) most [] (λ cs. certificate_end cs))
 clauses_and_rows P names most =
     at_most-tells (clause_lines P) rows_and_end Anything Anything 99 (clause_line P) (λ cs. certificate_end cs) (clause_line-tells P names) (clause_lines-are P names) (any_follows (clause_lines P) rows_and_end) (λ cs. end_tells cs) most []
 

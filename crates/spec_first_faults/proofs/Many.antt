@@ -33,7 +33,7 @@ many_fault-back K L code bytes there (in_one fault) = inl (inl fault)
 many_fault-back K L code bytes there (later mid one fault) = inl (inr (mid, one, fault))
 many_fault-back K L code bytes there (in_last fault) = inr fault
 
-many_is : (K L : Kind) → IsSameKind (one_of (behind K (many K L)) L) (many K L)
+pub many_is : (K L : Kind) → IsSameKind (one_of (behind K (many K L)) L) (many K L)
 many_is K L = record { text = many_text K L; text_back = many_text-back K L; fault = many_fault K L; fault_back = many_fault-back K L }
 
 -- The kind.

@@ -5,22 +5,23 @@ use Rattle.std.proofs.lemmas.List.{append-nil}
 use Rattle.std.specs.Char.{is_ascii_digit}
 use Rattle.std.specs.List.{prefix_len}
 use Rattle.spec_calculus.specs.Syntax.{Protocol}
+use Rattle.spec_certificates.specs.Certificate.{Certificate}
 use Rattle.spec_certificate_text.specs.OfProtocol.{HasNames}
 use Rattle.spec_certificate_reading.specs.Terms.{Code, Syntax, Number, Symbol, Arity, Count, NodeOrder, NodeLarge}
 use Rattle.spec_certificate_reading.specs.Outcomes.{Outcome, Found, Faulty, next, front, ended, Reader, read_fixed, read_number}
 use Rattle.spec_certificate_reading.specs.Certificates.{read_certificate}
-use Rattle.spec_certificate_reading.specs.Reports.{Claim, Proved, Bare, Unknown, read_text, read_proof, read_unknown, read_proved, read_verdict, read_claim, claims_by, claims_from}
+use Rattle.spec_certificate_reading.specs.Reports.{Claim, Proved, Bare, Unknown, read_text, proof_by, read_unknown, proved_by, verdict_by, claim_by, claims_by, claims_from}
 use Rattle.spec_certificate_reading.proofs.Parts.{other_byte, same_byte}
 use Rattle.spec_report_text.specs.Text.{in_line}
 use Rattle.spec_reading_faults.proofs.Shared.{Shares, IsLocal, choice_local}
 use Rattle.spec_reading_faults.proofs.Parts.{same_local}
 use Rattle.spec_reading_faults.proofs.Reports.{verdict_local, claims_local}
 use Rattle.spec_certificate_faults.specs.Grammar.{EndsAt}
-use Rattle.spec_certificate_faults.specs.First.{code_number}
+use Rattle.spec_certificate_faults.specs.First.{Kind, code_number}
 use Rattle.spec_first_faults.specs.Kinds.{fixed, runs, nothing_before, behind, one_of, marked}
 use Rattle.spec_first_faults.specs.Numbers.{numbers}
 use Rattle.spec_first_faults.specs.Clauses.{certificates}
-use Rattle.spec_first_faults.specs.Reports.{reasons, BeginsNone, proofs, verdicts, OrderFault, claims_about, PastFault, AtEnd, anything_else, LeftFault, claims_of, reports}
+use Rattle.spec_first_faults.specs.Reports.{reasons, BeginsNone, proofs_with, verdicts_with, OrderFault, claims_about_with, PastFault, AtEnd, anything_else, LeftFault, claims_with, reports}
 use Rattle.spec_first_faults.proofs.Tells.{Anything, IsLast, GoesPastIt, Forms, Tells, mapped, mapped_tells, same_tells, tells_of, tells_before, tells_last}
 use Rattle.spec_first_faults.proofs.Behind.{then_read, both_tell}
 use Rattle.spec_first_faults.proofs.OneOf.{chosen, IsToldBy, told_by_fixed, one_of_tells}
@@ -57,33 +58,36 @@ reasons_tell =
     (both_tell (runs in_line in_line) (fixed (codes "\n")) Anything Anything (EndsAt in_line) Anything (run_read in_line in_line) (λ _ _. read_fixed (codes "\n")) (runs_tell in_line in_line in_line-tests) (λ at w. fixed_tells (codes "\n"))
     (fixed_tells (codes "\n")).forms (λ bs rest text. subst (EndsAt in_line) (sym text) refl) (λ bs mid of text. tt))
 
--- Proofs.
+-- Where such a reader of certificates tells the first fault of such a kind, which is told by its first byte.
 
-proofs_tell : (P : Protocol) → HasNames P → Tells ⊥ (proofs P) Anything BeginsNone (read_proof P)
-proofs_tell P names =
+pub record ReadsProofs (K : Kind) (one : Reader Certificate) : Type 0 where
+  pub tells : Tells ⊥ K Anything Anything one
+  pub begins : IsToldBy K (λ bs. front bs == 99) true
+
+proofs_tell : (K : Kind) (one : Reader Certificate) → ReadsProofs K one → Tells ⊥ (proofs_with K) Anything BeginsNone (proof_by one)
+proofs_tell K one reads =
     let test = λ (bs : List ℕ). front bs == 99 in
-    let K = certificates P in
     let L = nothing_before BeginsNone in
-    let first = mapped_tells K Anything Anything (read_certificate P) (λ c. Proved c) (certificates_tell P names) in
+    let first = mapped_tells K Anything Anything one (λ c. Proved c) reads.tells in
     let second = nothing_tells {A = Claim} BeginsNone [] refl Bare in
-    one_of_tells K L Anything BeginsNone test (mapped (λ c. Proved c) (read_certificate P)) (λ bytes at. Found Bare at bytes)
-    (tells_before K (λ bs. Anything bs × (test bs ≡ true)) Anything BeginsNone (mapped (λ c. Proved c) (read_certificate P)) [] (λ other is. tt) refl (tells_of K Anything (λ bs. Anything bs × (test bs ≡ true)) Anything (mapped (λ c. Proved c) (read_certificate P)) (λ bs of. tt) first))
+    one_of_tells K L Anything BeginsNone test (mapped (λ c. Proved c) one) (λ bytes at. Found Bare at bytes)
+    (tells_before K (λ bs. Anything bs × (test bs ≡ true)) Anything BeginsNone (mapped (λ c. Proved c) one) [] (λ other is. tt) refl (tells_of K Anything (λ bs. Anything bs × (test bs ≡ true)) Anything (mapped (λ c. Proved c) one) (λ bs of. tt) first))
     (tells_of L BeginsNone (λ bs. Anything bs × (test bs ≡ false)) BeginsNone (λ bytes at. Found Bare at bytes) (λ bs of. of.1) second)
-    (told_by_fixed (codes "cert 1\n") _ test true (λ rest. refl))
+    reads.begins
     record { texts = λ bytes rest text. ap test text.0 ∙ text.1; faults = λ code bytes there fault. absurd fault }
-    (choice_local (λ b. b == 99) (mapped (λ c. Proved c) (read_certificate P)) (λ bytes at. Found Bare at bytes) first.local second.local)
+    (choice_local (λ b. b == 99) (mapped (λ c. Proved c) one) (λ bytes at. Found Bare at bytes) first.local second.local)
 
-verdicts_tell : (P : Protocol) → HasNames P → Tells ⊥ (verdicts P) Anything BeginsNone (read_verdict P)
-verdicts_tell P names =
+verdicts_tell : (K : Kind) (one : Reader Certificate) → ReadsProofs K one → Tells ⊥ (verdicts_with K) Anything BeginsNone (verdict_by one)
+verdicts_tell N one reads =
     let test = λ (bs : List ℕ). front (drop 1 bs) == 117 in
     let K = behind (fixed (codes " unknown ")) reasons in
-    let L = behind (fixed (codes " proved\n")) (proofs P) in
+    let L = behind (fixed (codes " proved\n")) (proofs_with N) in
     let first = behind_fixed (codes " unknown ") reasons Anything (λ _ _. mapped (λ (u : Unit {0}). Unknown) read_text) (λ at u. mapped_tells reasons Anything Anything read_text (λ (u : Unit {0}). Unknown) reasons_tell) in
-    let second = behind_fixed (codes " proved\n") (proofs P) BeginsNone (λ _ _. read_proof P) (λ at u. proofs_tell P names) in
-    one_of_tells K L Anything BeginsNone test read_unknown (read_proved P)
+    let second = behind_fixed (codes " proved\n") (proofs_with N) BeginsNone (λ _ _. proof_by one) (λ at u. proofs_tell N one reads) in
+    one_of_tells K L Anything BeginsNone test read_unknown (proved_by one)
     (tells_before K (λ bs. Anything bs × (test bs ≡ true)) Anything BeginsNone read_unknown [] (λ other is. tt) refl (tells_of K Anything (λ bs. Anything bs × (test bs ≡ true)) Anything read_unknown (λ bs of. tt) first))
-    (tells_of L Anything (λ bs. Anything bs × (test bs ≡ false)) BeginsNone (read_proved P) (λ bs of. tt) second)
-    (told_by_fixed (codes " unknown ") reasons test true (λ rest. refl)) (told_by_fixed (codes " proved\n") (proofs P) test false (λ rest. refl)) (verdict_local P)
+    (tells_of L Anything (λ bs. Anything bs × (test bs ≡ false)) BeginsNone (proved_by one) (λ bs of. tt) second)
+    (told_by_fixed (codes " unknown ") reasons test true (λ rest. refl)) (told_by_fixed (codes " proved\n") (proofs_with N) test false (λ rest. refl)) (verdict_local one reads.tells.local)
 
 -- The number of a query.
 
@@ -148,23 +152,23 @@ order_judges number = record {
     past_it NodeOrder bytes here = absurd here
     past_it NodeLarge bytes here = absurd here
 
-about_tells : (P : Protocol) → HasNames P → (number : ℕ) → Tells ⊥ (claims_about P number) Anything BeginsNone (read_claim P number)
-about_tells P names number =
+about_tells : (N : Kind) (one : Reader Certificate) → ReadsProofs N one → (number : ℕ) → Tells ⊥ (claims_about_with N number) Anything BeginsNone (claim_by one number)
+about_tells N one reads number =
     let K = marked numbers (OrderFault number) in
     let numbered = checked (judge_order number) read_number in
     let first = marked_tells numbers Anything (EndsAt is_ascii_digit) read_number (judge_order number) (OrderFault number) numbers_tell (order_judges number) in
-    same_tells (claims_about P number) Anything BeginsNone (read_claim P number) (then_read (read_fixed (codes "query ")) (λ _ _. then_read numbered (λ _ _. read_verdict P))) same
-    (behind_fixed (codes "query ") (behind K (verdicts P)) BeginsNone (λ _ _. then_read numbered (λ _ _. read_verdict P))
-    (λ at u. both_tell K (verdicts P) Anything Anything (EndsAt is_ascii_digit) BeginsNone numbered (λ _ _. read_verdict P) first (λ at u. verdicts_tell P names) (verdicts_tell P names).forms follows (λ bs mid of text. tt)))
+    same_tells (claims_about_with N number) Anything BeginsNone (claim_by one number) (then_read (read_fixed (codes "query ")) (λ _ _. then_read numbered (λ _ _. verdict_by one))) same
+    (behind_fixed (codes "query ") (behind K (verdicts_with N)) BeginsNone (λ _ _. then_read numbered (λ _ _. verdict_by one))
+    (λ at u. both_tell K (verdicts_with N) Anything Anything (EndsAt is_ascii_digit) BeginsNone numbered (λ _ _. verdict_by one) first (λ at u. verdicts_tell N one reads) (verdicts_tell N one reads).forms follows (λ bs mid of text. tt)))
   where
-    follows : (bs rest : List ℕ) → (verdicts P).Text bs rest → EndsAt is_ascii_digit bs
+    follows : (bs rest : List ℕ) → (verdicts_with N).Text bs rest → EndsAt is_ascii_digit bs
     follows bs rest (inl (mid, text, more)) = subst (EndsAt is_ascii_digit) (sym text) refl
     follows bs rest (inr (mid, text, more)) = subst (EndsAt is_ascii_digit) (sym text) refl
 
-    same : (bytes : List ℕ) (at : ℕ) → read_claim P number bytes at ≡ then_read (read_fixed (codes "query ")) (λ _ _. then_read (checked (judge_order number) read_number) (λ _ _. read_verdict P)) bytes at
+    same : (bytes : List ℕ) (at : ℕ) → claim_by one number bytes at ≡ then_read (read_fixed (codes "query ")) (λ _ _. then_read (checked (judge_order number) read_number) (λ _ _. verdict_by one)) bytes at
     same bytes at =
-        next_twice (read_fixed (codes "query ") bytes at) (λ _ from r. next (read_number r from) (λ n p k. if n == number then Found tt p k else Faulty from Count)) (λ _ p k. read_verdict P k p)
-        ∙ next_same (read_fixed (codes "query ") bytes at) _ _ (λ u from r. ap (λ o. next o (λ _ p k. read_verdict P k p)) (order_as number r from))
+        next_twice (read_fixed (codes "query ") bytes at) (λ _ from r. next (read_number r from) (λ n p k. if n == number then Found tt p k else Faulty from Count)) (λ _ p k. verdict_by one k p)
+        ∙ next_same (read_fixed (codes "query ") bytes at) _ _ (λ u from r. ap (λ o. next o (λ _ p k. verdict_by one k p)) (order_as number r from))
 
 -- A query past the last.
 
@@ -280,10 +284,10 @@ further_tells claims =
     (λ at u. both_tell K anything_else Anything (EndsAt is_ascii_digit) (EndsAt is_ascii_digit) AtEnd (checked judge_past read_number) (λ _ _. to_end claims)
     (marked_tells numbers Anything (EndsAt is_ascii_digit) read_number judge_past PastFault numbers_tell past_judges) (λ at u. anything_else-tells claims) (anything_else-tells claims).forms (λ bs rest text. text.0) (λ bs mid of text. text.ends))
 
-claims_end : (P : Protocol) (number : ℕ) (claims : List Claim) (bytes : List ℕ) (at : ℕ) → claims_from P 0 number claims bytes at ≡ chosen is_some (further_query claims) (λ bs p. Found claims p bs) bytes at
+claims_end : (one : Reader Certificate) (number : ℕ) (claims : List Claim) (bytes : List ℕ) (at : ℕ) → claims_by one 0 number claims bytes at ≡ chosen is_some (further_query claims) (λ bs p. Found claims p bs) bytes at
 unfolding claims_by is_some judge_past
-claims_end P number claims [] at = refl
-claims_end P number claims (b ∷ bytes) at = next_same (read_fixed (codes "query ") (b ∷ bytes) at) _ _ (λ u from r. sym (next_twice (read_number r from) (λ n p k. judged (judge_past n) from p k) (λ x p k. to_end claims k p)))
+claims_end one number claims [] at = refl
+claims_end one number claims (b ∷ bytes) at = next_same (read_fixed (codes "query ") (b ∷ bytes) at) _ _ (λ u from r. sym (next_twice (read_number r from) (λ n p k. judged (judge_past n) from p k) (λ x p k. to_end claims k p)))
 
 -- Some are left.
 
@@ -323,17 +327,17 @@ left_tells = record {
       record { place = at; told = Count; is = refl; not_after = inr (omega (arith, ap length here.1.1), omega (arith, ap code_number here.0)) };
 }
 
-claims_more : (P : Protocol) (left number : ℕ) (claims : List Claim) (bytes : List ℕ) (at : ℕ)
-    → claims_from P (suc left) number claims bytes at ≡ chosen is_some (then_read (read_claim P number) (λ at c. claims_from P left (number + 1) (claims ++ c ∷ []))) (λ bs p. Faulty p Count) bytes at
+claims_more : (one : Reader Certificate) (left number : ℕ) (claims : List Claim) (bytes : List ℕ) (at : ℕ)
+    → claims_by one (suc left) number claims bytes at ≡ chosen is_some (then_read (claim_by one number) (λ at c. claims_by one left (number + 1) (claims ++ c ∷ []))) (λ bs p. Faulty p Count) bytes at
 unfolding claims_by is_some
-claims_more P left number claims [] at = refl
-claims_more P left number claims (b ∷ bytes) at = refl
+claims_more one left number claims [] at = refl
+claims_more one left number claims (b ∷ bytes) at = refl
 
-claims_begin : (P : Protocol) (left number : ℕ) (bytes rest : List ℕ) → (claims_of P left number).Text bytes rest → BeginsNone bytes
-claims_begin P zero number bytes rest (inl (mid, text, more)) = ap (λ bs. front bs == 99) text
-claims_begin P zero number bytes rest (inr (same, none)) = ap (λ bs. front bs == 99) (same ∙ none)
-claims_begin P (suc left) number bytes rest (inl (mid, (inner, text, more), others)) = ap (λ bs. front bs == 99) text
-claims_begin P (suc left) number bytes rest (inr (same, none)) = ap (λ bs. front bs == 99) (same ∙ none)
+claims_begin : (K : Kind) (left number : ℕ) (bytes rest : List ℕ) → (claims_with K left number).Text bytes rest → BeginsNone bytes
+claims_begin K zero number bytes rest (inl (mid, text, more)) = ap (λ bs. front bs == 99) text
+claims_begin K zero number bytes rest (inr (same, none)) = ap (λ bs. front bs == 99) (same ∙ none)
+claims_begin K (suc left) number bytes rest (inl (mid, (inner, text, more), others)) = ap (λ bs. front bs == 99) text
+claims_begin K (suc left) number bytes rest (inr (same, none)) = ap (λ bs. front bs == 99) (same ∙ none)
 
 ends_told : IsToldBy (nothing_before AtEnd) is_some false
 ends_told = record { texts = λ bytes rest text. none_some bytes rest text.0 text.1; faults = λ code bytes there fault. absurd fault }
@@ -344,30 +348,31 @@ left_told = record {
   faults = λ code bytes there fault. none_some bytes bytes refl (left_here code bytes there fault).1.0;
 }
 
-pub claims_tell : (P : Protocol) → HasNames P → (left number : ℕ) (claims : List Claim) → Tells IsLast (claims_of P left number) Anything AtEnd (claims_from P left number claims)
-claims_tell P names zero number claims =
+pub claims_tell : (N : Kind) (one : Reader Certificate) → ReadsProofs N one → (left number : ℕ) (claims : List Claim) → Tells IsLast (claims_with N left number) Anything AtEnd (claims_by one left number claims)
+claims_tell N one reads zero number claims =
     let K = behind (fixed (codes "query ")) (behind (marked numbers PastFault) anything_else) in
     let L = nothing_before AtEnd in
     let ends = λ (bs : List ℕ) (p : ℕ). Found claims p bs in
-    same_tells (one_of K L) Anything AtEnd (claims_from P 0 number claims) (chosen is_some (further_query claims) (λ bs p. Found claims p bs)) (claims_end P number claims)
+    same_tells (one_of K L) Anything AtEnd (claims_by one 0 number claims) (chosen is_some (further_query claims) (λ bs p. Found claims p bs)) (claims_end one number claims)
     (one_of_tells K L Anything AtEnd is_some (further_query claims) (λ bs p. Found claims p bs)
     (tells_of K Anything (λ bs. Anything bs × (is_some bs ≡ true)) AtEnd (further_query claims) (λ bs of. tt) (further_tells claims))
     (tells_of L AtEnd (λ bs. Anything bs × (is_some bs ≡ false)) AtEnd (λ bs p. Found claims p bs) (λ bs of. at_end bs of.1) (tells_last IsLast L AtEnd AtEnd (λ bs p. Found claims p bs) (nothing_tells AtEnd [] refl claims)))
     (told_by_fixed (codes "query ") (behind (marked numbers PastFault) anything_else) is_some true (λ rest. begun_some 113 (codes "uery ") rest)) ends_told
-    (same_local (chosen is_some (further_query claims) (λ bs p. Found claims p bs)) (claims_from P 0 number claims) (λ bs p. sym (claims_end P number claims bs p)) (claims_local P 0 number claims)))
-claims_tell P names (suc left) number claims =
-    let later = claims_of P left (number + 1) in
-    let K = behind (claims_about P number) later in
+    (same_local (chosen is_some (further_query claims) (λ bs p. Found claims p bs)) (claims_by one 0 number claims) (λ bs p. sym (claims_end one number claims bs p)) (claims_local one reads.tells.local 0 number claims)))
+claims_tell N one reads (suc left) number claims =
+    let later = claims_with N left (number + 1) in
+    let K = behind (claims_about_with N number) later in
     let L = marked (nothing_before AtEnd) LeftFault in
-    let goes = then_read (read_claim P number) (λ at c. claims_from P left (number + 1) (claims ++ c ∷ [])) in
-    same_tells (one_of K L) Anything AtEnd (claims_from P (suc left) number claims) (chosen is_some goes (λ bs p. Faulty p Count)) (claims_more P left number claims)
+    let goes = then_read (claim_by one number) (λ at c. claims_by one left (number + 1) (claims ++ c ∷ [])) in
+    same_tells (one_of K L) Anything AtEnd (claims_by one (suc left) number claims) (chosen is_some goes (λ bs p. Faulty p Count)) (claims_more one left number claims)
     (one_of_tells K L Anything AtEnd is_some goes (λ bs p. Faulty p Count)
     (tells_of K Anything (λ bs. Anything bs × (is_some bs ≡ true)) AtEnd goes (λ bs of. tt)
-    (both_tell (claims_about P number) later Anything Anything BeginsNone AtEnd (read_claim P number) (λ at c. claims_from P left (number + 1) (claims ++ c ∷ [])) (about_tells P names number)
-    (λ at c. claims_tell P names left (number + 1) (claims ++ c ∷ [])) (claims_tell P names left (number + 1) []).forms (claims_begin P left (number + 1)) (λ bs mid of text. tt)))
+    (both_tell (claims_about_with N number) later Anything Anything BeginsNone AtEnd (claim_by one number) (λ at c. claims_by one left (number + 1) (claims ++ c ∷ [])) (about_tells N one reads number)
+    (λ at c. claims_tell N one reads left (number + 1) (claims ++ c ∷ [])) (claims_tell N one reads left (number + 1) []).forms (claims_begin N left (number + 1)) (λ bs mid of text. tt)))
     left_tells
-    (behind_told (claims_about P number) later is_some true (told_by_fixed (codes "query ") (behind (marked numbers (OrderFault number)) (verdicts P)) is_some true (λ rest. begun_some 113 (codes "uery ") rest))) left_told
-    (same_local (chosen is_some goes (λ bs p. Faulty p Count)) (claims_from P (suc left) number claims) (λ bs p. sym (claims_more P left number claims bs p)) (claims_local P (suc left) number claims)))
+    (behind_told (claims_about_with N number) later is_some true (told_by_fixed (codes "query ") (behind (marked numbers (OrderFault number)) (verdicts_with N)) is_some true (λ rest. begun_some 113 (codes "uery ") rest))) left_told
+    (same_local (chosen is_some goes (λ bs p. Faulty p Count)) (claims_by one (suc left) number claims) (λ bs p. sym (claims_more one left number claims bs p)) (claims_local one reads.tells.local (suc left) number claims)))
 
 pub report_tells : (P : Protocol) → HasNames P → Tells IsLast (reports P) Anything AtEnd (claims_from P (length P.queries) 1 [])
-report_tells P names = claims_tell P names (length P.queries) 1 []
+report_tells P names =
+    claims_tell (certificates P) (read_certificate P) record { tells = certificates_tell P names; begins = told_by_fixed (codes "cert 1\n") _ (λ bs. front bs == 99) true (λ rest. refl) } (length P.queries) 1 []

@@ -11,7 +11,7 @@ one_way : {X : Type 0} (t : Bool) (o : X) → (if t then o else o) ≡ o
 one_way true o = refl
 one_way false o = refl
 
--- Two readers of fixed bytes that begin alike, told apart by the byte behind what they share. (WalkedFacts.me_as is this at `me`, `v(` and `ss(`: cite this there.)
+-- Two readers of fixed bytes that begin alike, told apart by the byte behind what they share.
 shared_as : {X : Type 0} (w a b : List ℕ) (test : ℕ → Bool) (f g : Reader X) (bytes : List ℕ) (at : ℕ)
     → chosen (λ bs. test (front (drop (length w) bs))) (then_read (read_fixed (w ++ a)) (λ _ _. f)) (then_read (read_fixed (w ++ b)) (λ _ _. g)) bytes at
     ≡ then_read (read_fixed w) (λ _ _. chosen (λ bs. test (front bs)) (then_read (read_fixed a) (λ _ _. f)) (then_read (read_fixed b) (λ _ _. g))) bytes at

@@ -133,16 +133,16 @@ behind_told-in K N s test is text told = record {
 abbrev pub through_then : {A B : Type 0} → ℕ → (A → Reader A) → ℕ → A → (A → Reader B) → Reader B
 through_then letter one most x m = then_read (lines_through letter one most x) (λ at y. m y)
 
-through_more : {A : Type 0} (letter : ℕ) (one : A → Reader A) (most : ℕ) (x : A) (bytes : List ℕ) (at : ℕ)
+pub through_more : {A : Type 0} (letter : ℕ) (one : A → Reader A) (most : ℕ) (x : A) (bytes : List ℕ) (at : ℕ)
     → lines_through letter one (suc most) x bytes at ≡ (if front bytes == letter then next (one x bytes at) (λ y p k. lines_through letter one most y k p) else Found x at bytes)
 unfolding lines_through
 through_more letter one most x bytes at = refl
 
-through_full : {A : Type 0} (letter : ℕ) (one : A → Reader A) (x : A) (bytes : List ℕ) (at : ℕ) → lines_through letter one 0 x bytes at ≡ (if front bytes == letter then Faulty at Count else Found x at bytes)
+pub through_full : {A : Type 0} (letter : ℕ) (one : A → Reader A) (x : A) (bytes : List ℕ) (at : ℕ) → lines_through letter one 0 x bytes at ≡ (if front bytes == letter then Faulty at Count else Found x at bytes)
 unfolding lines_through
 through_full letter one x bytes at = refl
 
-one_line : {A B : Type 0} (letter : ℕ) (one : A → Reader A) (most : ℕ) (x : A) (m : A → Reader B) (bytes : List ℕ) (at : ℕ)
+pub one_line : {A B : Type 0} (letter : ℕ) (one : A → Reader A) (most : ℕ) (x : A) (m : A → Reader B) (bytes : List ℕ) (at : ℕ)
     → through_then letter one (suc most) x m bytes at ≡ chosen (λ bs. front bs == letter) (then_read (one x) (λ at y. through_then letter one most y m)) (m x) bytes at
 one_line {A} {B} letter one most x m bytes at =
     let read = λ (y : A) (p : ℕ) (k : List ℕ). m y k p in
@@ -151,7 +151,7 @@ one_line {A} {B} letter one most x m bytes at =
     ∙ (next_both (front bytes == letter) (next (one x bytes at) more) (Found x at bytes) read
     ∙ ap (λ o. if front bytes == letter then o else m x bytes at) (next_twice (one x bytes at) more read))
 
-no_line : {A B : Type 0} (letter : ℕ) (one : A → Reader A) (x : A) (m : A → Reader B) (bytes : List ℕ) (at : ℕ)
+pub no_line : {A B : Type 0} (letter : ℕ) (one : A → Reader A) (x : A) (m : A → Reader B) (bytes : List ℕ) (at : ℕ)
     → through_then letter one 0 x m bytes at ≡ chosen (λ bs. front bs == letter) (λ bs p. Faulty p Count) (m x) bytes at
 no_line letter one x m bytes at = ap (λ o. next o (λ y p k. m y k p)) (through_full letter one x bytes at) ∙ next_both (front bytes == letter) (Faulty at Count) (Found x at bytes) (λ y p k. m y k p)
 
@@ -166,7 +166,7 @@ through_local letter one local (suc most) x =
     (choice_local (λ b. b == letter) further (λ bs p. Found x p bs) (next_local (one x) (λ at y. lines_through letter one most y) (local x) (λ at y. through_local letter one local most y)) (found_local x))
 
 -- each line has a byte at least
-abbrev Shrinks : {A : Type 0} → (A → Reader A) → Type 0
+abbrev pub Shrinks : {A : Type 0} → (A → Reader A) → Type 0
 Shrinks {A} one = (y : A) (bytes : List ℕ) (at place : ℕ) (z : A) (rest : List ℕ) → one y bytes at ≡ Found z place rest → length rest + 1 ≤ length bytes
 
 through_nothing : {A : Type 0} (letter : ℕ) (one : A → Reader A) → (0 == letter) ≡ false → (most : ℕ) (x : A) (at : ℕ) → lines_through letter one most x [] at ≡ Found x at []
@@ -188,7 +188,7 @@ through_room {A} letter one other shrinks (suc most) (suc more) x (b ∷ bytes) 
     (λ y p k is. let less = shrinks x (b ∷ bytes) at p y k is in through_room letter one other shrinks most more y k p (omega (arith, less, room)) (omega (arith, less, wide))))
     ∙ sym (through_more letter one more x (b ∷ bytes) at))
 
-all_through_local : {A : Type 0} (letter : ℕ) (one : A → Reader A) → (0 == letter) ≡ false → Shrinks one → ((y : A) → IsLocal (one y)) → (x : A) → IsLocal (λ bytes at. lines_through letter one (length bytes) x bytes at)
+pub all_through_local : {A : Type 0} (letter : ℕ) (one : A → Reader A) → (0 == letter) ≡ false → Shrinks one → ((y : A) → IsLocal (one y)) → (x : A) → IsLocal (λ bytes at. lines_through letter one (length bytes) x bytes at)
 all_through_local letter one other shrinks local x = record {
   fault = λ bytes others at n place shares there e.
       let most = length bytes + length others in

@@ -10,3 +10,15 @@ pub mod WalkedClauses
 pub mod InEnds
 pub mod ReachedRows
 pub mod BehindNodes
+pub mod Steady
+pub mod JudgedWithin
+pub mod HeadWords
+pub mod NodeNumbers
+pub mod NodeSpaced
+pub mod NodeHeads
+pub mod NodeBodies
+pub mod NodeFound
+pub mod NodeJudged
+pub mod NodeLines
+pub mod Numbered
+pub mod BothFormats

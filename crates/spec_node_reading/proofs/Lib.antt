@@ -2,11 +2,12 @@ mod Spelled
 mod ReportsOne
 pub mod FactsThere
 mod ClausesThere
-mod NodesThere
+pub mod NodesThere
 mod NumberedThere
 mod RowsFound
 pub mod FactsFound
 mod ClausesFound
-mod NodesFound
+pub mod NodesFound
 mod Goes
 mod NumberedFound
+mod ReportsRead

@@ -281,7 +281,7 @@ module _ (P : Protocol) where
   lower_than before [] numbers = tt
   lower_than before (n ∷ ns) numbers = let some = numbers.0.0 in let most = numbers.0.1 in ((some, omega arith), lower_than before ns numbers.1)
 
-  node_line-found : HasNames P → (before : List Term) (node : TableNode) (rest : List ℕ) (at : ℕ) → IsNodeOf P node → AllByRecursion (IsNumberOf (length before)) (node_numbers node) → AllByRecursion (λ t. same_term (term_of before node) t ≡ false) before
+  pub node_line-found : HasNames P → (before : List Term) (node : TableNode) (rest : List ℕ) (at : ℕ) → IsNodeOf P node → AllByRecursion (IsNumberOf (length before)) (node_numbers node) → AllByRecursion (λ t. same_term (term_of before node) t ≡ false) before
       → size (term_of before node) ≤ most_symbols → Finds (read_node_line P before (110 ∷ 32 ∷ node_text P node (10 ∷ rest)) at) (before ++ (term_of before node ∷ [])) rest
   node_line-found names before node rest at is numbers new small =
       let x = as_read (head_for node) (node_numbers node) in

@@ -160,13 +160,13 @@ module _ (P : Protocol) where
 
 -- Numbers.
 
-record LowerThere (own : ℕ) (bytes : List ℕ) (n : ℕ) (rest : List ℕ) : Type 0 where
-  short : IsShort n
-  text : bytes ≡ decimal n ++ rest
-  some : 1 ≤ n
-  below : n < own
+pub record LowerThere (own : ℕ) (bytes : List ℕ) (n : ℕ) (rest : List ℕ) : Type 0 where
+  pub short : IsShort n
+  pub text : bytes ≡ decimal n ++ rest
+  pub some : 1 ≤ n
+  pub below : n < own
 
-lower_there : (own : ℕ) (bytes : List ℕ) (at n p : ℕ) (r : List ℕ) → lower_number own bytes at ≡ Found n p r → LowerThere own bytes n r
+pub lower_there : (own : ℕ) (bytes : List ℕ) (at n p : ℕ) (r : List ℕ) → lower_number own bytes at ≡ Found n p r → LowerThere own bytes n r
 lower_there own bytes at n p r e =
     let cut = parts (read_number bytes at) (λ m q k. if (m == 0) || nat_le own m then Faulty at NodeOrder else Found m q k) n p r e in
     let there = number_there bytes at cut.value cut.place cut.rest cut.first in
@@ -182,13 +182,13 @@ lower_there own bytes at n p r e =
     neither true b e = absurd (cc)
     neither false b e = (refl, e)
 
-record SpacedThere (own : ℕ) (bytes : List ℕ) (ns before : List ℕ) (rest : List ℕ) : Type 0 where
-  others : List ℕ
-  value : ns ≡ before ++ others
-  short : AllByRecursion IsShort others
-  below : AllByRecursion (λ n. (1 ≤ n) × (n < own)) others
-  text : bytes ≡ numbers_text others rest
-  none : (front bytes == 32) ≡ false → others ≡ []
+pub record SpacedThere (own : ℕ) (bytes : List ℕ) (ns before : List ℕ) (rest : List ℕ) : Type 0 where
+  pub others : List ℕ
+  pub value : ns ≡ before ++ others
+  pub short : AllByRecursion IsShort others
+  pub below : AllByRecursion (λ n. (1 ≤ n) × (n < own)) others
+  pub text : bytes ≡ numbers_text others rest
+  pub none : (front bytes == 32) ≡ false → others ≡ []
 
 module _ (own : ℕ) where
   abbrev read_more : ℕ → List ℕ → List ℕ → ℕ → Outcome (List ℕ)
@@ -209,7 +209,7 @@ module _ (own : ℕ) where
       append_nil [] = refl
       append_nil (x ∷ xs) = ap (λ ys. x ∷ ys) (append_nil xs)
 
-  spaced_there : (most : ℕ) (ms bytes : List ℕ) (at : ℕ) (ns : List ℕ) (p : ℕ) (r : List ℕ) → read_more most ms bytes at ≡ Found ns p r → SpacedThere own bytes ns ms r
+  pub spaced_there : (most : ℕ) (ms bytes : List ℕ) (at : ℕ) (ns : List ℕ) (p : ℕ) (r : List ℕ) → read_more most ms bytes at ≡ Found ns p r → SpacedThere own bytes ns ms r
   spaced_there zero ms bytes at ns p r e =
       chosen (front bytes == 32) (Faulty at Count) (Found ms at bytes) ns p r (SpacedThere own bytes ns ms r) (sym (spaced_full ms bytes at) ∙ e) (λ is never. absurd (cc)) (λ isnt end. no_spaced ms ns bytes r (cc) (cc))
   spaced_there (suc most) ms bytes at ns p r e =
@@ -302,7 +302,7 @@ module _ (P : Protocol) (before : List Term) where
             (subst (AllByRecursion IsShort) ns there.short) (λ y same. sym ns ∙ there.none (head.no_numbers y same)) fits;
       })
 
-  none_same : (t : Term) (us : List Term) → list_any (same_term t) us ≡ false → AllByRecursion (λ u. same_term t u ≡ false) us
+  pub none_same : (t : Term) (us : List Term) → list_any (same_term t) us ≡ false → AllByRecursion (λ u. same_term t u ≡ false) us
   none_same t [] e = tt
   none_same t (u ∷ us) e = (or_first (same_term t u) (list_any (same_term t) us) e, none_same t us (or_second (same_term t u) (list_any (same_term t) us) e))
     where

@@ -25,7 +25,7 @@ not_unknown number k l e =
     let second : 112 ≡ 117 = ap (λ bs. front (drop 1 bs)) same in omega (arith, second)
 
 -- a certificate begins with `c`
-certificate_begins : (P : Protocol) (text : List ℕ) (c : Certificate) (rest : List ℕ) → SpellsCertificate P text c rest → (front text == 99) ≡ true
+pub certificate_begins : (P : Protocol) (text : List ℕ) (c : Certificate) (rest : List ℕ) → SpellsCertificate P text c rest → (front text == 99) ≡ true
 certificate_begins P text c rest (inl one) = ap (λ bs. front bs == 99) one.text
 certificate_begins P text c rest (inr one) = ap (λ bs. front bs == 99) one.text
 

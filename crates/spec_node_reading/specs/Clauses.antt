@@ -1,5 +1,5 @@
 -- The kinds of clauses by numbers, and of certificates by numbers, as the grammar has them.
-use Rattle.std.specs.Prelude.{◌≡◌, ℕ, ◌⊎◌, false, List, [], ◌∷◌, codes}
+use Rattle.std.specs.Prelude.{◌≡◌, ℕ, ◌⊎◌, false, List, [], codes}
 use Rattle.spec_calculus.specs.Bounds.{most_clauses}
 use Rattle.spec_calculus.specs.Syntax.{Protocol}
 use Rattle.spec_terms.specs.Term.{Term}

@@ -1,5 +1,5 @@
 -- The kinds of events and facts by numbers, as the grammar has them, where the table has these terms.
-use Rattle.std.specs.Prelude.{◌≡◌, ◌≢◌, ℕ, List, ◌∷◌, length, codes}
+use Rattle.std.specs.Prelude.{◌≡◌, ◌≢◌, ℕ, List, length, codes}
 use Rattle.spec_calculus.specs.Syntax.{Protocol}
 use Rattle.spec_terms.specs.Term.{Term}
 use Rattle.spec_certificate_text.specs.OfProtocol.{IsEvent}

@@ -9,7 +9,7 @@ use Rattle.spec_protocol_scope.specs.Names.{is_variable}
 use Rattle.spec_terms.specs.Term.{Sym, Tuple, Attacker, Term}
 use Rattle.spec_clauses.specs.Inclusion.{Has}
 use Rattle.spec_certificate_text.specs.Words.{symbol_word}
-use Rattle.spec_certificate_text.specs.OfProtocol.{IsSymbolOf}
+use Rattle.spec_certificate_text.specs.OfProtocol.{IsShort, IsSymbolOf}
 use Rattle.spec_certificate_text.specs.Spelled.{IsWord}
 use Rattle.spec_certificate_reading.specs.Terms.{Code, Number, Symbol, Arity, NodeOrder, NodeLarge}
 use Rattle.spec_certificate_faults.specs.Grammar.{EndsAt}
@@ -92,10 +92,11 @@ bodies P own = one_of (behind (fixed (codes "@ ")) (lower_numbers own)) (behind 
 abbrev pub own_number : List Term → ℕ
 own_number before = suc (length before)
 
--- the bytes are the text of the node, and then a rest with which it does not go on
+-- the bytes are the text of the node, and then a rest with which it does not go on; its numbers are without fault
 pub record IsNodeThere (P : Protocol) (before : List Term) (node : TableNode) (bytes rest : List ℕ) : Type 0 where
   pub text : bytes ≡ node_text P node rest
   pub whole : (bodies P (own_number before)).Text bytes rest
+  pub short : AllByRecursion IsShort (node_numbers node)
   pub below : AllByRecursion (IsNumberOf (length before)) (node_numbers node)
 
 -- the symbol takes another number of arguments

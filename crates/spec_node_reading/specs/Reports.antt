@@ -1,9 +1,9 @@
 -- The texts of reports whose certificates are of either format, reading them, and their kind.
-use Rattle.std.specs.Prelude.{◌≡◌, ℕ, ◌+◌, List, [], ◌∷◌, ◌++◌, length, codes}
+use Rattle.std.specs.Prelude.{◌≡◌, ℕ, List, [], length}
 use Rattle.spec_calculus.specs.Syntax.{Protocol}
 use Rattle.spec_certificate_reading.specs.Outcomes.{Outcome}
-use Rattle.spec_certificate_reading.specs.Reports.{Claim, Proved, Bare, Unknown, claims_by}
-use Rattle.spec_report_text.specs.Text.{query_text, IsReason}
+use Rattle.spec_certificate_reading.specs.Reports.{Claim, claims_by}
+use Rattle.spec_report_text.specs.Text.{SpellsClaimBy, SpellsClaimsBy}
 use Rattle.spec_certificate_faults.specs.First.{Kind}
 use Rattle.spec_first_faults.specs.Reports.{claims_with}
 use Rattle.spec_node_reading.specs.Clauses.{certificates_of_both}
@@ -12,17 +12,11 @@ use Rattle.spec_node_reading.specs.Reading.{read_in_both}
 
 -- the bytes begin with this claim of the query of that number, and the rest stands behind it
 abbrev pub SpellsClaim : Protocol → ℕ → Claim → List ℕ → List ℕ → Type 0
-SpellsClaim P number (Proved certificate) rest bytes =
-    (text : List ℕ) × SpellsCertificate P text certificate rest × (bytes ≡ query_text number (codes " proved\n" ++ text))
-SpellsClaim P number Bare rest bytes = bytes ≡ query_text number (codes " proved\n" ++ rest)
-SpellsClaim P number Unknown rest bytes =
-    (reason : List ℕ) × IsReason reason × (bytes ≡ query_text number (codes " unknown " ++ (reason ++ 10 ∷ rest)))
+SpellsClaim P number claim rest bytes = SpellsClaimBy (SpellsCertificate P) number claim rest bytes
 
 -- the bytes are these claims, the first of which is of the query of that number
 abbrev pub SpellsClaims : Protocol → ℕ → List Claim → List ℕ → Type 0
-SpellsClaims P number [] bytes = bytes ≡ []
-SpellsClaims P number (claim ∷ claims) bytes =
-    (rest : List ℕ) × SpellsClaim P number claim rest bytes × SpellsClaims P (number + 1) claims rest
+SpellsClaims P number claims bytes = SpellsClaimsBy (SpellsCertificate P) number claims bytes
 
 -- the bytes are a report that claims this of the queries of the protocol, of each of them
 pub record SpellsReport (P : Protocol) (bytes : List ℕ) (claims : List Claim) : Type 0 where

@@ -13,10 +13,10 @@
 //! below, which do nothing.
 #![tactic(auto)]
 
-ghost use Rattle.std.specs.Prelude.{◌≡◌, ℕ, List, ◌++◌, codes};
+ghost use Rattle.std.specs.Prelude.{◌≡◌, ℕ, List, [], ◌++◌, length, codes};
 ghost use Rattle.spec_calculus.specs.Syntax.{Protocol};
 ghost use Rattle.spec_certificates.specs.Certificate.{Certificate};
-ghost use Rattle.spec_certificate_text.specs.OfProtocol.{HasNames};
+ghost use Rattle.spec_certificate_text.specs.OfProtocol.{HasNames, IsShort};
 ghost use Rattle.spec_certificate_reading.specs.Terms.{Code, Syntax, Number, Symbol, Arity, NodeOrder};
 ghost use Rattle.spec_certificate_reading.specs.Outcomes.{Found, Faulty};
 ghost use Rattle.spec_certificate_reading.specs.Reports.{Claim};
@@ -28,7 +28,7 @@ ghost use Rattle.spec_node_faults.specs.Grammar.{IsNumberable};
 ghost use Rattle.spec_node_reading.specs.Clauses.{numbered_certificates, certificates_of_both};
 ghost use Rattle.spec_node_reading.specs.Readable.{SpellsNumbered, SpellsPlain, SpellsCertificate};
 ghost use Rattle.spec_node_reading.specs.Reading.{read_numbered, read_in_both};
-ghost use Rattle.spec_node_reading.specs.Reports.{SpellsReport};
+ghost use Rattle.spec_node_reading.specs.Reports.{SpellsReport, read_report_in_both, reports_of_both};
 
 /// The certificate of a name that nobody uses is read; without its last clause a node is never reached, which is told where
 /// the rows begin. With a node twice at the start this is told at the second.
@@ -93,7 +93,7 @@ pub fn worked_clauses()
     ensures cut { read_numbered sending (codes "cert 2\nn c\n") 0 ≡ Faulty 11 Syntax }
 {}
 
-/// There is one first fault at most, of a certificate by numbers and of one in either format.
+/// There is one first fault at most, of a certificate by numbers, of one in either format, and of a report.
 pub fn first_faults_are_one()
     ensures numbered { (P : Protocol) (bytes : List ℕ) (at place other : ℕ) (code another : Code) →
         IsFirstFault (numbered_certificates P) bytes at place code →
@@ -102,6 +102,10 @@ pub fn first_faults_are_one()
     ensures both { (P : Protocol) (bytes : List ℕ) (at place other : ℕ) (code another : Code) →
         IsFirstFault (certificates_of_both P) bytes at place code →
         IsFirstFault (certificates_of_both P) bytes at other another →
+        (place ≡ other) × (code ≡ another) }
+    ensures report { (P : Protocol) (bytes : List ℕ) (place other : ℕ) (code another : Code) →
+        IsFirstFault (reports_of_both P) bytes 0 place code →
+        IsFirstFault (reports_of_both P) bytes 0 other another →
         (place ≡ other) × (code ≡ another) }
 {}
 
@@ -122,7 +126,7 @@ pub fn reports_are_one()
 {}
 
 /// A certificate that was read is the one that the bytes spell, and then the rest: it may be written by a table, and its text by
-/// its table is there; or it may be written without one, and its text is there.
+/// its table is there; or it may be written without one, and its text is there. Claims that were read are what all bytes spell.
 pub fn what_is_read_is_spelled()
     ensures numbered { (P : Protocol) (bytes : List ℕ) (at place : ℕ) (c : Certificate)
         (rest : List ℕ) →
@@ -130,10 +134,13 @@ pub fn what_is_read_is_spelled()
     ensures both { (P : Protocol) (bytes : List ℕ) (at place : ℕ) (c : Certificate)
         (rest : List ℕ) →
         read_in_both P bytes at ≡ Found c place rest → SpellsCertificate P bytes c rest }
+    ensures report { (P : Protocol) (bytes : List ℕ) (claims : List Claim) (place : ℕ)
+        (rest : List ℕ) →
+        read_report_in_both P bytes ≡ Found claims place rest → SpellsReport P bytes claims }
 {}
 
 /// The text of a certificate that may be written by a table is read as this certificate, whatever follows; so is a certificate in
-/// whichever format.
+/// whichever format, and so are the claims of a report.
 pub fn texts_are_read()
     ensures numbered { (P : Protocol) (c : Certificate) (rest : List ℕ) (at : ℕ) → HasNames P →
         IsNumberable P c →
@@ -141,4 +148,7 @@ pub fn texts_are_read()
     ensures both { (P : Protocol) (bytes : List ℕ) (c : Certificate) (rest : List ℕ) (at : ℕ) →
         HasNames P → SpellsCertificate P bytes c rest →
         (place : ℕ) × (read_in_both P bytes at ≡ Found c place rest) }
+    ensures report { (P : Protocol) (bytes : List ℕ) (claims : List Claim) → HasNames P →
+        IsShort (length P.queries) → SpellsReport P bytes claims →
+        (place : ℕ) × (read_report_in_both P bytes ≡ Found claims place []) }
 {}

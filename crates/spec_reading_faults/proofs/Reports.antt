@@ -4,11 +4,12 @@ use Rattle.std.proofs.lemmas.Bool.Decides.{nat_tests}
 use Rattle.std.specs.List.{prefix_len, position_or_len}
 use Rattle.std.proofs.lemmas.List.Recursion.{is_position_or_len}
 use Rattle.spec_calculus.specs.Syntax.{Protocol}
+use Rattle.spec_certificates.specs.Certificate.{Certificate}
 use Rattle.spec_certificate_text.specs.OfProtocol.{HasNames, IsShort}
 use Rattle.spec_certificate_reading.specs.Terms.{Syntax, Count}
 use Rattle.spec_certificate_reading.specs.Outcomes.{Outcome, Found, Faulty, next, front, read_fixed, read_number, Reader}
 use Rattle.spec_certificate_reading.specs.Certificates.{read_certificate}
-use Rattle.spec_certificate_reading.specs.Reports.{Claim, Proved, Bare, Unknown, query_number, read_text, read_proof, read_verdict, read_claim, behind_claims, claims_by, claims_from, read_report}
+use Rattle.spec_certificate_reading.specs.Reports.{Claim, Proved, Bare, Unknown, query_number, read_text, proof_by, verdict_by, claim_by, behind_claims, claims_by, read_report}
 use Rattle.spec_report_text.specs.Text.{SpellsReport, in_line}
 use Rattle.spec_report_text.proofs.ReportsRead.{refused_is_none}
 use Rattle.spec_reading_faults.proofs.Shared.{Shares, shares_behind, Passed, IsLocal, next_local, choice_local, found_local, never_local, other_local}
@@ -87,14 +88,14 @@ text_local : IsLocal read_text
 unfolding some_line
 text_local = same_local read_text some_line text_as (choice_local (λ b. b == 10) no_line line no_line-local line_local)
 
--- What is claimed.
+-- What is claimed, where certificates are read so.
 
-certified : Protocol → Reader Claim
-certified P bytes at = next (read_certificate P bytes at) (λ c p r. Found (Proved c) p r)
+certified : Reader Certificate → Reader Claim
+certified one bytes at = next (one bytes at) (λ c p r. Found (Proved c) p r)
 
-certified_local : (P : Protocol) → IsLocal (certified P)
+certified_local : (one : Reader Certificate) → IsLocal one → IsLocal (certified one)
 unfolding certified
-certified_local P = next_local (read_certificate P) (λ at c bytes p. Found (Proved c) p bytes) (certificate_local P) (λ at c. found_local (Proved c))
+certified_local one local = next_local one (λ at c bytes p. Found (Proved c) p bytes) local (λ at c. found_local (Proved c))
 
 bare : Reader Claim
 bare bytes at = Found Bare at bytes
@@ -103,9 +104,9 @@ bare_local : IsLocal bare
 unfolding bare
 bare_local = found_local Bare
 
-proof_local : (P : Protocol) → IsLocal (read_proof P)
+proof_local : (one : Reader Certificate) → IsLocal one → IsLocal (proof_by one)
 unfolding certified bare
-proof_local P = choice_local (λ b. b == 99) (certified P) bare (certified_local P) bare_local
+proof_local one local = choice_local (λ b. b == 99) (certified one) bare (certified_local one local) bare_local
 
 reason : Reader Claim
 reason bytes at = next (read_text bytes at) (λ _ p r. Found Unknown p r)
@@ -116,41 +117,41 @@ reason_local = next_local read_text (λ at u bytes p. Found Unknown p bytes) tex
 
 -- ` unknown ` and ` proved` begin with the same byte, and the second tells them apart.
 
-second : Protocol → Reader Claim
-second P bytes at =
+second : Reader Certificate → Reader Claim
+second one bytes at =
     if front bytes == 117 then next (read_fixed (codes "unknown ") bytes at) (λ _ p k. reason k p)
-    else next (read_fixed (codes "proved\n") bytes at) (λ _ p k. read_proof P k p)
+    else next (read_fixed (codes "proved\n") bytes at) (λ _ p k. proof_by one k p)
 
-second_local : (P : Protocol) → IsLocal (second P)
+second_local : (one : Reader Certificate) → IsLocal one → IsLocal (second one)
 unfolding second
-second_local P =
-    choice_local (λ b. b == 117) (λ bytes at. next (read_fixed (codes "unknown ") bytes at) (λ _ p k. reason k p)) (λ bytes at. next (read_fixed (codes "proved\n") bytes at) (λ _ p k. read_proof P k p))
-    (behind_fixed (codes "unknown ") reason reason_local) (behind_fixed (codes "proved\n") (read_proof P) (proof_local P))
+second_local one local =
+    choice_local (λ b. b == 117) (λ bytes at. next (read_fixed (codes "unknown ") bytes at) (λ _ p k. reason k p)) (λ bytes at. next (read_fixed (codes "proved\n") bytes at) (λ _ p k. proof_by one k p))
+    (behind_fixed (codes "unknown ") reason reason_local) (behind_fixed (codes "proved\n") (proof_by one) (proof_local one local))
 
-behind_space : Protocol → Reader Claim
-behind_space P bytes at = next (read_fixed (codes " ") bytes at) (λ _ p k. second P k p)
+behind_space : Reader Certificate → Reader Claim
+behind_space one bytes at = next (read_fixed (codes " ") bytes at) (λ _ p k. second one k p)
 
 one_way : {A : Type 0} (t : Bool) (o : Outcome A) → (if t then o else o) ≡ o
 one_way true o = refl
 one_way false o = refl
 
-verdict_as : (P : Protocol) (bytes : List ℕ) (at : ℕ) → read_verdict P bytes at ≡ behind_space P bytes at
+verdict_as : (one : Reader Certificate) (bytes : List ℕ) (at : ℕ) → verdict_by one bytes at ≡ behind_space one bytes at
 unfolding behind_space second reason read_fixed
-verdict_as P [] at = refl
-verdict_as P (b ∷ bytes) at = by (b == 32)
+verdict_as one [] at = refl
+verdict_as one (b ∷ bytes) at = by (b == 32)
   where
     by : (t : Bool) → (if front bytes == 117 then next (if t then read_fixed (codes "unknown ") bytes (at + 1) else Faulty at Syntax) (λ _ p k. reason k p)
-        else next (if t then read_fixed (codes "proved\n") bytes (at + 1) else Faulty at Syntax) (λ _ p k. read_proof P k p))
-        ≡ next {A = Unit {0}} {B = Claim} (if t then Found tt (at + 1) bytes else Faulty at Syntax) (λ _ p k. second P k p)
+        else next (if t then read_fixed (codes "proved\n") bytes (at + 1) else Faulty at Syntax) (λ _ p k. proof_by one k p))
+        ≡ next {A = Unit {0}} {B = Claim} (if t then Found tt (at + 1) bytes else Faulty at Syntax) (λ _ p k. second one k p)
     by true = refl
     by false = one_way (front bytes == 117) (Faulty at Syntax)
 
-pub verdict_local : (P : Protocol) → IsLocal (read_verdict P)
+pub verdict_local : (one : Reader Certificate) → IsLocal one → IsLocal (verdict_by one)
 unfolding behind_space
-verdict_local P = same_local (read_verdict P) (behind_space P) (verdict_as P) (behind_fixed (codes " ") (second P) (second_local P))
+verdict_local one local = same_local (verdict_by one) (behind_space one) (verdict_as one) (behind_fixed (codes " ") (second one) (second_local one local))
 
-claim_local : (P : Protocol) (number : ℕ) → IsLocal (read_claim P number)
-claim_local P number = next_local (query_number number) (λ at u. read_verdict P) (query_number-local number) (λ at u. verdict_local P)
+claim_local : (one : Reader Certificate) → IsLocal one → (number : ℕ) → IsLocal (claim_by one number)
+claim_local one local number = next_local (query_number number) (λ at u. verdict_by one) (query_number-local number) (λ at u. verdict_local one local)
 
 -- A reader that looks first whether a byte is there.
 
@@ -206,40 +207,40 @@ ends_local claims = some_local (ends claims) further (λ b bytes at. refl)
     (λ at place x rest e. let places : at ≡ place = cc in let rests : [] ≡ rest = cc in record { count = 0; there = omega (arith, places); is = sym rests })
     further_local
 
-claims_end : (P : Protocol) (number : ℕ) (claims : List Claim) (bytes : List ℕ) (at : ℕ) → claims_from P 0 number claims bytes at ≡ ends claims bytes at
+claims_end : (one : Reader Certificate) (number : ℕ) (claims : List Claim) (bytes : List ℕ) (at : ℕ) → claims_by one 0 number claims bytes at ≡ ends claims bytes at
 unfolding claims_by ends
-claims_end P number claims bytes at = refl
+claims_end one number claims bytes at = refl
 
-claims_none : (P : Protocol) (left number : ℕ) (claims : List Claim) (at : ℕ) → claims_from P (suc left) number claims [] at ≡ Faulty at Count
+claims_none : (one : Reader Certificate) (left number : ℕ) (claims : List Claim) (at : ℕ) → claims_by one (suc left) number claims [] at ≡ Faulty at Count
 unfolding claims_by
-claims_none P left number claims at = refl
+claims_none one left number claims at = refl
 
-one_claim : Protocol → ℕ → ℕ → List Claim → Reader (List Claim)
-one_claim P left number claims bytes at = next (read_claim P number bytes at) (λ c p r. claims_from P left (number + 1) (claims ++ c ∷ []) r p)
+one_claim : Reader Certificate → ℕ → ℕ → List Claim → Reader (List Claim)
+one_claim one left number claims bytes at = next (claim_by one number bytes at) (λ c p r. claims_by one left (number + 1) (claims ++ c ∷ []) r p)
 
-claims_more : (P : Protocol) (left number : ℕ) (claims : List Claim) (b : ℕ) (bytes : List ℕ) (at : ℕ) → claims_from P (suc left) number claims (b ∷ bytes) at ≡ one_claim P left number claims (b ∷ bytes) at
+claims_more : (one : Reader Certificate) (left number : ℕ) (claims : List Claim) (b : ℕ) (bytes : List ℕ) (at : ℕ) → claims_by one (suc left) number claims (b ∷ bytes) at ≡ one_claim one left number claims (b ∷ bytes) at
 unfolding claims_by one_claim
-claims_more P left number claims b bytes at = refl
+claims_more one left number claims b bytes at = refl
 
-none_later : (P : Protocol) (left number : ℕ) (claims : List Claim) (at place : ℕ) → claims_from P (suc left) number claims [] at ≡ Faulty place Syntax → at ≤ place
-none_later P left number claims at place e = let never : Faulty at Count ≡ Faulty place Syntax = sym (claims_none P left number claims at) ∙ e in absurd (cc)
+none_later : (one : Reader Certificate) (left number : ℕ) (claims : List Claim) (at place : ℕ) → claims_by one (suc left) number claims [] at ≡ Faulty place Syntax → at ≤ place
+none_later one left number claims at place e = let never : Faulty at Count ≡ Faulty place Syntax = sym (claims_none one left number claims at) ∙ e in absurd (cc)
 
-none_passed : (P : Protocol) (left number : ℕ) (claims : List Claim) (at place : ℕ) (x : List Claim) (rest : List ℕ) → claims_from P (suc left) number claims [] at ≡ Found x place rest → Passed [] at place rest
-none_passed P left number claims at place x rest e = let never : Faulty at Count ≡ Found x place rest = sym (claims_none P left number claims at) ∙ e in absurd (cc)
+none_passed : (one : Reader Certificate) (left number : ℕ) (claims : List Claim) (at place : ℕ) (x : List Claim) (rest : List ℕ) → claims_by one (suc left) number claims [] at ≡ Found x place rest → Passed [] at place rest
+none_passed one left number claims at place x rest e = let never : Faulty at Count ≡ Found x place rest = sym (claims_none one left number claims at) ∙ e in absurd (cc)
 
-one_claim-local : (P : Protocol) (left number : ℕ) (claims : List Claim) → ((more : List Claim) → IsLocal (claims_from P left (number + 1) more)) → IsLocal (one_claim P left number claims)
+one_claim-local : (one : Reader Certificate) → IsLocal one → (left number : ℕ) (claims : List Claim) → ((more : List Claim) → IsLocal (claims_by one left (number + 1) more)) → IsLocal (one_claim one left number claims)
 unfolding one_claim
-one_claim-local P left number claims again = next_local (read_claim P number) (λ at c. claims_from P left (number + 1) (claims ++ c ∷ [])) (claim_local P number) (λ at c. again (claims ++ c ∷ []))
+one_claim-local one local left number claims again = next_local (claim_by one number) (λ at c. claims_by one left (number + 1) (claims ++ c ∷ [])) (claim_local one local number) (λ at c. again (claims ++ c ∷ []))
 
-pub claims_local : (P : Protocol) (left number : ℕ) (claims : List Claim) → IsLocal (claims_from P left number claims)
-claims_local P zero number claims = same_local (claims_from P 0 number claims) (ends claims) (claims_end P number claims) (ends_local claims)
-claims_local P (suc left) number claims =
-    some_local (claims_from P (suc left) number claims) (one_claim P left number claims) (claims_more P left number claims) (none_later P left number claims) (none_passed P left number claims)
-    (one_claim-local P left number claims (λ more. claims_local P left (number + 1) more))
+pub claims_local : (one : Reader Certificate) → IsLocal one → (left number : ℕ) (claims : List Claim) → IsLocal (claims_by one left number claims)
+claims_local one local zero number claims = same_local (claims_by one 0 number claims) (ends claims) (claims_end one number claims) (ends_local claims)
+claims_local one local (suc left) number claims =
+    some_local (claims_by one (suc left) number claims) (one_claim one left number claims) (claims_more one left number claims) (none_later one left number claims) (none_passed one left number claims)
+    (one_claim-local one local left number claims (λ more. claims_local one local left (number + 1) more))
 
 pub report_told : (P : Protocol) (before : List ℕ) (b : ℕ) (rest other : List ℕ) → read_report P (before ++ b ∷ rest) ≡ Faulty (length before) Syntax → read_report P (before ++ b ∷ other) ≡ Faulty (length before) Syntax
 report_told P before b rest other e =
-    (claims_local P (length P.queries) 1 []).fault (before ++ b ∷ rest) (before ++ b ∷ other) 0 (length before) (length before) (shares_behind before b rest other) (omega arith) e
+    (claims_local (read_certificate P) (certificate_local P) (length P.queries) 1 []).fault (before ++ b ∷ rest) (before ++ b ∷ other) 0 (length before) (length before) (shares_behind before b rest other) (omega arith) e
 
 pub no_report : (P : Protocol) (before : List ℕ) (b : ℕ) (rest other : List ℕ) (claims : List Claim) → HasNames P → IsShort (length P.queries) → read_report P (before ++ b ∷ rest) ≡ Faulty (length before) Syntax → SpellsReport P (before ++ b ∷ other) claims → ⊥
 no_report P before b rest other claims names short e spells = refused_is_none P names short (before ++ b ∷ other) claims (length before) Syntax (report_told P before b rest other e) spells

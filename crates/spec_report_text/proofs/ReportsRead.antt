@@ -12,13 +12,13 @@ use Rattle.spec_certificates.specs.Certificate.{Certificate}
 use Rattle.spec_certificate_text.specs.Text.{certificate_text}
 use Rattle.spec_certificate_text.specs.OfProtocol.{IsShort, HasNames}
 use Rattle.spec_certificate_reading.specs.Terms.{Code, Syntax, Count}
-use Rattle.spec_certificate_reading.specs.Outcomes.{Outcome, Found, Faulty, next, front, read_fixed, read_number}
+use Rattle.spec_certificate_reading.specs.Outcomes.{Outcome, Found, Faulty, next, front, Reader, read_fixed, read_number}
 use Rattle.spec_certificate_reading.specs.Certificates.{read_certificate}
 use Rattle.spec_certificate_reading.specs.Readable.{IsReadableCertificate}
-use Rattle.spec_certificate_reading.specs.Reports.{Claim, Proved, Bare, Unknown, query_number, read_text, read_proof, read_proved, read_unknown, read_verdict, read_claim, behind_claims, claims_by, claims_from, read_report}
+use Rattle.spec_certificate_reading.specs.Reports.{Claim, Proved, Bare, Unknown, query_number, read_text, proof_by, proved_by, read_unknown, verdict_by, claim_by, behind_claims, claims_by, read_report}
 use Rattle.spec_certificate_reading.proofs.Parts.{Finds, parts, joined, chosen, when_true, when_false, equal_byte, same_byte, fixed_there, fixed_found, run_stops, number_there, number_found}
 use Rattle.spec_certificate_reading.proofs.CertificatesRead.{read_certificate-there, read_certificate-found}
-use Rattle.spec_report_text.specs.Text.{query_text, in_line, IsReason, SpellsClaim, SpellsClaims, SpellsReport}
+use Rattle.spec_report_text.specs.Text.{query_text, in_line, IsReason, SpellsClaimBy, SpellsClaimsBy, SpellsClaim, SpellsClaims, SpellsReport}
 
 -- What was read is there.
 
@@ -66,66 +66,11 @@ text_there bytes at u p r e =
       text = sym (take-append-drop long bytes) ∙ ap (λ k. take long bytes ++ k) (fixed_there (codes "\n") (drop long bytes) (at + long) u p r found);
     })
 
--- the certificate that was found
-abbrev as_proved : Certificate → ℕ → List ℕ → Outcome Claim
-as_proved c p r = Found (Proved c) p r
-
-proof_there : (P : Protocol) (number : ℕ) (whole bytes : List ℕ) (at : ℕ) (claim : Claim) (p : ℕ) (r : List ℕ) → whole ≡ query_text number (codes " proved\n" ++ bytes) → read_proof P bytes at ≡ Found claim p r → SpellsClaim P number claim r whole
-proof_there P number whole bytes at claim p r text e =
-    chosen (front bytes == 99) (next (read_certificate P bytes at) as_proved) (Found Bare at bytes) claim p r (SpellsClaim P number claim r whole) e
-    (λ is found.
-    let cut = parts (read_certificate P bytes at) as_proved claim p r found in
-    let there = read_certificate-there P bytes at cut.value cut.place cut.rest cut.first in
-    let same : Proved cut.value ≡ claim = cc in
-    let rests : cut.rest ≡ r = cc in
-    subst (λ c. SpellsClaim P number c r whole) same
-    (there.is, text ∙ ap (λ k. query_text number (codes " proved\n" ++ k)) (there.text ∙ ap (certificate_text P cut.value) rests)))
-    (λ isnt found.
-    let same : Bare ≡ claim = cc in
-    let rests : bytes ≡ r = cc in
-    subst (λ c. SpellsClaim P number c r whole) same (text ∙ ap (λ k. query_text number (codes " proved\n" ++ k)) rests))
-
-abbrev behind_proved : Protocol → Unit {0} → ℕ → List ℕ → Outcome Claim
-behind_proved P u p r = read_proof P r p
-
-proved_there : (P : Protocol) (number : ℕ) (whole bytes : List ℕ) (at : ℕ) (claim : Claim) (p : ℕ) (r : List ℕ) → whole ≡ query_text number bytes → read_proved P bytes at ≡ Found claim p r → SpellsClaim P number claim r whole
-proved_there P number whole bytes at claim p r text e =
-    let cut = parts (read_fixed (codes " proved\n") bytes at) (behind_proved P) claim p r e in
-    let words = fixed_there (codes " proved\n") bytes at cut.value cut.place cut.rest cut.first in
-    proof_there P number whole cut.rest cut.place claim p r (text ∙ ap (query_text number) words) cut.later
-
 abbrev as_unknown : Unit {0} → ℕ → List ℕ → Outcome Claim
 as_unknown u p r = Found Unknown p r
 
 abbrev behind_unknown : Unit {0} → ℕ → List ℕ → Outcome Claim
 behind_unknown u p r = next (read_text r p) as_unknown
-
-unknown_there : (P : Protocol) (number : ℕ) (whole bytes : List ℕ) (at : ℕ) (claim : Claim) (p : ℕ) (r : List ℕ) → whole ≡ query_text number bytes → read_unknown bytes at ≡ Found claim p r → SpellsClaim P number claim r whole
-unknown_there P number whole bytes at claim p r text e =
-    let cut = parts (read_fixed (codes " unknown ") bytes at) behind_unknown claim p r e in
-    let words = fixed_there (codes " unknown ") bytes at cut.value cut.place cut.rest cut.first in
-    let later = parts (read_text cut.rest cut.place) as_unknown claim p r cut.later in
-    let why = text_there cut.rest cut.place later.value later.place later.rest later.first in
-    let same : Unknown ≡ claim = cc in
-    let rests : later.rest ≡ r = cc in
-    subst (λ c. SpellsClaim P number c r whole) same
-    (why.reason, why.is, text ∙ ap (query_text number) (words ∙ ap (λ k. codes " unknown " ++ k) (why.text ∙ ap (λ k. why.reason ++ 10 ∷ k) rests)))
-
-verdict_there : (P : Protocol) (number : ℕ) (whole bytes : List ℕ) (at : ℕ) (claim : Claim) (p : ℕ) (r : List ℕ) → whole ≡ query_text number bytes → read_verdict P bytes at ≡ Found claim p r → SpellsClaim P number claim r whole
-verdict_there P number whole bytes at claim p r text e =
-    chosen (front (drop 1 bytes) == 117) (read_unknown bytes at) (read_proved P bytes at) claim p r (SpellsClaim P number claim r whole) e
-    (λ is found. unknown_there P number whole bytes at claim p r text found)
-    (λ isnt found. proved_there P number whole bytes at claim p r text found)
-
-abbrev behind_number : Protocol → Unit {0} → ℕ → List ℕ → Outcome Claim
-behind_number P u p r = read_verdict P r p
-
-claim_there : (P : Protocol) (number : ℕ) (bytes : List ℕ) (at : ℕ) (claim : Claim) (p : ℕ) (r : List ℕ) → read_claim P number bytes at ≡ Found claim p r → SpellsClaim P number claim r bytes
-claim_there P number bytes at claim p r e =
-    let cut = parts (query_number number bytes at) (behind_number P) claim p r e in
-    verdict_there P number bytes cut.rest cut.place claim p r (query_there number bytes at cut.value cut.place cut.rest cut.first) cut.later
-
--- Claims, one after the other.
 
 abbrev none_further : List Claim → Unit {0} → ℕ → List ℕ → Outcome (List Claim)
 none_further claims u from r = next (read_number r from) (λ n p k. Faulty from Count)
@@ -137,51 +82,6 @@ nothing_behind claims at (b ∷ bytes) all p r e =
     let later = parts (read_number cut.rest cut.place) (λ n p k. Faulty cut.place Count) all p r cut.later in
     let never : Faulty cut.place Count ≡ Found all p r = later.later in
     absurd (cc)
-
-claims_end : (P : Protocol) (number : ℕ) (claims : List Claim) (bytes : List ℕ) (at : ℕ) → claims_from P 0 number claims bytes at ≡ behind_claims claims at bytes
-unfolding claims_by
-claims_end P number claims bytes at = refl
-
-claims_cut : (P : Protocol) (left number : ℕ) (claims : List Claim) (at : ℕ) → claims_from P (suc left) number claims [] at ≡ Faulty at Count
-unfolding claims_by
-claims_cut P left number claims at = refl
-
-abbrev behind_claim : Protocol → ℕ → ℕ → List Claim → Claim → ℕ → List ℕ → Outcome (List Claim)
-behind_claim P left number claims c p r = claims_from P left (number + 1) (claims ++ c ∷ []) r p
-
-claims_more : (P : Protocol) (left number : ℕ) (claims : List Claim) (b : ℕ) (bytes : List ℕ) (at : ℕ) → claims_from P (suc left) number claims (b ∷ bytes) at ≡ next (read_claim P number (b ∷ bytes) at) (behind_claim P left number claims)
-unfolding claims_by
-claims_more P left number claims b bytes at = refl
-
--- behind these claims others were found
-record ClaimsBehind (P : Protocol) (number left : ℕ) (bytes : List ℕ) (claims all : List Claim) : Type 0 where
-  pub others : List Claim
-  pub is : all ≡ claims ++ others
-  pub each : SpellsClaims P number others bytes
-  pub so_many : length others ≡ left
-
-claims_there : (P : Protocol) (left number : ℕ) (claims : List Claim) (bytes : List ℕ) (at : ℕ) (all : List Claim) (p : ℕ) (r : List ℕ) → claims_from P left number claims bytes at ≡ Found all p r → ClaimsBehind P number left bytes claims all
-claims_there P zero number claims bytes at all p r e =
-    let none = nothing_behind claims at bytes all p r (sym (claims_end P number claims bytes at) ∙ e) in
-    record { others = []; is = sym none.0 ∙ sym (append-nil claims); each = none.1; so_many = refl }
-claims_there P (suc left) number claims [] at all p r e = let never : Faulty at Count ≡ Found all p r = sym (claims_cut P left number claims at) ∙ e in absurd (cc)
-claims_there P (suc left) number claims (b ∷ bytes) at all p r e =
-    let cut = parts (read_claim P number (b ∷ bytes) at) (behind_claim P left number claims) all p r (sym (claims_more P left number claims b bytes at) ∙ e) in
-    let here = claim_there P number (b ∷ bytes) at cut.value cut.place cut.rest cut.first in
-    let behind = claims_there P left (number + 1) (claims ++ cut.value ∷ []) cut.rest cut.place all p r cut.later in
-    record {
-      others = cut.value ∷ behind.others;
-      is = behind.is ∙ append_assoc claims (cut.value ∷ []) behind.others;
-      each = (cut.rest, here, behind.each);
-      so_many = omega (arith, behind.so_many);
-    }
-
-pub report_there : (P : Protocol) (bytes : List ℕ) (claims : List Claim) (place : ℕ) (rest : List ℕ) → read_report P bytes ≡ Found claims place rest → SpellsReport P bytes claims
-report_there P bytes claims place rest e =
-    let behind = claims_there P (length P.queries) 1 [] bytes 0 claims place rest e in
-    record { each = subst (λ cs. SpellsClaims P 1 cs bytes) (sym behind.is) behind.each; all = ap length behind.is ∙ behind.so_many }
-
--- What is there is read.
 
 query_found : (number : ℕ) (rest : List ℕ) (at : ℕ) → IsShort number → Finds (query_number number (query_text number (32 ∷ rest)) at) tt (32 ∷ rest)
 query_found number rest at short =
@@ -199,74 +99,213 @@ text_found reason rest at is =
     when_false (long == 0) (Faulty at Syntax) (read_fixed (codes "\n") (drop long bytes) (at + long)) tt rest (ap (λ n. n == 0) so ∙ is.some)
     (subst (λ bs. Finds (read_fixed (codes "\n") bs (at + long)) tt rest) (sym behind) (fixed_found (codes "\n") rest (at + long)))
 
-unknown_found : (P : Protocol) (reason rest : List ℕ) (at : ℕ) → IsReason reason → Finds (read_verdict P (codes " unknown " ++ (reason ++ 10 ∷ rest)) at) Unknown rest
-unknown_found P reason rest at is =
-    let bytes = codes " unknown " ++ (reason ++ 10 ∷ rest) in
-    when_true (front (drop 1 bytes) == 117) (read_unknown bytes at) (read_proved P bytes at) Unknown rest refl
-    (joined (read_fixed (codes " unknown ") bytes at) behind_unknown tt (reason ++ 10 ∷ rest) Unknown rest (fixed_found (codes " unknown ") (reason ++ 10 ∷ rest) at)
-    (λ p. joined (read_text (reason ++ 10 ∷ rest) p) as_unknown tt rest Unknown rest (text_found reason rest p is) (λ q. record { place = q; is = refl })))
+-- Where what is read of a certificate is spelled so.
 
-proved_found : (P : Protocol) (bytes : List ℕ) (claim : Claim) (rest : List ℕ) (at : ℕ) → ((p : ℕ) → Finds (read_proof P bytes p) claim rest) → Finds (read_verdict P (codes " proved\n" ++ bytes) at) claim rest
-proved_found P bytes claim rest at found =
-    let whole = codes " proved\n" ++ bytes in
-    when_false (front (drop 1 whole) == 117) (read_unknown whole at) (read_proved P whole at) claim rest refl
-    (joined (read_fixed (codes " proved\n") whole at) (behind_proved P) tt bytes claim rest (fixed_found (codes " proved\n") bytes at) found)
+-- what was found is spelled, and then the rest
+abbrev pub ReadIsSpelled : (List ℕ → Certificate → List ℕ → Type 0) → Reader Certificate → Type 0
+ReadIsSpelled Spells one = (bytes : List ℕ) (at place : ℕ) (c : Certificate) (rest : List ℕ) → one bytes at ≡ Found c place rest → Spells bytes c rest
 
-certificate_found : (P : Protocol) → HasNames P → (c : Certificate) (rest : List ℕ) (at : ℕ) → IsReadableCertificate P c → Finds (read_proof P (certificate_text P c rest) at) (Proved c) rest
-certificate_found P names c rest at is =
-    let text = certificate_text P c rest in
-    when_true (front text == 99) (next (read_certificate P text at) as_proved) (Found Bare at text) (Proved c) rest refl
-    (let found = read_certificate-found P names c rest at is in
-    joined (read_certificate P text at) as_proved c rest (Proved c) rest record { place = found.place; is = found.is } (λ q. record { place = q; is = refl }))
+-- what is spelled is found, and begins with the first letter of `cert`
+pub record SpelledIsRead (Spells : List ℕ → Certificate → List ℕ → Type 0) (one : Reader Certificate) : Type 0 where
+  pub found : (bytes : List ℕ) (c : Certificate) (rest : List ℕ) (at : ℕ) → Spells bytes c rest → Finds (one bytes at) c rest
+  pub begins : (bytes : List ℕ) (c : Certificate) (rest : List ℕ) → Spells bytes c rest → (front bytes == 99) ≡ true
 
-bare_found : (P : Protocol) (rest : List ℕ) (at : ℕ) → (front rest == 99) ≡ false → Finds (read_proof P rest at) Bare rest
-bare_found P rest at other = when_false (front rest == 99) (next (read_certificate P rest at) as_proved) (Found Bare at rest) Bare rest other record { place = at; is = refl }
+module _ (Spells : List ℕ → Certificate → List ℕ → Type 0) (one : Reader Certificate) where
+  -- the certificate that was found
+  abbrev as_proved : Certificate → ℕ → List ℕ → Outcome Claim
+  as_proved c p r = Found (Proved c) p r
 
--- the claim of a query, whose verdict is read behind the number
-numbered_found : (P : Protocol) (number : ℕ) (k : List ℕ) (claim : Claim) (rest : List ℕ) (at : ℕ) → IsShort number → ((p : ℕ) → Finds (read_verdict P (32 ∷ k) p) claim rest) → Finds (read_claim P number (query_text number (32 ∷ k)) at) claim rest
-numbered_found P number k claim rest at short found =
-    joined (query_number number (query_text number (32 ∷ k)) at) (behind_number P) tt (32 ∷ k) claim rest (query_found number k at short) found
+  proof_there : ReadIsSpelled Spells one → (number : ℕ) (whole bytes : List ℕ) (at : ℕ) (claim : Claim) (p : ℕ) (r : List ℕ) → whole ≡ query_text number (codes " proved\n" ++ bytes) → proof_by one bytes at ≡ Found claim p r → SpellsClaimBy Spells number claim r whole
+  proof_there there number whole bytes at claim p r text e =
+      chosen (front bytes == 99) (next (one bytes at) as_proved) (Found Bare at bytes) claim p r (SpellsClaimBy Spells number claim r whole) e
+      (λ starts found.
+      let cut = parts (one bytes at) as_proved claim p r found in
+      let is = there bytes at cut.place cut.value cut.rest cut.first in
+      let same : Proved cut.value ≡ claim = cc in
+      let rests : cut.rest ≡ r = cc in
+      subst (λ c. SpellsClaimBy Spells number c r whole) same
+      (bytes, subst (Spells bytes cut.value) rests is, text))
+      (λ isnt found.
+      let same : Bare ≡ claim = cc in
+      let rests : bytes ≡ r = cc in
+      subst (λ c. SpellsClaimBy Spells number c r whole) same (text ∙ ap (λ k. query_text number (codes " proved\n" ++ k)) rests))
 
-claim_found : (P : Protocol) → HasNames P → (number : ℕ) (claim : Claim) (rest bytes : List ℕ) (at : ℕ) → IsShort number → (front rest == 99) ≡ false → SpellsClaim P number claim rest bytes → Finds (read_claim P number bytes at) claim rest
-claim_found P names number (Proved c) rest bytes at short other is =
-    subst (λ bs. Finds (read_claim P number bs at) (Proved c) rest) (sym is.1)
-    (numbered_found P number (codes "proved\n" ++ certificate_text P c rest) (Proved c) rest at short (λ p. proved_found P (certificate_text P c rest) (Proved c) rest p (λ q. certificate_found P names c rest q is.0)))
-claim_found P names number Bare rest bytes at short other is =
-    subst (λ bs. Finds (read_claim P number bs at) Bare rest) (sym is)
-    (numbered_found P number (codes "proved\n" ++ rest) Bare rest at short (λ p. proved_found P rest Bare rest p (λ q. bare_found P rest q other)))
-claim_found P names number Unknown rest bytes at short other is =
-    subst (λ bs. Finds (read_claim P number bs at) Unknown rest) (sym is.2)
-    (numbered_found P number (codes "unknown " ++ (is.0 ++ 10 ∷ rest)) Unknown rest at short (λ p. unknown_found P is.0 rest p is.1))
+  abbrev behind_proved : Unit {0} → ℕ → List ℕ → Outcome Claim
+  behind_proved u p r = proof_by one r p
 
--- A claim begins with the first letter of `query`.
+  proved_there : ReadIsSpelled Spells one → (number : ℕ) (whole bytes : List ℕ) (at : ℕ) (claim : Claim) (p : ℕ) (r : List ℕ) → whole ≡ query_text number bytes → proved_by one bytes at ≡ Found claim p r → SpellsClaimBy Spells number claim r whole
+  proved_there there number whole bytes at claim p r text e =
+      let cut = parts (read_fixed (codes " proved\n") bytes at) (behind_proved) claim p r e in
+      let words = fixed_there (codes " proved\n") bytes at cut.value cut.place cut.rest cut.first in
+      proof_there there number whole cut.rest cut.place claim p r (text ∙ ap (query_text number) words) cut.later
 
-claim_begins : (P : Protocol) (number : ℕ) (claim : Claim) (rest bytes : List ℕ) → SpellsClaim P number claim rest bytes → bytes ≡ 113 ∷ drop 1 bytes
-claim_begins P number (Proved c) rest bytes is = subst (λ bs. bs ≡ 113 ∷ drop 1 bs) (sym is.1) refl
-claim_begins P number Bare rest bytes is = subst (λ bs. bs ≡ 113 ∷ drop 1 bs) (sym is) refl
-claim_begins P number Unknown rest bytes is = subst (λ bs. bs ≡ 113 ∷ drop 1 bs) (sym is.2) refl
+  unknown_there : (number : ℕ) (whole bytes : List ℕ) (at : ℕ) (claim : Claim) (p : ℕ) (r : List ℕ) → whole ≡ query_text number bytes → read_unknown bytes at ≡ Found claim p r → SpellsClaimBy Spells number claim r whole
+  unknown_there number whole bytes at claim p r text e =
+      let cut = parts (read_fixed (codes " unknown ") bytes at) behind_unknown claim p r e in
+      let words = fixed_there (codes " unknown ") bytes at cut.value cut.place cut.rest cut.first in
+      let later = parts (read_text cut.rest cut.place) as_unknown claim p r cut.later in
+      let why = text_there cut.rest cut.place later.value later.place later.rest later.first in
+      let same : Unknown ≡ claim = cc in
+      let rests : later.rest ≡ r = cc in
+      subst (λ c. SpellsClaimBy Spells number c r whole) same
+      (why.reason, why.is, text ∙ ap (query_text number) (words ∙ ap (λ k. codes " unknown " ++ k) (why.text ∙ ap (λ k. why.reason ++ 10 ∷ k) rests)))
 
-no_certificate : (P : Protocol) (number : ℕ) (claims : List Claim) (bytes : List ℕ) → SpellsClaims P number claims bytes → (front bytes == 99) ≡ false
-no_certificate P number [] bytes is = ap (λ bs. front bs == 99) is
-no_certificate P number (claim ∷ claims) bytes is = ap (λ bs. front bs == 99) (claim_begins P number claim is.0 bytes is.1)
+  verdict_there : ReadIsSpelled Spells one → (number : ℕ) (whole bytes : List ℕ) (at : ℕ) (claim : Claim) (p : ℕ) (r : List ℕ) → whole ≡ query_text number bytes → verdict_by one bytes at ≡ Found claim p r → SpellsClaimBy Spells number claim r whole
+  verdict_there there number whole bytes at claim p r text e =
+      chosen (front (drop 1 bytes) == 117) (read_unknown bytes at) (proved_by one bytes at) claim p r (SpellsClaimBy Spells number claim r whole) e
+      (λ is found. unknown_there number whole bytes at claim p r text found)
+      (λ isnt found. proved_there there number whole bytes at claim p r text found)
 
-claims_found : (P : Protocol) → HasNames P → (left number : ℕ) (claims others : List Claim) (bytes : List ℕ) (at : ℕ) → number + left ≤ 10 ^ most_digits → length others ≡ left → SpellsClaims P number others bytes → Finds (claims_from P left number claims bytes at) (claims ++ others) []
-claims_found P names zero number claims [] bytes at short all is =
-    subst (λ cs. Finds (claims_from P 0 number claims bytes at) cs []) (sym (append-nil claims))
-    record { place = at; is = claims_end P number claims bytes at ∙ ap (behind_claims claims at) is }
-claims_found P names zero number claims (claim ∷ others) bytes at short all is = absurd (omega (arith, all))
-claims_found P names (suc left) number claims [] bytes at short all is = absurd (omega (arith, all))
-claims_found P names (suc left) number claims (claim ∷ others) bytes at short all is =
-    let rest = is.0 in
-    let same : (claims ++ claim ∷ []) ++ others ≡ claims ++ claim ∷ others = append_assoc claims (claim ∷ []) others in
-    let more : claims_from P (suc left) number claims bytes at ≡ next (read_claim P number bytes at) (behind_claim P left number claims) =
-    subst (λ bs. claims_from P (suc left) number claims bs at ≡ next (read_claim P number bs at) (behind_claim P left number claims)) (sym (claim_begins P number claim rest bytes is.1)) (claims_more P left number claims 113 (drop 1 bytes) at) in
-    let here = claim_found P names number claim rest bytes at (omega (arith, short)) (no_certificate P (number + 1) others rest is.2) is.1 in
-    let found = joined (read_claim P number bytes at) (behind_claim P left number claims) claim rest (claims ++ claim ∷ others) [] here
-    (λ p. subst (λ cs. Finds (behind_claim P left number claims claim p rest) cs []) same (claims_found P names left (number + 1) (claims ++ claim ∷ []) others rest p (omega (arith, short)) (omega (arith, all)) is.2)) in
-    record { place = found.place; is = more ∙ found.is }
+  abbrev behind_number : Unit {0} → ℕ → List ℕ → Outcome Claim
+  behind_number u p r = verdict_by one r p
+
+  claim_there : ReadIsSpelled Spells one → (number : ℕ) (bytes : List ℕ) (at : ℕ) (claim : Claim) (p : ℕ) (r : List ℕ) → claim_by one number bytes at ≡ Found claim p r → SpellsClaimBy Spells number claim r bytes
+  claim_there there number bytes at claim p r e =
+      let cut = parts (query_number number bytes at) (behind_number) claim p r e in
+      verdict_there there number bytes cut.rest cut.place claim p r (query_there number bytes at cut.value cut.place cut.rest cut.first) cut.later
+
+  claims_end : (number : ℕ) (claims : List Claim) (bytes : List ℕ) (at : ℕ) → claims_by one 0 number claims bytes at ≡ behind_claims claims at bytes
+  unfolding claims_by
+  claims_end number claims bytes at = refl
+
+  claims_cut : (left number : ℕ) (claims : List Claim) (at : ℕ) → claims_by one (suc left) number claims [] at ≡ Faulty at Count
+  unfolding claims_by
+  claims_cut left number claims at = refl
+
+  abbrev behind_claim : ℕ → ℕ → List Claim → Claim → ℕ → List ℕ → Outcome (List Claim)
+  behind_claim left number claims c p r = claims_by one left (number + 1) (claims ++ c ∷ []) r p
+
+  claims_more : (left number : ℕ) (claims : List Claim) (b : ℕ) (bytes : List ℕ) (at : ℕ) → claims_by one (suc left) number claims (b ∷ bytes) at ≡ next (claim_by one number (b ∷ bytes) at) (behind_claim left number claims)
+  unfolding claims_by
+  claims_more left number claims b bytes at = refl
+
+  -- behind these claims others were found
+  pub record ClaimsBehind (number left : ℕ) (bytes : List ℕ) (claims all : List Claim) : Type 0 where
+    pub others : List Claim
+    pub is : all ≡ claims ++ others
+    pub each : SpellsClaimsBy Spells number others bytes
+    pub so_many : length others ≡ left
+
+  pub claims_there : ReadIsSpelled Spells one → (left number : ℕ) (claims : List Claim) (bytes : List ℕ) (at : ℕ) (all : List Claim) (p : ℕ) (r : List ℕ) → claims_by one left number claims bytes at ≡ Found all p r → ClaimsBehind number left bytes claims all
+  claims_there there zero number claims bytes at all p r e =
+      let none = nothing_behind claims at bytes all p r (sym (claims_end number claims bytes at) ∙ e) in
+      record { others = []; is = sym none.0 ∙ sym (append-nil claims); each = none.1; so_many = refl }
+  claims_there there (suc left) number claims [] at all p r e = let never : Faulty at Count ≡ Found all p r = sym (claims_cut left number claims at) ∙ e in absurd (cc)
+  claims_there there (suc left) number claims (b ∷ bytes) at all p r e =
+      let cut = parts (claim_by one number (b ∷ bytes) at) (behind_claim left number claims) all p r (sym (claims_more left number claims b bytes at) ∙ e) in
+      let here = claim_there there number (b ∷ bytes) at cut.value cut.place cut.rest cut.first in
+      let behind = claims_there there left (number + 1) (claims ++ cut.value ∷ []) cut.rest cut.place all p r cut.later in
+      record {
+        others = cut.value ∷ behind.others;
+        is = behind.is ∙ append_assoc claims (cut.value ∷ []) behind.others;
+        each = (cut.rest, here, behind.each);
+        so_many = omega (arith, behind.so_many);
+      }
+
+  unknown_found : (reason rest : List ℕ) (at : ℕ) → IsReason reason → Finds (verdict_by one (codes " unknown " ++ (reason ++ 10 ∷ rest)) at) Unknown rest
+  unknown_found reason rest at is =
+      let bytes = codes " unknown " ++ (reason ++ 10 ∷ rest) in
+      when_true (front (drop 1 bytes) == 117) (read_unknown bytes at) (proved_by one bytes at) Unknown rest refl
+      (joined (read_fixed (codes " unknown ") bytes at) behind_unknown tt (reason ++ 10 ∷ rest) Unknown rest (fixed_found (codes " unknown ") (reason ++ 10 ∷ rest) at)
+      (λ p. joined (read_text (reason ++ 10 ∷ rest) p) as_unknown tt rest Unknown rest (text_found reason rest p is) (λ q. record { place = q; is = refl })))
+
+  proved_found : (bytes : List ℕ) (claim : Claim) (rest : List ℕ) (at : ℕ) → ((p : ℕ) → Finds (proof_by one bytes p) claim rest) → Finds (verdict_by one (codes " proved\n" ++ bytes) at) claim rest
+  proved_found bytes claim rest at found =
+      let whole = codes " proved\n" ++ bytes in
+      when_false (front (drop 1 whole) == 117) (read_unknown whole at) (proved_by one whole at) claim rest refl
+      (joined (read_fixed (codes " proved\n") whole at) (behind_proved) tt bytes claim rest (fixed_found (codes " proved\n") bytes at) found)
+
+  certificate_found : SpelledIsRead Spells one → (text : List ℕ) (c : Certificate) (rest : List ℕ) (at : ℕ) → Spells text c rest → Finds (proof_by one text at) (Proved c) rest
+  certificate_found reads text c rest at is =
+      when_true (front text == 99) (next (one text at) as_proved) (Found Bare at text) (Proved c) rest (reads.begins text c rest is)
+      (joined (one text at) as_proved c rest (Proved c) rest (reads.found text c rest at is) (λ q. record { place = q; is = refl }))
+
+  bare_found : (rest : List ℕ) (at : ℕ) → (front rest == 99) ≡ false → Finds (proof_by one rest at) Bare rest
+  bare_found rest at other = when_false (front rest == 99) (next (one rest at) as_proved) (Found Bare at rest) Bare rest other record { place = at; is = refl }
+
+  -- the claim of a query, whose verdict is read behind the number
+  numbered_found : (number : ℕ) (k : List ℕ) (claim : Claim) (rest : List ℕ) (at : ℕ) → IsShort number → ((p : ℕ) → Finds (verdict_by one (32 ∷ k) p) claim rest) → Finds (claim_by one number (query_text number (32 ∷ k)) at) claim rest
+  numbered_found number k claim rest at short found =
+      joined (query_number number (query_text number (32 ∷ k)) at) (behind_number) tt (32 ∷ k) claim rest (query_found number k at short) found
+
+  claim_found : SpelledIsRead Spells one → (number : ℕ) (claim : Claim) (rest bytes : List ℕ) (at : ℕ) → IsShort number → (front rest == 99) ≡ false → SpellsClaimBy Spells number claim rest bytes → Finds (claim_by one number bytes at) claim rest
+  claim_found reads number (Proved c) rest bytes at short other is =
+      subst (λ bs. Finds (claim_by one number bs at) (Proved c) rest) (sym is.2)
+      (numbered_found number (codes "proved\n" ++ is.0) (Proved c) rest at short (λ p. proved_found is.0 (Proved c) rest p (λ q. certificate_found reads is.0 c rest q is.1)))
+  claim_found reads number Bare rest bytes at short other is =
+      subst (λ bs. Finds (claim_by one number bs at) Bare rest) (sym is)
+      (numbered_found number (codes "proved\n" ++ rest) Bare rest at short (λ p. proved_found rest Bare rest p (λ q. bare_found rest q other)))
+  claim_found reads number Unknown rest bytes at short other is =
+      subst (λ bs. Finds (claim_by one number bs at) Unknown rest) (sym is.2)
+      (numbered_found number (codes "unknown " ++ (is.0 ++ 10 ∷ rest)) Unknown rest at short (λ p. unknown_found is.0 rest p is.1))
+
+  -- A claim begins with the first letter of `query`.
+
+  claim_begins : (number : ℕ) (claim : Claim) (rest bytes : List ℕ) → SpellsClaimBy Spells number claim rest bytes → bytes ≡ 113 ∷ drop 1 bytes
+  claim_begins number (Proved c) rest bytes is = subst (λ bs. bs ≡ 113 ∷ drop 1 bs) (sym is.2) refl
+  claim_begins number Bare rest bytes is = subst (λ bs. bs ≡ 113 ∷ drop 1 bs) (sym is) refl
+  claim_begins number Unknown rest bytes is = subst (λ bs. bs ≡ 113 ∷ drop 1 bs) (sym is.2) refl
+
+  no_certificate : (number : ℕ) (claims : List Claim) (bytes : List ℕ) → SpellsClaimsBy Spells number claims bytes → (front bytes == 99) ≡ false
+  no_certificate number [] bytes is = ap (λ bs. front bs == 99) is
+  no_certificate number (claim ∷ claims) bytes is = ap (λ bs. front bs == 99) (claim_begins number claim is.0 bytes is.1)
+
+  pub claims_found : SpelledIsRead Spells one → (left number : ℕ) (claims others : List Claim) (bytes : List ℕ) (at : ℕ) → number + left ≤ 10 ^ most_digits → length others ≡ left → SpellsClaimsBy Spells number others bytes → Finds (claims_by one left number claims bytes at) (claims ++ others) []
+  claims_found reads zero number claims [] bytes at short all is =
+      subst (λ cs. Finds (claims_by one 0 number claims bytes at) cs []) (sym (append-nil claims))
+      record { place = at; is = claims_end number claims bytes at ∙ ap (behind_claims claims at) is }
+  claims_found reads zero number claims (claim ∷ others) bytes at short all is = absurd (omega (arith, all))
+  claims_found reads (suc left) number claims [] bytes at short all is = absurd (omega (arith, all))
+  claims_found reads (suc left) number claims (claim ∷ others) bytes at short all is =
+      let rest = is.0 in
+      let same : (claims ++ claim ∷ []) ++ others ≡ claims ++ claim ∷ others = append_assoc claims (claim ∷ []) others in
+      let more : claims_by one (suc left) number claims bytes at ≡ next (claim_by one number bytes at) (behind_claim left number claims) =
+      subst (λ bs. claims_by one (suc left) number claims bs at ≡ next (claim_by one number bs at) (behind_claim left number claims)) (sym (claim_begins number claim rest bytes is.1)) (claims_more left number claims 113 (drop 1 bytes) at) in
+      let here = claim_found reads number claim rest bytes at (omega (arith, short)) (no_certificate (number + 1) others rest is.2) is.1 in
+      let found = joined (claim_by one number bytes at) (behind_claim left number claims) claim rest (claims ++ claim ∷ others) [] here
+      (λ p. subst (λ cs. Finds (behind_claim left number claims claim p rest) cs []) same (claims_found reads left (number + 1) (claims ++ claim ∷ []) others rest p (omega (arith, short)) (omega (arith, all)) is.2)) in
+      record { place = found.place; is = more ∙ found.is }
+
+-- Certificates without a table.
+
+-- the bytes are the text of a certificate that may be read, and then the rest
+abbrev SpellsPlain : Protocol → List ℕ → Certificate → List ℕ → Type 0
+SpellsPlain P bytes c rest = IsReadableCertificate P c × (bytes ≡ certificate_text P c rest)
+
+plain_read : (P : Protocol) → ReadIsSpelled (SpellsPlain P) (read_certificate P)
+plain_read P bytes at place c rest e = let there = read_certificate-there P bytes at c place rest e in (there.is, there.text)
+
+plain_found : (P : Protocol) → HasNames P → SpelledIsRead (SpellsPlain P) (read_certificate P)
+plain_found P names = record {
+  found = λ bytes c rest at is. let found = read_certificate-found P names c rest at is.0 in record { place = found.place; is = ap (λ bs. read_certificate P bs at) is.1 ∙ found.is };
+  begins = λ bytes c rest is. ap (λ bs. front bs == 99) is.1;
+}
+
+plain_claim : (P : Protocol) (number : ℕ) (claim : Claim) (rest bytes : List ℕ) → SpellsClaimBy (SpellsPlain P) number claim rest bytes → SpellsClaim P number claim rest bytes
+plain_claim P number (Proved c) rest bytes (text, is, whole) = (is.0, whole ∙ ap (λ k. query_text number (codes " proved\n" ++ k)) is.1)
+plain_claim P number Bare rest bytes is = is
+plain_claim P number Unknown rest bytes is = is
+
+plain_claims : (P : Protocol) (number : ℕ) (claims : List Claim) (bytes : List ℕ) → SpellsClaimsBy (SpellsPlain P) number claims bytes → SpellsClaims P number claims bytes
+plain_claims P number [] bytes is = is
+plain_claims P number (claim ∷ claims) bytes (rest, one, more) = (rest, plain_claim P number claim rest bytes one, plain_claims P (number + 1) claims rest more)
+
+claim_plain : (P : Protocol) (number : ℕ) (claim : Claim) (rest bytes : List ℕ) → SpellsClaim P number claim rest bytes → SpellsClaimBy (SpellsPlain P) number claim rest bytes
+claim_plain P number (Proved c) rest bytes is = (certificate_text P c rest, (is.0, refl), is.1)
+claim_plain P number Bare rest bytes is = is
+claim_plain P number Unknown rest bytes is = is
+
+claims_plain : (P : Protocol) (number : ℕ) (claims : List Claim) (bytes : List ℕ) → SpellsClaims P number claims bytes → SpellsClaimsBy (SpellsPlain P) number claims bytes
+claims_plain P number [] bytes is = is
+claims_plain P number (claim ∷ claims) bytes (rest, one, more) = (rest, claim_plain P number claim rest bytes one, claims_plain P (number + 1) claims rest more)
+
+pub report_there : (P : Protocol) (bytes : List ℕ) (claims : List Claim) (place : ℕ) (rest : List ℕ) → read_report P bytes ≡ Found claims place rest → SpellsReport P bytes claims
+report_there P bytes claims place rest e =
+    let behind = claims_there (SpellsPlain P) (read_certificate P) (plain_read P) (length P.queries) 1 [] bytes 0 claims place rest e in
+    record { each = plain_claims P 1 claims bytes (subst (λ cs. SpellsClaimsBy (SpellsPlain P) 1 cs bytes) (sym behind.is) behind.each); all = ap length behind.is ∙ behind.so_many }
 
 pub report_found : (P : Protocol) → HasNames P → IsShort (length P.queries) → (bytes : List ℕ) (claims : List Claim) → SpellsReport P bytes claims → Finds (read_report P bytes) claims []
-report_found P names short bytes claims is = claims_found P names (length P.queries) 1 [] claims bytes 0 (omega (arith, short)) is.all is.each
+report_found P names short bytes claims is = claims_found (SpellsPlain P) (read_certificate P) (plain_found P names) (length P.queries) 1 [] claims bytes 0 (omega (arith, short)) is.all (claims_plain P 1 claims bytes is.each)
 
 pub refused_is_none : (P : Protocol) → HasNames P → IsShort (length P.queries) → (bytes : List ℕ) (claims : List Claim) (place : ℕ) (code : Code) → read_report P bytes ≡ Faulty place code → SpellsReport P bytes claims → ⊥
 refused_is_none P names short bytes claims place code e is =

@@ -3,6 +3,7 @@ use Rattle.std.specs.Prelude.{◌≡◌, ℕ, ◌+◌, ◌==◌, Bool, not, true
 use Rattle.std.specs.Fmt.{decimal}
 use Rattle.std.specs.List.{list_all}
 use Rattle.spec_calculus.specs.Syntax.{Protocol}
+use Rattle.spec_certificates.specs.Certificate.{Certificate}
 use Rattle.spec_certificate_text.specs.Text.{certificate_text}
 use Rattle.spec_certificate_reading.specs.Readable.{IsReadableCertificate}
 use Rattle.spec_certificate_reading.specs.Reports.{Claim, Proved, Bare, Unknown}
@@ -19,6 +20,24 @@ in_line b = not (b == 10)
 pub record IsReason (reason : List ℕ) : Type 0 where
   pub some : (length reason == 0) ≡ false
   pub one_line : list_all in_line reason ≡ true
+
+-- Where the bytes spell this certificate, and then the rest.
+module _ (Spells : List ℕ → Certificate → List ℕ → Type 0) where
+  -- the bytes begin with this claim of the query of that number, and the rest stands behind it
+  abbrev pub SpellsClaimBy : ℕ → Claim → List ℕ → List ℕ → Type 0
+  SpellsClaimBy number (Proved certificate) rest bytes =
+      (text : List ℕ) × Spells text certificate rest × (bytes ≡ query_text number (codes " proved\n" ++ text))
+  SpellsClaimBy number Bare rest bytes = bytes ≡ query_text number (codes " proved\n" ++ rest)
+  SpellsClaimBy number Unknown rest bytes =
+      (reason : List ℕ) × IsReason reason × (bytes ≡ query_text number (codes " unknown " ++ (reason ++ 10 ∷ rest)))
+
+  -- the bytes are these claims, the first of which is of the query of that number
+  abbrev pub SpellsClaimsBy : ℕ → List Claim → List ℕ → Type 0
+  SpellsClaimsBy number [] bytes = bytes ≡ []
+  SpellsClaimsBy number (claim ∷ claims) bytes =
+      (rest : List ℕ) × SpellsClaimBy number claim rest bytes × SpellsClaimsBy (number + 1) claims rest
+
+-- Certificates without a table.
 
 -- the bytes begin with this claim of the query of that number, and the rest stands behind it
 abbrev pub SpellsClaim : Protocol → ℕ → Claim → List ℕ → List ℕ → Type 0
