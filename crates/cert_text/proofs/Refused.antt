@@ -6,7 +6,7 @@ use Rattle.spec_certificate_reading.specs.Outcomes.{Outcome, Found, Faulty}
 use Rattle.spec_certificate_reading.specs.Reports as reports
 use Rattle.spec_certificate_faults.specs.First.{Kind, IsFirstFault}
 use Rattle.fact_reader.specs.declared.error.CertError.{CertError}
-use Rattle.fact_reader.specs.declared.error.CertError.TheVariants.{Syntax, Number, Symbol, Arity, Count, Memory}
+use Rattle.fact_reader.specs.declared.error.CertError.TheVariants.{Syntax, Number, Symbol, Arity, Count, NodeOrder, NodeLarge, Memory}
 use Rattle.fact_reader.specs.Errors.{refusal_of}
 use Rattle.fact_reader.specs.Gives.{HasFault, Gives}
 use Rattle.cert_text.specs.declared.claims.Claim.{Claim}
@@ -24,6 +24,8 @@ refused_first K bytes at o (Number place) told fault = told place terms.Number f
 refused_first K bytes at o (Symbol place) told fault = told place terms.Symbol fault
 refused_first K bytes at o (Arity place) told fault = told place terms.Arity fault
 refused_first K bytes at o (Count place) told fault = told place terms.Count fault
+refused_first K bytes at o (NodeOrder place) told fault = told place terms.NodeOrder fault
+refused_first K bytes at o (NodeLarge place) told fault = told place terms.NodeLarge fault
 refused_first K bytes at o (Memory e) told fault = tt
 
 abbrev refusal : Code → ℕ → Option (Code × ℕ)
@@ -41,6 +43,8 @@ first_refused o (Number at) place code is fault = inl (same_refusal o at place t
 first_refused o (Symbol at) place code is fault = inl (same_refusal o at place terms.Symbol code fault is)
 first_refused o (Arity at) place code is fault = inl (same_refusal o at place terms.Arity code fault is)
 first_refused o (Count at) place code is fault = inl (same_refusal o at place terms.Count code fault is)
+first_refused o (NodeOrder at) place code is fault = inl (same_refusal o at place terms.NodeOrder code fault is)
+first_refused o (NodeLarge at) place code is fault = inl (same_refusal o at place terms.NodeLarge code fault is)
 first_refused o (Memory e) place code is fault = inr tt
 
 never_both : {X : Type 0} (o : Outcome X) (x : X) (p place : ℕ) (rest : List ℕ) (code : Code) → o ≡ Found x p rest → o ≡ Faulty place code → ⊥

@@ -1,19 +1,11 @@
--- The texts that are read, by what they spell.
+-- What comes of texts that spell something.
 use Rattle.std.specs.Prelude.{◌≡◌, ℕ, List, drop, map, Result, Ok, Err}
-use Rattle.spec_calculus.specs.Syntax.{Protocol}
 use Rattle.spec_certificates.specs.Certificate.{Certificate}
-use Rattle.spec_certificate_text.specs.Text.{certificate_text}
-use Rattle.spec_certificate_reading.specs.Readable.{IsReadableCertificate}
 use Rattle.spec_certificate_reading.specs.Reports as reports
 use Rattle.fact_reader.specs.declared.error.CertError.{CertError}
 use Rattle.fact_reader.specs.declared.error.CertError.TheVariants.{Memory}
 use Rattle.cert_text.specs.Seen.{claim_of}
 use Rattle.cert_text.specs.declared.claims.Claim.{Claim}
-
--- the bytes are the text of a certificate that may stand in one, and then the rest
-pub record SpellsCertificate (P : Protocol) (bytes : List ℕ) (certificate : Certificate) (rest : List ℕ) : Type 0 where
-  pub may_stand : IsReadableCertificate P certificate
-  pub text : bytes ≡ certificate_text P certificate rest
 
 abbrev pub IsMemory : CertError → Type 0
 IsMemory (Memory e) = Unit {0}

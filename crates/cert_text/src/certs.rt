@@ -6,24 +6,28 @@ ghost use Rattle.term_reader.specs.Naming.{protocol_in};
 ghost use Rattle.term_reader.specs.Few.{HasFewNames};
 ghost use Rattle.spec_certificate_reading.specs.Certificates as reading;
 ghost use Rattle.spec_certificate_reading.specs.Outcomes.{lines_from};
+ghost use Rattle.spec_node_reading.specs.Reading as by_numbers;
+ghost use Rattle.spec_node_reading.specs.Readable.{SpellsCertificate};
+ghost use Rattle.spec_node_reading.specs.Clauses.{certificates_of_both};
 ghost use Rattle.fact_reader.specs.Gives.{Gives, StopsWithin, same};
 ghost use Rattle.fact_reader.specs.Reads.{Reads};
 ghost use Rattle.spec_certificates.specs.Certificate.{Certificate};
 ghost use Rattle.spec_certificate_text.specs.OfProtocol.{HasNames};
 ghost use Rattle.spec_certificate_reading.specs.Terms.{Code};
 ghost use Rattle.spec_certificate_faults.specs.First.{IsFirstFault};
-ghost use Rattle.spec_first_faults.specs.Clauses.{certificates};
 ghost use Rattle.fact_reader.specs.Errors.{refusal_of};
-ghost use Rattle.cert_text.specs.Spelled.{SpellsCertificate, GivesCertificate};
+ghost use Rattle.cert_text.specs.Spelled.{GivesCertificate};
 ghost use Rattle.cert_text.specs.Refused.{IsFirstOf, GivesRefusal};
 
 use crate::rows::rows;
 use cert_form::{Cert, PlainClauses};
 use clause_form::PlainClause;
 use fact_reader::{CertError, Cursor, read_clause};
+use numbered_reader::read_numbered;
 use pi_tree::{MOST_CLAUSES, Protocol};
-use spec_certificate_reading::certificates_are_read;
-use spec_first_faults::the_first_fault_of_a_certificate_is_told;
+use spec_node_counts::numbers_are_read_by_counts;
+use spec_node_first_faults::the_first_fault_of_a_certificate_in_either_format_is_told;
+use spec_node_reading::{texts_are_read, what_is_read_is_spelled};
 use std::alloc::Global;
 use term_reader::Names;
 
@@ -84,12 +88,8 @@ fn certificate_end(
     })
 }
 
-/// The certificate that stands there, of at most so many clauses.
-fn certificate_within(
-    names: &Names<'_>,
-    cursor: &mut Cursor<'_>,
-    most: usize,
-) -> Result<Cert, CertError>
+/// The certificate without a table that stands there, of at most so many clauses.
+fn plain_within(names: &Names<'_>, cursor: &mut Cursor<'_>, most: usize) -> Result<Cert, CertError>
     ensures read { Reads same (reading.certificate_within most (protocol_in names.now))
         cursor.old cursor.new result }
     ensures same { cursor.new.bytes.now ≡ cursor.old.bytes.now }
@@ -99,13 +99,37 @@ fn certificate_within(
     certificate_end(names.alloc, cursor, clauses)
 }
 
-/// The certificate that stands there.
-pub fn certificate(names: &Names<'_>, cursor: &mut Cursor<'_>) -> Result<Cert, CertError>
+/// The certificate without a table that stands there.
+fn plain(names: &Names<'_>, cursor: &mut Cursor<'_>) -> Result<Cert, CertError>
     ensures read { Reads same (reading.read_certificate (protocol_in names.now))
         cursor.old cursor.new result }
     ensures same { cursor.new.bytes.now ≡ cursor.old.bytes.now }
 {
-    certificate_within(names, cursor, MOST_CLAUSES)
+    plain_within(names, cursor, MOST_CLAUSES)
+}
+
+/// The certificate by a table that stands there.
+fn numbered(names: &Names<'_>, cursor: &mut Cursor<'_>) -> Result<Cert, CertError>
+    ensures read { Reads same (by_numbers.read_numbered (protocol_in names.now))
+        cursor.old cursor.new result }
+    ensures same { cursor.new.bytes.now ≡ cursor.old.bytes.now }
+{
+    numbers_are_read_by_counts();
+    let clauses = read_numbered(names, cursor)?;
+    certificate_end(names.alloc, cursor, clauses)
+}
+
+/// The certificate that stands there, in the format that its first line names.
+pub fn certificate(names: &Names<'_>, cursor: &mut Cursor<'_>) -> Result<Cert, CertError>
+    ensures read { Reads same (by_numbers.read_in_both (protocol_in names.now))
+        cursor.old cursor.new result }
+    ensures same { cursor.new.bytes.now ≡ cursor.old.bytes.now }
+{
+    if cursor.front_behind(5) == b'2' {
+        numbered(names, cursor)
+    } else {
+        plain(names, cursor)
+    }
 }
 
 /// The certificate that stands at the place, and the place behind it.
@@ -118,7 +142,7 @@ fn certificate_at(
     requires few { HasFewNames (protocol_of protocol.now) }
     requires within { at ≤ length bytes.now }
     ensures read { Gives same bytes.now result
-        (reading.read_certificate (protocol_of protocol.now) (drop at bytes.now) at) }
+        (by_numbers.read_in_both (protocol_of protocol.now) (drop at bytes.now) at) }
     ensures within { StopsWithin bytes.now result }
 {
     let mut cursor = Cursor { bytes, at };
@@ -126,7 +150,7 @@ fn certificate_at(
     Ok((cert, cursor.at))
 }
 
-/// The certificate that stands at the place, and the place behind it; or the first fault.
+/// The certificate that stands at the place, in either format, and the place behind it; or the first fault.
 pub fn read_cert(
     alloc: Global,
     protocol: &Protocol,
@@ -136,7 +160,7 @@ pub fn read_cert(
     requires few { HasFewNames (protocol_of protocol.now) }
     requires within { at ≤ length bytes.now }
     ensures read { Gives same bytes.now result
-        (reading.read_certificate (protocol_of protocol.now) (drop at bytes.now) at) }
+        (by_numbers.read_in_both (protocol_of protocol.now) (drop at bytes.now) at) }
     ensures within { StopsWithin bytes.now result }
 
     // What is read is spelled, and a certificate that is spelled is read.
@@ -149,12 +173,13 @@ pub fn read_cert(
 
     // A refusal is the first fault of the bytes, and the first fault is the refusal.
     ensures refused { let P = protocol_of protocol.now in HasNames P → IfErr result (λ e.
-        IsFirstOf (certificates P) (drop at bytes.now) at (refusal_of e)) }
+        IsFirstOf (certificates_of_both P) (drop at bytes.now) at (refusal_of e)) }
     ensures first_fault { (place : ℕ) (code : Code) → let P = protocol_of protocol.now in
-        HasNames P → IsFirstFault (certificates P) (drop at bytes.now) at place code →
+        HasNames P → IsFirstFault (certificates_of_both P) (drop at bytes.now) at place code →
         GivesRefusal place code result }
 {
-    certificates_are_read();
-    the_first_fault_of_a_certificate_is_told();
+    what_is_read_is_spelled();
+    texts_are_read();
+    the_first_fault_of_a_certificate_in_either_format_is_told();
     certificate_at(alloc, protocol, bytes, at)
 }

@@ -8,11 +8,11 @@ ghost use Rattle.term_reader.specs.Few.{HasFewNames};
 ghost use Rattle.spec_certificate_reading.specs.Reports as reading;
 ghost use Rattle.fact_reader.specs.Reads.{left_of, Reads, Passes};
 ghost use Rattle.spec_certificate_text.specs.OfProtocol.{HasNames, IsShort};
-ghost use Rattle.spec_report_text.specs.Text.{SpellsReport};
+ghost use Rattle.spec_node_reading.specs.Reading.{read_in_both};
+ghost use Rattle.spec_node_reading.specs.Reports.{SpellsReport, read_report_in_both, reports_of_both};
 ghost use Rattle.cert_text.specs.Seen.{claim_of, GivesClaims};
 ghost use Rattle.spec_certificate_reading.specs.Terms.{Code};
 ghost use Rattle.spec_certificate_faults.specs.First.{IsFirstFault};
-ghost use Rattle.spec_first_faults.specs.Reports.{reports};
 ghost use Rattle.fact_reader.specs.Errors.{refusal_of};
 ghost use Rattle.cert_text.specs.Spelled.{GivesReport};
 ghost use Rattle.cert_text.specs.Refused.{IsFirstOf, GivesRefusal};
@@ -21,8 +21,8 @@ use crate::certs::certificate;
 use cert_form::Cert;
 use fact_reader::{CertError, Cursor};
 use pi_tree::Protocol;
-use spec_first_faults::the_first_fault_of_a_report_is_told;
-use spec_report_text::reports_are_read;
+use spec_node_first_faults::the_first_fault_of_a_report_in_either_format_is_told;
+use spec_node_reading::{texts_are_read, what_is_read_is_spelled};
 use std::alloc::Global;
 use std::marker::Model;
 use term_reader::Names;
@@ -103,7 +103,7 @@ fn text(cursor: &mut Cursor<'_>) -> Result<(), CertError>
 
 /// A certificate, if one begins here.
 fn proof(names: &Names<'_>, cursor: &mut Cursor<'_>) -> Result<Claim, CertError>
-    ensures read { Reads claim_of (reading.read_proof (protocol_in names.now))
+    ensures read { Reads claim_of (reading.proof_by (read_in_both (protocol_in names.now)))
         cursor.old cursor.new result }
     ensures same { cursor.new.bytes.now ≡ cursor.old.bytes.now }
 {
@@ -116,7 +116,7 @@ fn proof(names: &Names<'_>, cursor: &mut Cursor<'_>) -> Result<Claim, CertError>
 
 /// ` proved` and the end of the line, and a certificate, if one stands behind it.
 fn proved(names: &Names<'_>, cursor: &mut Cursor<'_>) -> Result<Claim, CertError>
-    ensures read { Reads claim_of (reading.read_proved (protocol_in names.now))
+    ensures read { Reads claim_of (reading.proved_by (read_in_both (protocol_in names.now)))
         cursor.old cursor.new result }
     ensures same { cursor.new.bytes.now ≡ cursor.old.bytes.now }
 {
@@ -136,7 +136,7 @@ fn unknown(cursor: &mut Cursor<'_>) -> Result<Claim, CertError>
 
 /// What is claimed: the second byte tells ` unknown ` from ` proved`.
 fn verdict(names: &Names<'_>, cursor: &mut Cursor<'_>) -> Result<Claim, CertError>
-    ensures read { Reads claim_of (reading.read_verdict (protocol_in names.now))
+    ensures read { Reads claim_of (reading.verdict_by (read_in_both (protocol_in names.now)))
         cursor.old cursor.new result }
     ensures same { cursor.new.bytes.now ≡ cursor.old.bytes.now }
 {
@@ -153,7 +153,8 @@ fn query_claim(
     cursor: &mut Cursor<'_>,
     number: usize,
 ) -> Result<Claim, CertError>
-    ensures read { Reads claim_of (reading.read_claim (protocol_in names.now) number)
+    ensures read { Reads claim_of
+        (reading.claim_by (read_in_both (protocol_in names.now)) number)
         cursor.old cursor.new result }
     ensures same { cursor.new.bytes.now ≡ cursor.old.bytes.now }
 {
@@ -182,7 +183,7 @@ fn query_count(protocol: &Protocol) -> usize
 /// The claims that stand there, one for each query of the protocol, with nothing behind them.
 #[tactic(auto, using(crate::proofs::Claimed::claims))]
 fn all_claims(names: &Names<'_>, cursor: &mut Cursor<'_>) -> Result<Claims, CertError>
-    ensures { GivesClaims result (reading.claims_from (protocol_in names.now)
+    ensures { GivesClaims result (reading.claims_by (read_in_both (protocol_in names.now))
         (length (protocol_in names.now).queries) 1 [] (left_of cursor.old) cursor.old.at) }
 {
     let mut items = Vec::new(names.alloc);
@@ -202,7 +203,7 @@ fn all_claims(names: &Names<'_>, cursor: &mut Cursor<'_>) -> Result<Claims, Cert
 /// The claims of all bytes, one for each query of the protocol.
 fn report_claims(alloc: Global, protocol: &Protocol, bytes: &[u8]) -> Result<Claims, CertError>
     requires { HasFewNames (protocol_of protocol.now) }
-    ensures { GivesClaims result (reading.read_report (protocol_of protocol.now) bytes.now) }
+    ensures { GivesClaims result (read_report_in_both (protocol_of protocol.now) bytes.now) }
 {
     let mut cursor = Cursor { bytes, at: 0 };
     all_claims(&Names { alloc, protocol }, &mut cursor)
@@ -212,7 +213,7 @@ fn report_claims(alloc: Global, protocol: &Protocol, bytes: &[u8]) -> Result<Cla
 pub fn read_report(alloc: Global, protocol: &Protocol, bytes: &[u8]) -> Result<Claims, CertError>
     requires { HasFewNames (protocol_of protocol.now) }
     ensures read { GivesClaims result
-        (reading.read_report (protocol_of protocol.now) bytes.now) }
+        (read_report_in_both (protocol_of protocol.now) bytes.now) }
 
     // What is read is spelled, and claims that are spelled are read.
     ensures spelled { IfOk result (λ claims.
@@ -223,12 +224,13 @@ pub fn read_report(alloc: Global, protocol: &Protocol, bytes: &[u8]) -> Result<C
 
     // A refusal is the first fault of the bytes, and the first fault is the refusal.
     ensures refused { let P = protocol_of protocol.now in HasNames P → IfErr result (λ e.
-        IsFirstOf (reports P) bytes.now 0 (refusal_of e)) }
+        IsFirstOf (reports_of_both P) bytes.now 0 (refusal_of e)) }
     ensures first_fault { (place : ℕ) (code : Code) → let P = protocol_of protocol.now in
-        HasNames P → IsFirstFault (reports P) bytes.now 0 place code →
+        HasNames P → IsFirstFault (reports_of_both P) bytes.now 0 place code →
         GivesRefusal place code result }
 {
-    reports_are_read();
-    the_first_fault_of_a_report_is_told();
+    what_is_read_is_spelled();
+    texts_are_read();
+    the_first_fault_of_a_report_in_either_format_is_told();
     report_claims(alloc, protocol, bytes)
 }

@@ -7,3 +7,4 @@ pub mod Telling
 pub mod Verdicts
 pub mod Fits
 pub mod Prints
+pub mod Classed

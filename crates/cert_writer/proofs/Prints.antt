@@ -25,6 +25,7 @@ ready_grows a b w grows ready = record {
   fit = AreFit-grow a b w.live.now grows ready.fit;
   few = ready.few;
   prints = ready.prints ∙ ap (map conclusion_print) (sym (clauses_grow a b w.live.now grows ready.fit));
+  classes = ready.classes;
 }
 
 -- the fingerprints of one clause more, and of all

@@ -2,4 +2,5 @@ pub mod Living
 pub mod Adding
 pub mod Goals
 pub mod Certifying
+pub mod Classed
 pub mod Ready

@@ -20,7 +20,7 @@ ghost use Rattle.cert_writer.specs.Certifying.{IsWritten, IsVerdictOf, IsAccepte
 
 use crate::certified::Certified;
 use crate::closing::cover_pairs;
-use crate::covering::{conclusion_prints, cover_all};
+use crate::covering::{conclusion_classes, conclusion_prints, cover_all};
 use crate::living::{live_of, plain_of};
 use crate::satisfying::{Goals, goal_rows};
 use crate::writer::Writer;
@@ -112,12 +112,14 @@ pub fn certify<B: Bank>(
 {
     let live = live_of(alloc, log)?;
     let prints = conclusion_prints(alloc, bank, &live.items)?;
+    let classes = conclusion_classes(alloc, &prints)?;
     let writer = Writer {
         alloc,
         protocol,
         query,
         live: &live.items,
         prints: &prints,
+        classes: &classes,
     };
     match goal_rows(bank, &writer, log)? {
         Goals::Unsatisfied(number) => Ok(Certified::Unsatisfied(number)),

@@ -1,6 +1,6 @@
 //! Cover rows: the first that show that the live clauses cover others.
 
-ghost use Rattle.std.specs.Prelude.{◌≡◌, ◌<◌, ℕ, List, ◌∷◌, Some, length, map, slice_get, MatchOption, IfOk, OnOk};
+ghost use Rattle.std.specs.Prelude.{◌≡◌, ◌<◌, ℕ, List, ◌∷◌, ◌++◌, Some, None, length, map, slice_get, MatchOption, IfOk, OnOk};
 ghost use Rattle.spec_terms.specs.Term.{Term};
 ghost use Rattle.spec_clauses.specs.Fact.{Clause as ClauseOf};
 ghost use Rattle.spec_clauses.specs.Limits.{IsWithinLimit};
@@ -13,11 +13,15 @@ ghost use Rattle.clause_form.specs.Seen.{clause_at, IsClauseIn};
 ghost use Rattle.clause_form.specs.Fit.{AreFit, clauses_at};
 ghost use Rattle.fact_fingerprint.specs.Seen.{fingerprint_seen};
 ghost use Rattle.cert_writer.specs.Adding.{AddsRows};
+ghost use Rattle.fact_classes.specs.Classes.{listed};
+ghost use Rattle.clause_saturate.specs.Numbers.{IsAmong, IsAscending};
+ghost use Rattle.cert_writer.specs.Classed.{AreClassed, IsFirstAmong};
 ghost use Rattle.cert_writer.specs.Ready.{conclusion_print, IsReady};
 
 use crate::writer::Writer;
 use cert_form::Rows;
 use clause_form::Clause;
+use fact_classes::{Classes, class_of};
 use fact_fingerprint::{Fingerprint, conclusion_fingerprint, fingerprint_of_fact, may_meet};
 use multiset_subsume::{Row, cover_row};
 use std::alloc::{AllocError, Global};
@@ -49,6 +53,27 @@ pub(crate) fn conclusion_prints<B: Bank>(
     Ok(prints)
 }
 
+/// The places, from 0, of clauses by the classes of their conclusions, which have these fingerprints.
+pub(crate) fn conclusion_classes(
+    alloc: Global,
+    prints: &[Fingerprint],
+) -> Result<Classes, AllocError>
+    ensures { IfOk result (λ classes. AreClassed (map fingerprint_seen prints.now) classes) }
+{
+    let mut classes = Classes::none(alloc);
+    'each: for (place, print) in prints.iter().enumerate() {
+        classes.push(alloc, class_of(print), place)?;
+    }
+    Ok(classes)
+}
+
+/// The place of a live clause, from 0, and the first row by which it covers another.
+#[derive(Drop)]
+pub(crate) struct Found {
+    pub place: usize,
+    pub row: Row,
+}
+
 /// The first row by which the live clause at a place, from 0, covers the clause, of whose conclusion this is the fingerprint: none,
 /// where fingerprints tell that its conclusion has no such instance.
 fn cover_at<B: Bank>(
@@ -75,6 +100,106 @@ fn cover_at<B: Bank>(
     cover_row(writer.alloc, bank, &writer.live[place], clause)
 }
 
+/// The first of the live clauses at these places that covers the clause, with its first row, if there is one.
+fn first_among<B: Bank>(
+    bank: &B,
+    writer: &Writer<'_>,
+    places: &[usize],
+    clause: &Clause,
+    print: &Fingerprint,
+) -> Result<Option<Found>, AllocError>
+    requires ready { IsReady (B.trees bank.now) writer.now }
+    requires known { IsClauseIn (B.trees bank.now) clause.now }
+    requires small { IsWithinLimit (clause_at (B.trees bank.now) clause.now) }
+    requires ascending { IsAscending 0 places.now }
+    requires within { (place : ℕ) → IsAmong places.now place →
+        place < length writer.now.live.now }
+    requires print { fingerprint_seen print.now ≡
+        conclusion_print (clause_at (B.trees bank.now) clause.now) }
+    ensures { IfOk result (λ found. IsFirstAmong (B.trees bank.now) writer.now.live.now
+        (clause_at (B.trees bank.now) clause.now) places.now found) }
+{
+    'each: for place in places {
+        match cover_at(bank, writer, *place, clause, print)? {
+            Some(row) => return Ok(Some(Found { place: *place, row })),
+            None => {}
+        }
+    }
+    Ok(None)
+}
+
+/// The one at the lesser place, where there are two.
+fn lesser(left: Option<Found>, right: Option<Found>) -> Option<Found>
+    ensures { (all : List Term) (live : List (ClauseOf Id)) (c : ClauseOf Term) (ms ns : List ℕ) →
+        IsFirstAmong all live c ms left → IsFirstAmong all live c ns right →
+        IsFirstAmong all live c (ms ++ ns) result }
+{
+    match left {
+        None => right,
+        Some(first) => match right {
+            None => Some(first),
+            Some(second) => {
+                if first.place < second.place {
+                    Some(first)
+                } else {
+                    Some(second)
+                }
+            }
+        },
+    }
+}
+
+/// The first of the live clauses whose conclusions are of a class or of none that covers the clause, with its first row, if
+/// there is one.
+fn first_of_class<B: Bank>(
+    bank: &B,
+    writer: &Writer<'_>,
+    class: usize,
+    clause: &Clause,
+    print: &Fingerprint,
+) -> Result<Option<Found>, AllocError>
+    requires ready { IsReady (B.trees bank.now) writer.now }
+    requires known { IsClauseIn (B.trees bank.now) clause.now }
+    requires small { IsWithinLimit (clause_at (B.trees bank.now) clause.now) }
+    requires print { fingerprint_seen print.now ≡
+        conclusion_print (clause_at (B.trees bank.now) clause.now) }
+    ensures { IfOk result (λ found. IsFirstAmong (B.trees bank.now) writer.now.live.now
+        (clause_at (B.trees bank.now) clause.now)
+        (listed writer.now.classes.now (Some class) ++ listed writer.now.classes.now None)
+        found) }
+{
+    let own = first_among(bank, writer, writer.classes.of(class), clause, print)?;
+    let rest = first_among(bank, writer, &writer.classes.rest, clause, print)?;
+    Ok(lesser(own, rest))
+}
+
+/// The first row that shows that the live clauses cover the clause, of which all are tried.
+fn first_of_all<B: Bank>(
+    bank: &B,
+    writer: &Writer<'_>,
+    clause: &Clause,
+    print: &Fingerprint,
+) -> Result<Vec<u32>, AllocError>
+    requires ready { IsReady (B.trees bank.now) writer.now }
+    requires known { IsClauseIn (B.trees bank.now) clause.now }
+    requires small { IsWithinLimit (clause_at (B.trees bank.now) clause.now) }
+    requires covered { MustBeCovered (clauses_at (B.trees bank.now) writer.now.live.now)
+        (clause_at (B.trees bank.now) clause.now) }
+    requires print { fingerprint_seen print.now ≡
+        conclusion_print (clause_at (B.trees bank.now) clause.now) }
+    ensures { IfOk result (λ row. IsFirstCover
+        (clauses_at (B.trees bank.now) writer.now.live.now)
+        (clause_at (B.trees bank.now) clause.now) row.items) }
+{
+    'each: for place in 0..writer.live.len() {
+        match cover_at(bank, writer, place, clause, print)? {
+            Some(row) => return numbered(place as u32 + 1, row),
+            None => {}
+        }
+    }
+    Ok(Vec::new(writer.alloc))
+}
+
 /// The first row that shows that the live clauses cover the clause: the least number of one that subsumes it, and then the
 /// first positions.
 fn first_cover<B: Bank>(
@@ -92,13 +217,13 @@ fn first_cover<B: Bank>(
         (clause_at (B.trees bank.now) clause.now) row.items) }
 {
     let print = fingerprint_of_fact(bank, &clause.concl);
-    'each: for place in 0..writer.live.len() {
-        match cover_at(bank, writer, place, clause, &print)? {
-            Some(row) => return numbered(place as u32 + 1, row),
-            None => {}
-        }
+    match class_of(&print) {
+        None => first_of_all(bank, writer, clause, &print),
+        Some(class) => match first_of_class(bank, writer, class, clause, &print)? {
+            Some(found) => numbered(found.place as u32 + 1, found.row),
+            None => Ok(Vec::new(writer.alloc)),
+        },
     }
-    Ok(Vec::new(writer.alloc))
 }
 
 /// Adds the first row of each clause, in order.

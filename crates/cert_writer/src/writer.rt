@@ -1,12 +1,13 @@
 //! A certificate that is written.
 
 use clause_form::Clause;
+use fact_classes::Classes;
 use fact_fingerprint::Fingerprint;
 use pi_tree::Protocol;
 use std::alloc::Global;
 
-/// A certificate that is written: of which query of which protocol, its clauses over a bank, in their order, and the fingerprints
-/// of their conclusions.
+/// A certificate that is written: of which query of which protocol, its clauses over a bank, in their order, the fingerprints
+/// of their conclusions, and their places by the classes of these.
 #[derive(Drop)]
 pub(crate) struct Writer<'a> {
     pub alloc: Global,
@@ -14,4 +15,5 @@ pub(crate) struct Writer<'a> {
     pub query: u32,
     pub live: &'a [Clause],
     pub prints: &'a [Fingerprint],
+    pub classes: &'a Classes,
 }

@@ -15,8 +15,9 @@ use Rattle.clause_form.proofs.Copying.{NamesClause-grows}
 use Rattle.clause_saturate.specs.declared.log.Entry.{Entry}
 use Rattle.clause_saturate.specs.declared.walk.Live.{Live}
 use Rattle.clause_saturate.specs.declared.walk.Looks.{Looks}
-use Rattle.clause_saturate.specs.declared.classes.Classes.{Classes}
-use Rattle.clause_saturate.specs.Classes.{class_of, listed, AreSameClasses, AreClassed}
+use Rattle.fact_classes.specs.declared.classes.Classes.{Classes}
+use Rattle.fact_classes.specs.Classes.{class_of, listed, AreSameClasses}
+use Rattle.clause_saturate.specs.Classes.{AreClassed}
 use Rattle.clause_form.specs.Fit.{AreFit}
 use Rattle.feature_index.specs.declared.lanes.Features.{Features}
 use Rattle.spec_features.specs.Features.{features_of}

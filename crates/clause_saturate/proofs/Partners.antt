@@ -19,7 +19,8 @@ use Rattle.clause_saturate.specs.declared.walk.Live.{Live}
 use Rattle.clause_saturate.specs.declared.walk.Pair.{Pair}
 use Rattle.clause_saturate.specs.Beating.{LiveCovers, SomeLiveCovers}
 use Rattle.clause_saturate.specs.Logs.{is_unbeaten}
-use Rattle.clause_saturate.specs.Classes.{class_of, class_if, class_at}
+use Rattle.fact_classes.specs.Classes.{class_of}
+use Rattle.clause_saturate.specs.Classes.{class_if, class_at}
 use Rattle.clause_saturate.specs.Live.{AreNumbersOf, AreListed, kept_prints, prints_of, may_both, meets_at, NumberCovers, CoversAmong, IsPartner}
 use Rattle.clause_saturate.specs.Numbers.{IsAmong, AreNumbersWithin, is_live_entry, is_live_at}
 use Rattle.clause_saturate.specs.Pairs.{major, minor, IsDuePair, NoDuePair, GivesAnswer, ArePassedBy, AllArePassedBy, IsFirstPair}

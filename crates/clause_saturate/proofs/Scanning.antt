@@ -7,9 +7,10 @@ use Rattle.std.proofs.lemmas.List.{get_or_default, get_or_past}
 use Rattle.spec_trees.proofs.Equality.{and_true}
 use Rattle.spec_fingerprints.specs.Fingerprints.{Fingerprint}
 use Rattle.clause_saturate.specs.declared.log.Entry.{Entry}
-use Rattle.clause_saturate.specs.declared.classes.Classes.{Classes}
+use Rattle.fact_classes.specs.declared.classes.Classes.{Classes}
 use Rattle.clause_saturate.specs.Numbers.{IsAmong, IsAscending, is_live_at}
-use Rattle.clause_saturate.specs.Classes.{class_at, listed, AreClassed}
+use Rattle.fact_classes.specs.Classes.{listed}
+use Rattle.clause_saturate.specs.Classes.{class_at, AreClassed}
 use Rattle.clause_saturate.specs.Live.{meets_at, is_met_at, IsPartner}
 use Rattle.clause_saturate.proofs.Numbers.{among_left, among_right, among_either}
 use Rattle.clause_saturate.proofs.Classing.{numbers_apart}

@@ -19,8 +19,9 @@ use Rattle.clause_saturate.specs.declared.walk.Looks.{Looks}
 use Rattle.clause_saturate.specs.Beating.{LiveCovers, BeatsLive}
 use Rattle.clause_saturate.specs.Ends.{last_term, closed_end_of, ends_of, AreChained}
 use Rattle.clause_saturate.specs.Numbers.{IsAmong, IsAscending, is_live_at}
-use Rattle.clause_saturate.specs.declared.classes.Classes.{Classes}
-use Rattle.clause_saturate.specs.Classes.{class_of, AreClassed, IsEmptyClasses, AreSameClasses, IsClassListed}
+use Rattle.fact_classes.specs.declared.classes.Classes.{Classes}
+use Rattle.fact_classes.specs.Classes.{class_of, IsEmptyClasses, AreSameClasses, IsClassListed}
+use Rattle.clause_saturate.specs.Classes.{AreClassed}
 
 -- the entry of that number is live, and solved or not as told
 pub record IsLiveAt (all : List Term) (entries : List Entry) (solved : Bool) (number : ℕ) : Type 0 where

@@ -16,7 +16,6 @@ ghost use Rattle.clause_saturate.specs.Common.{Shared, IsCommonOf, IsSpentCommon
 ghost use Rattle.clause_saturate.specs.Beating.{clauses_of};
 
 mod chains;
-mod classes;
 pub mod common;
 mod ends;
 pub mod log;

@@ -13,11 +13,11 @@ ghost use Rattle.clause_saturate.specs.Beating.{clauses_of, LiveCovers, SomeLive
 ghost use Rattle.clause_saturate.specs.Live.{HasFeatures, HasConclusion, HasLooks, AreListed, AreAlive, IsListedBy, IsEndListed, NumberCovers, CoversAmong, AreBeatable, kept_lanes, lanes_of, kept_prints, conclusion_prints};
 ghost use Rattle.clause_saturate.specs.Numbers.{IsAmong, is_live_at};
 
-use crate::classes::class_of;
 use crate::ends::{closed_end, end_of, ending, shared_end};
 use crate::log::{Entry, Origin};
 use crate::walk::{Live, Looks, Offer, Walk};
 use clause_form::Clause;
+use fact_classes::class_of;
 use fact_fingerprint::{Fingerprint, clause_fingerprint, conclusion_fingerprint, may_meet};
 use feature_index::{Features, features, may_cover};
 use literal_selection::is_solved;

@@ -12,12 +12,12 @@ ghost use Rattle.clause_saturate.specs.Classes.{AreClassed};
 ghost use Rattle.clause_saturate.specs.Pairs.{major, minor, IsNextPair, IsDuePair, IsMadeBy, IsFoundFor, AreSameOrMore, IsTidy};
 ghost use Rattle.clause_saturate.specs.Walked.{Task, IsWalked, HasOffered, HasPassed};
 
-use crate::classes::{Classes, class_of};
 use crate::log::{Entry, Origin};
 use crate::offering::{is_live, offer};
 use crate::walk::{Live, Pair, Stop, Walk};
 use clause_form::Clause;
 use clause_resolve::{Resolved, resolvents};
+use fact_classes::{Classes, class_of};
 use fact_fingerprint::may_meet;
 use literal_selection::{is_solved, selected};
 use std::alloc::{AllocError, Global};

@@ -4,9 +4,9 @@ ghost use Rattle.std.specs.Prelude.{IfOk};
 ghost use Rattle.clause_saturate.specs.Live.{IsEmptyLive, IsSameLive};
 
 use crate::chains::Chains;
-use crate::classes::Classes;
 use crate::log::Entry;
 use clause_form::Clause;
+use fact_classes::Classes;
 use fact_fingerprint::Fingerprint;
 use feature_index::Features;
 use std::alloc::{AllocError, Global};

@@ -16,10 +16,10 @@ use Rattle.clap.specs.declared.parser.matches.ValueSource.TheVariants.{CommandLi
 use Rattle.std.proofs.lemmas.Slice.Eq.{bytes_eq-Decides}
 use Rattle.clap.proofs.SimpleLemmas.{is_nil}
 use Rattle.spec_calculus.specs.Bounds.{most_queries, most_budget, most_keys}
-use Rattle.command_words.specs.Commands.{budget_rule, name_rule, program_app, query_rule, stages_rule}
+use Rattle.command_words.specs.Commands.{budget_rule, format_rule, name_rule, program_app, query_rule, stages_rule}
 use Rattle.command_words.specs.Request.{Request, Check, ListOf, Replay, RingOf, Verify, asked, check_in, is_taken, list_in, number_of, replay_in, request_of, request_seen, ring_in, verify_in}
 use Rattle.command_words.specs.declared.Request.{Request as Request'}
-use Rattle.command_words.proofs.Rows.{bounds_of, default_good, default_there, first_there, given_there, good, kept_rows, row_from, number_there, number_within, one_keeps}
+use Rattle.command_words.proofs.Rows.{bounds_of, default_good, default_there, first_there, given_there, good, kept_rows, row_from, number_there, number_within, one_keeps, still_found}
 use Rattle.command_words.proofs.Stopping.{StopsElsewhere, walk_stops}
 use Rattle.command_words.proofs.Walking.{AllFit, Fits, level_good, neither}
 
@@ -30,6 +30,9 @@ name_at i id = with_index i (filled (name_rule id))
 
 abbrev budget : Rule
 budget = filled budget_rule
+
+abbrev format : Rule
+format = filled format_rule
 
 abbrev query : Rule
 query = with_index 2 (filled query_rule)
@@ -63,6 +66,17 @@ budget_fits : Fits good budget
 budget_fits = record {
   keeps = one_keeps budget budget_passes;
   default_keeps = λ rows g. default_good budget (codes "10000") rows refl g;
+}
+
+format_passes : (v : Text) → values_fault format (v ∷ []) ≡ [] → good (row_from format CommandLine v) ≡ true
+format_passes v e =
+    let parts = neither (value_kinds false (Unsigned 1 2) v) [] e in
+    rw (accepted (is_unsigned_in 1 2 v) parts.0) refl
+
+format_fits : Fits good format
+format_fits = record {
+  keeps = one_keeps format format_passes;
+  default_keeps = λ rows g. default_good format (codes "2") rows refl g;
 }
 
 query_passes : (v : Text) → values_fault query (v ∷ []) ≡ [] → good (row_from query CommandLine v) ≡ true
@@ -116,7 +130,7 @@ abbrev pub ring : Shape
 ring = unwrap_or (slice_get program.subs 4) program.top
 
 verify_fits : AllFit good verify.rules
-verify_fits = (name_fits 1 (codes "file") refl, (budget_fits, (help_fits, tt)))
+verify_fits = (name_fits 1 (codes "file") refl, (budget_fits, (format_fits, (help_fits, tt))))
 
 check_fits : AllFit good check.rules
 check_fits = (name_fits 1 (codes "file") refl, (name_fits 2 (codes "report") refl, (help_fits, tt)))
@@ -130,19 +144,20 @@ replay_fits = (name_fits 1 (codes "file") refl, (name_fits 2 (codes "run") refl,
 ring_fits : AllFit good ring.rules
 ring_fits = (stages_fits, (help_fits, tt))
 
--- a budget that is asked for is within the limit, and a ring has at least 2 keys, and no more than the limit
+-- a budget that is asked for is within the limit, a format is 1 or 2, and a ring has at least 2 keys, and no more than the limit
 abbrev pub WithinBounds : Option Request → Type 0
 WithinBounds None = Unit {0}
-WithinBounds (Some (Verify file n)) = n ≤ most_budget
+WithinBounds (Some (Verify file n m)) = (n ≤ most_budget) × ((1 ≤ m) × (m ≤ 2))
 WithinBounds (Some (Check file report)) = Unit {0}
 WithinBounds (Some (ListOf file n)) = Unit {0}
 WithinBounds (Some (Replay file run)) = Unit {0}
 WithinBounds (Some (RingOf n)) = (2 ≤ n) × (n ≤ most_keys)
 
-verify_bound : (f : Option Text) (n : Option ℕ) → ((m : ℕ) → n ≡ Some m → m ≤ most_budget) → WithinBounds (option_and_then (λ file. option_map (Verify file) n) f)
-verify_bound None n bound = tt
-verify_bound (Some f) None bound = tt
-verify_bound (Some f) (Some m) bound = bound m refl
+verify_bound : (f : Option Text) (n m : Option ℕ) → ((k : ℕ) → n ≡ Some k → k ≤ most_budget) → ((k : ℕ) → m ≡ Some k → (1 ≤ k) × (k ≤ 2)) → WithinBounds (option_and_then (λ file. option_and_then (λ budget. option_map (Verify file budget) m) n) f)
+verify_bound None n m bound known = tt
+verify_bound (Some f) None m bound known = tt
+verify_bound (Some f) (Some n) None bound known = tt
+verify_bound (Some f) (Some n) (Some m) bound known = (bound n refl, known m refl)
 
 check_bound : (f r : Option Text) → WithinBounds (option_and_then (λ file. option_map (Check file) r) f)
 check_bound None r = tt
@@ -179,6 +194,13 @@ some_both f (Some a) (Some b) e g = refl
 some_both f (Some a) None e g = cc
 some_both f None y e g = cc
 
+some_three : {X Y Z W : Type 0} (f : X → Y → Z → W) (x : Option X) (y : Option Y) (z : Option Z) → is_some x ≡ true → is_some y ≡ true → is_some z ≡ true
+    → is_some (option_and_then (λ a. option_and_then (λ b. option_map (f a b) z) y) x) ≡ true
+some_three f (Some a) (Some b) (Some c) e g h = refl
+some_three f (Some a) (Some b) None e g h = cc
+some_three f (Some a) None z e g h = cc
+some_three f None y z e g h = cc
+
 some_mapped : {X Y : Type 0} (f : X → Y) (o : Option X) → is_some (option_map f o) ≡ is_some o
 some_mapped f None = refl
 some_mapped f (Some x) = refl
@@ -187,23 +209,39 @@ still_there : (b : Bool) (rows : List Row) (p : Row → Bool) → is_some (find 
 still_there true rows p e = e
 still_there false rows p e = e
 
+-- the rows of `verify` before the defaults of its options
+abbrev verify_named : List Text → List Row
+verify_named words = with_default (settled verify.rules (walk verify.rules [] nothing_held words).held).rows (name_at 1 (codes "file"))
+
+budget_there : (words : List Text) → is_some (find (λ r. bytes_eq r.id (codes "budget")) (rows_after verify.rules [] words)) ≡ true
+budget_there words =
+    let first = with_default (verify_named words) budget in
+    let second = with_default first format in
+    still_there (has_row (codes "help") second) second (λ r. bytes_eq r.id (codes "budget"))
+    (still_found format (codes "2") first (λ r. bytes_eq r.id (codes "budget")) (default_there budget (codes "10000") (verify_named words)))
+
+format_there : (words : List Text) → is_some (find (λ r. bytes_eq r.id (codes "format")) (rows_after verify.rules [] words)) ≡ true
+format_there words =
+    let first = with_default (verify_named words) budget in
+    let second = with_default first format in
+    still_there (has_row (codes "help") second) second (λ r. bytes_eq r.id (codes "format")) (default_there format (codes "2") first)
+
 verify_within : (words : List Text) → level_fault verify [] nothing_held words false [] ≡ [] → WithinBounds (verify_in (rows_after verify.rules [] words))
 verify_within words e =
     let level = level_good good verify refl verify_fits [] words false [] e in
     let rows = rows_after verify.rules [] words in
-    let before = with_default (settled verify.rules (walk verify.rules [] nothing_held words).held).rows (name_at 1 (codes "file")) in
-    let number = still_there (has_row (codes "help") (with_default before budget)) (with_default before budget) (λ r. bytes_eq r.id (codes "budget")) (default_there budget (codes "10000") before) in
-    verify_bound (first_of (codes "file") rows) (option_and_then number_of (one_of (codes "budget") rows)) (λ m is. (number_within rows (codes "budget") (0, most_budget) refl (omega arith) level.0 number m is).1)
+    verify_bound (first_of (codes "file") rows) (option_and_then number_of (one_of (codes "budget") rows)) (option_and_then number_of (one_of (codes "format") rows))
+    (λ n is. (number_within rows (codes "budget") (0, most_budget) refl (omega arith) level.0 (budget_there words) n is).1)
+    (λ n is. number_within rows (codes "format") (1, 2) refl (omega arith) level.0 (format_there words) n is)
 
 verify_some : (words : List Text) → level_fault verify [] nothing_held words false [] ≡ [] → is_some (verify_in (rows_after verify.rules [] words)) ≡ true
 verify_some words e =
     let level = level_good good verify refl verify_fits [] words false [] e in
     let rows = rows_after verify.rules [] words in
-    let before = with_default (settled verify.rules (walk verify.rules [] nothing_held words).held).rows (name_at 1 (codes "file")) in
     let file = given_there _ (one_given (is_given (codes "file") rows) level.1) in
-    let number = still_there (has_row (codes "help") (with_default before budget)) (with_default before budget) (λ r. bytes_eq r.id (codes "budget")) (default_there budget (codes "10000") before) in
-    some_both Verify (first_of (codes "file") rows) (option_and_then number_of (one_of (codes "budget") rows))
-    (first_there rows (codes "file") level.0 file) (number_there rows (codes "budget") (0, most_budget) refl (omega arith) level.0 number)
+    some_three Verify (first_of (codes "file") rows) (option_and_then number_of (one_of (codes "budget") rows)) (option_and_then number_of (one_of (codes "format") rows))
+    (first_there rows (codes "file") level.0 file) (number_there rows (codes "budget") (0, most_budget) refl (omega arith) level.0 (budget_there words))
+    (number_there rows (codes "format") (1, 2) refl (omega arith) level.0 (format_there words))
 
 check_some : (words : List Text) → level_fault check [] nothing_held words false [] ≡ [] → is_some (check_in (rows_after check.rules [] words)) ≡ true
 check_some words e =

@@ -4,3 +4,4 @@ mod Stopping
 pub mod Rows
 pub mod Complete
 pub mod Plain
+pub mod Flags

@@ -26,7 +26,7 @@ use Rattle.command_words.proofs.Walking.{neither}
 -- the least and the greatest number that the argument takes, where its values are read as numbers
 abbrev pub bounds_of : Text → Option (ℕ × ℕ)
 bounds_of id = cond (bytes_eq id (codes "budget")) (Some (0, most_budget)) (cond (bytes_eq id (codes "query")) (Some (1, most_queries))
-    (cond (bytes_eq id (codes "stages")) (Some (2, most_keys)) None))
+    (cond (bytes_eq id (codes "stages")) (Some (2, most_keys)) (cond (bytes_eq id (codes "format")) (Some (1, 2)) None)))
 
 -- a number within these bounds
 abbrev pub is_within : ℕ × ℕ → Option Text → Bool
@@ -201,6 +201,25 @@ default_there a v rows = go (has_row a.id rows) refl
     go false is = subst (λ xs. is_some (find (λ r. bytes_eq r.id a.id) xs) ≡ true)
         (sym (at_none a.id (more_values DefaultValue (v ∷ [])) (row_from a DefaultValue v ∷ []) rows is))
         (last (row_from a DefaultValue v) rows (same_text a.id))
+
+-- what has a row has one behind a default of another argument
+pub still_found : (a : Rule) (v : Text) (rows : List Row) (p : Row → Bool) → is_some (find p rows) ≡ true → is_some (find p (with_default rows (record a { defaults = v ∷ [] }))) ≡ true
+still_found a v rows p there = go (has_row a.id rows) refl
+  where
+    front : (xs ys : List Row) → is_some (find p xs) ≡ true → is_some (find p (xs ++ ys)) ≡ true
+    front [] ys e = cc
+    front (x ∷ xs) ys e = more (p x) (front xs ys) e
+      where
+        more : (b : Bool) → (is_some (find p xs) ≡ true → is_some (find p (xs ++ ys)) ≡ true) → is_some (cond b (Some x) (find p xs)) ≡ true
+            → is_some (cond b (Some x) (find p (xs ++ ys))) ≡ true
+        more true rest here = refl
+        more false rest here = rest here
+
+    go : (b : Bool) → has_row a.id rows ≡ b
+        → is_some (find p (cond b rows (at_row a.id (more_values DefaultValue (v ∷ [])) (row_from a DefaultValue v ∷ []) rows))) ≡ true
+    go true is = there
+    go false is = subst (λ xs. is_some (find p xs) ≡ true)
+        (sym (at_none a.id (more_values DefaultValue (v ∷ [])) (row_from a DefaultValue v ∷ []) rows is)) (front rows (row_from a DefaultValue v ∷ []) there)
 
 -- a default that is good keeps the rows good
 pub default_good : (a : Rule) (v : Text) (rows : List Row) → good (row_from a DefaultValue v) ≡ true → list_all good rows ≡ true

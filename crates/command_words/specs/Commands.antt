@@ -16,11 +16,19 @@ budget_rule = record (new_rule (codes "budget")) {
   defaults = codes "10000" ∷ [];
 }
 
--- `verify FILE [--budget N]`
+-- `--format F`: 1 or 2, and 2 where it is left out
+abbrev pub format_rule : Rule
+format_rule = record (new_rule (codes "format")) {
+  long = Some (codes "format");
+  parser = Some (Unsigned 1 2);
+  defaults = codes "2" ∷ [];
+}
+
+-- `verify FILE [--budget N] [--format F]`
 abbrev pub verify_shape : Shape
 verify_shape =
     let named = with_rule (new_app (codes "verify")) (name_rule (codes "file")) in
-    (with_rule named budget_rule).top
+    (with_rule (with_rule named budget_rule) format_rule).top
 
 -- `check FILE REPORT`
 abbrev pub check_shape : Shape

@@ -12,7 +12,7 @@ use Rattle.command_words.specs.declared.Request.TheVariants as declared
 
 -- a request, with the texts of its names
 pub data Request : Type 0 where
-  Verify : (file : Text) → (budget : ℕ) → Request
+  Verify : (file : Text) → (budget format : ℕ) → Request
   Check : (file : Text) → (report : Text) → Request
   ListOf : (file : Text) → (query : ℕ) → Request
   Replay : (file : Text) → (run : Text) → Request
@@ -20,7 +20,7 @@ pub data Request : Type 0 where
 
 -- the request that a value of the program stands for
 abbrev pub request_seen : Request' → Request
-request_seen (declared.Verify file budget) = Verify file.now budget
+request_seen (declared.Verify file budget format) = Verify file.now budget format
 request_seen (declared.Check file report) = Check file.now report.now
 request_seen (declared.List file query) = ListOf file.now query
 request_seen (declared.Replay file run) = Replay file.now run.now
@@ -33,7 +33,8 @@ number_of text = if is_unsigned_in 0 (2 ^ 64 - 1) text
 
 -- what `verify` was given
 abbrev pub verify_in : List Row → Option Request
-verify_in rows = option_and_then (λ file. option_map (Verify file)
+verify_in rows = option_and_then (λ file. option_and_then (λ budget. option_map (Verify file budget)
+    (option_and_then number_of (one_of (codes "format") rows)))
     (option_and_then number_of (one_of (codes "budget") rows)))
     (first_of (codes "file") rows)
 

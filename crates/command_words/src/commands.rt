@@ -2,7 +2,7 @@
 ghost use Rattle.std.specs.Prelude.{◌≡◌, IfOk, false};
 ghost use Rattle.clap.specs.Words.{Shape, app_of, rule_of, shape_of, with_subcommand};
 ghost use Rattle.clap.specs.declared.builder.command.Command.TheViews.{out-Command as fields_of};
-ghost use Rattle.command_words.specs.Commands.{check_shape, list_shape, name_rule, program_app};
+ghost use Rattle.command_words.specs.Commands.{check_shape, format_rule, list_shape, name_rule, program_app};
 ghost use Rattle.command_words.specs.Commands.{replay_shape, ring_shape, verdicts_app, verify_shape};
 
 use clap::builder::ValueParser;
@@ -31,6 +31,9 @@ pub const FILE: &str = "file";
 /// The id of the argument with the budget, in clauses, and the name of its option.
 pub const BUDGET: &str = "budget";
 
+/// The id of the argument with the format of certificates, and the name of its option.
+pub const FORMAT: &str = "format";
+
 /// The id of the argument with the name of the report's file.
 pub const REPORT: &str = "report";
 
@@ -45,6 +48,13 @@ pub const STAGES: &str = "stages";
 
 /// The budget, in clauses, where none is given, in decimal digits.
 const DEFAULT_BUDGET: &str = "10000";
+
+/// The formats of certificates: the first, and the last, which is taken where none is given, in decimal digits too.
+const FIRST_FORMAT: u64 = 1;
+
+const LAST_FORMAT: u64 = 2;
+
+const DEFAULT_FORMAT: &str = "2";
 
 /// The fewest keys of a ring.
 const LEAST_KEYS: u64 = 2;
@@ -88,7 +98,18 @@ fn with_command<'a>(
     }
 }
 
-/// `verify FILE [--budget N]`
+/// `--format F`
+fn format<'a>(alloc: Global) -> Arg<'a>
+    ensures rule { rule_of result ≡ format_rule }
+    ensures local { result.global ≡ false }
+{
+    Arg::new(alloc, FORMAT)
+        .long(FORMAT)
+        .value_parser(ValueParser::unsigned(FIRST_FORMAT, LAST_FORMAT))
+        .default_value(DEFAULT_FORMAT)
+}
+
+/// `verify FILE [--budget N] [--format F]`
 fn verify<'a>(alloc: Global) -> Result<Command<'a>, AllocError>
     ensures shape { IfOk result (λ c. shape_of c ≡ verify_shape) }
     ensures local { IfOk result (λ c. (fields_of c).has_globals ≡ false) }
@@ -98,7 +119,7 @@ fn verify<'a>(alloc: Global) -> Result<Command<'a>, AllocError>
         .long(BUDGET)
         .value_parser(ValueParser::unsigned(0, MOST_BUDGET))
         .default_value(DEFAULT_BUDGET);
-    named.arg(budget)
+    named.arg(budget)?.arg(format(alloc))
 }
 
 /// `check FILE REPORT`

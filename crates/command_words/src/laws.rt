@@ -12,10 +12,10 @@ pub fn taken_words()
     ensures { (words : List (List ℕ)) → IsTrue (is_taken words) ↔ IsSome (request_of words) }
 {}
 
-/// A word that does not begin with a dash (45) is a name. With no option the budget is 10,000.
+/// A word that does not begin with a dash (45) is a name. With no option the budget is 10,000, and the format 2.
 pub fn names_without_dashes()
     ensures verify { (program file : List ℕ) → slice_index file 0 ≢ 45
-        → request_of (program ∷ codes "verify" ∷ file ∷ []) ≡ Some (Verify file 10000) }
+        → request_of (program ∷ codes "verify" ∷ file ∷ []) ≡ Some (Verify file 10000 2) }
     ensures check { (program file report : List ℕ) → slice_index file 0 ≢ 45
         → slice_index report 0 ≢ 45
         → request_of (program ∷ codes "check" ∷ file ∷ report ∷ []) ≡ Some (Check file report) }
@@ -28,7 +28,7 @@ pub fn names_without_dashes()
 pub fn names_after_dashes()
     ensures verify { (program file : List ℕ) →
         request_of (program ∷ codes "verify" ∷ codes "--" ∷ file ∷ [])
-        ≡ Some (Verify file 10000) }
+        ≡ Some (Verify file 10000 2) }
     ensures check { (program file report : List ℕ) →
         request_of (program ∷ codes "check" ∷ codes "--" ∷ file ∷ report ∷ [])
         ≡ Some (Check file report) }
@@ -42,7 +42,7 @@ pub fn budgets()
     ensures taken { (program file number : List ℕ) → slice_index file 0 ≢ 45
         → is_unsigned_in 0 most_budget number ≡ true
         → request_of (program ∷ codes "verify" ∷ file ∷ (codes "--budget=" ++ number) ∷ [])
-        ≡ Some (Verify file (digits_value 10 (without_leading_plus number))) }
+        ≡ Some (Verify file (digits_value 10 (without_leading_plus number)) 2) }
     ensures refused { (program file number : List ℕ) → slice_index file 0 ≢ 45
         → is_unsigned_in 0 most_budget number ≡ false
         → request_of (program ∷ codes "verify" ∷ file ∷ (codes "--budget=" ++ number) ∷ [])
@@ -51,8 +51,26 @@ pub fn budgets()
 
 /// A budget that is asked for is within the limit.
 pub fn asked_budgets()
-    ensures { (words : List (List ℕ)) (file : List ℕ) (budget : ℕ) →
-        request_of words ≡ Some (Verify file budget) → budget ≤ most_budget }
+    ensures { (words : List (List ℕ)) (file : List ℕ) (budget format : ℕ) →
+        request_of words ≡ Some (Verify file budget format) → budget ≤ most_budget }
+{}
+
+/// `--format=` takes 1 or 2, and nothing else.
+pub fn formats()
+    ensures taken { (program file number : List ℕ) → slice_index file 0 ≢ 45
+        → is_unsigned_in 1 2 number ≡ true
+        → request_of (program ∷ codes "verify" ∷ file ∷ (codes "--format=" ++ number) ∷ [])
+        ≡ Some (Verify file 10000 (digits_value 10 (without_leading_plus number))) }
+    ensures refused { (program file number : List ℕ) → slice_index file 0 ≢ 45
+        → is_unsigned_in 1 2 number ≡ false
+        → request_of (program ∷ codes "verify" ∷ file ∷ (codes "--format=" ++ number) ∷ [])
+        ≡ None }
+{}
+
+/// A format that is asked for is 1 or 2.
+pub fn asked_formats()
+    ensures { (words : List (List ℕ)) (file : List ℕ) (budget format : ℕ) →
+        request_of words ≡ Some (Verify file budget format) → (1 ≤ format) × (format ≤ 2) }
 {}
 
 /// `list` takes a query's number from 1 to the limit of queries, and nothing else.

@@ -22,12 +22,14 @@ use std::alloc::{AllocError, Global};
 /// What the words of a command line ask the program to do. The names are those of the words.
 #[derive(Clone, Copy, Debug, PartialEq, Eq)]
 pub enum Request<'a> {
-    /// `verify FILE [--budget N]`: verify each query of the protocol in `file`.
+    /// `verify FILE [--budget N] [--format F]`: verify each query of the protocol in `file`.
     Verify {
         /// The name of the protocol's file.
         file: &'a str,
         /// How many clauses the saturation may keep for each query, from 0 to the limit of budgets.
         budget: u64,
+        /// The format of certificates, 1 or 2.
+        format: u64,
     },
     /// `check FILE REPORT`: check each certificate of a report on the protocol in `file`.
     Check {
@@ -96,6 +98,7 @@ fn verify_requested<'a>(given: &ArgMatches<'a>) -> Option<Request<'a>>
     Some(Request::Verify {
         file: given.get_str(commands::FILE)?,
         budget: given.get_one(commands::BUDGET)?,
+        format: given.get_one(commands::FORMAT)?,
     })
 }
 

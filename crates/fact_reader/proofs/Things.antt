@@ -4,7 +4,7 @@ use Rattle.std.proofs.lemmas.List.{map-append}
 use Rattle.spec_certificate_reading.specs.Terms as terms
 use Rattle.spec_certificate_reading.specs.Outcomes.{Outcome, Found, Faulty, next, Reader, things_from, things}
 use Rattle.fact_reader.specs.declared.error.CertError.{CertError}
-use Rattle.fact_reader.specs.declared.error.CertError.TheVariants.{Syntax, Number, Symbol, Arity, Count, Memory}
+use Rattle.fact_reader.specs.declared.error.CertError.TheVariants.{Syntax, Number, Symbol, Arity, Count, NodeOrder, NodeLarge, Memory}
 use Rattle.fact_reader.specs.Gives.{HasFault}
 
 -- a fault of the first part is the fault of the whole
@@ -14,6 +14,8 @@ next_fault (Number p) o f h = ap (λ x. next x f) h
 next_fault (Symbol p) o f h = ap (λ x. next x f) h
 next_fault (Arity p) o f h = ap (λ x. next x f) h
 next_fault (Count p) o f h = ap (λ x. next x f) h
+next_fault (NodeOrder p) o f h = ap (λ x. next x f) h
+next_fault (NodeLarge p) o f h = ap (λ x. next x f) h
 next_fault (Memory m) o f h = tt
 
 -- these things are read, and reading of so many more goes on with the rest

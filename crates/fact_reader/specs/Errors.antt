@@ -3,7 +3,7 @@ use Rattle.std.specs.Prelude.{ℕ, Option, Some, None}
 use Rattle.spec_certificate_reading.specs.Terms as terms
 use Rattle.spec_certificate_reading.specs.Terms.{Code}
 use Rattle.fact_reader.specs.declared.error.CertError.{CertError}
-use Rattle.fact_reader.specs.declared.error.CertError.TheVariants.{Syntax, Number, Symbol, Arity, Count, Memory}
+use Rattle.fact_reader.specs.declared.error.CertError.TheVariants.{Syntax, Number, Symbol, Arity, Count, NodeOrder, NodeLarge, Memory}
 
 -- the code of the refusal and its place; want of memory is none
 abbrev pub refusal_of : CertError → Option (Code × ℕ)
@@ -12,6 +12,8 @@ refusal_of (Number place) = Some (terms.Number, place)
 refusal_of (Symbol place) = Some (terms.Symbol, place)
 refusal_of (Arity place) = Some (terms.Arity, place)
 refusal_of (Count place) = Some (terms.Count, place)
+refusal_of (NodeOrder place) = Some (terms.NodeOrder, place)
+refusal_of (NodeLarge place) = Some (terms.NodeLarge, place)
 refusal_of (Memory e) = None
 
 -- the numbers of the codes

@@ -3,7 +3,7 @@ use Rattle.std.specs.Prelude.{◌≡◌, ℕ, ◌≤◌, List, drop, length, Res
 use Rattle.spec_certificate_reading.specs.Terms as terms
 use Rattle.spec_certificate_reading.specs.Outcomes.{Outcome, Found, Faulty}
 use Rattle.fact_reader.specs.declared.error.CertError.{CertError}
-use Rattle.fact_reader.specs.declared.error.CertError.TheVariants.{Syntax, Number, Symbol, Arity, Count, Memory}
+use Rattle.fact_reader.specs.declared.error.CertError.TheVariants.{Syntax, Number, Symbol, Arity, Count, NodeOrder, NodeLarge, Memory}
 
 -- reading has this fault, unless memory ran out
 abbrev pub HasFault : {X : Type 0} → CertError → Outcome X → Type 0
@@ -12,6 +12,8 @@ HasFault (Number place) o = o ≡ Faulty place terms.Number
 HasFault (Symbol place) o = o ≡ Faulty place terms.Symbol
 HasFault (Arity place) o = o ≡ Faulty place terms.Arity
 HasFault (Count place) o = o ≡ Faulty place terms.Count
+HasFault (NodeOrder place) o = o ≡ Faulty place terms.NodeOrder
+HasFault (NodeLarge place) o = o ≡ Faulty place terms.NodeLarge
 HasFault (Memory e) o = Unit {0}
 
 -- of these bytes reading finds this and goes on at that place; or it has the fault

@@ -27,6 +27,13 @@ pub enum CertError {
     /// What begins there is too deep, one too many, or not the one that comes next.
     #[error("what begins at byte {0} is too deep, too much or out of order")]
     Count(usize),
+    /// What stands there is a node that stands earlier, or a number that names no earlier node, or none to which the walk through
+    /// the clauses comes next; or nodes are left to which it never came.
+    #[error("what begins at byte {0} does not stand in the order of the nodes")]
+    NodeOrder(usize),
+    /// The node, or the clause up to the number, or all clauses up to it, have more symbols than the limit.
+    #[error("what stands up to the node or number at byte {0} has too many symbols")]
+    NodeLarge(usize),
     /// There is no memory for what is read.
     #[error("want of memory")]
     Memory(AllocError),
@@ -48,7 +55,8 @@ impl<T: Drop> From<AllocFailed<T>> for CertError {
     }
 }
 
-/// The number of the refusal, from 1 for `Syntax` to 5 for `Count`, and its place; none for want of memory.
+/// The number of the refusal, from 1 for `Syntax` to 5 for `Count`, 7 for `NodeOrder` and 8 for `NodeLarge`, and its place; none
+/// for want of memory.
 pub fn code_and_place(error: &CertError) -> Option<(u32, usize)>
     ensures { result ≡ option_map in_numbers (refusal_of error.now) }
 {
@@ -58,6 +66,8 @@ pub fn code_and_place(error: &CertError) -> Option<(u32, usize)>
         CertError::Symbol(at) => Some((3, *at)),
         CertError::Arity(at) => Some((4, *at)),
         CertError::Count(at) => Some((5, *at)),
+        CertError::NodeOrder(at) => Some((7, *at)),
+        CertError::NodeLarge(at) => Some((8, *at)),
         CertError::Memory(_) => None,
     }
 }

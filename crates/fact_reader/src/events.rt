@@ -32,7 +32,7 @@ fn word_len(bytes: &[u8]) -> usize
 }
 
 /// The place behind the bytes of a word that stand there.
-fn behind_word(bytes: &[u8], at: usize) -> usize
+pub fn behind_word(bytes: &[u8], at: usize) -> usize
     requires { at ≤ length bytes.now }
     ensures is { result ≡ at + prefix_len is_in_word (drop at bytes.now) }
     ensures within { result ≤ length bytes.now }
@@ -41,7 +41,7 @@ fn behind_word(bytes: &[u8], at: usize) -> usize
 }
 
 /// The event over these arguments, which begins at the place, if it takes as many.
-fn with_arguments(
+pub fn with_arguments(
     called: CalledEvent,
     from: usize,
     arguments: Trees,

@@ -12,7 +12,9 @@ mod error;
 mod events;
 mod facts;
 
+pub use crate::bytes::front;
 pub use crate::clause::read_clause;
 pub use crate::cursor::Cursor;
 pub use crate::error::{CertError, code_and_place};
+pub use crate::events::{Performed, behind_word, with_arguments};
 pub use crate::facts::{read_conclusion, read_hypothesis};

@@ -18,10 +18,11 @@ enum Topic {
 }
 
 /// The topics of the tables that aren't about clauses.
-const TOPICS: [(&str, Topic); 7] = [
+const TOPICS: [(&str, Topic); 8] = [
     ("tokens.txt", Topic::Files),
     ("protocols.txt", Topic::Files),
     ("certificates.txt", Topic::Certificates),
+    ("numbered.txt", Topic::Certificates),
     ("reports.txt", Topic::Certificates),
     ("certificate_limits.txt", Topic::Certificates),
     ("logs.txt", Topic::Logs),

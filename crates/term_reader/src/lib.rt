@@ -7,7 +7,7 @@ mod state;
 mod steps;
 mod words;
 
-pub use crate::classes::{begins_word, is_in_word};
+pub use crate::classes::{begins_word, behind_first, is_in_word, is_variable, with_parts};
 pub use crate::reading::{Read, read_term, term_at};
 pub use crate::state::Code;
-pub use crate::words::{CalledEvent, Names, has_few_names};
+pub use crate::words::{CalledEvent, Named, Names, has_few_names};

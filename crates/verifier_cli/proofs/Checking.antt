@@ -12,9 +12,8 @@ use Rattle.spec_certificates.specs.Ruling as certificates
 use Rattle.spec_certificates.specs.Ruling.{IsRuled}
 use Rattle.spec_certificate_reading.specs.Terms.{Code}
 use Rattle.spec_certificate_reading.specs.Reports.{Claim, Proved, Bare, Unknown}
-use Rattle.spec_report_text.specs.Text.{SpellsReport}
+use Rattle.spec_node_reading.specs.Reports.{SpellsReport, reports_of_both}
 use Rattle.spec_certificate_faults.specs.First.{IsFirstFault}
-use Rattle.spec_first_faults.specs.Reports.{reports}
 use Rattle.fact_reader.specs.Errors.{refusal_of}
 use Rattle.cert_text.specs.Refused.{IsFirstOf}
 use Rattle.fact_reader.specs.declared.error.CertError.{CertError}
@@ -33,8 +32,8 @@ use Rattle.verifier_cli.proofs.Verifying.{Laws, same_refusal}
 
 -- the laws of the texts of reports on a protocol
 pub record ReportLaws (P : syntax.Protocol) : Type 0 where
-  pub refused : (bytes : List ℕ) (claims : List Claim) (place : ℕ) (code : Code) → IsFirstFault (reports P) bytes 0 place code → SpellsReport P bytes claims → ⊥
-  pub first : (bytes : List ℕ) (place other : ℕ) (code another : Code) → IsFirstFault (reports P) bytes 0 place code → IsFirstFault (reports P) bytes 0 other another → (place ≡ other) × (code ≡ another)
+  pub refused : (bytes : List ℕ) (claims : List Claim) (place : ℕ) (code : Code) → IsFirstFault (reports_of_both P) bytes 0 place code → SpellsReport P bytes claims → ⊥
+  pub first : (bytes : List ℕ) (place other : ℕ) (code another : Code) → IsFirstFault (reports_of_both P) bytes 0 place code → IsFirstFault (reports_of_both P) bytes 0 other another → (place ≡ other) × (code ≡ another)
   pub one : (bytes : List ℕ) (claims others : List Claim) → SpellsReport P bytes claims → SpellsReport P bytes others → claims ≡ others
 
 not_both : (P : syntax.Protocol) → ReportLaws P → (bytes : List ℕ) (claims : List Claim) (why : ReportRefusal) (line : ℕ) → MakesClaims P bytes claims → RefusesReport P bytes why line → ⊥
@@ -168,12 +167,14 @@ report_words files name most P _ (inl x) = absurd x.fact.answers
 report_words files name most P _ (inr why) = absurd why.1
 
 -- a report with a first fault is refused, at the line of its place
-pub fault_unread : (P : syntax.Protocol) (bytes : List ℕ) (e : CertError) → length bytes ≤ most_report_bytes → IsFirstOf (reports P) bytes 0 (refusal_of e) → IsNoReport P bytes (report_not_read bytes e)
+pub fault_unread : (P : syntax.Protocol) (bytes : List ℕ) (e : CertError) → length bytes ≤ most_report_bytes → IsFirstOf (reports_of_both P) bytes 0 (refusal_of e) → IsNoReport P bytes (report_not_read bytes e)
 fault_unread P bytes (error.Syntax place) fits h = (fits, (place, h, refl))
 fault_unread P bytes (error.Number place) fits h = (fits, (place, h, refl))
 fault_unread P bytes (error.Symbol place) fits h = (fits, (place, h, refl))
 fault_unread P bytes (error.Arity place) fits h = (fits, (place, h, refl))
 fault_unread P bytes (error.Count place) fits h = (fits, (place, h, refl))
+fault_unread P bytes (error.NodeOrder place) fits h = (fits, (place, h, refl))
+fault_unread P bytes (error.NodeLarge place) fits h = (fits, (place, h, refl))
 fault_unread P bytes (error.Memory m) fits h = tt
 
 -- the line of a place behind the bytes is that of their end

@@ -29,21 +29,21 @@ NamesFile (RingOf stages) = ⊥
 NamesFile _ = Unit {0}
 
 abbrev pub file_of : Request → List ℕ
-file_of (Verify file budget) = file
+file_of (Verify file budget format) = file
 file_of (Check file report) = file
 file_of (ListOf file query) = file
 file_of (Replay file run) = file
 file_of (RingOf stages) = []
 
 source_held : (asked : Request) → NamesFile asked → (held : List ℕ → Option (List ℕ)) → source_of asked held ≡ held (file_of asked)
-source_held (Verify file budget) names held = refl
+source_held (Verify file budget format) names held = refl
 source_held (Check file report) names held = refl
 source_held (ListOf file query) names held = refl
 source_held (Replay file run) names held = refl
 source_held (RingOf stages) names held = absurd names
 
 first_load : (asked : Request) → NamesFile asked → (bytes other : List ℕ) → take 1 (loads_of asked bytes other) ≡ load_of (file_of asked) most_bytes bytes ∷ []
-first_load (Verify file budget) names bytes other = refl
+first_load (Verify file budget format) names bytes other = refl
 first_load (Check file report) names bytes other = refl
 first_load (ListOf file query) names bytes other = refl
 first_load (Replay file run) names bytes other = refl
@@ -52,21 +52,21 @@ first_load (RingOf stages) names bytes other = absurd names
 -- Of any outcome: want of memory may come in place of each, and a file that is refused as a protocol or cannot be read.
 
 pub memory_for : (asked : Request) (bytes other : List ℕ) → IsOutcomeFor asked bytes other Memory
-memory_for (Verify file budget) bytes other = memory_verifies budget bytes
+memory_for (Verify file budget format) bytes other = memory_verifies budget bytes
 memory_for (Check file report) bytes other = memory_checked bytes other
 memory_for (ListOf file query) bytes other = memory_lists query bytes
 memory_for (Replay file run) bytes other = memory_replays bytes other
 memory_for (RingOf stages) bytes other = memory_rings stages
 
 refusal_for : Laws → (asked : Request) → NamesFile asked → (bytes other : List ℕ) (refusal : Refusal) → IsRefusalOf bytes refusal → IsOutcomeFor asked bytes other (Refused refusal)
-refusal_for laws (Verify file budget) names bytes other refusal is = refusal_verifies laws bytes budget refusal is
+refusal_for laws (Verify file budget format) names bytes other refusal is = refusal_verifies laws bytes budget refusal is
 refusal_for laws (Check file report) names bytes other refusal is = refusal_checked laws bytes other refusal is
 refusal_for laws (ListOf file query) names bytes other refusal is = refusal_lists laws bytes query refusal is
 refusal_for laws (Replay file run) names bytes other refusal is = refusal_replays laws bytes other refusal is
 refusal_for laws (RingOf stages) names bytes other refusal is = absurd names
 
 faulty_file : (asked : Request) → NamesFile asked → (bytes : List ℕ) (files : Outside) → IsFaulty files (file_of asked) → IsUnreadable asked bytes files
-faulty_file (Verify file budget) names bytes files fault = fault
+faulty_file (Verify file budget format) names bytes files fault = fault
 faulty_file (Check file report) names bytes files fault = inl fault
 faulty_file (ListOf file query) names bytes files fault = fault
 faulty_file (Replay file run) names bytes files fault = inl fault
@@ -79,7 +79,7 @@ two : 0 < 2
 two = omega arith
 
 some_file : (asked : Request) → NamesFile asked → (bytes other : List ℕ) → 0 < length (loads_of asked bytes other)
-some_file (Verify file budget) names bytes other = one
+some_file (Verify file budget format) names bytes other = one
 some_file (Check file report) names bytes other = two
 some_file (ListOf file query) names bytes other = one
 some_file (Replay file run) names bytes other = two
@@ -162,10 +162,10 @@ decided_far P budget (Verified verdicts) is = refl
 decided_far P budget Memory is = tt
 decided_far P budget _ is = absurd is
 
-pub verified_comes : Soundness → Laws → (file : List ℕ) (budget : ℕ) (files : Outside) (P : syntax.Protocol) (outcome : Outcome) → IsDecidedBy P budget outcome
-    → OfFile files file most_bytes (λ bytes. Spells bytes P) → ComesTo (Verify file budget) files (Some P) outcome
-verified_comes sound laws file budget files P outcome is x =
-    one_comes (Verify file budget) tt files (Some P) outcome (λ bytes. Spells bytes P) x (λ other. decided_far P budget outcome is)
+pub verified_comes : Soundness → Laws → (file : List ℕ) (budget format : ℕ) (files : Outside) (P : syntax.Protocol) (outcome : Outcome) → IsDecidedBy P budget outcome
+    → OfFile files file most_bytes (λ bytes. Spells bytes P) → ComesTo (Verify file budget format) files (Some P) outcome
+verified_comes sound laws file budget format files P outcome is x =
+    one_comes (Verify file budget format) tt files (Some P) outcome (λ bytes. Spells bytes P) x (λ other. decided_far P budget outcome is)
     (λ other. decided_verifies sound laws x.bytes P budget outcome is x.fact) (decided_read P budget outcome is) x.fact
 
 listed_far : (P : syntax.Protocol) (query : ℕ) (outcome : Outcome) → IsListOf P query outcome → IsHowFar outcome 1 1

@@ -45,7 +45,7 @@ read_or_not Memory = inr (λ e. cc)
 
 -- the headline, whatever the command
 defined_violates_none : (asked : Request) (files : Outside) (words : Option Protocol) (outcome : Outcome) (c : ComesTo asked files words outcome) → IsOutcomeFor asked c.protocol c.other outcome → NoneViolated c.protocol outcome
-defined_violates_none (Verify file budget) files words outcome c is = is.none_violated
+defined_violates_none (Verify file budget format) files words outcome c is = is.none_violated
 defined_violates_none (Check file report) files words outcome c is = is.none_violated
 defined_violates_none (ListOf file query) files words outcome c is = listed_violates_none c.protocol outcome is.answers
 defined_violates_none (Replay file run) files words outcome c is = replayed_violates_none c.protocol outcome is.answers
@@ -60,7 +60,7 @@ violates_none asked files words outcome c = by_read (read_or_not outcome)
 
 -- with no fault that is counted, each file that is asked for can be read
 readable : (asked : Request) (bytes : List ℕ) (files : Outside) → ((name : List ℕ) → IsFaulty files name → ⊥) → IsUnreadable asked bytes files → ⊥
-readable (Verify file budget) bytes files none c = none file c
+readable (Verify file budget format) bytes files none c = none file c
 readable (Check file report) bytes files none (inl c) = none file c
 readable (Check file report) bytes files none (inr c) = none report c.1
 readable (ListOf file query) bytes files none c = none file c
@@ -70,10 +70,10 @@ readable (RingOf stages) bytes files none c = c
 
 -- Of each command: what it comes to is of its own.
 
-own_verdicts : (P : Protocol) (file : List ℕ) (budget : ℕ) (outcome : Outcome) → IsDecidedBy P budget outcome → IsOwnOutcome (Verify file budget) outcome
-own_verdicts P file budget (Verified verdicts) is = tt
-own_verdicts P file budget Memory is = tt
-own_verdicts P file budget _ is = absurd is
+own_verdicts : (P : Protocol) (file : List ℕ) (budget format : ℕ) (outcome : Outcome) → IsDecidedBy P budget outcome → IsOwnOutcome (Verify file budget format) outcome
+own_verdicts P file budget format (Verified verdicts) is = tt
+own_verdicts P file budget format Memory is = tt
+own_verdicts P file budget format _ is = absurd is
 
 own_findings : (P : Protocol) (file report : List ℕ) (claims : List Claim) (outcome : Outcome) → IsCheckOf P claims outcome → IsOwnOutcome (Check file report) outcome
 own_findings P file report claims (Checked findings) is = tt
@@ -99,7 +99,7 @@ own_summary n _ is = absurd is
 
 -- where the files are accepted
 own_defined : (asked : Request) (bytes other : List ℕ) (outcome : Outcome) → AreAccepted asked bytes other → IsOutcomeFor asked bytes other outcome → IsOwnOutcome asked outcome
-own_defined (Verify file budget) bytes other outcome a is = own_verdicts a.0 file budget outcome (is.accepts a.0 a.1)
+own_defined (Verify file budget format) bytes other outcome a is = own_verdicts a.0 file budget format outcome (is.accepts a.0 a.1)
 own_defined (ListOf file query) bytes other outcome a is = own_list a.0 file query outcome (is.accepts a.0 a.1)
 own_defined (Check file report) bytes other outcome a is = own_findings a.0 file report a.2.0 outcome ((is.accepts a.0 a.1).accepts a.2.0 a.2.1)
 own_defined (Replay file run) bytes other outcome a is = own_replay a.0 file run a.2.0 outcome ((is.accepts a.0 a.1).accepts a.2.0 a.2.1)
@@ -116,8 +116,8 @@ zero_or_one true = inl refl
 zero_or_one false = inr (inl refl)
 
 own_status : (request : Request) (outcome : Outcome) → IsOwnOutcome request outcome → IsOfAnswer (status_of outcome)
-own_status (Verify file budget) (Verified verdicts) is = zero_or_one (list_all is_proved verdicts)
-own_status (Verify file budget) Memory is = inr (inr refl)
+own_status (Verify file budget format) (Verified verdicts) is = zero_or_one (list_all is_proved verdicts)
+own_status (Verify file budget format) Memory is = inr (inr refl)
 own_status (Check file report) (Checked findings) is = zero_or_one (list_all is_accepted findings)
 own_status (Check file report) Memory is = inr (inr refl)
 own_status (ListOf file query) (Listed clauses) is = inl refl
@@ -128,7 +128,7 @@ own_status (Replay file run) (Replayed replay) is = zero_or_one (is_without_viol
 own_status (Replay file run) Memory is = inr (inr refl)
 own_status (RingOf stages) (Ring ring) is = zero_or_one (is_proved ring.verdict)
 own_status (RingOf stages) Memory is = inr (inr refl)
-own_status (Verify file budget) _ is = absurd is
+own_status (Verify file budget format) _ is = absurd is
 own_status (Check file report) _ is = absurd is
 own_status (ListOf file query) _ is = absurd is
 own_status (Replay file run) _ is = absurd is

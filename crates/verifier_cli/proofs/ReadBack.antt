@@ -21,7 +21,10 @@ use Rattle.spec_certificate_text.specs.OfProtocol.{HasNames}
 use Rattle.spec_certificate_reading.specs.Readable.{IsReadableCertificate}
 use Rattle.spec_certificate_reading.specs.Reports as reports
 use Rattle.spec_certificate_reading.specs.Reports.{Claim, Unknown}
-use Rattle.spec_report_text.specs.Text.{query_text, IsReason, SpellsClaim, SpellsClaims, SpellsReport}
+use Rattle.spec_report_text.specs.Text.{query_text, IsReason}
+use Rattle.spec_node_reading.specs.Readable.{SpellsCertificate}
+use Rattle.spec_node_reading.specs.Reports.{SpellsClaim, SpellsClaims, SpellsReport}
+use Rattle.cert_form.specs.Writing.{format_for, text_in}
 use Rattle.clause_saturate.specs.declared.log.PlainEntry.{PlainEntry}
 use Rattle.cert_checker.specs.declared.ruling.Ruling.{Ruling}
 use Rattle.cert_checker.specs.declared.ruling.Ruling.TheVariants.{Accepted, Shape, Translation, Cover, Closure, Goal, Extra}
@@ -36,7 +39,6 @@ use Rattle.verifier_cli.specs.Command.{Becomes, Verifies}
 use Rattle.verifier_cli.specs.Checking.{IsFindingOf, AreFindingsOf, IsCheckOf}
 use Rattle.verifier_cli.specs.Text.{line, entry_text, verdict_text, verdict_lines, outcome_bytes}
 use Rattle.verifier_cli.specs.ReadBack.{finding_of, IsReadBack}
-use Rattle.spec_certificate_text.proofs.Followed.{certificate_followed}
 use Rattle.verifier_cli.proofs.OneLine.{IsOneLine, joined, decimal_in_line, clause_in_line}
 use Rattle.verifier_cli.proofs.Verifying.{verdict_where_proved}
 
@@ -49,6 +51,10 @@ claim_of _ = Unknown
 abbrev MayBeRead : Protocol → Verdict → Type 0
 MayBeRead P (Proved certificate) = IsReadableCertificate P certificate
 MayBeRead P _ = Unit {0}
+
+-- what is written of a certificate that may stand in a report spells it, whatever follows
+abbrev WrittenSpelled : Protocol → Type 0
+WrittenSpelled P = (c : Certificate) (format : ℕ) (rest : List ℕ) → IsReadableCertificate P c → SpellsCertificate P (text_in (format_for format c.clauses) P c [] ++ rest) c rest
 
 -- The text of verdicts spells their claims.
 
@@ -70,29 +76,30 @@ not_zero n = grind (arith, nat_tests)
 spoken : (first : ℕ) (word behind : List ℕ) → IsOneLine (first ∷ word) → IsOneLine behind → IsReason ((first ∷ word) ++ behind)
 spoken first word behind is k = record { some = not_zero (length (word ++ behind)); one_line = joined (first ∷ word) behind is k }
 
-verdict_spelled : (P : Protocol) → HasWords P → (number : ℕ) (v : Verdict) (rest : List ℕ) → MayBeRead P v → SpellsClaim P number (claim_of v) rest (query_text number (codes " " ++ (verdict_text 1 P v ++ rest)))
-verdict_spelled P words number (Proved certificate) rest is = (is, ap (λ k. query_text number (codes " proved\n" ++ k)) (certificate_followed P certificate [] rest))
-verdict_spelled P words number (Budget log due) rest is =
+verdict_spelled : (P : Protocol) → HasWords P → WrittenSpelled P → (format number : ℕ) (v : Verdict) (rest : List ℕ) → MayBeRead P v → SpellsClaim P number (claim_of v) rest (query_text number (codes " " ++ (verdict_text format P v ++ rest)))
+verdict_spelled P words written format number (Proved certificate) rest is =
+    (text_in (format_for format certificate.clauses) P certificate [] ++ rest, written certificate format rest is, refl)
+verdict_spelled P words written format number (Budget log due) rest is =
     unknown_spelled P number (codes "budget " ++ decimal (length log)) rest (spoken 98 (codes "udget ") (decimal (length log)) refl (decimal_in_line (length log)))
-verdict_spelled P words number (SizePair log solved unsolved) rest is =
+verdict_spelled P words written format number (SizePair log solved unsolved) rest is =
     let numbers = decimal solved ++ codes " " ++ decimal unsolved in
     let spelled = unknown_spelled P number (codes "size pair " ++ numbers) rest (spoken 115 (codes "ize pair ") numbers refl (pair_in_line solved unsolved)) in
     spelled
-verdict_spelled P words number (SizePoint point) rest is =
+verdict_spelled P words written format number (SizePoint point) rest is =
     unknown_spelled P number (codes "size point " ++ decimal point) rest (spoken 115 (codes "ize point ") (decimal point) refl (decimal_in_line point))
-verdict_spelled P words number (Unmet log entry) rest is =
+verdict_spelled P words written format number (Unmet log entry) rest is =
     let clause = entry_text P (numbered log entry) in
     unknown_spelled P number (codes "clause " ++ clause) rest (spoken 99 (codes "lause ") clause refl (entry_in_line P words (numbered log entry)))
 
 grouped : (a b c d e : List ℕ) → a ++ b ++ c ++ d ++ e ≡ a ++ (b ++ (c ++ (d ++ e)))
 grouped a b c d e = simp append_assoc
 
-verdicts_spelled : (P : Protocol) → HasWords P → (number : ℕ) (vs : List Verdict) → AllByRecursion (MayBeRead P) vs → SpellsClaims P number (map claim_of vs) (verdict_lines 1 number vs P)
-verdicts_spelled P words number [] are = refl
-verdicts_spelled P words number (v ∷ vs) are =
-    let rest = verdict_lines 1 (number + 1) vs P in
-    let same = grouped (codes "query ") (decimal number) (codes " ") (verdict_text 1 P v) rest in
-    (rest, subst (SpellsClaim P number (claim_of v) rest) (sym same) (verdict_spelled P words number v rest are.0), verdicts_spelled P words (number + 1) vs are.1)
+verdicts_spelled : (P : Protocol) → HasWords P → WrittenSpelled P → (format number : ℕ) (vs : List Verdict) → AllByRecursion (MayBeRead P) vs → SpellsClaims P number (map claim_of vs) (verdict_lines format number vs P)
+verdicts_spelled P words written format number [] are = refl
+verdicts_spelled P words written format number (v ∷ vs) are =
+    let rest = verdict_lines format (number + 1) vs P in
+    let same = grouped (codes "query ") (decimal number) (codes " ") (verdict_text format P v) rest in
+    (rest, subst (SpellsClaim P number (claim_of v) rest) (sym same) (verdict_spelled P words written format number v rest are.0), verdicts_spelled P words written format (number + 1) vs are.1)
 
 -- Verdicts of queries: each certificate may stand in a report, where the law says so of each query.
 
@@ -120,11 +127,11 @@ one_for_each P budget [] (v ∷ vs) are = absurd are
 one_for_each P budget (q ∷ qs) [] are = absurd are
 one_for_each P budget (q ∷ qs) (v ∷ vs) are = omega (arith, one_for_each P budget qs vs are.1)
 
-text_is_report : (P : Protocol) → HasWords P → (budget : ℕ) (vs : List Verdict)
+text_is_report : (P : Protocol) → HasWords P → WrittenSpelled P → (budget format : ℕ) (vs : List Verdict)
     → ((q : Query) (cert : Certificate) → Contains P.queries q → IsVerdict P q budget (defined.Proved cert) → IsReadableCertificate P cert)
-    → AnswerQueries P budget P.queries vs → SpellsReport P (verdict_lines 1 1 vs P) (map claim_of vs)
-text_is_report P words budget vs stand are = record {
-  each = verdicts_spelled P words 1 vs (answers_may_be_read P budget P.queries vs stand are);
+    → AnswerQueries P budget P.queries vs → SpellsReport P (verdict_lines format 1 vs P) (map claim_of vs)
+text_is_report P words written budget format vs stand are = record {
+  each = verdicts_spelled P words written format 1 vs (answers_may_be_read P budget P.queries vs stand are);
   all = length-map vs claim_of ∙ one_for_each P budget P.queries vs are;
 }
 
@@ -180,23 +187,24 @@ check_found P budget vs _ laws are found = absurd found
 
 -- The two calls.
 
--- the laws that the way back rests on: what every protocol has that bytes spell, that its certificates may stand in reports and are
--- accepted, and that one thing at most is ruled of one
+-- the laws that the way back rests on: what every protocol has that bytes spell, that its certificates may stand in reports, are spelled
+-- by what is written of them and are accepted, and that one thing at most is ruled of one
 pub record WayBack : Type 0 where
   pub names : (bytes : List ℕ) (P : Protocol) → Spells bytes P → HasNames P
   pub limits : (bytes : List ℕ) (P : Protocol) → Spells bytes P → IsWithinLimits P
   pub stand : (bytes : List ℕ) (P : Protocol) (q : Query) (budget : ℕ) (cert : Certificate) → Spells bytes P → Contains P.queries q → budget ≤ most_budget → IsVerdict P q budget (defined.Proved cert) → IsReadableCertificate P cert
+  pub written : (P : Protocol) → WrittenSpelled P
   pub accepted : (P : Protocol) (q : Query) (budget : ℕ) (cert : Certificate) → IsWithinLimits P → IsSmallQuery q → IsVerdict P q budget (defined.Proved cert) → IsRuled P q cert certificates.Accepted
   pub one_ruling : (P : Protocol) (q : Query) (cert : Certificate) (a b : certificates.Ruling) → IsRuled P q cert a → IsRuled P q cert b → a ≡ b
 
-pub read_back : WayBack → (bytes : List ℕ) (P : Protocol) (budget : ℕ) (outcome : Outcome) → budget ≤ most_budget → Spells bytes P → Verifies bytes budget outcome → IsReadBack bytes (outcome_bytes 1 (Some P) outcome) outcome
-read_back laws bytes P budget (Verified vs) within spelled verified = λ fits answer checks.
+pub read_back : WayBack → (bytes : List ℕ) (P : Protocol) (budget format : ℕ) (outcome : Outcome) → budget ≤ most_budget → Spells bytes P → Verifies bytes budget outcome → IsReadBack bytes (outcome_bytes format (Some P) outcome) outcome
+read_back laws bytes P budget format (Verified vs) within spelled verified = λ fits answer checks.
     let are : AnswerQueries P budget P.queries vs = verified.accepts P spelled in
     let small = (laws.limits bytes P spelled).asked in
     let accepted : AreAccepted P budget P.queries = record {
       one = laws.one_ruling P;
       accepted = λ q cert has is. laws.accepted P q budget cert (laws.limits bytes P spelled) (each-contains IsSmallQuery P.queries q small has) is;
     } in
-    let spells : SpellsReport P (verdict_lines 1 1 vs P) (map claim_of vs) = text_is_report P (laws.names bytes P spelled).words budget vs (λ q cert has is. laws.stand bytes P q budget cert spelled has within is) are in
+    let spells : SpellsReport P (verdict_lines format 1 vs P) (map claim_of vs) = text_is_report P (laws.names bytes P spelled).words (laws.written P) budget format vs (λ q cert has is. laws.stand bytes P q budget cert spelled has within is) are in
     check_found P budget vs answer accepted are ((checks.accepts P spelled).accepts (map claim_of vs) (fits, spells))
-read_back laws bytes P budget _ within spelled verified = tt
+read_back laws bytes P budget format _ within spelled verified = tt

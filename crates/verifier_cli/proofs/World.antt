@@ -1,79 +1,112 @@
--- From what a request comes to to all that is said of a call.
-use Rattle.std.proofs.Common.{◌≡◌, ◌≤◌, ℕ, List, Option, Some, None, true, false, inl, inr, refl, sym, subst, ◌∙◌}
+-- From what is asked and what it comes to to all that is said of a call.
+use Rattle.std.proofs.Common.{◌≡◌, ◌≢◌, ◌≤◌, ◌⊎◌, ℕ, zero, suc, List, Option, Some, None, true, false, inl, inr, refl, sym, ap, subst, ◌∙◌, arith}
+use Rattle.spec_calculus.specs.Bounds.{most_budget, most_keys}
 use Rattle.spec_calculus.specs.Syntax.{Protocol}
 use Rattle.command_words.specs.Request.{Request, Verify, Check, ListOf, Replay, RingOf, request_of}
+use Rattle.hv_io.specs.Sink.{appended, AppendsPart}
 use Rattle.spec_protocol_scope.specs.Spells.{Spells}
-use Rattle.verifier_cli.specs.Outside.{Outside}
-use Rattle.verifier_cli.specs.Outcome.{Outcome, Usage, Verified}
-use Rattle.verifier_cli.specs.Command.{Becomes, IsNoCommand, Verifies}
+use Rattle.verifier_cli.specs.Outside.{Outside, IsNothingLoaded}
+use Rattle.verifier_cli.specs.Outcome.{Outcome, Usage, Verified, Memory}
+use Rattle.verifier_cli.specs.Command.{Becomes, IsAskable, IsNoCommand, Verifies}
 use Rattle.verifier_cli.specs.ReadBack.{IsReadBack}
+use Rattle.verifier_cli.specs.SeenOutcome.{outcome_of}
 use Rattle.verifier_cli.specs.Text.{HasText, outcome_bytes}
-use Rattle.verifier_cli.specs.World.{ComesTo, World}
+use Rattle.verifier_cli.specs.World.{ComesTo, IsWritten, World, format_of}
+use Rattle.verifier_cli.specs.declared.outcome.Outcome as declared
 use Rattle.verifier_cli.proofs.Complete.{violates_none, is_complete}
-use Rattle.verifier_cli.proofs.Comes.{comes_after}
+use Rattle.verifier_cli.proofs.Comes.{comes_after, memory_comes}
 
--- what the request that the words make comes to is said of each that they make: there is one
-pub comes_as_asked : (words : List (List ℕ)) (made : Request) → Some made ≡ request_of words → (files : Outside) (P : Option Protocol) (outcome : Outcome)
-    → ComesTo made files P outcome → (asked : Request) → request_of words ≡ Some asked → ComesTo asked files P outcome
-comes_as_asked words made e files P outcome comes asked h =
+-- What words ask for.
+
+-- the laws of the numbers that words may ask for
+pub record AskedNumbers : Type 0 where
+  pub budgets : (words : List (List ℕ)) (file : List ℕ) (budget format : ℕ) → request_of words ≡ Some (Verify file budget format) → budget ≤ most_budget
+  pub formats : (words : List (List ℕ)) (file : List ℕ) (budget format : ℕ) → request_of words ≡ Some (Verify file budget format) → (1 ≤ format) × (format ≤ 2)
+  pub stages : (words : List (List ℕ)) (stages : ℕ) → request_of words ≡ Some (RingOf stages) → (2 ≤ stages) × (stages ≤ most_keys)
+
+pub askable : AskedNumbers → (words : List (List ℕ)) (asked : Request) → request_of words ≡ Some asked → IsAskable asked
+askable laws words (Verify file budget format) e = (laws.budgets words file budget format e, laws.formats words file budget format e)
+askable laws words (Check file report) e = tt
+askable laws words (ListOf file query) e = tt
+askable laws words (Replay file run) e = tt
+askable laws words (RingOf stages) e = laws.stages words stages e
+
+-- the formats
+pub one_or_two : (format : ℕ) → 1 ≤ format → format ≤ 2 → (format ≡ 1) ⊎ (format ≡ 2)
+one_or_two zero least most = absurd (omega (arith, least))
+one_or_two (suc zero) least most = inl refl
+one_or_two (suc (suc zero)) least most = inr refl
+one_or_two (suc (suc (suc n))) least most = absurd (omega (arith, most))
+
+-- what is so of the request that the words make is so of each that they make: there is one
+pub as_asked : (words : List (List ℕ)) (made : Request) (F : Request → Type 0) → Some made ≡ request_of words → F made → (asked : Request) → request_of words ≡ Some asked → F asked
+as_asked words made F e is asked h =
     let both : Some made ≡ Some asked = e ∙ h in
     let same : made ≡ asked = cc in
-    subst (λ (r : Request). ComesTo r files P outcome) same comes
+    subst F same is
 
 pub a_command : (words : List (List ℕ)) (request : Request) → Some request ≡ request_of words → IsNoCommand words → ⊥
 a_command words request e none = let same : Some request ≡ None = e ∙ none in cc
 
 -- no request comes to a call for nothing
 never_usage : (asked : Request) (files : Outside) (words : Option Protocol) → ComesTo asked files words Usage → ⊥
-never_usage (Verify file budget) files words c = (c.defined (λ e. cc)).answers
+never_usage (Verify file budget format) files words c = (c.defined (λ e. cc)).answers
 never_usage (Check file report) files words c = (c.defined (λ e. cc)).answers
 never_usage (ListOf file query) files words c = (c.defined (λ e. cc)).answers
 never_usage (Replay file run) files words c = (c.defined (λ e. cc)).answers
 never_usage (RingOf stages) files words c = (c.defined (λ e. cc)).answers
 
--- so the words of one make none
-pub used_for_nothing : (request : Option Request) (files : Outside) (words : Option Protocol) (found after : Outcome) → Becomes found after
-    → ((asked : Request) → request ≡ Some asked → ComesTo asked files words found) → after ≡ Usage → request ≡ None
-used_for_nothing None files words found after becomes comes e = refl
-used_for_nothing (Some asked) files words found after becomes comes e =
-    absurd (never_usage asked files words (subst (ComesTo asked files words) e (comes_after asked files words found after becomes (comes asked refl))))
+pub never_for_nothing : (asked : Request) (files : Outside) (outcome : Outcome) (Writes : List ℕ → Type 0) → World asked files outcome Writes → outcome ≡ Usage → ⊥
+never_for_nothing asked files outcome Writes world e = never_usage asked files world.words (subst (ComesTo asked files world.words) e world.comes)
 
--- what was wanted, and then replaced at most
-pub becomes_after : (wanted found after : Outcome) → Becomes wanted found → Becomes found after → Becomes wanted after
-becomes_after wanted found after (inl e) (inl h) = inl (h ∙ e)
-becomes_after wanted found after (inr e) (inl h) = inr (h ∙ e)
-becomes_after wanted found after e (inr h) = inr h
+-- the text of an outcome that is known was written, or a part of it
+pub written_of : (format status : ℕ) (old new : Option (List ℕ)) (text : List ℕ) (P : Option Protocol) (found known : declared.Outcome) → found ≡ known
+    → (status ≢ 6 → new ≡ appended old text) → (status ≡ 6 → AppendsPart old new text) → outcome_bytes format P (outcome_of known) ≡ text → IsWritten status old new (outcome_bytes format P (outcome_of found))
+written_of format status old new text P found known is whole part bytes =
+    subst (IsWritten status old new) (sym (ap (λ (o : declared.Outcome). outcome_bytes format P (outcome_of o)) is ∙ bytes)) (whole, part)
 
--- the text of a call for nothing has no words of a protocol
-pub usage_bytes : (words : Option Protocol) (outcome : Outcome) → Becomes Usage outcome → outcome_bytes 1 words outcome ≡ outcome_bytes 1 None outcome
-usage_bytes words outcome (inl e) = subst (λ (o : Outcome). outcome_bytes 1 words o ≡ outcome_bytes 1 None o) (sym e) refl
-usage_bytes words outcome (inr e) = subst (λ (o : Outcome). outcome_bytes 1 words o ≡ outcome_bytes 1 None o) (sym e) refl
+-- Worlds.
 
--- the law of verdicts that are read back, and the budgets that the words may name
-pub record BackLaws (asked : Request) : Type 0 where
-  pub back : (bytes : List ℕ) (P : Protocol) (budget : ℕ) (outcome : Outcome) → budget ≤ 1000000 → Spells bytes P → Verifies bytes budget outcome → IsReadBack bytes (outcome_bytes 1 (Some P) outcome) outcome
-  pub within : (file : List ℕ) (budget : ℕ) → asked ≡ Verify file budget → budget ≤ 1000000
+-- the law of verdicts that are read back
+abbrev pub VerdictsBack : Type 0
+VerdictsBack = (bytes : List ℕ) (P : Protocol) (budget format : ℕ) (outcome : Outcome) → budget ≤ most_budget → Spells bytes P → Verifies bytes budget outcome → IsReadBack bytes (outcome_bytes format (Some P) outcome) outcome
 
-verdicts_back : (asked : Request) → BackLaws asked → (files : Outside) (words : Option Protocol) (outcome : Outcome) (c : ComesTo asked files words outcome) → HasText words outcome → IsReadBack c.protocol (outcome_bytes 1 words outcome) outcome
-verdicts_back (Verify file budget) laws files (Some P) (Verified vs) c worded = laws.back c.protocol P budget (Verified vs) (laws.within file budget refl) c.spelled (c.defined (λ e. cc))
-verdicts_back (Verify file budget) laws files None (Verified vs) c worded = let never : true ≡ false = worded in absurd (cc)
-verdicts_back (Check file report) laws files words (Verified vs) c worded = absurd (c.defined (λ e. cc)).answers
-verdicts_back (ListOf file query) laws files words (Verified vs) c worded = absurd (c.defined (λ e. cc)).answers
-verdicts_back (Replay file run) laws files words (Verified vs) c worded = absurd (c.defined (λ e. cc)).answers
-verdicts_back (RingOf stages) laws files words (Verified vs) c worded = absurd (c.defined (λ e. cc)).answers
-verdicts_back asked laws files words _ c worded = tt
+verdicts_back : VerdictsBack → (asked : Request) → IsAskable asked → (files : Outside) (words : Option Protocol) (outcome : Outcome) (c : ComesTo asked files words outcome) → HasText words outcome → IsReadBack c.protocol (outcome_bytes (format_of asked) words outcome) outcome
+verdicts_back law (Verify file budget format) within files (Some P) (Verified vs) c worded = law c.protocol P budget format (Verified vs) within.0 c.spelled (c.defined (λ e. cc))
+verdicts_back law (Verify file budget format) within files None (Verified vs) c worded = let never : true ≡ false = worded in absurd (cc)
+verdicts_back law (Check file report) within files words (Verified vs) c worded = absurd (c.defined (λ e. cc)).answers
+verdicts_back law (ListOf file query) within files words (Verified vs) c worded = absurd (c.defined (λ e. cc)).answers
+verdicts_back law (Replay file run) within files words (Verified vs) c worded = absurd (c.defined (λ e. cc)).answers
+verdicts_back law (RingOf stages) within files words (Verified vs) c worded = absurd (c.defined (λ e. cc)).answers
+verdicts_back law asked within files words _ c worded = tt
 
 -- one world, where the words of the text are those of the protocol that was read
-pub world_of : (asked : Request) → BackLaws asked → (files : Outside) (words given : Option Protocol) (found after : Outcome) (Writes : List ℕ → Type 0) → given ≡ words
-    → ComesTo asked files words found → Becomes found after → HasText given after → Writes (outcome_bytes 1 given after) → World asked files after Writes
-world_of asked laws files words given found after Writes same comes becomes worded written =
+pub world_of : VerdictsBack → (asked : Request) → IsAskable asked → (files : Outside) (words given : Option Protocol) (found after : Outcome) (format : ℕ) (Writes : List ℕ → Type 0) → given ≡ words → format ≡ format_of asked
+    → ComesTo asked files words found → Becomes found after → HasText given after → Writes (outcome_bytes format given after) → World asked files after Writes
+world_of law asked within files words given found after format Writes same chosen comes becomes worded written =
     let c : ComesTo asked files given after = comes_after asked files given found after becomes (subst (λ (P : Option Protocol). ComesTo asked files P found) (sym same) comes) in
     record {
       words = given;
       comes = c;
       headline = violates_none asked files given after c;
       printed = worded;
-      written = written;
-      read_back = verdicts_back asked laws files given after c worded;
+      written = subst (λ n. Writes (outcome_bytes n given after)) chosen written;
+      read_back = verdicts_back law asked within files given after c worded;
       complete = is_complete asked files given after c;
     }
+
+-- of want of memory, where nothing was loaded
+pub memory_world : (asked : Request) (files : Outside) (outcome : declared.Outcome) (Writes : List ℕ → Type 0) → IsNothingLoaded files → outcome_of outcome ≡ Memory
+    → Writes (outcome_bytes (format_of asked) None (outcome_of outcome)) → World asked files (outcome_of outcome) Writes
+memory_world asked files outcome Writes same is written =
+    subst (λ o. World asked files o Writes) (sym is)
+    (let c = memory_comes asked files same in
+    record {
+      words = None;
+      comes = c;
+      headline = violates_none asked files None Memory c;
+      printed = refl;
+      written = subst (λ o. Writes (outcome_bytes (format_of asked) None o)) is written;
+      read_back = tt;
+      complete = is_complete asked files None Memory c;
+    })

@@ -7,9 +7,8 @@ use Rattle.spec_protocol_scope.specs.Spells as spells
 use Rattle.spec_protocol_scope.specs.Spells.{Spells, Refuses}
 use Rattle.spec_certificates.specs.Ruling.{IsRuled}
 use Rattle.spec_certificate_reading.specs.Reports.{Claim, Proved, Bare, Unknown}
-use Rattle.spec_report_text.specs.Text.{SpellsReport}
+use Rattle.spec_node_reading.specs.Reports.{SpellsReport, reports_of_both}
 use Rattle.spec_certificate_faults.specs.First.{IsFirstFault}
-use Rattle.spec_first_faults.specs.Reports.{reports}
 use Rattle.cert_checker.specs.Rulings.{ruling_of}
 use Rattle.verifier_cli.specs.declared.outcome.Finding.{Finding}
 use Rattle.verifier_cli.specs.declared.outcome.Finding.TheVariants.{Ruled, Missing, NotClaimed}
@@ -26,7 +25,7 @@ MakesClaims P bytes claims = (length bytes ≤ most_report_bytes) × SpellsRepor
 abbrev pub RefusesReport : Protocol → List ℕ → ReportRefusal → ℕ → Type 0
 RefusesReport P bytes LongReport line = (most_report_bytes < length bytes) × (line ≡ 1)
 RefusesReport P bytes (Misspelled code) line =
-    (length bytes ≤ most_report_bytes) × ((place : ℕ) × IsFirstFault (reports P) bytes 0 place code × (line ≡ line_at bytes place))
+    (length bytes ≤ most_report_bytes) × ((place : ℕ) × IsFirstFault (reports_of_both P) bytes 0 place code × (line ≡ line_at bytes place))
 
 -- what is found of a claim about a query: what is ruled of its certificate, that there is none, or that nothing is claimed
 abbrev pub IsFindingOf : Protocol → Query → Claim → Finding → Type 0

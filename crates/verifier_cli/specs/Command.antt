@@ -1,8 +1,9 @@
 -- What the words, the bytes of a file and the protocol that they spell have to do with the outcome.
-use Rattle.std.specs.Prelude.{◌≡◌, ℕ, ◌⊎◌, List, Some, None, IfSome, slice_get}
+use Rattle.std.specs.Prelude.{◌≡◌, ◌≤◌, ℕ, ◌⊎◌, List, Some, None, IfSome, slice_get}
+use Rattle.spec_calculus.specs.Bounds.{most_budget, most_keys}
 use Rattle.spec_calculus.specs.Syntax as syntax
 use Rattle.spec_calculus.specs.Secrecy.{Holds}
-use Rattle.command_words.specs.Request.{Request, request_of}
+use Rattle.command_words.specs.Request.{Request, Verify, RingOf, request_of}
 use Rattle.hv_io.specs.Place.{line_at, column_at}
 use Rattle.spec_protocol_scope.specs.Spells as spells
 use Rattle.spec_protocol_scope.specs.Spells.{Spells, Refuses}
@@ -16,6 +17,12 @@ use Rattle.verifier_cli.specs.Outcome.{Refusal, Protocol, Outcome, Usage, Verifi
 -- the words make this request
 abbrev pub Asks : List (List ℕ) → Request → Type 0
 Asks words request = request_of words ≡ Some request
+
+-- the numbers of a request are within their limits: the budget, the format of certificates, and the number of a ring's keys
+abbrev pub IsAskable : Request → Type 0
+IsAskable (Verify file budget format) = (budget ≤ most_budget) × ((1 ≤ format) × (format ≤ 2))
+IsAskable (RingOf stages) = (2 ≤ stages) × (stages ≤ most_keys)
+IsAskable _ = Unit {0}
 
 -- the words ask for nothing
 abbrev pub IsNoCommand : List (List ℕ) → Type 0

@@ -12,7 +12,7 @@ use Rattle.verifier_cli.specs.Replaying.{SpellsSteps}
 -- the bytes of the files that the request names are accepted: the one spells a protocol, and the other, where there is one, a report on
 -- it or a run; a ring takes no file
 abbrev pub AreAccepted : Request → List ℕ → List ℕ → Type 0
-AreAccepted (Verify file budget) bytes other = (P : Protocol) × Spells bytes P
+AreAccepted (Verify file budget format) bytes other = (P : Protocol) × Spells bytes P
 AreAccepted (Check file report) bytes other = (P : Protocol) × Spells bytes P × ((claims : List Claim) × MakesClaims P other claims)
 AreAccepted (ListOf file query) bytes other = (P : Protocol) × Spells bytes P
 AreAccepted (Replay file run) bytes other = (P : Protocol) × Spells bytes P × ((steps : List Step) × SpellsSteps other steps)
@@ -20,7 +20,7 @@ AreAccepted (RingOf stages) bytes other = Unit {0}
 
 -- the outcome is one of the request's own command, or want of memory
 abbrev pub IsOwnOutcome : Request → Outcome → Type 0
-IsOwnOutcome (Verify file budget) (Verified verdicts) = Unit {0}
+IsOwnOutcome (Verify file budget format) (Verified verdicts) = Unit {0}
 IsOwnOutcome (Check file report) (Checked findings) = Unit {0}
 IsOwnOutcome (ListOf file query) (Listed clauses) = Unit {0}
 IsOwnOutcome (ListOf file query) (ListLarge point) = Unit {0}

@@ -25,6 +25,8 @@ report_not_read bytes (error.Number place) = Refused (Report (line_at bytes plac
 report_not_read bytes (error.Symbol place) = Refused (Report (line_at bytes place) (Misspelled report.Symbol))
 report_not_read bytes (error.Arity place) = Refused (Report (line_at bytes place) (Misspelled report.Arity))
 report_not_read bytes (error.Count place) = Refused (Report (line_at bytes place) (Misspelled report.Count))
+report_not_read bytes (error.NodeOrder place) = Refused (Report (line_at bytes place) (Misspelled report.NodeOrder))
+report_not_read bytes (error.NodeLarge place) = Refused (Report (line_at bytes place) (Misspelled report.NodeLarge))
 report_not_read bytes (error.Memory e) = Memory
 
 -- a call that read no claims in these bytes

@@ -41,6 +41,8 @@ report_refusal_by text.Symbol = own.Misspelled report.Symbol
 report_refusal_by text.Arity = own.Misspelled report.Arity
 report_refusal_by text.Count = own.Misspelled report.Count
 report_refusal_by text.LongFile = own.LongReport
+report_refusal_by text.NodeOrder = own.Misspelled report.NodeOrder
+report_refusal_by text.NodeLarge = own.Misspelled report.NodeLarge
 
 -- why the text of a run is refused, by its code
 abbrev pub run_refusal_by : RunCode → own.RunRefusal

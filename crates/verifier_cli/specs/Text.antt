@@ -183,7 +183,7 @@ HasText (Some P) outcome = Unit {0}
 
 -- all that a call writes, in the words of its protocol, with certificates in the format
 abbrev pub outcome_bytes : ℕ → Option syntax.Protocol → Outcome → List ℕ
-outcome_bytes format P Usage = line (codes "usage: verify FILE [--budget N] | check FILE REPORT | list FILE QUERY | replay FILE RUN | ring N")
+outcome_bytes format P Usage = line (codes "usage: verify FILE [--budget N] [--format F] | check FILE REPORT | list FILE QUERY | replay FILE RUN | ring N")
 outcome_bytes format P (Verified verdicts) = in_words (verdict_lines format 1 verdicts) P
 outcome_bytes format P (Checked findings) = finding_lines 1 findings
 outcome_bytes format P (Listed clauses) = in_words (λ own. clause_lines own clauses) P

@@ -20,11 +20,16 @@ use Rattle.verifier_cli.specs.Text.{HasText, outcome_bytes, status_of}
 
 -- the bytes of the protocol that is asked about, where they are told: those that its file holds, or the text of the ring
 abbrev pub source_of : Request → (List ℕ → Option (List ℕ)) → Option (List ℕ)
-source_of (Verify file budget) held = held file
+source_of (Verify file budget format) held = held file
 source_of (Check file report) held = held file
 source_of (ListOf file query) held = held file
 source_of (Replay file run) held = held file
 source_of (RingOf stages) held = Some (ring_text stages)
+
+-- the format of the certificates that are printed: that which `verify` is asked for; no other request prints one
+abbrev pub format_of : Request → ℕ
+format_of (Verify file budget format) = format
+format_of _ = 1
 
 -- those that the other file holds, of a report or of a run, where there is one and they are told
 abbrev pub other_of : Request → (List ℕ → Option (List ℕ)) → Option (List ℕ)
@@ -34,7 +39,7 @@ other_of _ held = None
 
 -- the loads of the files that the request names, in order, where these are the bytes of the protocol's and of the other
 abbrev pub loads_of : Request → List ℕ → List ℕ → List Load
-loads_of (Verify file budget) bytes other = load_of file most_bytes bytes ∷ []
+loads_of (Verify file budget format) bytes other = load_of file most_bytes bytes ∷ []
 loads_of (Check file report) bytes other = load_of file most_bytes bytes ∷ load_of report most_report_bytes other ∷ []
 loads_of (ListOf file query) bytes other = load_of file most_bytes bytes ∷ []
 loads_of (Replay file run) bytes other = load_of file most_bytes bytes ∷ load_of run most_run_bytes other ∷ []
@@ -50,7 +55,7 @@ IsHowFar _ read all = read ≡ all
 
 -- the outcome is the one that the definitions give for these bytes of the protocol's file and of the other
 abbrev pub IsOutcomeFor : Request → List ℕ → List ℕ → Outcome → Type 0
-IsOutcomeFor (Verify file budget) bytes other outcome = Verifies bytes budget outcome
+IsOutcomeFor (Verify file budget format) bytes other outcome = Verifies bytes budget outcome
 IsOutcomeFor (Check file report) bytes other outcome = Checks bytes other outcome
 IsOutcomeFor (ListOf file query) bytes other outcome = Lists bytes query outcome
 IsOutcomeFor (Replay file run) bytes other outcome = Replays bytes other outcome
@@ -62,7 +67,7 @@ IsEitherFaulty file other bytes files = IsFaulty files file ⊎ (((P : syntax.Pr
 
 -- a file that is asked for cannot be read
 abbrev pub IsUnreadable : Request → List ℕ → Outside → Type 0
-IsUnreadable (Verify file budget) bytes files = IsFaulty files file
+IsUnreadable (Verify file budget format) bytes files = IsFaulty files file
 IsUnreadable (Check file report) bytes files = IsEitherFaulty file report bytes files
 IsUnreadable (ListOf file query) bytes files = IsFaulty files file
 IsUnreadable (Replay file run) bytes files = IsEitherFaulty file run bytes files
@@ -96,10 +101,10 @@ pub record World (asked : Request) (files : Outside) (outcome : Outcome) (Writes
   pub comes : ComesTo asked files words outcome
   -- no run of the protocol that its bytes spell violates a query that is proved, or whose certificate is accepted
   pub headline : NoneViolated comes.protocol outcome
-  -- what is written is the outcome's text, in these words where clauses are printed
+  -- what is written is the outcome's text, in these words where clauses are printed, and with certificates in the format that was asked for
   pub printed : HasText words outcome
-  pub written : Writes (outcome_bytes 1 words outcome)
+  pub written : Writes (outcome_bytes (format_of asked) words outcome)
   -- what `check` finds in it, where it is the text of verdicts
-  pub read_back : IsReadBack comes.protocol (outcome_bytes 1 words outcome) outcome
+  pub read_back : IsReadBack comes.protocol (outcome_bytes (format_of asked) words outcome) outcome
   -- where the bytes of its files are accepted and no fault is counted, the request comes to an outcome of its own
   pub complete : AreAccepted asked comes.protocol comes.other → ((name : List ℕ) → IsFaulty files name → ⊥) → IsOwnOutcome asked outcome × IsOfAnswer (status_of outcome)

@@ -25,10 +25,10 @@ use cert_checker::check_cert;
 use cert_text::{CertError, Claim, Claims, read_report};
 use hv_io::{Files, place};
 use pi_tree::{MOST_REPORT_BYTES, Protocol};
-use spec_first_faults::the_first_fault_of_a_report_is_told;
+use spec_node_first_faults::the_first_fault_of_a_report_in_either_format_is_told;
+use spec_node_reading::{first_faults_are_one, reports_are_one};
 use spec_protocol_scope::{never_both, one_protocol, one_refusal};
 use spec_read_protocols::queries_of_read_protocols;
-use spec_report_text::reports_are_read;
 use spec_soundness::accepted_queries_hold;
 use std::alloc::{AllocError, Global};
 
@@ -63,6 +63,8 @@ fn report_not_read(bytes: &[u8], error: CertError) -> Outcome
         CertError::Symbol(at) => (at, ReportCode::Symbol),
         CertError::Arity(at) => (at, ReportCode::Arity),
         CertError::Count(at) => (at, ReportCode::Count),
+        CertError::NodeOrder(at) => (at, ReportCode::NodeOrder),
+        CertError::NodeLarge(at) => (at, ReportCode::NodeLarge),
         CertError::Memory(_) => return Outcome::Memory,
     };
     let line = line_of(bytes, at);
@@ -158,8 +160,9 @@ fn check_report<F: Files>(
         most_report_bytes (outcome_of result) (λ text.
         ChecksReport (protocol_of protocol.now) text (outcome_of result)) }
 {
-    reports_are_read();
-    the_first_fault_of_a_report_is_told();
+    reports_are_one();
+    first_faults_are_one();
+    the_first_fault_of_a_report_in_either_format_is_told();
     match load_claims(alloc, protocol, report, files) {
         Err(outcome) => outcome,
         Ok(claims) => checked(alloc, protocol, &claims),

@@ -56,6 +56,8 @@ impl ReportCode {
             ReportCode::Arity => "4 Arity",
             ReportCode::Count => "5 Count",
             ReportCode::LongFile => "6 LongFile",
+            ReportCode::NodeOrder => "7 NodeOrder",
+            ReportCode::NodeLarge => "8 NodeLarge",
         }
     }
 }

@@ -54,6 +54,11 @@ pub enum ReportCode {
     Count,
     /// The file has more bytes than a report may have. This is looked at before all else; its line is 1.
     LongFile,
+    /// A node stands earlier, or a number names no earlier node, or none to which the walk through the clauses comes next; or
+    /// nodes are left to which it never came.
+    NodeOrder,
+    /// A node, or a clause up to a number, or all clauses up to one, have more symbols than the limit.
+    NodeLarge,
 }
 
 /// Why the text of a run is refused. The printed code of each is its number here, from 1.

@@ -14,17 +14,19 @@ use spec_certificates::one_ruling;
 use spec_protocol_scope::within_limits;
 use spec_readable_verdicts::proved_certificates_may_stand;
 use spec_verdicts::first_certificates_are_accepted;
+use spec_written_certificates::written_certificates_are_spelled;
 
-/// The text of verdicts is a report, and its certificates are accepted: of each query that is proved one, and of each other
+/// The text of verdicts, in whichever format, is a report, and its certificates are accepted: of each query that is proved one, and of each other
 /// nothing is claimed.
 pub(crate) fn verdicts_are_read_back()
-    ensures { (bytes : List ℕ) (P : Protocol) (budget : ℕ) (outcome : own.Outcome) →
+    ensures { (bytes : List ℕ) (P : Protocol) (budget format : ℕ) (outcome : own.Outcome) →
         budget ≤ most_budget → Spells bytes P → Verifies bytes budget outcome →
-        IsReadBack bytes (outcome_bytes 1 (Some P) outcome) outcome }
+        IsReadBack bytes (outcome_bytes format (Some P) outcome) outcome }
 {
     spelled_protocols_have_names();
     within_limits();
     proved_certificates_may_stand();
+    written_certificates_are_spelled();
     first_certificates_are_accepted();
     one_ruling();
 }

@@ -32,7 +32,7 @@ use std::alloc::{AllocError, Global};
 
 /// What is written for words that are no command.
 pub(crate) const USAGE: &[u8] =
-    b"usage: verify FILE [--budget N] | check FILE REPORT | list FILE QUERY | replay FILE RUN | ring N\n";
+    b"usage: verify FILE [--budget N] [--format F] | check FILE REPORT | list FILE QUERY | replay FILE RUN | ring N\n";
 
 /// What is written where a file could not be read.
 pub(crate) const READ_FAULT: &[u8] = b"read fault\n";

@@ -56,7 +56,7 @@ pub(crate) fn verify_file<F: Files>(
     ensures held_stays { (name : List ℕ) → F.held files.new name ≡ F.held files.old name }
     ensures read_faults_rise { (name : List ℕ) → F.faults files.old name ≤ F.faults files.new name }
     ensures words { HasText (option_map protocol_of result.protocol) (outcome_of result.outcome) }
-    ensures comes { ComesTo (request.Verify file.now budget)
+    ensures comes { (format : ℕ) → ComesTo (request.Verify file.now budget format)
         (outside F.held F.faults F.loads files.old files.new)
         (option_map protocol_of result.protocol) (outcome_of result.outcome) }
 {

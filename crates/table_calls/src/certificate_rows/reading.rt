@@ -42,8 +42,17 @@ fn report_of(alloc: Global, protocol: &Protocol, bytes: &[u8]) -> Result<Claims,
     }
 }
 
-/// The text of a certificate, each term as it stands.
-fn written(alloc: Global, protocol: &Protocol, cert: &Cert) -> Result<Vec<u8>, AllocError> {
+/// The text of a certificate: by a table, where the bytes that it was read of are, and else each term as it stands.
+fn written(
+    alloc: Global,
+    protocol: &Protocol,
+    cert: &Cert,
+    bytes: &[u8],
+) -> Result<Vec<u8>, AllocError> {
+    let format = format_for(2, cert);
+    if format == 2 && bytes.starts_with(b"cert 2") {
+        return write_cert(alloc, protocol, cert, format);
+    }
     write_cert(alloc, protocol, cert, 1)
 }
 
@@ -81,6 +90,8 @@ fn code_name(code: u32) -> &'static str {
         2 => "Number",
         3 => "Symbol",
         4 => "Arity",
+        7 => "NodeOrder",
+        8 => "NodeLarge",
         _ => "Count",
     }
 }
@@ -117,7 +128,7 @@ fn cert_form(
     bytes: &[u8],
     behind: usize,
 ) -> Result<String, AllocError> {
-    let written = written(alloc, protocol, cert)?;
+    let written = written(alloc, protocol, cert, bytes)?;
     if bytes.get(..behind) == Some(written.as_slice()) {
         format!(in alloc; "ok({behind})")
     } else {

@@ -6,6 +6,8 @@ use Rattle.pi_tree.specs.Protocols.{protocol_of}
 use Rattle.term_tree.specs.declared.bank.Id.{Id}
 use Rattle.clause_form.specs.Fit.{AreFit, clauses_at}
 use Rattle.fact_fingerprint.specs.Seen.{fingerprint_seen}
+use Rattle.fact_fingerprint.specs.declared.fingerprints.Fingerprint.{Fingerprint}
+use Rattle.cert_writer.specs.Classed.{AreClassed}
 use Rattle.cert_writer.specs.Ready.{conclusion_print}
 use Rattle.cert_writer.specs.Living.{live_ids}
 use Rattle.cert_writer.specs.Adding.{MustClose}
@@ -39,12 +41,13 @@ pub cert_of-requires-clause-ready : goal.cert_of-requires-clause-ready
 cert_of-requires-clause-ready g c =
     let all = g.B.Bank.trees c.args.bank.now in
     let P = protocol_of c.args.protocol.now in
-    let same : c.deref-2.result.now ≡ live_ids c.args.log.now = c.deref-2.ensures.value ∙ (c.live.view_is ∙ c.in_ok-live.ensures) in
-    let asked_of : c.deref.result.now ≡ c.deref-2.result.now = c.deref.ensures.value ∙ sym c.deref-2.ensures.value in
+    let same : c.deref-3.result.now ≡ live_ids c.args.log.now = c.deref-3.ensures.value ∙ (c.live.view_is ∙ c.in_ok-live.ensures) in
+    let asked_of : c.deref.result.now ≡ c.deref-3.result.now = c.deref.ensures.value ∙ sym c.deref-3.ensures.value in
     record {
       fit = subst (λ (cs : List (Clause Id)). AreFit all cs) (sym same) (lives_fit all P c.args.query c.args.given.now c.requires.limits c.requires.there c.requires.translation c.args.log.now c.requires.closed);
       few = subst (λ (cs : List (Clause Id)). length cs < 2 ^ 32) (sym same) (live_few c.args.log.now (2 ^ 32) c.requires.few);
-      prints = ap (map fingerprint_seen) c.deref-3.ensures.value ∙ (c.in_ok-prints.ensures ∙ ap (λ (cs : List (Clause Id)). map conclusion_print (clauses_at all cs)) asked_of);
+      prints = ap (map fingerprint_seen) c.deref-4.ensures.value ∙ (c.in_ok-prints.ensures ∙ ap (λ (cs : List (Clause Id)). map conclusion_print (clauses_at all cs)) asked_of);
+      classes = subst (λ (ps : List Fingerprint). AreClassed (map fingerprint_seen ps) c.in_ok-classes.classes) (c.deref-2.ensures.value ∙ sym c.deref-4.ensures.value) c.in_ok-classes.ensures;
     }
 
 pub cert_of-requires-clause-given : goal.cert_of-requires-clause-given
@@ -55,7 +58,7 @@ pub cert_of-requires-clause-covered : goal.cert_of-requires-clause-covered
 cert_of-requires-clause-covered g c =
     let all = g.B.Bank.trees c.args.bank.now in
     let P = protocol_of c.args.protocol.now in
-    let same : c.deref-2.result.now ≡ live_ids c.args.log.now = c.deref-2.ensures.value ∙ (c.live.view_is ∙ c.in_ok-live.ensures) in
+    let same : c.deref-3.result.now ≡ live_ids c.args.log.now = c.deref-3.ensures.value ∙ (c.live.view_is ∙ c.in_ok-live.ensures) in
     let (q, at) = asked all P c.args.query c.args.given.now c.requires.limits c.requires.there c.requires.translation in
     λ d h. subst (λ (cs : List (Clause Id)). MustBeCovered (clauses_at all cs) d) (sym same) (live_covers all P q c.args.given.now (c.requires.translation q at) c.requires.closed.0 c.args.log.now c.requires.closed.1 d h)
 
@@ -63,7 +66,7 @@ pub cert_of-requires-clause-closed : goal.cert_of-requires-clause-closed
 cert_of-requires-clause-closed g c =
     let all = g.B.Bank.trees c.args.bank.now in
     let P = protocol_of c.args.protocol.now in
-    let same : c.deref-2.result.now ≡ live_ids c.args.log.now = c.deref-2.ensures.value ∙ (c.live.view_is ∙ c.in_ok-live.ensures) in
+    let same : c.deref-3.result.now ≡ live_ids c.args.log.now = c.deref-3.ensures.value ∙ (c.live.view_is ∙ c.in_ok-live.ensures) in
     let (q, at) = asked all P c.args.query c.args.given.now c.requires.limits c.requires.there c.requires.translation in
     subst (λ (cs : List (Clause Id)). MustClose (clauses_at all cs)) (sym same) (live_closed all P q c.args.given.now (c.requires.translation q at) c.requires.closed.0 c.args.log.now c.requires.closed.1)
 
@@ -73,7 +76,7 @@ returns-clause-verdict g c =
     let P = protocol_of c.args.protocol.now in
     let goals = c.in-Rows.goals in
     let cert = c.in_ok-cert-in-Rows.cert in
-    let same : c.deref-2.result.now ≡ live_ids c.args.log.now = c.deref-2.ensures.value ∙ (c.live.view_is ∙ c.in_ok-live.ensures) in
+    let same : c.deref-3.result.now ≡ live_ids c.args.log.now = c.deref-3.ensures.value ∙ (c.live.view_is ∙ c.in_ok-live.ensures) in
     let written = subst (λ (cs : List (Clause Id)). IsWritten (clauses_at all cs) (clauses_at all c.args.given.now) goals cert) same c.in_ok-cert-in-Rows.ensures.cert in
     λ q at budget closed. written_proved all P q c.args.given.now (c.requires.translation q at) budget c.args.log.now goals cert closed
     (subst (λ (found : Goals). AreGoalsOf P q all c.args.log.now found) c.in-Rows.is (c.in_ok-number.ensures q at)) written
@@ -84,7 +87,7 @@ returns-clause-accepted g c =
     let P = protocol_of c.args.protocol.now in
     let goals = c.in-Rows.goals in
     let cert = c.in_ok-cert-in-Rows.cert in
-    let same : c.deref-2.result.now ≡ live_ids c.args.log.now = c.deref-2.ensures.value ∙ (c.live.view_is ∙ c.in_ok-live.ensures) in
+    let same : c.deref-3.result.now ≡ live_ids c.args.log.now = c.deref-3.ensures.value ∙ (c.live.view_is ∙ c.in_ok-live.ensures) in
     let written = subst (λ (cs : List (Clause Id)). IsWritten (clauses_at all cs) (clauses_at all c.args.given.now) goals cert) same c.in_ok-cert-in-Rows.ensures.cert in
     λ q at. proved_accepted P q c.requires.closed.0 cert c.requires.limits (query_small P c.args.query q c.requires.limits at) (written_proved all P q c.args.given.now (c.requires.translation q at) c.requires.closed.0 c.args.log.now goals cert c.requires.closed.1
     (subst (λ (found : Goals). AreGoalsOf P q all c.args.log.now found) c.in-Rows.is (c.in_ok-number.ensures q at)) written)
@@ -95,7 +98,7 @@ returns-clause-holds g c =
     let P = protocol_of c.args.protocol.now in
     let goals = c.in-Rows.goals in
     let cert = c.in_ok-cert-in-Rows.cert in
-    let same : c.deref-2.result.now ≡ live_ids c.args.log.now = c.deref-2.ensures.value ∙ (c.live.view_is ∙ c.in_ok-live.ensures) in
+    let same : c.deref-3.result.now ≡ live_ids c.args.log.now = c.deref-3.ensures.value ∙ (c.live.view_is ∙ c.in_ok-live.ensures) in
     let written = subst (λ (cs : List (Clause Id)). IsWritten (clauses_at all cs) (clauses_at all c.args.given.now) goals cert) same c.in_ok-cert-in-Rows.ensures.cert in
     λ q at proper. c.proved_queries_hold.ensures P q c.requires.closed.0 cert proper (written_proved all P q c.args.given.now (c.requires.translation q at) c.requires.closed.0 c.args.log.now goals cert c.requires.closed.1
     (subst (λ (found : Goals). AreGoalsOf P q all c.args.log.now found) c.in-Rows.is (c.in_ok-number.ensures q at)) written)

@@ -1,7 +1,8 @@
 use Rattle.std.proofs.Common.{◌≡◌, [], None, Some, refl, sym, subst, rules}
 use Rattle.std.specs.Prelude.{length}
 use Rattle.clause_saturate.specs.Numbers.{AreNumbersWithin}
-use Rattle.clause_saturate.specs.Classes.{class_at, listed}
+use Rattle.fact_classes.specs.Classes.{listed}
+use Rattle.clause_saturate.specs.Classes.{class_at}
 use Rattle.clause_saturate.specs.Live.{kept_prints}
 use Rattle.clause_saturate.proofs.Partners.{class_there}
 use Rattle.clause_saturate.proofs.Scanning.{class_partners, all_partners}

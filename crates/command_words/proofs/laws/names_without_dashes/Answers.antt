@@ -6,7 +6,7 @@ use Rattle.command_words.proofs.Complete as built
 use Rattle.command_words.proofs.Plain.{after_plain, asked_by, one_plain, placed, plain_text, two_plain, two_walked}
 use Rattle.command_words.proofs.laws.names_without_dashes.Goals as goal
 
-verify : (program file : List ℕ) → (slice_index file 0 ≡ 45 → ⊥) → request_of (program ∷ codes "verify" ∷ file ∷ []) ≡ Some (Verify file 10000)
+verify : (program file : List ℕ) → (slice_index file 0 ≡ 45 → ⊥) → request_of (program ∷ codes "verify" ∷ file ∷ []) ≡ Some (Verify file 10000 2)
 unfolding clap_on_literals
 verify program file no_dash =
     let plain = plain_text file no_dash in

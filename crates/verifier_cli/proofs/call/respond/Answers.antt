@@ -1,36 +1,26 @@
-use Rattle.std.proofs.Common.{◌≡◌, ◌≢◌, ◌∙◌, ℕ, List, Option, refl, sym, ap, subst}
-use Rattle.spec_calculus.specs.Syntax as syntax
-use Rattle.hv_io.specs.Sink.{appended, AppendsPart}
+use Rattle.std.proofs.Common.{◌∙◌, refl, ap}
 use Rattle.verifier_cli.specs.SeenOutcome.{outcome_of}
 use Rattle.verifier_cli.specs.Listing.{words_of}
-use Rattle.verifier_cli.specs.Text.{outcome_bytes}
-use Rattle.verifier_cli.specs.declared.outcome.Outcome.{Outcome}
 use Rattle.verifier_cli.specs.declared.outcome.Outcome.TheVariants.{Usage, ReadFault, Memory}
-use Rattle.verifier_cli.specs.World.{IsWritten}
 use Rattle.verifier_cli.proofs.Listing.{memory_has_words}
+use Rattle.verifier_cli.proofs.World.{written_of}
 use Rattle.verifier_cli.proofs.call.respond.Goals as goal
-
--- the text of an outcome that is known was written, or a part of it
-written_of : (status : ℕ) (old new : Option (List ℕ)) (text : List ℕ) (P : Option syntax.Protocol) (found known : Outcome) → found ≡ known
-    → (status ≢ 6 → new ≡ appended old text) → (status ≡ 6 → AppendsPart old new text) → outcome_bytes 1 P (outcome_of known) ≡ text → IsWritten status old new (outcome_bytes 1 P (outcome_of found))
-written_of status old new text P found known is whole part bytes =
-    subst (IsWritten status old new) (sym (ap (λ (o : Outcome). outcome_bytes 1 P (outcome_of o)) is ∙ bytes)) (whole, part)
 
 pub returns-in-Usage-clause-written : goal.returns-in-Usage-clause-written
 returns-in-Usage-clause-written g c =
-    written_of _ _ _ _ (words_of c.args.protocol) _ Usage (c.finish.ensures.outcome ∙ c.in-Usage.is) c.finish.ensures.whole c.finish.ensures.part refl
+    written_of c.args.format _ _ _ _ (words_of c.args.protocol) _ Usage (c.finish.ensures.outcome ∙ c.in-Usage.is) c.finish.ensures.whole c.finish.ensures.part refl
 
 pub returns-in-ReadFault-clause-written : goal.returns-in-ReadFault-clause-written
 returns-in-ReadFault-clause-written g c =
-    written_of _ _ _ _ (words_of c.args.protocol) _ ReadFault (c.finish-in-ReadFault.ensures.outcome ∙ c.in-ReadFault.is) c.finish-in-ReadFault.ensures.whole c.finish-in-ReadFault.ensures.part refl
+    written_of c.args.format _ _ _ _ (words_of c.args.protocol) _ ReadFault (c.finish-in-ReadFault.ensures.outcome ∙ c.in-ReadFault.is) c.finish-in-ReadFault.ensures.whole c.finish-in-ReadFault.ensures.part refl
 
 pub returns-in-Memory-clause-written : goal.returns-in-Memory-clause-written
 returns-in-Memory-clause-written g c =
-    written_of _ _ _ _ (words_of c.args.protocol) _ Memory (c.finish-in-Memory.ensures.outcome ∙ c.in-Memory.is) c.finish-in-Memory.ensures.whole c.finish-in-Memory.ensures.part refl
+    written_of c.args.format _ _ _ _ (words_of c.args.protocol) _ Memory (c.finish-in-Memory.ensures.outcome ∙ c.in-Memory.is) c.finish-in-Memory.ensures.whole c.finish-in-Memory.ensures.part refl
 
 pub returns-in-Err-clause-written : goal.returns-in-Err-clause-written
 returns-in-Err-clause-written g c =
-    written_of _ _ _ _ (words_of c.args.protocol) _ Memory c.finish-in-Err.ensures.outcome c.finish-in-Err.ensures.whole c.finish-in-Err.ensures.part refl
+    written_of c.args.format _ _ _ _ (words_of c.args.protocol) _ Memory c.finish-in-Err.ensures.outcome c.finish-in-Err.ensures.whole c.finish-in-Err.ensures.part refl
 
 pub returns-in-Err-clause-words : goal.returns-in-Err-clause-words
 returns-in-Err-clause-words g c =

@@ -14,9 +14,9 @@ returns-in-Err-clause-checked g c =
     let P = protocol_of c.args.protocol.now in
     let short = short_queries P c.requires.limits in
     let laws : ReportLaws P = record {
-      refused = λ bytes claims place code is spells. (c.the_first_fault_of_a_report_is_told.ensures.spelled P bytes claims c.requires.names short spells).none place code is.stands;
-      first = c.the_first_fault_of_a_report_is_told.ensures.one P;
-      one = λ bytes claims others. c.reports_are_read.ensures.one P bytes claims others c.requires.names short;
+      refused = λ bytes claims place code is spells. (c.the_first_fault_of_a_report_in_either_format_is_told.ensures.spelled P bytes claims c.requires.names short spells).none place code is.stands;
+      first = c.first_faults_are_one.ensures.report P;
+      one = λ bytes claims others. c.reports_are_one.ensures P bytes claims others c.requires.names;
     } in
     let outcome = outcome_of c.in-Err.outcome in
     if_read _ _ _ _ (λ bytes. IsNoReport P bytes outcome) (λ bytes. ChecksReport P bytes outcome) (λ bytes is. no_report_checks P laws bytes outcome is) c.in-Err.ensures.unread
@@ -26,9 +26,9 @@ returns-in-Ok-clause-checked g c =
     let P = protocol_of c.args.protocol.now in
     let short = short_queries P c.requires.limits in
     let laws : ReportLaws P = record {
-      refused = λ bytes claims place code is spells. (c.the_first_fault_of_a_report_is_told.ensures.spelled P bytes claims c.requires.names short spells).none place code is.stands;
-      first = c.the_first_fault_of_a_report_is_told.ensures.one P;
-      one = λ bytes claims others. c.reports_are_read.ensures.one P bytes claims others c.requires.names short;
+      refused = λ bytes claims place code is spells. (c.the_first_fault_of_a_report_in_either_format_is_told.ensures.spelled P bytes claims c.requires.names short spells).none place code is.stands;
+      first = c.first_faults_are_one.ensures.report P;
+      one = λ bytes claims others. c.reports_are_one.ensures P bytes claims others c.requires.names;
     } in
     let outcome = outcome_of c.checked.result in
     let claims = map claim_of c.in-Ok.claims in

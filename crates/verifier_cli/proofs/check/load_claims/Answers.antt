@@ -3,8 +3,7 @@ use Rattle.std.proofs.Common.{◌≡◌, ◌∙◌, ◌≤◌, ℕ, List, length
 use Rattle.std.proofs.lemmas.List.{length-map}
 use Rattle.spec_calculus.specs.Bounds.{most_report_bytes}
 use Rattle.pi_tree.specs.Protocols.{protocol_of}
-use Rattle.spec_report_text.specs.Text.{SpellsReport}
-use Rattle.spec_first_faults.specs.Reports.{reports}
+use Rattle.spec_node_reading.specs.Reports.{SpellsReport, reports_of_both}
 use Rattle.fact_reader.specs.Errors.{refusal_of}
 use Rattle.cert_text.specs.Seen.{claim_of}
 use Rattle.cert_text.specs.Refused.{IsFirstOf}
@@ -42,7 +41,7 @@ returns-clause-unread g c =
     let files = outside g.F.Files.held g.F.Files.faults g.F.Files.loads c.args.files.now c.load_text.new.files in
     let same = ap (λ (all : List ℕ). length all) c.deref.ensures.value in
     let fits : length bytes ≤ most_report_bytes = omega (arith, c.in-Ok.ensures.within, c.deref.ensures.len, same) in
-    let fault : IsFirstOf (reports P) bytes 0 (refusal_of error) = subst (λ (all : List ℕ). IsFirstOf (reports P) all 0 (refusal_of error)) c.deref.ensures.value (c.in-Err-read_report.ensures.refused c.requires.names) in
+    let fault : IsFirstOf (reports_of_both P) bytes 0 (refusal_of error) = subst (λ (all : List ℕ). IsFirstOf (reports_of_both P) all 0 (refusal_of error)) c.deref.ensures.value (c.in-Err-read_report.ensures.refused c.requires.names) in
     let is : outcome_of c.report_not_read.result ≡ report_not_read bytes error = c.report_not_read.ensures ∙ ap (λ (all : List ℕ). report_not_read all error) c.deref-in-Err-read_report.ensures.value in
     subst (λ (outcome : Outcome). IsUnreadReport P files c.args.report.now outcome) (sym is)
     (inl (of_all _ _ _ (λ all. IsNoReport P all (report_not_read bytes error)) bytes (fault_unread P bytes error fits fault) c.in-Ok.ensures.loaded))

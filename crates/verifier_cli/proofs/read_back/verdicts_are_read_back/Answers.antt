@@ -7,7 +7,8 @@ returns c =
       names = c.spelled_protocols_have_names.ensures;
       limits = c.within_limits.ensures;
       stand = c.proved_certificates_may_stand.ensures;
+      written = c.written_certificates_are_spelled.ensures;
       accepted = c.first_certificates_are_accepted.ensures;
       one_ruling = c.one_ruling.ensures;
     } in
-    λ bytes budget outcome within verified. read_back laws bytes budget outcome within verified
+    read_back laws

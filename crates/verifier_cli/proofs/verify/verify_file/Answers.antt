@@ -10,10 +10,10 @@ returns-in-Err-clause-words g c = unread_words _ _ _ c.in-Err.ensures.unread
 pub returns-in-Err-clause-comes : goal.returns-in-Err-clause-comes
 returns-in-Err-clause-comes g c =
     let laws : Laws = record { one_protocol = c.one_protocol.ensures; one_refusal = c.one_refusal.ensures; never_both = c.never_both.ensures } in
-    unread_comes laws (Verify c.args.file.now c.args.budget) tt _ _ c.in-Err.ensures.unread
+    λ format. unread_comes laws (Verify c.args.file.now c.args.budget format) tt _ _ c.in-Err.ensures.unread
 
 pub returns-in-Ok-clause-comes : goal.returns-in-Ok-clause-comes
 returns-in-Ok-clause-comes g c =
     let laws : Laws = record { one_protocol = c.one_protocol.ensures; one_refusal = c.one_refusal.ensures; never_both = c.never_both.ensures } in
     let sound : Soundness = record { proper = c.queries_of_read_protocols.ensures.proper; hold = c.proved_queries_hold.ensures } in
-    verified_comes sound laws _ _ _ (protocol_of c.in-Ok.protocol) _ c.decided-outcome.ensures c.in-Ok.ensures.spelled
+    λ format. verified_comes sound laws _ _ format _ (protocol_of c.in-Ok.protocol) _ c.decided-outcome.ensures c.in-Ok.ensures.spelled

@@ -1,9 +1,0 @@
-use Rattle.std.proofs.Common.{◌∙◌, [], map, get_or, ap}
-use Rattle.clause_saturate.proofs.Classing.{empty_more}
-use Rattle.clause_saturate.proofs.classes.Classes.reach.Goals as goal
-
-pub each-preserved : goal.each-preserved
-each-preserved c = record {
-  lists = λ k. ap (λ ls. get_or (map (λ v. v.items) ls) k []) c.in_ok-push.ensures.items ∙ (empty_more c.each.self.lists.items c.new.result k c.new.ensures.items ∙ c.each.invariant.lists k);
-  rest = c.each.invariant.rest;
-}

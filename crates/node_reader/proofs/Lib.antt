@@ -1,0 +1,6 @@
+pub mod Loops
+pub mod Starts
+pub mod Arities
+pub mod Spelled
+pub mod Ends
+pub mod Terms

@@ -1,0 +1,207 @@
+//! Clauses, and all that stands before the rows of a certificate.
+
+ghost use Rattle.std.specs.Prelude.{◌≡◌};
+ghost use Rattle.term_reader.specs.Naming.{protocol_in};
+ghost use Rattle.fact_reader.specs.Gives.{same};
+ghost use Rattle.fact_reader.specs.Reads.{Reads};
+ghost use Rattle.spec_node_counts.specs.ReadClauses as reading;
+ghost use Rattle.node_reader.specs.Tables.{table_of};
+ghost use Rattle.numbered_reader.specs.Walks.{walked_of, Walks};
+ghost use Rattle.fact_reader.specs.Seen.{hypothesis_of};
+
+use crate::facts::{read_conclusion, read_hypothesis};
+use crate::walked::Walked;
+use cert_form::PlainClauses;
+use clause_form::{PlainClause, PlainFact, PlainFacts};
+use fact_reader::{CertError, Cursor};
+use limits::MOST_CLAUSES;
+use node_reader::{Table, read_nodes};
+use term_reader::Names;
+
+/// A hypothesis and what stands behind it: `, ` where another follows, or ` => `.
+fn one_hypothesis(
+    names: &Names<'_>,
+    table: &Table,
+    cursor: &mut Cursor<'_>,
+    walked: &mut Walked,
+) -> Result<(PlainFact, bool), CertError>
+    ensures read { Walks hypothesis_of
+        (reading.one_hypothesis (protocol_in names.now) (table_of table.now))
+        walked.old walked.new cursor.old cursor.new result }
+    ensures same { cursor.new.bytes.now ≡ cursor.old.bytes.now }
+{
+    let found = read_hypothesis(names, table, cursor, walked)?;
+    if cursor.front() == b',' {
+        match cursor.pass(b", ") {
+            Ok(_) => Ok((found, true)),
+            Err(error) => {
+                drop(found);
+                Err(error)
+            }
+        }
+    } else {
+        match cursor.pass(b" => ") {
+            Ok(_) => Ok((found, false)),
+            Err(error) => {
+                drop(found);
+                Err(error)
+            }
+        }
+    }
+}
+
+/// Hypotheses, a comma and a space between each two, and ` => ` behind the last.
+#[tactic(auto, using(crate::proofs::Loops::going))]
+fn some_hypotheses(
+    names: &Names<'_>,
+    table: &Table,
+    cursor: &mut Cursor<'_>,
+    walked: &mut Walked,
+) -> Result<PlainFacts, CertError>
+    ensures read { Walks same
+        (reading.some_hypotheses (protocol_in names.now) (table_of table.now))
+        walked.old walked.new cursor.old cursor.new result }
+    ensures same { cursor.new.bytes.now ≡ cursor.old.bytes.now }
+{
+    let mut items = Vec::new(names.alloc);
+    for round in cursor.at..cursor.bytes.len() + 1 {
+        let (next, more) = one_hypothesis(names, table, cursor, walked)?;
+        items.push(next)?;
+        if !more {
+            return Ok(PlainFacts { items });
+        }
+    }
+    Err(CertError::Syntax(cursor.at))
+}
+
+/// The hypotheses of a clause, which may be none, and `=> `.
+fn hypotheses(
+    names: &Names<'_>,
+    table: &Table,
+    cursor: &mut Cursor<'_>,
+    walked: &mut Walked,
+) -> Result<PlainFacts, CertError>
+    ensures read { Walks same
+        (reading.read_hypotheses (protocol_in names.now) (table_of table.now))
+        walked.old walked.new cursor.old cursor.new result }
+    ensures same { cursor.new.bytes.now ≡ cursor.old.bytes.now }
+{
+    if cursor.front() == b'=' {
+        cursor.pass(b"=> ")?;
+        let items = Vec::new(names.alloc);
+        return Ok(PlainFacts { items });
+    }
+    some_hypotheses(names, table, cursor, walked)
+}
+
+/// The clause that stands there.
+fn clause(
+    names: &Names<'_>,
+    table: &Table,
+    cursor: &mut Cursor<'_>,
+    walked: &mut Walked,
+) -> Result<PlainClause, CertError>
+    ensures read { Walks same
+        (reading.read_clause (protocol_in names.now) (table_of table.now))
+        walked.old walked.new cursor.old cursor.new result }
+    ensures same { cursor.new.bytes.now ≡ cursor.old.bytes.now }
+{
+    let hyps = hypotheses(names, table, cursor, walked)?;
+    let concl = read_conclusion(names, table, cursor, walked)?;
+    Ok(PlainClause { hyps, concl })
+}
+
+/// `c `, a clause and the end of its line.
+fn clause_line(
+    names: &Names<'_>,
+    table: &Table,
+    cursor: &mut Cursor<'_>,
+    walked: &mut Walked,
+) -> Result<PlainClause, CertError>
+    ensures read { Walks same
+        (reading.clause_line (protocol_in names.now) (table_of table.now))
+        walked.old walked.new cursor.old cursor.new result }
+    ensures same { cursor.new.bytes.now ≡ cursor.old.bytes.now }
+{
+    cursor.pass(b"c ")?;
+    *walked = walked.at_clause();
+    let found = clause(names, table, cursor, walked)?;
+    match cursor.pass(b"\n") {
+        Ok(_) => Ok(found),
+        Err(error) => {
+            drop(found);
+            Err(error)
+        }
+    }
+}
+
+/// All clauses that stand there.
+#[tactic(auto, using(crate::proofs::Loops::going))]
+fn clauses(
+    names: &Names<'_>,
+    table: &Table,
+    cursor: &mut Cursor<'_>,
+    walked: &mut Walked,
+) -> Result<PlainClauses, CertError>
+    ensures read { Walks same
+        (reading.read_clauses (protocol_in names.now) (table_of table.now))
+        walked.old walked.new cursor.old cursor.new result }
+    ensures same { cursor.new.bytes.now ≡ cursor.old.bytes.now }
+{
+    let mut items = Vec::new(names.alloc);
+    for round in 0..MOST_CLAUSES {
+        if cursor.front() != b'c' {
+            return Ok(PlainClauses { items });
+        }
+        let next = clause_line(names, table, cursor, walked)?;
+        items.push(next)?;
+    }
+    if cursor.front() == b'c' {
+        return Err(CertError::Count(cursor.at));
+    }
+    Ok(PlainClauses { items })
+}
+
+/// Whether rows or the last line begin with the byte.
+fn begins_rows(byte: u8) -> bool
+    ensures { result ≡ reading.begins_rows byte }
+{
+    byte == b'r' || byte == b'g' || byte == b'e'
+}
+
+/// Whether some node was never reached.
+fn is_unreached(table: &Table, walked: Walked) -> bool
+    ensures { result ≡ reading.is_unreached (table_of table.now) (walked_of walked) }
+{
+    walked.reached < table.len()
+}
+
+/// The clauses that stand there, by this table, each node of which is reached.
+fn reached_clauses(
+    names: &Names<'_>,
+    table: &Table,
+    cursor: &mut Cursor<'_>,
+) -> Result<PlainClauses, CertError>
+    ensures read { Reads same (reading.reached_clauses (protocol_in names.now)
+        (table_of table.now)) cursor.old cursor.new result }
+    ensures same { cursor.new.bytes.now ≡ cursor.old.bytes.now }
+{
+    let mut walked = Walked::nothing();
+    let found = clauses(names, table, cursor, &mut walked)?;
+    if begins_rows(cursor.front()) && is_unreached(table, walked) {
+        return Err(CertError::NodeOrder(cursor.at));
+    }
+    Ok(found)
+}
+
+/// The clauses of a certificate by a table that stands there: its first line, its nodes and its clauses, up to its rows; or the
+/// first fault.
+pub fn read_numbered(names: &Names<'_>, cursor: &mut Cursor<'_>) -> Result<PlainClauses, CertError>
+    ensures read { Reads same (reading.clauses_read (protocol_in names.now))
+        cursor.old cursor.new result }
+    ensures same { cursor.new.bytes.now ≡ cursor.old.bytes.now }
+{
+    cursor.pass(b"cert 2\n")?;
+    let table = read_nodes(names, cursor)?;
+    reached_clauses(names, &table, cursor)
+}

@@ -1,0 +1,6 @@
+pub mod Steps
+mod Alike
+mod Counting
+mod Simulated
+mod Lower
+mod Certificates

@@ -1,0 +1,192 @@
+-- Facts, clauses and certificates are read by counts as they are read by all terms.
+use Rattle.std.proofs.Common.{◌≡◌, ℕ, zero, suc, ◌+◌, ◌==◌, if◌then◌else◌, Bool, true, false, List, [], ◌∷◌, ◌++◌, length, take, drop, codes, Option, Some, None, refl}
+use Rattle.std.specs.List.{prefix_len}
+use Rattle.spec_calculus.specs.Syntax.{Protocol}
+use Rattle.spec_protocol_tokens.specs.Bytes.{begins_word, is_in_word}
+use Rattle.spec_terms.specs.Term.{Term}
+use Rattle.spec_clauses.specs.Fact.{Fact, Att, Mess, Ev, Mev, Bad, Clause}
+use Rattle.spec_certificate_reading.specs.Names.{CalledEvent, event_called}
+use Rattle.spec_certificate_reading.specs.Terms.{Syntax, Symbol}
+use Rattle.spec_certificate_reading.specs.Outcomes.{Outcome, Found, Faulty, next, front, ended, read_fixed, read_number, Reader}
+use Rattle.spec_certificate_reading.specs.Facts.{Performed, performed}
+use Rattle.spec_node_starts.specs.Tables.{HaveStarts}
+use Rattle.spec_node_reading.specs.Walked as walks
+use Rattle.spec_node_reading.specs.ReadClauses as kept
+use Rattle.spec_node_reading.specs.Loops.{Behind, with, row_from}
+use Rattle.spec_node_counts.specs.Words.{word_of}
+use Rattle.spec_node_counts.specs.Rounds.{rounds, collects, puts}
+use Rattle.spec_node_counts.specs.Nodes.{Table}
+use Rattle.spec_node_counts.specs.Counts as counts
+use Rattle.spec_node_counts.specs.Counts.{Counted}
+use Rattle.spec_node_counts.specs.ReadFacts as facts
+use Rattle.spec_node_counts.specs.ReadClauses as clauses
+use Rattle.spec_node_counts.proofs.Steps.{behind_round, one_more, none_left}
+use Rattle.spec_node_counts.proofs.Alike.{Alike, found, faulty, next_alike, same_alike, if_alike, within_alike, both}
+use Rattle.spec_node_counts.proofs.Counting.{IsAlong, Along, along, symbols_along, clause_along, number_alike}
+
+module _ (P : Protocol) (T : Table) (starts : HaveStarts T.terms T.starts) where
+  -- both walks read alike
+  abbrev Go : {A : Type 0} → (walks.Walked → Reader (Behind A)) → (Counted → Reader (A × Counted)) → Type 0
+  Go {A} one other = (w : walks.Walked) (v : Counted) (bytes : List ℕ) (at : ℕ) → IsAlong T w v → Alike (Along {A = A} T) (one w bytes at) (other v bytes at)
+
+  -- behind what both walks read
+  then_alike : {A B : Type 0} (o : Outcome (Behind A)) (p : Outcome (A × Counted)) (f : Behind A → ℕ → List ℕ → Outcome (Behind B)) (g : A × Counted → ℕ → List ℕ → Outcome (B × Counted))
+      → Alike (Along {A = A} T) o p → ((x : A) (w : walks.Walked) (v : Counted) (place : ℕ) (rest : List ℕ) → IsAlong T w v → Alike (Along {A = B} T) (f (with x w) place rest) (g (x, v) place rest))
+      → Alike (Along {A = B} T) (next o f) (next p g)
+  then_alike {A} {B} o p f g alike more = next_alike (Along {A = A} T) (Along {A = B} T) o p f g alike (λ x y place rest is. by x y place rest is)
+    where
+      by : (x : Behind A) (y : A × Counted) (place : ℕ) (rest : List ℕ) → Along {A = A} T x y → Alike (Along {A = B} T) (f x place rest) (g y place rest)
+      by _ _ place rest (along x w v is) = more x w v place rest is
+
+  term_alike : Go (kept.one_term P T.terms) (counts.read_term T)
+  term_alike w v bytes at is = same_alike (Along T) (read_number bytes at) _ _ (λ n place rest. number_alike P T w v at n place rest starts is)
+
+  -- a thing and what stands behind it, as one round reads it
+  abbrev told_by : {A : Type 0} → (comma close : List ℕ) → (Counted → Reader (A × Counted)) → Counted → Reader ((A × Bool) × Counted)
+  told_by comma close one v bytes at = next (one v bytes at) (λ x place rest.
+      if front rest == 44 then next (read_fixed comma rest place) (λ _ p r. Found ((x.0, true), x.1) p r)
+      else next (read_fixed close rest place) (λ _ p r. Found ((x.0, false), x.1) p r))
+
+  abbrev put_by : {A : Type 0} → List A → (A × Bool) × Counted → ℕ → List ℕ → Outcome ((List A × Counted) × Bool)
+  put_by xs x place rest = Found ((xs ++ x.0.0 ∷ [], x.1), x.0.1) place rest
+
+  abbrev tell_by : {A : Type 0} → (comma close : List ℕ) → A → Counted → ℕ → List ℕ → Bool → Outcome ((A × Bool) × Counted)
+  tell_by comma close x v place rest b = if b then next (read_fixed comma rest place) (λ _ p r. Found ((x, true), v) p r) else next (read_fixed close rest place) (λ _ p r. Found ((x, false), v) p r)
+
+  abbrev goes_from : {A : Type 0} → (one : walks.Walked → Reader (Behind A)) → (cs close : List ℕ) → ℕ → List A → A → walks.Walked → ℕ → List ℕ → Bool → Outcome (Behind (List A))
+  goes_from one cs close m xs x w place rest b =
+      if b then next (read_fixed (44 ∷ cs) rest place) (λ _ p r. row_from one 44 cs close m (with (xs ++ x ∷ []) w) r p) else next (read_fixed close rest place) (λ _ p r. Found (with (xs ++ x ∷ []) w) p r)
+
+  row_more : {A : Type 0} (one : walks.Walked → Reader (Behind A)) (cs close : List ℕ) (m : ℕ) (xs : List A) (w : walks.Walked) (bytes : List ℕ) (at : ℕ)
+      → row_from one 44 cs close (suc m) (with xs w) bytes at ≡ next (one w bytes at) (λ x p r. goes_from one cs close m xs x.value x.walked p r (front r == 44))
+  unfolding row_from
+  row_more one cs close m xs w bytes at = refl
+
+  row_none : {A : Type 0} (one : walks.Walked → Reader (Behind A)) (cs close : List ℕ) (xs : List A) (w : walks.Walked) (bytes : List ℕ) (at : ℕ) → row_from one 44 cs close 0 (with xs w) bytes at ≡ Faulty at Syntax
+  unfolding row_from
+  row_none one cs close xs w bytes at = refl
+
+  -- things in a row
+  row_alike : {A : Type 0} (cs close : List ℕ) (one : walks.Walked → Reader (Behind A)) (other : Counted → Reader (A × Counted)) → Go one other
+      → (most : ℕ) (xs : List A) (w : walks.Walked) (v : Counted) (bytes : List ℕ) (at : ℕ) → IsAlong T w v
+      → Alike (Along {A = List A} T) (row_from one 44 cs close most (with xs w) bytes at) (rounds (collects (told_by (44 ∷ cs) close other)) most (xs, v) bytes at)
+  row_alike {A} cs close one other alike zero xs w v bytes at is =
+      both (Along {A = List A} T) _ _ _ _ (row_none one cs close xs w bytes at) (none_left (collects (told_by (44 ∷ cs) close other)) (xs, v) bytes at) (faulty at Syntax)
+  row_alike {A} cs close one other alike (suc m) xs w v bytes at is =
+      both (Along {A = List A} T) _ _ _ _ (row_more one cs close m xs w bytes at) (one_more (collects (told_by (44 ∷ cs) close other)) m (xs, v) bytes at)
+      (within_alike (Along {A = List A} T) _ (told_by (44 ∷ cs) close other v bytes at) (put_by xs) (behind_round (collects (told_by (44 ∷ cs) close other)) m)
+      (within_alike (Along {A = List A} T) _ (other v bytes at) (λ x place rest. tell_by (44 ∷ cs) close x.0 x.1 place rest (front rest == 44)) (λ x place rest. next (put_by xs x place rest) (behind_round (collects (told_by (44 ∷ cs) close other)) m))
+      (then_alike {A = A} {B = List A} (one w bytes at) (other v bytes at) (λ x p r. goes_from one cs close m xs x.value x.walked p r (front r == 44))
+      (λ x place rest. next (tell_by (44 ∷ cs) close x.0 x.1 place rest (front rest == 44)) (λ x place rest. next (put_by xs x place rest) (behind_round (collects (told_by (44 ∷ cs) close other)) m)))
+      (alike w v bytes at is) (λ x w v place rest is. by x (λ w v p r is. row_alike cs close one other alike m (xs ++ x ∷ []) w v r p is) w v place rest is (front rest == 44)))))
+    where
+      by : (x : A) → ((w : walks.Walked) (v : Counted) (place : ℕ) (rest : List ℕ) → IsAlong T w v → Alike (Along {A = List A} T) (row_from one 44 cs close m (with (xs ++ x ∷ []) w) rest place) (rounds (collects (told_by (44 ∷ cs) close other)) m (xs ++ x ∷ [], v) rest place))
+          → (w : walks.Walked) (v : Counted) (place : ℕ) (rest : List ℕ) → IsAlong T w v → (b : Bool)
+          → Alike (Along {A = List A} T) (goes_from one cs close m xs x w place rest b)
+          (next (tell_by (44 ∷ cs) close x v place rest b) (λ x place rest. next (put_by xs x place rest) (behind_round (collects (told_by (44 ∷ cs) close other)) m)))
+      by x later w v place rest is true =
+          within_alike (Along {A = List A} T) _ (read_fixed (44 ∷ cs) rest place) _ _
+          (same_alike (Along {A = List A} T) (read_fixed (44 ∷ cs) rest place) _ _ (λ _ p r. later w v p r is))
+      by x later w v place rest is false =
+          within_alike (Along {A = List A} T) _ (read_fixed close rest place) _ _
+          (same_alike (Along {A = List A} T) (read_fixed close rest place) _ _ (λ _ p r. found _ _ p r (along (xs ++ x ∷ []) w v is)))
+
+  terms_alike : Go (kept.read_terms P T.terms) (facts.read_terms T)
+  terms_alike w v bytes at is = row_alike [] (codes ")") (kept.one_term P T.terms) (counts.read_term T) term_alike (suc (length bytes)) [] w v bytes at is
+
+  applied_alike : Go (kept.read_applied P T.terms) (facts.applied T)
+  applied_alike w v bytes at is = if_alike (Along T) (front bytes == 40) _ _ _ _
+      (same_alike (Along T) (read_fixed (codes "(") bytes at) _ _ (λ _ p r. terms_alike w v r p is))
+      (found _ _ at bytes (along [] w v is))
+
+  event_alike : (called : Option CalledEvent) (w : walks.Walked) (v : Counted) (from place : ℕ) (rest : List ℕ) → IsAlong T w v
+      → Alike (Along T) (kept.event_named P T.terms called w from place rest) (facts.event_named T called from v rest place)
+  event_alike None w v from place rest is = faulty from Symbol
+  event_alike (Some called) w v from place rest is =
+      then_alike (kept.read_applied P T.terms w rest place) (facts.applied T v rest place) _ _ (applied_alike w v rest place is)
+      (λ ts w v p r is. same_alike (Along T) (performed from called ts p r) _ _ (λ e p r. found _ _ p r (along e w v is)))
+
+  -- an event is read behind its word
+  words_alike : (w : walks.Walked) (v : Counted) (bytes : List ℕ) (at size : ℕ) → IsAlong T w v
+      → Alike (Along T) (ended (at + size) (drop size bytes) (kept.event_named P T.terms (event_called P (take size bytes)) w at (at + size) (drop size bytes)))
+      (next (word_of size bytes at) (λ word p r. facts.event_named T (event_called P word) at v r p))
+  words_alike w v bytes at size is = by (drop size bytes)
+    where
+      by : (rest : List ℕ) → Alike (Along T) (ended (at + size) rest (kept.event_named P T.terms (event_called P (take size bytes)) w at (at + size) rest))
+          (next (ended (at + size) rest (Found (take size bytes) (at + size) rest)) (λ word p r. facts.event_named T (event_called P word) at v r p))
+      by [] = faulty (at + size) Syntax
+      by (b ∷ rest) = event_alike (event_called P (take size bytes)) w v at (at + size) (b ∷ rest) is
+
+  words_if : (w : walks.Walked) (v : Counted) (bytes : List ℕ) (at size : ℕ) → IsAlong T w v → (b : Bool)
+      → Alike (Along {A = Performed} T) (if b then ended (at + size) (drop size bytes) (kept.event_named P T.terms (event_called P (take size bytes)) w at (at + size) (drop size bytes)) else Faulty at Syntax)
+      (next (if b then word_of size bytes at else Faulty at Syntax) (λ word p r. facts.event_named T (event_called P word) at v r p))
+  words_if w v bytes at size is true = words_alike w v bytes at size is
+  words_if w v bytes at size is false = faulty at Syntax
+
+  read_event_alike : Go (kept.read_event P T.terms) (facts.read_event P T)
+  read_event_alike w v bytes at is = words_if w v bytes at (prefix_len is_in_word bytes) is (begins_word (front bytes))
+
+  -- Facts.
+
+  att_alike : Go (kept.read_att P T.terms) (facts.read_att T)
+  att_alike w v bytes at is = same_alike (Along T) (read_fixed (codes "att(") bytes at) _ _ (λ _ p r.
+      then_alike _ _ _ _ (term_alike (walks.with_signs 1 w) (counts.with_symbols 1 v) r p (symbols_along T w v 1 is)) (λ t w v p r is.
+      same_alike (Along T) (read_fixed (codes ")") r p) _ _ (λ _ p r. found _ _ p r (along (Att t) w v is))))
+
+  mess_alike : Go (kept.read_mess P T.terms) (facts.read_mess T)
+  mess_alike w v bytes at is = same_alike (Along T) (read_fixed (codes "mess(") bytes at) _ _ (λ _ p r.
+      then_alike _ _ _ _ (term_alike (walks.with_signs 1 w) (counts.with_symbols 1 v) r p (symbols_along T w v 1 is)) (λ t w v p r is.
+      same_alike (Along T) (read_fixed (codes ",") r p) _ _ (λ _ p r.
+      then_alike _ _ _ _ (term_alike w v r p is) (λ u w v p r is.
+      same_alike (Along T) (read_fixed (codes ")") r p) _ _ (λ _ p r. found _ _ p r (along (Mess t u) w v is))))))
+
+  ev_alike : Go (kept.read_performed P T.terms (codes "ev(") (λ e ts. Ev e ts)) (facts.read_ev P T)
+  ev_alike w v bytes at is = same_alike (Along T) (read_fixed (codes "ev(") bytes at) _ _ (λ _ p r.
+      then_alike _ _ _ _ (read_event_alike (walks.with_signs 2 w) (counts.with_symbols 2 v) r p (symbols_along T w v 2 is)) (λ e w v p r is.
+      same_alike (Along T) (read_fixed (codes ")") r p) _ _ (λ _ p r. found _ _ p r (along (Ev e.event e.arguments) w v is))))
+
+  mev_alike : Go (kept.read_performed P T.terms (codes "mev(") (λ e ts. Mev e ts)) (facts.read_mev P T)
+  mev_alike w v bytes at is = same_alike (Along T) (read_fixed (codes "mev(") bytes at) _ _ (λ _ p r.
+      then_alike _ _ _ _ (read_event_alike (walks.with_signs 2 w) (counts.with_symbols 2 v) r p (symbols_along T w v 2 is)) (λ e w v p r is.
+      same_alike (Along T) (read_fixed (codes ")") r p) _ _ (λ _ p r. found _ _ p r (along (Mev e.event e.arguments) w v is))))
+
+  bad_if : (w : walks.Walked) (v : Counted) (p : ℕ) (r : List ℕ) → IsAlong T w v → (b : Bool) → Alike (Along {A = Fact Term} T)
+      (if b then next (read_fixed (codes ")") r p) (λ _ p r. Found (with (Bad []) w) p r) else next (kept.read_terms P T.terms w r p) (λ x p r. Found (with (Bad x.value) x.walked) p r))
+      (next (if b then next (read_fixed (codes ")") r p) (λ _ p r. Found ([], v) p r) else facts.read_terms T v r p) (λ ts p r. Found (Bad ts.0, ts.1) p r))
+  bad_if w v p r is true = within_alike (Along T) _ (read_fixed (codes ")") r p) _ _
+      (same_alike (Along T) (read_fixed (codes ")") r p) _ _ (λ _ p r. found _ _ p r (along (Bad []) w v is)))
+  bad_if w v p r is false = then_alike _ _ _ _ (terms_alike w v r p is) (λ ts w v p r is. found _ _ p r (along (Bad ts) w v is))
+
+  bad_alike : Go (kept.read_bad P T.terms) (facts.read_bad T)
+  bad_alike w v bytes at is = same_alike (Along T) (read_fixed (codes "bad(") bytes at) _ _ (λ _ p r.
+      bad_if (walks.with_signs 1 w) (counts.with_symbols 1 v) p r (symbols_along T w v 1 is) (front r == 41))
+
+  hypothesis_alike : Go (kept.read_hypothesis P T.terms) (facts.read_hypothesis P T)
+  hypothesis_alike w v bytes at is = if_alike (Along T) (front bytes == 109) _ _ _ _
+      (if_alike (Along T) (front (drop 2 bytes) == 118) _ _ _ _ (mev_alike w v bytes at is) (mess_alike w v bytes at is))
+      (if_alike (Along T) (front bytes == 101) _ _ _ _ (ev_alike w v bytes at is) (att_alike w v bytes at is))
+
+  conclusion_alike : Go (kept.read_conclusion P T.terms) (facts.read_conclusion P T)
+  conclusion_alike w v bytes at is = if_alike (Along T) (front bytes == 109) _ _ _ _ (mess_alike w v bytes at is)
+      (if_alike (Along T) (front bytes == 101) _ _ _ _ (ev_alike w v bytes at is)
+      (if_alike (Along T) (front bytes == 98) _ _ _ _ (bad_alike w v bytes at is) (att_alike w v bytes at is)))
+
+  -- Clauses.
+
+  premises_alike : Go (kept.read_premises P T.terms) (clauses.read_hypotheses P T)
+  premises_alike w v bytes at is = if_alike (Along T) (front bytes == 61) _ _ _ _
+      (same_alike (Along T) (read_fixed (codes "=> ") bytes at) _ _ (λ _ p r. found _ _ p r (along [] w v is)))
+      (row_alike (32 ∷ []) (codes " => ") (kept.read_hypothesis P T.terms) (facts.read_hypothesis P T) hypothesis_alike (suc (length bytes)) [] w v bytes at is)
+
+  pub clause_alike : (before : Behind (List (Clause Term))) (counted : List (Clause Term) × Counted) (bytes : List ℕ) (at : ℕ) → Along T before counted
+      → Alike (Along T) (kept.read_clause_line P T.terms before bytes at) (puts (clauses.clause_line P T) counted bytes at)
+  clause_alike _ _ bytes at (along cs w v is) =
+      within_alike (Along T) _ (read_fixed (codes "c ") bytes at) _ _
+      (same_alike (Along T) (read_fixed (codes "c ") bytes at) _ _ (λ _ p r.
+      within_alike (Along T) _ (clauses.read_clause P T (counts.at_clause v) r p) _ _
+      (within_alike (Along T) _ (clauses.read_hypotheses P T (counts.at_clause v) r p) _ _
+      (then_alike _ _ _ _ (premises_alike (walks.next_clause w) (counts.at_clause v) r p (clause_along T w v is)) (λ hs w v p r is.
+      within_alike (Along T) _ (facts.read_conclusion P T v r p) _ _
+      (then_alike _ _ _ _ (conclusion_alike w v r p is) (λ f w v p r is.
+      within_alike (Along T) _ (read_fixed (codes "\n") r p) _ _
+      (same_alike (Along T) (read_fixed (codes "\n") r p) _ _ (λ _ p r. found _ _ p r (along (cs ++ record { hypotheses = hs; conclusion = f } ∷ []) w v is))))))))))

@@ -1,0 +1,7 @@
+-- Reading certificates by numbers by counts: of the nodes that the walk has completed, and of symbols.
+pub mod Words
+pub mod Rounds
+pub mod Nodes
+pub mod Counts
+pub mod ReadFacts
+pub mod ReadClauses

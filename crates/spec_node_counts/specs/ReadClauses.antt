@@ -1,0 +1,68 @@
+-- Reading clauses that have numbers of nodes for terms, and all that stands before the rows of a certificate.
+use Rattle.std.specs.Prelude.{ℕ, suc, ◌==◌, nat_le, not, ◌||◌, ◌&&◌, if◌then◌else◌, Bool, true, false, List, [], length, codes}
+use Rattle.spec_calculus.specs.Bounds.{most_clauses}
+use Rattle.spec_calculus.specs.Syntax.{Protocol}
+use Rattle.spec_terms.specs.Term.{Term}
+use Rattle.spec_clauses.specs.Fact.{Fact, Clause}
+use Rattle.spec_certificate_reading.specs.Terms.{NodeOrder}
+use Rattle.spec_certificate_reading.specs.Outcomes.{Outcome, Found, Faulty, next, front, read_fixed, Reader}
+use Rattle.spec_node_reading.specs.Loops.{lines_through}
+use Rattle.spec_node_counts.specs.Rounds.{rounds, collects, puts}
+use Rattle.spec_node_counts.specs.Nodes.{Table, table_read}
+use Rattle.spec_node_counts.specs.Counts.{Counted, nothing_counted, at_clause}
+use Rattle.spec_node_counts.specs.ReadFacts.{Walk, read_hypothesis, read_conclusion}
+
+-- a hypothesis and what stands behind it: `, ` where another follows, or ` => `
+abbrev pub one_hypothesis : Protocol → Table → Walk (Fact Term × Bool)
+one_hypothesis P T w bytes at = next (read_hypothesis P T w bytes at) (λ h place rest.
+    if front rest == 44 then next (read_fixed (codes ", ") rest place) (λ _ p r. Found ((h.0, true), h.1) p r)
+    else next (read_fixed (codes " => ") rest place) (λ _ p r. Found ((h.0, false), h.1) p r))
+
+-- hypotheses, a comma and a space between each two, and ` => ` behind the last
+abbrev pub some_hypotheses : Protocol → Table → Walk (List (Fact Term))
+some_hypotheses P T w bytes at = rounds (collects (one_hypothesis P T)) (suc (length bytes)) ([], w) bytes at
+
+-- the hypotheses of a clause, which may be none, and `=> `
+abbrev pub read_hypotheses : Protocol → Table → Walk (List (Fact Term))
+read_hypotheses P T w bytes at =
+    if front bytes == 61 then next (read_fixed (codes "=> ") bytes at) (λ _ p r. Found ([], w) p r)
+    else some_hypotheses P T w bytes at
+
+-- a clause
+abbrev pub read_clause : Protocol → Table → Walk (Clause Term)
+read_clause P T w bytes at =
+    next (read_hypotheses P T w bytes at) (λ hs p r.
+    next (read_conclusion P T hs.1 r p) (λ c p r. Found (record { hypotheses = hs.0; conclusion = c.0 }, c.1) p r))
+
+-- `c `, a clause and the end of its line
+abbrev pub clause_line : Protocol → Table → Walk (Clause Term)
+clause_line P T w bytes at =
+    next (read_fixed (codes "c ") bytes at) (λ _ p r.
+    next (read_clause P T (at_clause w) r p) (λ c p r.
+    next (read_fixed (codes "\n") r p) (λ _ p r. Found c p r)))
+
+-- all clauses
+abbrev pub read_clauses : Protocol → Table → Walk (List (Clause Term))
+read_clauses P T w bytes at = lines_through 99 (puts (clause_line P T)) most_clauses ([], w) bytes at
+
+-- whether rows or the last line begin with the byte
+abbrev pub begins_rows : ℕ → Bool
+begins_rows b = (b == 114) || (b == 103) || (b == 101)
+
+-- whether some node was never reached
+abbrev pub is_unreached : Table → Counted → Bool
+is_unreached T w = not (nat_le (length T.terms) w.reached)
+
+-- behind the clauses: where some node was never reached, what comes there is a fault
+abbrev pub all_reached : Table → List (Clause Term) × Counted → ℕ → List ℕ → Outcome (List (Clause Term))
+all_reached T cs place rest = if begins_rows (front rest) && is_unreached T cs.1 then Faulty place NodeOrder else Found cs.0 place rest
+
+-- all clauses, by a table of which each node is reached
+abbrev pub reached_clauses : Protocol → Table → Reader (List (Clause Term))
+reached_clauses P T bytes at = next (read_clauses P T nothing_counted bytes at) (λ cs p r. all_reached T cs p r)
+
+-- the first line, the nodes and the clauses
+abbrev pub clauses_read : Protocol → Reader (List (Clause Term))
+clauses_read P bytes at =
+    next (read_fixed (codes "cert 2\n") bytes at) (λ _ p r.
+    next (table_read P r p) (λ T p r. reached_clauses P T r p))

@@ -1,0 +1,4 @@
+pub mod Runs
+pub mod Fronts
+pub mod Order
+pub mod Growing

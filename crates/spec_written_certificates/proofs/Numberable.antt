@@ -1,0 +1,75 @@
+-- A certificate that may stand in a report may be written by a table, if it is not too large for one.
+use Rattle.std.proofs.Common.{List, [], ◌∷◌, ℕ}
+use Rattle.std.specs.List.{AllByRecursion}
+use Rattle.spec_trees.specs.Tree.{trees}
+use Rattle.spec_calculus.specs.Syntax.{Protocol}
+use Rattle.spec_terms.specs.Term.{Term}
+use Rattle.spec_clauses.specs.Fact.{Fact, Att, Mess, Ev, Mev, Bad, Clause}
+use Rattle.spec_clauses.proofs.Lists.{all_weaker}
+use Rattle.spec_certificates.specs.Certificate.{Certificate}
+use Rattle.spec_certificate_text.specs.OfProtocol.{IsShort, AreTermsOf, IsFactOf, IsClauseOf}
+use Rattle.spec_certificate_reading.specs.Readable.{MayStand, IsHypothesisOf, IsConclusionOf, IsReadable, IsRow, IsReadableCertificate}
+use Rattle.spec_node_tables.specs.Large.{FitsInNodes}
+use Rattle.spec_node_faults.specs.Grammar.{MayBeHypothesis, MayBeConclusion, StandsRight, IsNumberable}
+
+terms_are : (P : Protocol) (ts : List Term) → AllByRecursion (MayStand P) ts → AreTermsOf P (trees ts)
+terms_are P [] are = tt
+terms_are P (t ∷ ts) are = (are.0.0, terms_are P ts are.1)
+
+hypothesis_is : (P : Protocol) (f : Fact Term) → IsHypothesisOf P f → IsFactOf P f
+hypothesis_is P (Att t) is = is.0
+hypothesis_is P (Mess t u) is = (is.0.0, is.1.0)
+hypothesis_is P (Ev e ts) is = (is.0, terms_are P ts is.1)
+hypothesis_is P (Mev e ts) is = (is.0, terms_are P ts is.1)
+hypothesis_is P (Bad ts) is = absurd is
+
+hypothesis_may : (P : Protocol) (f : Fact Term) → IsHypothesisOf P f → MayBeHypothesis f
+hypothesis_may P (Att t) is = tt
+hypothesis_may P (Mess t u) is = tt
+hypothesis_may P (Ev e ts) is = tt
+hypothesis_may P (Mev e ts) is = tt
+hypothesis_may P (Bad ts) is = absurd is
+
+conclusion_is : (P : Protocol) (f : Fact Term) → IsConclusionOf P f → IsFactOf P f
+conclusion_is P (Att t) is = is.0
+conclusion_is P (Mess t u) is = (is.0.0, is.1.0)
+conclusion_is P (Ev e ts) is = (is.0, terms_are P ts is.1)
+conclusion_is P (Mev e ts) is = absurd is
+conclusion_is P (Bad ts) is = terms_are P ts is
+
+conclusion_may : (P : Protocol) (f : Fact Term) → IsConclusionOf P f → MayBeConclusion f
+conclusion_may P (Att t) is = tt
+conclusion_may P (Mess t u) is = tt
+conclusion_may P (Ev e ts) is = tt
+conclusion_may P (Mev e ts) is = absurd is
+conclusion_may P (Bad ts) is = tt
+
+clause_is : (P : Protocol) (c : Clause Term) → IsReadable P c → IsClauseOf P c
+clause_is P c is = record {
+  hypotheses = all_weaker (IsHypothesisOf P) (IsFactOf P) (hypothesis_is P) c.hypotheses is.hypotheses;
+  conclusion = conclusion_is P c.conclusion is.conclusion;
+}
+
+clause_stands : (P : Protocol) (c : Clause Term) → IsReadable P c → StandsRight c
+clause_stands P c is = record {
+  hypotheses = all_weaker (IsHypothesisOf P) MayBeHypothesis (hypothesis_may P) c.hypotheses is.hypotheses;
+  conclusion = conclusion_may P c.conclusion is.conclusion;
+}
+
+row_is : (ns : List ℕ) → IsRow ns → AllByRecursion IsShort ns
+row_is [] is = absurd is
+row_is (n ∷ ns) is = is
+
+pub numberable : (P : Protocol) (c : Certificate) → IsReadableCertificate P c → FitsInNodes c.clauses → IsNumberable P c
+numberable P c is fits = record {
+  is = record {
+    clauses = all_weaker (IsReadable P) (IsClauseOf P) (clause_is P) c.clauses is.clauses;
+    rows = all_weaker IsRow (AllByRecursion IsShort) row_is c.rows is.rows;
+    goals = all_weaker IsRow (AllByRecursion IsShort) row_is c.goals is.goals;
+  };
+  stands = all_weaker (IsReadable P) StandsRight (clause_stands P) c.clauses is.clauses;
+  fits = fits;
+  few = is.few;
+  rows = is.rows;
+  goals = is.goals;
+}
