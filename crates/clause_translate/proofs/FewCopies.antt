@@ -1,22 +1,24 @@
 -- The copies that were taken above visits: as many as above the point, and below a replication one more.
-use Rattle.std.proofs.Common.{◌≡◌, ℕ, ◌+◌, ◌≤◌, Option, Some, None, List, [], ◌∷◌, length, ap, sym, subst, ◌∙◌, arith}
+use Rattle.std.proofs.Common.{◌≡◌, ℕ, ◌+◌, ◌≤◌, Option, Some, None, List, [], ◌∷◌, length, take, ap, sym, subst, ◌∙◌, arith}
 use Rattle.std.specs.Prelude.{IfSome}
 use Rattle.std.specs.List.{AllByRecursion}
 use Rattle.std.proofs.lemmas.List.{length-append, length-map}
 use Rattle.spec_trees.specs.Tree.{Leaf, bind}
-use Rattle.spec_calculus.specs.Syntax.{Process, Pattern, Expression, Plain, Call, Rule, Protocol}
-use Rattle.spec_calculus.specs.Syntax as calculus
+use Rattle.spec_calculus.specs.Syntax.{Process, Pattern, Ruled, Protocol}
 use Rattle.spec_calculus.specs.Points.{point_after}
-use Rattle.spec_calculus.specs.Matching.{rules_of}
 use Rattle.spec_terms.specs.Term.{Term}
 use Rattle.spec_translation.specs.Visit.{Visit, after_copy}
-use Rattle.spec_translation.specs.Choice.{Choice, term_choice, rule_choice, GoesOn, RulesGoOn, AllGoOn}
+use Rattle.spec_translation.specs.Choice.{Choice, ruled_choice, GoesOn, EachGoesOn}
 use Rattle.term_tree.specs.Bank.{tree_at}
 use Rattle.process_visits.specs.declared.place.Place.{Place}
 use Rattle.process_visits.specs.declared.visit.Visit as source
 use Rattle.process_visits.specs.Places.{IsAt}
-use Rattle.process_visits.specs.Visits.{visit_at, NamesVisit, NameVisits, HasFewCopies}
-use Rattle.process_visits.specs.Forms.{present, GoOn}
+use Rattle.process_visits.specs.declared.ways.Passed.{Passed}
+use Rattle.process_visits.specs.declared.ways.Way.{Way}
+use Rattle.process_visits.specs.declared.ways.Way.TheVariants as ways
+use Rattle.process_visits.specs.Visits.{visit_at, NamesVisit, HasFewCopies}
+use Rattle.process_visits.specs.Ways.{AreWays, Passes}
+use Rattle.clause_translate.specs.Jobs.{IsKnownWay}
 
 -- the same visit at a later point
 pub next_copies : {P : Protocol} (to : Place) (point : ℕ) (v : source.Visit) → IsAt P (point + 1) to → HasFewCopies point v → HasFewCopies to.point v
@@ -49,26 +51,20 @@ goes_on : (choice : Choice) (out : Option Visit) → GoesOn choice out → IfSom
 goes_on choice None h = tt
 goes_on choice (Some w) h = ap (λ (x : Visit). length x.sessions) h.2 ∙ length-map choice.visit.sessions (bind h.0)
 
-among : (v : Visit) (out : Option Visit) (outs : List (Option Visit)) → IfSome out (SameCopies v) → AllByRecursion (SameCopies v) (present outs) → AllByRecursion (SameCopies v) (present (out ∷ outs))
-among v None outs h hs = hs
-among v (Some w) outs h hs = (h, hs)
+each_go_on : (P : Protocol) (v : Visit) (pattern : Pattern) (rs : List Ruled) (outs : List (Option Visit)) → EachGoesOn P v pattern rs outs → AllByRecursion (λ out. IfSome out (SameCopies v)) outs
+each_go_on P v pattern [] outs h = subst (λ (os : List (Option Visit)). AllByRecursion (λ out. IfSome out (SameCopies v)) os) (sym h) tt
+each_go_on P v pattern (r ∷ rs) outs h =
+    subst (λ (os : List (Option Visit)). AllByRecursion (λ out. IfSome out (SameCopies v)) os) (sym h.4) (goes_on (ruled_choice P v pattern r h.2.base h.2.at) h.0 h.2.goes_on, each_go_on P v pattern rs h.1 h.3)
 
-rules_go_on : (P : Protocol) (v : Visit) (pattern : Pattern) (arguments : List calculus.Term) (rules : List Rule) (outs : List (Option Visit)) → RulesGoOn P v pattern arguments rules outs → AllByRecursion (SameCopies v) (present outs)
-rules_go_on P v pattern arguments [] outs h = subst (λ (os : List (Option Visit)). AllByRecursion (SameCopies v) (present os)) (sym h) tt
-rules_go_on P v pattern arguments (rule ∷ rules) outs h =
-    subst (λ (os : List (Option Visit)). AllByRecursion (SameCopies v) (present os)) (sym h.4) (among v h.0 h.1 (goes_on (rule_choice P v pattern arguments rule h.2.base h.2.at) h.0 h.2.goes_on) (rules_go_on P v pattern arguments rules h.1 h.3))
+pub known_way : (P : Protocol) (pattern : Pattern) (to : Place) (point : ℕ) (old next : List Term) (v : source.Visit) (rs : List Ruled) (passed : Passed) → IsAt P (point + 1) to → HasFewCopies point v → Passes P (visit_at old v) pattern rs next passed → IsKnownWay next to.point passed.way
+known_way P pattern to point old next v rs passed at few p = go passed.way p.ways where
+  same : AllByRecursion (λ out. IfSome out (SameCopies (visit_at old v))) p.outs
+  same = each_go_on P (visit_at old v) pattern (take passed.count rs) p.outs p.go
 
-all_go_on : (P : Protocol) (v : Visit) (pattern : Pattern) (expression : Expression) (outs : List (Option Visit)) → AllGoOn P v pattern expression outs → AllByRecursion (SameCopies v) (present outs)
-all_go_on P v pattern (Plain term) outs h = subst (λ (os : List (Option Visit)). AllByRecursion (SameCopies v) (present os)) (sym h.2) (among v h.0 [] (goes_on (term_choice P v pattern term h.1.at) h.0 h.1.goes_on) tt)
-all_go_on P v pattern (Call d arguments) outs h = rules_go_on P v pattern arguments (rules_of P d) outs h
-
-named : (old new : List Term) (v : source.Visit) (n : ℕ) (visits : List source.Visit) (trees : List Visit) → HasFewCopies n v → NameVisits new visits trees → AllByRecursion (SameCopies (visit_at old v)) trees → AllByRecursion (HasFewCopies n) visits
-named old new v n [] trees few names same = tt
-named old new v n (w ∷ ws) [] few names same = absurd names
-named old new v n (w ∷ ws) (tree ∷ trees) few names same =
-    (omega (arith, few, kept_copies old new v w tree names.0 same.0), named old new v n ws trees few names.1 same.1)
-
-pub chosen_copies : (P : Protocol) (to : Place) (point : ℕ) (old new : List Term) (v : source.Visit) (pattern : Pattern) (expression : Expression) (visits : List source.Visit) → IsAt P (point + 1) to → HasFewCopies point v
-    → GoOn P (visit_at old v) pattern expression new visits → AllByRecursion (HasFewCopies to.point) visits
-chosen_copies P to point old new v pattern expression visits at few go =
-    named old new v to.point visits (present go.outs) (next_copies to point v at few) go.names (all_go_on P (visit_at old v) pattern expression go.outs go.go)
+  go : (way : Way) → AreWays next way p.outs → IsKnownWay next to.point way
+  go ways.Nowhere is = tt
+  go ways.Large is = tt
+  go (ways.Visit made) is =
+      let one = subst (λ (os : List (Option Visit)). AllByRecursion (λ out. IfSome out (SameCopies (visit_at old v))) os) is.1 same in
+      let kept = kept_copies old next v made is.0 is.3 one.0 in
+      let few_there = next_copies to point v at few in (is.3.known, omega (arith, kept, few_there))

@@ -1,14 +1,19 @@
 -- The points of a process and those below it are within the limit.
-use Rattle.std.proofs.Common.{◌≡◌, ℕ, suc, ◌+◌, ◌≤◌, ◌++◌, length, ap, ◌∙◌, arith}
+use Rattle.std.proofs.Common.{◌≡◌, ℕ, suc, ◌+◌, ◌≤◌, ◌++◌, length, ap, sym, subst, ◌∙◌, arith}
 use Rattle.std.proofs.lemmas.List.{length-append}
 use Rattle.spec_calculus.specs.Syntax.{Process, Protocol}
 use Rattle.spec_calculus.specs.Bounds.{most_points}
 use Rattle.spec_calculus.specs.Points.{nodes, point_after}
 use Rattle.process_visits.specs.declared.place.Place.{Place}
-use Rattle.process_visits.specs.Places.{IsAt, HasFewPoints}
+use Rattle.process_visits.specs.Places.{protocol_at, IsAt, HasFewPoints}
+use Rattle.process_visits.specs.Short.{IsFitProcess}
 
 pub first_few : (p : Process) → length (nodes p) ≤ most_points → HasFewPoints 1 p
 first_few p few = omega (arith, few)
+
+-- what is fit stays so at another point of the protocol
+pub next_fit : (p : Process) {P : Protocol} {n : ℕ} (to : Place) → IsAt P n to → IsFitProcess P p → IsFitProcess (protocol_at to) p
+next_fit p to at fit = subst (λ (q : Protocol). IsFitProcess q p) (sym at.protocol) fit
 
 -- a process with one below it
 module _ (point : ℕ) (p next : Process) (counted : length (nodes p) ≡ suc (length (nodes next))) where

@@ -3,6 +3,8 @@ pub mod FewPoints
 pub mod FewCopies
 pub mod Visiting
 pub mod Repeating
+pub mod Expressions
+pub mod LetVisits
 pub mod Reading
 pub mod Translating
 pub mod Linear

@@ -1,72 +1,123 @@
--- A process that is visited once for each of some visits.
-use Rattle.std.proofs.Common.{◌≡◌, ℕ, zero, suc, ◌+◌, ◌<◌, ◌≤◌, Option, Some, None, List, [], ◌∷◌, ◌++◌, length, map, take, drop, get_or, refl, ap, sym, subst, ◌∙◌, arith}
-use Rattle.std.proofs.lemmas.List.{map-append, map_more, take_all, take-append-drop}
-use Rattle.spec_calculus.specs.Syntax.{Process, Protocol}
+-- A process that is visited once for each choice of a `let` that goes on.
+use Rattle.std.proofs.Common.{◌≡◌, ◌∙◌, ◌⊎◌, inl, inr, ℕ, ◌+◌, ◌≤◌, Bool, true, false, ◌||◌, Option, Some, None, List, [], ◌∷◌, ◌++◌, length, map, take, drop, refl, ap, sym, subst}
+use Rattle.std.specs.List.{AllByRecursion}
+use Rattle.std.specs.Option.{option_map_or}
+use Rattle.std.proofs.lemmas.List.{take_all, take-append-drop}
+use Rattle.spec_calculus.specs.Syntax.{Process, Pattern, Expression, Ruled, Protocol}
+use Rattle.spec_calculus.specs.Choices.{choices}
 use Rattle.spec_terms.specs.Term.{Term}
 use Rattle.term_tree.specs.Bank.{Grows}
-use Rattle.term_tree.proofs.BankLaws.{Grows_refl, Grows_trans}
-use Rattle.spec_translation.specs.Visit.{Visit}
-use Rattle.spec_translation.specs.Course.{Outcome, TooLarge, Finished, preceded}
-use Rattle.spec_translation.specs.Visited.{EachThen, Visited}
+use Rattle.term_tree.proofs.BankLaws.{Grows_refl}
+use Rattle.spec_translation.specs.Visit.{Visit, is_large_visit}
+use Rattle.spec_translation.specs.Choice.{EachGoesOn}
+use Rattle.spec_translation.specs.Course.{Outcome, Done, Finished, preceded}
+use Rattle.spec_translation.specs.Visited.{some_large, EachThen, Visited}
+use Rattle.spec_translation.proofs.Lets.{large_alike}
+use Rattle.spec_choice_walks.proofs.Ways.{each-append, each-drop}
 use Rattle.process_visits.specs.declared.listing.Listing.{Listing}
-use Rattle.process_visits.specs.declared.visit.Visit as source
-use Rattle.process_visits.specs.Visits.{visit_at, IsVisitIn}
-use Rattle.clause_translate.specs.Jobs.{Once, Each, Runs, IsDone, Ends, visits_at, AreVisitsIn}
-use Rattle.process_visits.proofs.Named.{visit_later}
-use Rattle.process_visits.proofs.Courses.{each_more, each_ends}
+use Rattle.process_visits.specs.declared.ways.Passed.{Passed}
+use Rattle.process_visits.specs.declared.ways.Way.{Way}
+use Rattle.process_visits.specs.declared.ways.Way.TheVariants as ways
+use Rattle.process_visits.specs.Ways.{AreWays, Passes}
+use Rattle.process_visits.proofs.Courses.{each_append, each_join, each_more, each_ends, preceded_none}
 use Rattle.process_visits.proofs.Listings.{lists_none}
-use Rattle.clause_translate.proofs.Visiting.{ends_behind}
+use Rattle.process_visits.proofs.Passing.{take_on, way_large}
+use Rattle.process_visits.proofs.Tests.{any-append}
+use Rattle.clause_translate.specs.Jobs.{Once, Each, IsDone, Ends, AreSmallWays, EndsEach}
+use Rattle.clause_translate.proofs.Visiting.{ends_as, ends_behind}
 
--- how far the visits have come
-pub record AreVisited (P : Protocol) (process : Process) (point : ℕ) (old now : List Term) (visits : List source.Visit) (before listing : Listing) (i : ℕ) : Type 0 where
-  pub grows : Grows old now
-  pub done : IsDone P (Each process point (visits_at old (take i visits))) now before listing
+-- where no visit goes on, and none is too large
+pub nowhere_of : (all : List Term) (way : Way) (outs : List (Option Visit)) → (way ≡ ways.Nowhere) ⊎ (way ≡ ways.Large) → AreSmallWays all way outs → AllByRecursion (λ out. out ≡ None) outs
+nowhere_of all way outs (inl e) h = subst (λ (x : Way). AreSmallWays all x outs) e h
+nowhere_of all way outs (inr e) h = absurd (subst (λ (x : Way). AreSmallWays all x outs) e h)
 
-visit_in : (all : List Term) (vs : List source.Visit) (i : ℕ) (d : source.Visit) → AreVisitsIn all vs → i < length vs → IsVisitIn all (get_or vs i d)
-visit_in all [] i d known within = absurd (omega arith)
-visit_in all (v ∷ vs) zero d known within = known.0
-visit_in all (v ∷ vs) (suc i) d known within = visit_in all vs i d known.1 (omega arith)
-
-pub visit_of : (all : List Term) (vs : List source.Visit) (i : ℕ) (v : source.Visit) → v ≡ get_or vs i v → AreVisitsIn all vs → i < length vs → IsVisitIn all v
-visit_of all vs i v is known within = subst (λ (w : source.Visit). IsVisitIn all w) (sym is) (visit_in all vs i v known within)
-
-module _ (P : Protocol) (process : Process) (point : ℕ) (old : List Term) (visits : List source.Visit) (before : Listing) where
-  pub none_visited : AreVisited P process point old old visits before before 0
-  none_visited = record { grows = Grows_refl old; done = record { more = []; runs = refl; lists = lists_none old before } }
-
+-- a visit that goes on, or none
+module _ (P : Protocol) (process : Process) (point : ℕ) where
   abbrev R : Visit → ℕ → Outcome → Type 0
   R w left out = Visited P process point w left out
 
-  one_more : (i : ℕ) (v : source.Visit) → i < length visits → v ≡ get_or visits i v → map Some (visits_at old (take (i + 1) visits)) ≡ map Some (visits_at old (take i visits)) ++ Some (visit_at old v) ∷ []
-  one_more i v within is =
-      ap (λ (ws : List Visit). map Some ws) (map_more (visit_at old) visits i v within ∙ ap (λ (w : source.Visit). visits_at old (take i visits) ++ visit_at old w ∷ []) (sym is))
-      ∙ map-append (λ (w : Visit). Some w) (visits_at old (take i visits)) (visit_at old v ∷ [])
+  nowhere_run : (outs : List (Option Visit)) (left : ℕ) → AllByRecursion (λ out. out ≡ None) outs → EachThen R outs Finished left (Done [] left)
+  nowhere_run [] left h = refl
+  nowhere_run (out ∷ outs) left h = subst (λ (o : Option Visit). EachThen R (o ∷ outs) Finished left (Done [] left)) (sym h.0) (nowhere_run outs left h.1)
 
-  pub repeated : (now next : List Term) (listing after : Listing) (i : ℕ) (v : source.Visit) (large : Option ℕ) → AreVisited P process point old now visits before listing i → AreVisitsIn old visits → i < length visits → v ≡ get_or visits i v → Grows now next
-      → Ends P (Once process point (visit_at now v)) next listing after large → Ends P (Each process point (visits_at old (take (i + 1) visits))) next before after large
-  repeated now next listing after i v large was known within is grows h =
-      let v_is = (visit_later old now v was.grows (visit_of old visits i v is known within)).is in
-      ends_behind P (Once process point (visit_at old v)) (Each process point (visits_at old (take (i + 1) visits))) now next before listing after was.done.more large grows was.done.lists
-      (λ out run. subst (λ (os : List (Option Visit)). EachThen R os Finished before.left (preceded was.done.more out)) (sym (one_more i v within is))
-      (each_more R (map Some (visits_at old (take i visits))) (visit_at old v) before.left listing.left was.done.more out was.done.runs run))
-      (subst (λ (x : Visit). Ends P (Once process point x) next listing after large) v_is h)
+  pub nowhere_ends : (all : List Term) (outs : List (Option Visit)) (listing : Listing) → AllByRecursion (λ out. out ≡ None) outs → Ends P (Each process point outs) all listing listing None
+  nowhere_ends all outs listing h = record { more = []; runs = nowhere_run outs listing.left h; lists = lists_none all listing }
 
-  pub one_visited : (now next : List Term) (listing after : Listing) (i : ℕ) (v : source.Visit) (large : Option ℕ) → AreVisited P process point old now visits before listing i → AreVisitsIn old visits → i < length visits → v ≡ get_or visits i v
-      → Grows now next → large ≡ None → Ends P (Once process point (visit_at now v)) next listing after large → AreVisited P process point old next visits before after (i + 1)
-  one_visited now next listing after i v large was known within is grows e h = record {
-    grows = Grows_trans old now next was.grows grows;
-    done = repeated now next listing after i v None was known within is grows (subst (λ (o : Option ℕ). Ends P (Once process point (visit_at now v)) next listing after o) e h);
-  }
+  pub visit_ends : (w : Visit) (outs : List (Option Visit)) (all : List Term) (before after : Listing) (large : Option ℕ) → outs ≡ Some w ∷ [] → Ends P (Once process point w) all before after large → Ends P (Each process point outs) all before after large
+  visit_ends w outs all before after large is h =
+      ends_as P (Once process point w) (Each process point outs) all before after large
+      (λ out run. subst (λ (os : List (Option Visit)). EachThen R os Finished before.left out) (sym is)
+      (subst (λ (o : Outcome). EachThen R (Some w ∷ []) Finished before.left o) (preceded_none out) (each_more R [] w before.left before.left [] out refl run))) h
 
-  pub one_large : (now next : List Term) (listing after : Listing) (i : ℕ) (v : source.Visit) (large : Option ℕ) (q : ℕ) → AreVisited P process point old now visits before listing i → AreVisitsIn old visits → i < length visits → v ≡ get_or visits i v
-      → Grows now next → large ≡ Some q → Ends P (Once process point (visit_at now v)) next listing after large → Runs P (Each process point (visits_at old visits)) before.left (TooLarge q)
-  one_large now next listing after i v large q was known within is grows e h =
-      let first = visits_at old (take (i + 1) visits) in
-      let last = visits_at old (drop (i + 1) visits) in
-      let all : map Some first ++ map Some last ≡ map Some (visits_at old visits) =
-      sym (map-append (λ (w : Visit). Some w) first last) ∙ ap (λ (ws : List Visit). map Some ws) (sym (map-append (visit_at old) (take (i + 1) visits) (drop (i + 1) visits)) ∙ ap (λ (ws : List source.Visit). visits_at old ws) (take-append-drop (i + 1) visits)) in
-      subst (λ (os : List (Option Visit)). EachThen R os Finished before.left (TooLarge q)) all
-      (each_ends R (map Some first) (map Some last) before.left q (repeated now next listing after i v (Some q) was known within is grows (subst (λ (o : Option ℕ). Ends P (Once process point (visit_at now v)) next listing after o) e h)))
+-- how far the choices have been visited
+pub record AreVisited (P : Protocol) (v : Visit) (pattern : Pattern) (rs : List Ruled) (process : Process) (point : ℕ) (old now : List Term) (before listing : Listing) (number : ℕ) : Type 0 where
+  pub grows : Grows old now
+  pub outs : List (Option Visit)
+  pub go : EachGoesOn P v pattern (take number rs) outs
+  pub done : IsDone P (Each process point outs) now before listing
 
-  pub all_visited : (now : List Term) (listing : Listing) (i : ℕ) → AreVisited P process point old now visits before listing i → length visits ≤ i → IsDone P (Each process point (visits_at old visits)) now before listing
-  all_visited now listing i was past = subst (λ (ws : List source.Visit). IsDone P (Each process point (visits_at old ws)) now before listing) (take_all i visits past) was.done
+pub none_visited : (P : Protocol) (v : Visit) (pattern : Pattern) (rs : List Ruled) (process : Process) (point : ℕ) (old : List Term) (before : Listing) → AreVisited P v pattern rs process point old old before before 0
+none_visited P v pattern rs process point old before = record { grows = Grows_refl old; outs = []; go = refl; done = record { more = []; runs = refl; lists = lists_none old before } }
+
+-- choices that are all small
+module _ (P : Protocol) (v : Visit) (pattern : Pattern) (rs : List Ruled) (e : Expression) (are : rs ≡ map (λ c. c.ruled) (choices P e)) (all : List (Option Visit)) (all_go : EachGoesOn P v pattern rs all) (all_small : some_large all ≡ false) where
+  small_of : (outs : List (Option Visit)) → EachGoesOn P v pattern rs outs → some_large outs ≡ false
+  small_of outs go = large_alike P v pattern e outs all (subst (λ (l : List Ruled). EachGoesOn P v pattern l outs) are go) (subst (λ (l : List Ruled). EachGoesOn P v pattern l all) are all_go) ∙ all_small
+
+  -- those that were passed, and the others as they were found before
+  together : (number : ℕ) (outs : List (Option Visit)) → EachGoesOn P v pattern (take number rs) outs → EachGoesOn P v pattern rs (outs ++ drop number all)
+  together number outs go =
+      subst (λ (l : List Ruled). EachGoesOn P v pattern l (outs ++ drop number all)) (take-append-drop number rs)
+      (each-append P v pattern (take number rs) (drop number rs) outs (drop number all) go (each-drop P v pattern number rs all all_go))
+
+  go_on : (number count : ℕ) (first next : List (Option Visit)) → EachGoesOn P v pattern (take number rs) first → EachGoesOn P v pattern (take count (drop number rs)) next → EachGoesOn P v pattern (take (number + count) rs) (first ++ next)
+  go_on number count first next a b = subst (λ (l : List Ruled). EachGoesOn P v pattern l (first ++ next)) (sym (take_on number count rs)) (each-append P v pattern (take number rs) (take count (drop number rs)) first next a b)
+
+  or_second : (a b c : Bool) → ((a || b) || c) ≡ false → b ≡ false
+  or_second true b c h = absurd (let same = h in cc)
+  or_second false true c h = absurd (let same = h in cc)
+  or_second false false c h = refl
+
+  -- so is what is passed
+  next_small : (number count : ℕ) (first next : List (Option Visit)) → EachGoesOn P v pattern (take number rs) first → EachGoesOn P v pattern (take count (drop number rs)) next → some_large next ≡ false
+  next_small number count first next a b =
+      let last = drop (number + count) all in
+      let small = small_of ((first ++ next) ++ last) (together (number + count) (first ++ next) (go_on number count first next a b)) in
+      let test : Option Visit → Bool = λ out. option_map_or is_large_visit out false in
+      let front = any-append test first next in
+      or_second (some_large first) (some_large next) (some_large last) (sym (any-append test (first ++ next) last ∙ ap (λ b. b || some_large last) front) ∙ small)
+
+  ways_small : (bank : List Term) (way : Way) (outs : List (Option Visit)) → AreWays bank way outs → some_large outs ≡ false → AreSmallWays bank way outs
+  ways_small bank ways.Nowhere outs is small = is
+  ways_small bank ways.Large outs is small = absurd (let same : true ≡ false = sym (way_large P v pattern rs bank ways.Large outs is) ∙ small in cc)
+  ways_small bank (ways.Visit made) outs is small = is.1 ∙ ap (λ (x : Visit). Some x ∷ []) (sym is.3.is)
+
+  -- one more is passed, and at the end
+  module _ (process : Process) (point : ℕ) (old : List Term) (before : Listing) where
+    module _ (now : List Term) (listing : Listing) (number : ℕ) (was : AreVisited P v pattern rs process point old now before listing number) (mid next : List Term) (passed : Passed) (passes : Passes P v pattern (drop number rs) mid passed) (grows : Grows now next) (grown : Grows old next) (after : Listing) where
+      pub passed_small : AreSmallWays mid passed.way passes.outs
+      passed_small = ways_small mid passed.way passes.outs passes.ways (next_small number passed.count was.outs passes.outs was.go passes.go)
+
+      behind : (large : Option ℕ) → Ends P (Each process point passes.outs) next listing after large → Ends P (Each process point (was.outs ++ passes.outs)) next before after large
+      behind large h =
+          ends_behind P (Each process point passes.outs) (Each process point (was.outs ++ passes.outs)) now next before listing after was.done.more large grows was.done.lists
+          (λ out run. each_append (R P process point) was.outs passes.outs Finished before.left (preceded was.done.more out) (each_join (R P process point) was.outs (EachThen (R P process point) passes.outs Finished) before.left listing.left was.done.more out was.done.runs run)) h
+
+      pub more_visited : Ends P (Each process point passes.outs) next listing after None → AreVisited P v pattern rs process point old next before after (number + passed.count)
+      more_visited h = record { grows = grown; outs = was.outs ++ passes.outs; go = go_on number passed.count was.outs passes.outs was.go passes.go; done = behind None h }
+
+      pub large_visited : (q : ℕ) → Ends P (Each process point passes.outs) next listing after (Some q) → EndsEach P v pattern rs process point next before after (Some q)
+      large_visited q h =
+          let last = drop (number + passed.count) all in
+          let go = together (number + passed.count) (was.outs ++ passes.outs) (go_on number passed.count was.outs passes.outs was.go passes.go) in
+          record {
+            outs = (was.outs ++ passes.outs) ++ last;
+            go = go;
+            small = small_of ((was.outs ++ passes.outs) ++ last) go;
+            ends = each_ends (R P process point) (was.outs ++ passes.outs) last before.left q (behind (Some q) h);
+          }
+
+    pub all_visited : (now : List Term) (listing : Listing) (number : ℕ) → AreVisited P v pattern rs process point old now before listing number → length rs ≤ number → EndsEach P v pattern rs process point now before listing None
+    all_visited now listing number was past =
+        let go = subst (λ (l : List Ruled). EachGoesOn P v pattern l was.outs) (take_all number rs past) was.go in
+        record { outs = was.outs; go = go; small = small_of was.outs go; ends = was.done }

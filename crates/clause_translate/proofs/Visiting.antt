@@ -1,10 +1,12 @@
 -- How the visits of each form of process end, by how those below it do.
 use Rattle.std.proofs.Common.{◌≡◌, ◌≤◌, ℕ, suc, ◌+◌, Bool, true, false, Result, Option, Some, None, List, [], ◌∷◌, ◌++◌, length, map, refl, ap, sym, subst, ◌∙◌}
 use Rattle.std.specs.Prelude.{IfOk}
-use Rattle.spec_calculus.specs.Syntax.{Process, Nil, Output, Input, Parallel, Replication, New, Let, Event, EventTerm, Pattern, Expression, Protocol}
+use Rattle.spec_calculus.specs.Syntax.{Process, Nil, Output, Input, Parallel, Replication, New, Let, Event, EventTerm, Pattern, Expression, Ruled, Protocol}
 use Rattle.spec_calculus.specs.Syntax as calculus
 use Rattle.spec_calculus.specs.Points.{point_after}
-use Rattle.spec_calculus.specs.Limits.{compared, terms_in}
+use Rattle.spec_trees.specs.Leaves.{leaves}
+use Rattle.spec_calculus.specs.Limits.{compared}
+use Rattle.spec_calculus.specs.Choices.{choices}
 use Rattle.spec_terms.specs.Term.{Term}
 use Rattle.spec_clauses.specs.Fact.{Clause}
 use Rattle.spec_clauses.specs.Norm.{norms}
@@ -14,18 +16,18 @@ use Rattle.term_tree.specs.declared.bank.Id.{Id}
 use Rattle.spec_translation.specs.Visit.{Visit, visit_terms, is_large_visit, after_input, after_copy, after_new, after_event}
 use Rattle.spec_translation.specs.Course as course
 use Rattle.spec_translation.specs.Course.{Outcome, Done, TooLarge, Course, Finished, Unless, preceded}
-use Rattle.spec_translation.specs.Choice.{AllGoOn}
+use Rattle.spec_translation.specs.Choice.{EachGoesOn, AllGoOn}
 use Rattle.spec_translation.specs.Visited.{some_large, EachThen, Received, Chosen, Visited}
 use Rattle.process_visits.specs.declared.listing.Listing.{Listing}
 use Rattle.process_visits.specs.declared.place.Place.{Place}
 use Rattle.process_visits.specs.declared.visit.Visit as source
 use Rattle.process_visits.specs.Places.{protocol_at, IsAt}
-use Rattle.process_visits.specs.Visits.{visit_at, NamesVisit, NameVisits}
-use Rattle.process_visits.specs.Forms.{Lists, Adds, are_large_in, output_raw, is_large_output, event_raw, is_large_event, AddsEvent, IsLargeInput, evaluated, received, Receives, present, GoOn, IsLargeChoice}
-use Rattle.clause_translate.specs.Jobs.{Job, Once, Uncounted, Each, Runs, IsDone, Ends, visits_at, AreVisitsIn}
+use Rattle.process_visits.specs.Visits.{visit_at, NamesVisit}
+use Rattle.process_visits.specs.Forms.{Lists, Adds, are_large_in, output_raw, is_large_output, event_raw, is_large_event, AddsEvent, IsLargeInput, evaluated, received, Receives}
+use Rattle.clause_translate.specs.Jobs.{Job, Once, Uncounted, Each, Runs, IsDone, Ends, EndsEach}
 use Rattle.process_visits.proofs.Named.{if_ok}
 use Rattle.process_visits.proofs.Listings.{lists_none, lists_behind, lists_no_more}
-use Rattle.process_visits.proofs.Courses.{unless_large, unless_small, each_join, each_large, each_present}
+use Rattle.process_visits.proofs.Courses.{unless_large, unless_small, each_join, each_large}
 
 -- the same job, where it runs so
 pub ends_as : (P : Protocol) (below job : Job) (new : List Term) (before after : Listing) (large : Option ℕ) → ((out : Outcome) → Runs P below before.left out → Runs P job before.left out) → Ends P below new before after large → Ends P job new before after large
@@ -54,10 +56,10 @@ moved P point v to w process new before after large at e h =
     subst (λ (q : Protocol). Ends q (Once process point v) new before after large) at.protocol
     (subst (λ n. Ends (protocol_at to) (Once process n v) new before after large) at.point (subst (λ (x : Visit). Ends (protocol_at to) (Once process to.point x) new before after large) e h))
 
-pub moved_each : (P : Protocol) (point : ℕ) (to : Place) (vs : List Visit) (process : Process) (new : List Term) (before after : Listing) (large : Option ℕ) → IsAt P point to
-    → Ends (protocol_at to) (Each process to.point vs) new before after large → Ends P (Each process point vs) new before after large
-moved_each P point to vs process new before after large at h =
-    subst (λ (q : Protocol). Ends q (Each process point vs) new before after large) at.protocol (subst (λ n. Ends (protocol_at to) (Each process n vs) new before after large) at.point h)
+pub moved_each : (P : Protocol) (point : ℕ) (to : Place) (outs : List (Option Visit)) (process : Process) (new : List Term) (before after : Listing) (large : Option ℕ) → IsAt P point to
+    → Ends (protocol_at to) (Each process to.point outs) new before after large → Ends P (Each process point outs) new before after large
+moved_each P point to outs process new before after large at h =
+    subst (λ (q : Protocol). Ends q (Each process point outs) new before after large) at.protocol (subst (λ n. Ends (protocol_at to) (Each process n outs) new before after large) at.point h)
 
 -- none is left
 pub none_left : (P : Protocol) (process : Process) (point : ℕ) (v : Visit) (left : ℕ) → left ≡ 0 → Visited P process point v left (TooLarge point)
@@ -180,7 +182,7 @@ parallel_ends r P v left right point to w mid new before midway after at e grows
 -- a `let`
 module _ (P : Protocol) (v : Visit) (pattern : Pattern) (expression : Expression) (next otherwise : Process) (point : ℕ) where
   abbrev evaluates : Bool
-  evaluates = are_large_in P v.scope (compared pattern ++ terms_in expression)
+  evaluates = are_large_in P v.scope (compared pattern ++ leaves expression)
 
   abbrev last : Course
   last left out = Visited P otherwise (point_after (point + 1) next) v left out
@@ -188,51 +190,37 @@ module _ (P : Protocol) (v : Visit) (pattern : Pattern) (expression : Expression
   abbrev each : List (Option Visit) → Course
   each outs left out = EachThen (λ w. Visited P next (point + 1) w) outs last left out
 
-  pub let_large : (left : ℕ) → are_large_in P v.scope (compared pattern ++ terms_in expression) ≡ true → Visited P (Let pattern expression next otherwise) point v (suc left) (TooLarge point)
+  pub let_large : (left : ℕ) → are_large_in P v.scope (compared pattern ++ leaves expression) ≡ true → Visited P (Let pattern expression next otherwise) point v (suc left) (TooLarge point)
   let_large left e = unless_large evaluates point (Chosen P v pattern expression point (λ w. Visited P next (point + 1) w) last) left e
 
   chosen : (left : ℕ) (out : Outcome) (outs : List (Option Visit)) → evaluates ≡ false → AllGoOn P v pattern expression outs → Unless (some_large outs) point (each outs) left out → Visited P (Let pattern expression next otherwise) point v (suc left) out
   chosen left out outs e go h = unless_small evaluates point (Chosen P v pattern expression point (λ w. Visited P next (point + 1) w) last) left out e (outs, go, h)
 
-  pub choice_large : (left : ℕ) → are_large_in P v.scope (compared pattern ++ terms_in expression) ≡ false → IsLargeChoice P v pattern expression → Visited P (Let pattern expression next otherwise) point v (suc left) (TooLarge point)
-  choice_large left e l = chosen left (TooLarge point) l.outs e l.go (unless_large (some_large l.outs) point (each l.outs) left l.large)
+  pub choice_large : (left : ℕ) (outs : List (Option Visit)) → are_large_in P v.scope (compared pattern ++ leaves expression) ≡ false → AllGoOn P v pattern expression outs → some_large outs ≡ true → Visited P (Let pattern expression next otherwise) point v (suc left) (TooLarge point)
+  choice_large left outs e go large = chosen left (TooLarge point) outs e go (unless_large (some_large outs) point (each outs) left large)
 
-  names_are : (all : List Term) (vs : List source.Visit) (ts : List Visit) → NameVisits all vs ts → visits_at all vs ≡ ts
-  names_are all [] ts names = sym names
-  names_are all (w ∷ vs) [] names = absurd names
-  names_are all (w ∷ vs) (t ∷ ts) names = λ i. names.0.is i ∷ names_are all vs ts names.1 i
+  module _ (rs : List Ruled) (are : rs ≡ map (λ c. c.ruled) (choices P expression)) (e : are_large_in P v.scope (compared pattern ++ leaves expression) ≡ false) where
+    all_go : (outs : List (Option Visit)) → EachGoesOn P v pattern rs outs → AllGoOn P v pattern expression outs
+    all_go outs go = subst (λ (l : List Ruled). EachGoesOn P v pattern l outs) are go
 
-  present_run : (all : List Term) (vs : List source.Visit) (go : GoOn P v pattern expression all vs) (left : ℕ) (out : Outcome) (rest : Course) → EachThen (λ w. Visited P next (point + 1) w) (map Some (visits_at all vs)) rest left out → EachThen (λ w. Visited P next (point + 1) w) go.outs rest left out
-  present_run all vs go left out rest h =
-      each_present (λ w. Visited P next (point + 1) w) go.outs rest left out
-      (subst (λ (ws : List Visit). EachThen (λ w. Visited P next (point + 1) w) (map Some ws) rest left out) (names_are all vs (present go.outs) go.names) h)
+    pub next_large : (all : List Term) (before after : Listing) (q : ℕ) → EndsEach P v pattern rs next (point + 1) all before after (Some q) → Visited P (Let pattern expression next otherwise) point v (suc before.left) (TooLarge q)
+    next_large all before after q h =
+        chosen before.left (TooLarge q) h.outs e (all_go h.outs h.go) (unless_small (some_large h.outs) point (each h.outs) before.left (TooLarge q) h.small
+        (each_large (λ w. Visited P next (point + 1) w) h.outs last before.left q h.ends))
 
-  pub next_large : (all : List Term) (vs : List source.Visit) (left q : ℕ) → are_large_in P v.scope (compared pattern ++ terms_in expression) ≡ false → GoOn P v pattern expression all vs → Runs P (Each next (point + 1) (visits_at all vs)) left (TooLarge q)
-      → Visited P (Let pattern expression next otherwise) point v (suc left) (TooLarge q)
-  next_large all vs left q e go h =
-      chosen left (TooLarge q) go.outs e go.go (unless_small (some_large go.outs) point (each go.outs) left (TooLarge q) go.small
-      (each_large (λ w. Visited P next (point + 1) w) go.outs last left q (present_run all vs go left (TooLarge q) Finished h)))
-
-  pub let_ends : {E : Type 0} (r : Result (Option ℕ) E) (to : Place) (w : Visit) (all mid new : List Term) (vs : List source.Visit) (before midway after : Listing)
-      → IsAt P (point_after (point + 1) next) to → w ≡ v → are_large_in P v.scope (compared pattern ++ terms_in expression) ≡ false → GoOn P v pattern expression all vs → Grows mid new
-      → IsDone P (Each next (point + 1) (visits_at all vs)) mid before midway
-      → IfOk r (λ large. Ends (protocol_at to) (Once otherwise to.point w) new midway after large) → IfOk r (λ large. Ends P (Uncounted (Let pattern expression next otherwise) point v) new before after large)
-  let_ends r to w all mid new vs before midway after at same e go grows done h =
-      if_ok r (λ large. Ends (protocol_at to) (Once otherwise to.point w) new midway after large) (λ large. Ends P (Uncounted (Let pattern expression next otherwise) point v) new before after large)
-      (λ large k. ends_behind P (Once otherwise (point_after (point + 1) next) v) (Uncounted (Let pattern expression next otherwise) point v) mid new before midway after done.more large grows done.lists
-      (λ out run. chosen before.left (preceded done.more out) go.outs e go.go (unless_small (some_large go.outs) point (each go.outs) before.left (preceded done.more out) go.small
-      (each_join (λ x. Visited P next (point + 1) x) go.outs last before.left midway.left done.more out (present_run all vs go before.left (Done done.more midway.left) Finished done.runs) run)))
-      (moved P (point_after (point + 1) next) v to w otherwise new midway after large at same k)) h
+    pub let_ends : {E : Type 0} (r : Result (Option ℕ) E) (to : Place) (w : Visit) (mid new : List Term) (before midway after : Listing) → IsAt P (point_after (point + 1) next) to → w ≡ v → Grows mid new → EndsEach P v pattern rs next (point + 1) mid before midway None
+        → IfOk r (λ large. Ends (protocol_at to) (Once otherwise to.point w) new midway after large) → IfOk r (λ large. Ends P (Uncounted (Let pattern expression next otherwise) point v) new before after large)
+    let_ends r to w mid new before midway after at same grows first h =
+        let done = first.ends in
+        if_ok r (λ large. Ends (protocol_at to) (Once otherwise to.point w) new midway after large) (λ large. Ends P (Uncounted (Let pattern expression next otherwise) point v) new before after large)
+        (λ large k. ends_behind P (Once otherwise (point_after (point + 1) next) v) (Uncounted (Let pattern expression next otherwise) point v) mid new before midway after done.more large grows done.lists
+        (λ out run. chosen before.left (preceded done.more out) first.outs e (all_go first.outs first.go) (unless_small (some_large first.outs) point (each first.outs) before.left (preceded done.more out) first.small
+        (each_join (λ x. Visited P next (point + 1) x) first.outs last before.left midway.left done.more out done.runs run)))
+        (moved P (point_after (point + 1) next) v to w otherwise new midway after large at same k)) h
 
 -- nothing
 pub nil_ends : (P : Protocol) (point : ℕ) (v : Visit) (all : List Term) (listing : Listing) → Ends P (Uncounted Nil point v) all listing listing None
 nil_ends P point v all listing = record { more = []; runs = refl; lists = lists_none all listing }
-
--- visits that name visits are known
-pub known_visits : (all : List Term) (vs : List source.Visit) (ts : List Visit) → NameVisits all vs ts → AreVisitsIn all vs
-known_visits all [] ts names = tt
-known_visits all (w ∷ vs) [] names = absurd names
-known_visits all (w ∷ vs) (t ∷ ts) names = (names.0.known, known_visits all vs ts names.1)
 
 -- a restriction, however its name is spelled
 pub spelled : {E : Type 0} (r : Result (Option ℕ) E) (P : Protocol) (word : List ℕ) (next : Process) (point : ℕ) (v : Visit) (new : List Term) (before after : Listing)

@@ -1,27 +1,34 @@
 -- What is visited, and how it ends.
-use Rattle.std.specs.Prelude.{ℕ, suc, Option, Some, None, List, [], ◌∷◌, map}
-use Rattle.spec_calculus.specs.Syntax.{Process, Protocol}
+use Rattle.std.specs.Prelude.{◌≡◌, ℕ, suc, false, Option, Some, None, List, [], ◌∷◌, map}
+use Rattle.std.specs.List.{AllByRecursion}
+use Rattle.spec_calculus.specs.Syntax.{Process, Pattern, Expression, Ruled, Protocol}
+use Rattle.spec_calculus.specs.Choices.{choices}
 use Rattle.spec_terms.specs.Term.{Term}
 use Rattle.spec_clauses.specs.Fact.{Clause}
 use Rattle.spec_translation.specs.Visit.{Visit}
 use Rattle.spec_translation.specs.Course.{Outcome, Done, TooLarge, Finished}
-use Rattle.spec_translation.specs.Visited.{EachThen, Visited}
+use Rattle.spec_translation.specs.Choice.{EachGoesOn}
+use Rattle.spec_translation.specs.Visited.{some_large, EachThen, Visited}
+use Rattle.process_visits.specs.declared.choice.Choosing.{Choosing}
 use Rattle.process_visits.specs.declared.listing.Listing.{Listing}
-use Rattle.process_visits.specs.declared.visit.Visit as source
+use Rattle.process_visits.specs.declared.ways.Way.{Way}
+use Rattle.process_visits.specs.declared.ways.Way.TheVariants as ways
 use Rattle.process_visits.specs.Forms.{Lists}
-use Rattle.process_visits.specs.Visits.{visit_at, IsVisitIn}
+use Rattle.process_visits.specs.Places.{protocol_at}
+use Rattle.process_visits.specs.Visits.{visit_at, IsVisitIn, HasFewCopies}
+use Rattle.process_visits.specs.Walks.{choices_of, HasChoices}
 
--- a process at a point, the same whose visit is counted already, or a process once for each of some visits
+-- a process at a point, the same whose visit is counted already, or a process once for each of these visits that is there
 pub data Job : Type 0 where
   Once : (process : Process) → (point : ℕ) → (visit : Visit) → Job
   Uncounted : (process : Process) → (point : ℕ) → (visit : Visit) → Job
-  Each : (process : Process) → (point : ℕ) → (visits : List Visit) → Job
+  Each : (process : Process) → (point : ℕ) → (outs : List (Option Visit)) → Job
 
 -- the course of it
 abbrev pub Runs : Protocol → Job → ℕ → Outcome → Type 0
 Runs P (Once process point v) left out = Visited P process point v left out
 Runs P (Uncounted process point v) left out = Visited P process point v (suc left) out
-Runs P (Each process point vs) left out = EachThen (λ w. Visited P process point w) (map Some vs) Finished left out
+Runs P (Each process point outs) left out = EachThen (λ w. Visited P process point w) outs Finished left out
 
 -- it is done, with what it adds behind what was there
 pub record IsDone (P : Protocol) (job : Job) (all : List Term) (before after : Listing) : Type 0 where
@@ -34,10 +41,26 @@ abbrev pub Ends : Protocol → Job → List Term → Listing → Listing → Opt
 Ends P job all before after None = IsDone P job all before after
 Ends P job all before after (Some point) = Runs P job before.left (TooLarge point)
 
--- visits over a bank
-abbrev pub visits_at : List Term → List source.Visit → List Visit
-visits_at all vs = map (visit_at all) vs
+-- how choices go on one after the other, none with a visit that is too large
+abbrev pub AreSmallWays : List Term → Way → List (Option Visit) → Type 0
+AreSmallWays all ways.Nowhere outs = AllByRecursion (λ out. out ≡ None) outs
+AreSmallWays all ways.Large outs = ⊥
+AreSmallWays all (ways.Visit made) outs = outs ≡ Some (visit_at all made) ∷ []
 
-abbrev pub AreVisitsIn : List Term → List source.Visit → Type 0
-AreVisitsIn all [] = Unit {0}
-AreVisitsIn all (v ∷ vs) = IsVisitIn all v × AreVisitsIn all vs
+-- the visit that goes on is one over the bank, below few copies
+abbrev pub IsKnownWay : List Term → ℕ → Way → Type 0
+IsKnownWay all point ways.Nowhere = Unit {0}
+IsKnownWay all point ways.Large = Unit {0}
+IsKnownWay all point (ways.Visit made) = IsVisitIn all made × HasFewCopies point made
+
+-- the choices of a `let` are those of the expression, and none goes on with a visit that is too large
+pub record IsSmallLet (all : List Term) (choosing : Choosing) (expression : Expression) : Type 0 where
+  pub are : choices_of choosing ≡ map (λ c. c.ruled) (choices (protocol_at choosing.place.now) expression)
+  pub small : HasChoices all choosing false
+
+-- the process is visited once for each of these choices that goes on
+pub record EndsEach (P : Protocol) (v : Visit) (pattern : Pattern) (rs : List Ruled) (process : Process) (point : ℕ) (all : List Term) (before after : Listing) (large : Option ℕ) : Type 0 where
+  pub outs : List (Option Visit)
+  pub go : EachGoesOn P v pattern rs outs
+  pub small : some_large outs ≡ false
+  pub ends : Ends P (Each process point outs) all before after large

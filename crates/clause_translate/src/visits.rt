@@ -1,18 +1,24 @@
 //! The visits of a process in pre-order (Blanchet 2016, section 3.3.2).
 
-ghost use Rattle.std.specs.Prelude.{◌≡◌, [], IfOk};
-ghost use Rattle.std.specs.List.{AllByRecursion};
+ghost use Rattle.std.specs.Prelude.{◌≡◌, ◌+◌, Option, List, [], map, IfOk};
 ghost use Rattle.spec_calculus.specs.Syntax as calculus;
+ghost use Rattle.pi_tree.specs.Expressions.{expression_of};
+ghost use Rattle.pi_tree.specs.Patterns.{pattern_of};
 ghost use Rattle.pi_tree.specs.Processes.{process_of};
 ghost use Rattle.term_tree.specs.Bank.{Grows};
-ghost use Rattle.process_visits.specs.Places.{protocol_at, HasFewPoints};
+ghost use Rattle.spec_translation.specs.Visit as translation;
+ghost use Rattle.spec_choice_walks.specs.Instructions.{instructions};
+ghost use Rattle.term_values.specs.Instructions.{instruction_of};
+ghost use Rattle.process_visits.specs.Places.{protocol_at, IsAt, HasFewPoints};
 ghost use Rattle.process_visits.specs.Processes.{output_form, input_form, parallel_form, let_form, event_form};
-ghost use Rattle.process_visits.specs.Short.{IsShortProcess};
+ghost use Rattle.process_visits.specs.Short.{IsFitProcess};
 ghost use Rattle.process_visits.specs.Visits.{visit_at, IsVisitIn, HasFewCopies};
-ghost use Rattle.clause_translate.specs.Jobs.{Once, Uncounted, Each, Ends, visits_at, AreVisitsIn};
+ghost use Rattle.process_visits.specs.Walks.{choices_of, IsChoosingIn};
+ghost use Rattle.clause_translate.specs.Jobs.{Once, Uncounted, Each, Ends, AreSmallWays, IsKnownWay, IsSmallLet, EndsEach};
 
-use pi_tree::Process;
-use process_visits::choices::choices;
+use pi_tree::{Expr, Process};
+use process_visits::choice::Choosing;
+use process_visits::choices::{choices_from, count_choices, is_large_choice};
 use process_visits::copies::after_copy;
 use process_visits::events::add_event;
 use process_visits::forms::{Event, Input, Let, Output, Parallel};
@@ -23,11 +29,13 @@ use process_visits::names::after_new;
 use process_visits::outputs::add_output;
 use process_visits::place::Place;
 use process_visits::visit::Visit;
-use std::alloc::AllocError;
+use process_visits::ways::Way;
+use std::alloc::{AllocError, Global};
 use term_tree::Bank;
+use term_values::{Instruction, list_instructions};
 
-/// Visits a process that begins at the place, and tells the point of the first visit that is too large, if one is. Where
-/// no clause was added the bank is as before; on `Err` it may have grown.
+/// Visits a process that begins at the place, and tells the point of the first visit that is too large, if one is.
+/// Where no clause was added the bank is as before; on `Err` it may have grown.
 #[cycle(visits)]
 pub fn visit_process<B: Bank>(
     process: &Process,
@@ -37,7 +45,7 @@ pub fn visit_process<B: Bank>(
     visit: &Visit,
 ) -> Result<Option<u32>, AllocError>
     requires visit { IsVisitIn (B.trees bank.old) visit.now }
-    requires short { IsShortProcess (process_of process.now) }
+    requires fit { IsFitProcess (protocol_at place.now) (process_of process.now) }
     requires points { HasFewPoints place.now.point (process_of process.now) }
     requires copies { HasFewCopies place.now.point visit.now }
     ensures grows { Grows (B.trees bank.old) (B.trees bank.new) }
@@ -65,7 +73,7 @@ fn visit_counted<B: Bank>(
     visit: &Visit,
 ) -> Result<Option<u32>, AllocError>
     requires visit { IsVisitIn (B.trees bank.old) visit.now }
-    requires short { IsShortProcess (process_of process.now) }
+    requires fit { IsFitProcess (protocol_at place.now) (process_of process.now) }
     requires points { HasFewPoints place.now.point (process_of process.now) }
     requires copies { HasFewCopies place.now.point visit.now }
     ensures grows { Grows (B.trees bank.old) (B.trees bank.new) }
@@ -95,7 +103,7 @@ fn visit_form<B: Bank>(
     visit: &Visit,
 ) -> Result<Option<u32>, AllocError>
     requires visit { IsVisitIn (B.trees bank.old) visit.now }
-    requires short { IsShortProcess (process_of process.now) }
+    requires fit { IsFitProcess (protocol_at place.now) (process_of process.now) }
     requires points { HasFewPoints place.now.point (process_of process.now) }
     requires copies { HasFewCopies place.now.point visit.now }
     ensures grows { Grows (B.trees bank.old) (B.trees bank.new) }
@@ -135,7 +143,7 @@ fn visit_form<B: Bank>(
                 next,
                 otherwise,
             };
-            visit_let(&choice, place, bank, listing, visit)
+            visit_let(&choice, &*place, bank, listing, &*visit)
         }
         Process::Event(atom, next) => {
             let event = Event { atom, next };
@@ -154,7 +162,7 @@ fn visit_output<B: Bank>(
     visit: &Visit,
 ) -> Result<Option<u32>, AllocError>
     requires visit { IsVisitIn (B.trees bank.old) visit.now }
-    requires short { IsShortProcess (output_form output.now) }
+    requires fit { IsFitProcess (protocol_at place.now) (output_form output.now) }
     requires points { HasFewPoints place.now.point (output_form output.now) }
     requires copies { HasFewCopies place.now.point visit.now }
     ensures grows { Grows (B.trees bank.old) (B.trees bank.new) }
@@ -179,7 +187,7 @@ fn visit_input<B: Bank>(
     visit: &Visit,
 ) -> Result<Option<u32>, AllocError>
     requires visit { IsVisitIn (B.trees bank.old) visit.now }
-    requires short { IsShortProcess (input_form input.now) }
+    requires fit { IsFitProcess (protocol_at place.now) (input_form input.now) }
     requires points { HasFewPoints place.now.point (input_form input.now) }
     requires copies { HasFewCopies place.now.point visit.now }
     ensures grows { Grows (B.trees bank.old) (B.trees bank.new) }
@@ -204,7 +212,7 @@ fn visit_parallel<B: Bank>(
     visit: &Visit,
 ) -> Result<Option<u32>, AllocError>
     requires visit { IsVisitIn (B.trees bank.old) visit.now }
-    requires short { IsShortProcess (parallel_form both.now) }
+    requires fit { IsFitProcess (protocol_at place.now) (parallel_form both.now) }
     requires points { HasFewPoints place.now.point (parallel_form both.now) }
     requires copies { HasFewCopies place.now.point visit.now }
     ensures grows { Grows (B.trees bank.old) (B.trees bank.new) }
@@ -230,7 +238,7 @@ fn visit_copies<B: Bank>(
     visit: &Visit,
 ) -> Result<Option<u32>, AllocError>
     requires visit { IsVisitIn (B.trees bank.old) visit.now }
-    requires short { IsShortProcess (calculus.Replication (process_of copied.now)) }
+    requires fit { IsFitProcess (protocol_at place.now) (calculus.Replication (process_of copied.now)) }
     requires points { HasFewPoints place.now.point (calculus.Replication (process_of copied.now)) }
     requires copies { HasFewCopies place.now.point visit.now }
     ensures grows { Grows (B.trees bank.old) (B.trees bank.new) }
@@ -253,7 +261,7 @@ fn visit_new<B: Bank>(
     visit: &Visit,
 ) -> Result<Option<u32>, AllocError>
     requires visit { IsVisitIn (B.trees bank.old) visit.now }
-    requires short { IsShortProcess (calculus.New [] (process_of next.now)) }
+    requires fit { IsFitProcess (protocol_at place.now) (calculus.New [] (process_of next.now)) }
     requires points { HasFewPoints place.now.point (calculus.New [] (process_of next.now)) }
     requires copies { HasFewCopies place.now.point visit.now }
     ensures grows { Grows (B.trees bank.old) (B.trees bank.new) }
@@ -268,17 +276,27 @@ fn visit_new<B: Bank>(
     }
 }
 
+/// The instructions that evaluate the expression.
+fn instructions_in(alloc: Global, expression: &Expr) -> Result<Vec<Instruction<'_>>, AllocError>
+    ensures { IfOk result (λ made. map instruction_of made.items ≡
+        instructions (expression_of expression.now)) }
+{
+    let mut made = Vec::new(alloc);
+    list_instructions(expression, &mut made)?;
+    Ok(made)
+}
+
 /// Visits a `let`. On `Err` the bank may have grown.
 #[cycle(visits)]
-fn visit_let<B: Bank>(
-    choice: &Let<'_>,
-    place: &Place<'_>,
+fn visit_let<'a, B: Bank>(
+    choice: &Let<'a>,
+    place: &'a Place<'a>,
     bank: &mut B,
     listing: &mut Listing,
-    visit: &Visit,
+    visit: &'a Visit,
 ) -> Result<Option<u32>, AllocError>
     requires visit { IsVisitIn (B.trees bank.old) visit.now }
-    requires short { IsShortProcess (let_form choice.now) }
+    requires fit { IsFitProcess (protocol_at place.now) (let_form choice.now) }
     requires points { HasFewPoints place.now.point (let_form choice.now) }
     requires copies { HasFewCopies place.now.point visit.now }
     ensures grows { Grows (B.trees bank.old) (B.trees bank.new) }
@@ -291,12 +309,21 @@ fn visit_let<B: Bank>(
     }
     let below = place.below();
     let after = place.after(choice.next);
-    match choices(place, bank, visit, choice.pattern, choice.expression)? {
-        None => Ok(Some(place.point)),
-        Some(visits) => match visit_each(choice.next, &below, bank, listing, &visits.items)? {
-            Some(point) => Ok(Some(point)),
-            None => visit_process(choice.otherwise, &after, bank, listing, visit),
-        },
+    let instructions = instructions_in(place.alloc, &*choice.expression)?;
+    let count = count_choices(place.protocol, &instructions);
+    let choosing = Choosing {
+        place: &*place,
+        visit: &*visit,
+        pattern: &*choice.pattern,
+        instructions: &instructions,
+        count,
+    };
+    if is_large_choice(&choosing, bank)? {
+        return Ok(Some(place.point));
+    }
+    match visit_choices(choice.next, &below, bank, listing, &choosing)? {
+        Some(point) => Ok(Some(point)),
+        None => visit_process(choice.otherwise, &after, bank, listing, visit),
     }
 }
 
@@ -310,7 +337,7 @@ fn visit_event<B: Bank>(
     visit: &Visit,
 ) -> Result<Option<u32>, AllocError>
     requires visit { IsVisitIn (B.trees bank.old) visit.now }
-    requires short { IsShortProcess (event_form event.now) }
+    requires fit { IsFitProcess (protocol_at place.now) (event_form event.now) }
     requires points { HasFewPoints place.now.point (event_form event.now) }
     requires copies { HasFewCopies place.now.point visit.now }
     ensures grows { Grows (B.trees bank.old) (B.trees bank.new) }
@@ -325,29 +352,61 @@ fn visit_event<B: Bank>(
     }
 }
 
-/// Visits a process once for each of the visits, in order. On `Err` the bank may have grown.
+/// Visits a process once for each choice of a `let` that goes on, in order. On `Err` the bank may have grown.
 #[cycle(visits)]
-fn visit_each<B: Bank>(
+fn visit_choices<B: Bank>(
     process: &Process,
     place: &Place<'_>,
     bank: &mut B,
     listing: &mut Listing,
-    visits: &[Visit],
+    choosing: &Choosing<'_>,
 ) -> Result<Option<u32>, AllocError>
-    requires visits { AreVisitsIn (B.trees bank.old) visits.now }
-    requires short { IsShortProcess (process_of process.now) }
+    requires known { IsChoosingIn (B.trees bank.old) choosing.now }
+    requires small { (expression : calculus.Expression)
+        × IsSmallLet (B.trees bank.old) choosing.now expression }
+    requires at { IsAt (protocol_at choosing.now.place.now) (choosing.now.place.now.point + 1)
+        place.now }
+    requires fit { IsFitProcess (protocol_at place.now) (process_of process.now) }
     requires points { HasFewPoints place.now.point (process_of process.now) }
-    requires copies { AllByRecursion (HasFewCopies place.now.point) visits.now }
+    requires copies { HasFewCopies choosing.now.place.now.point choosing.now.visit.now }
     ensures grows { Grows (B.trees bank.old) (B.trees bank.new) }
-    ensures ends { IfOk result (λ large. Ends (protocol_at place.now)
-        (Each (process_of process.now) place.now.point (visits_at (B.trees bank.old) visits.now))
-        (B.trees bank.new) listing.old listing.new large) }
+    ensures ends { IfOk result (EndsEach (protocol_at choosing.now.place.now)
+        (visit_at (B.trees bank.old) choosing.now.visit.now) (pattern_of choosing.now.pattern.now)
+        (choices_of choosing.now) (process_of process.now) (choosing.now.place.now.point + 1)
+        (B.trees bank.new) listing.old listing.new) }
 {
-    'each: for visit in visits {
-        match visit_process(process, place, bank, listing, visit)? {
+    let mut number = 0usize;
+    'each: while number < choosing.count {
+        let passed = choices_from(choosing, bank, number)?;
+        match visit_way(process, place, bank, listing, &passed.way)? {
             Some(point) => return Ok(Some(point)),
             None => {}
         }
+        number += passed.count;
     }
     Ok(None)
+}
+
+/// Visits a process with the visit that goes on, if one does. On `Err` the bank may have grown.
+#[cycle(visits)]
+fn visit_way<B: Bank>(
+    process: &Process,
+    place: &Place<'_>,
+    bank: &mut B,
+    listing: &mut Listing,
+    way: &Way,
+) -> Result<Option<u32>, AllocError>
+    requires known { IsKnownWay (B.trees bank.old) place.now.point way.now }
+    requires fit { IsFitProcess (protocol_at place.now) (process_of process.now) }
+    requires points { HasFewPoints place.now.point (process_of process.now) }
+    ensures grows { Grows (B.trees bank.old) (B.trees bank.new) }
+    ensures ends { IfOk result (λ large. (outs : List (Option translation.Visit)) →
+        AreSmallWays (B.trees bank.old) way.now outs → Ends (protocol_at place.now)
+        (Each (process_of process.now) place.now.point outs)
+        (B.trees bank.new) listing.old listing.new large) }
+{
+    match way {
+        Way::Visit(made) => visit_process(process, place, bank, listing, made),
+        Way::Nowhere | Way::Large => Ok(None),
+    }
 }

@@ -14,7 +14,7 @@ ghost use Rattle.spec_translation.specs.Translation.{goal_clauses};
 ghost use Rattle.clause_form.specs.Seen.{clause_at, AreClausesIn, NameClauses};
 ghost use Rattle.query_derive.specs.GoalRows.{OfQuery};
 ghost use Rattle.process_visits.specs.Places.{HasFewPoints};
-ghost use Rattle.process_visits.specs.Short.{IsShortProcess, HasFitRules};
+ghost use Rattle.process_visits.specs.Short.{IsFitProcess, HasFitRules};
 ghost use Rattle.clause_translate.specs.Jobs.{Once, Ends};
 ghost use Rattle.clause_translate.specs.Whole.{IsLargeAt, IsVisited, Translates, TranslatesTo, TranslatesAll, IsCommonTo, IsKept};
 ghost use Rattle.clause_translate.specs.Soundness.{IsSound};
@@ -47,7 +47,7 @@ fn visit_main<B: Bank>(
     protocol: &Protocol,
     listing: &mut Listing,
 ) -> Result<Option<u32>, AllocError>
-    requires short { IsShortProcess (protocol_of protocol.now).main }
+    requires fit { IsFitProcess (protocol_of protocol.now) (protocol_of protocol.now).main }
     requires rules { HasFitRules (protocol_of protocol.now) }
     requires points { HasFewPoints 1 (protocol_of protocol.now).main }
     ensures grows { Grows (B.trees bank.old) (B.trees bank.new) }
@@ -73,7 +73,7 @@ fn first_large<B: Bank>(
     bank: &mut B,
     protocol: &Protocol,
 ) -> Result<Option<u32>, AllocError>
-    requires short { IsShortProcess (protocol_of protocol.now).main }
+    requires fit { IsFitProcess (protocol_of protocol.now) (protocol_of protocol.now).main }
     requires rules { HasFitRules (protocol_of protocol.now) }
     requires points { HasFewPoints 1 (protocol_of protocol.now).main }
     ensures grows { Grows (B.trees bank.old) (B.trees bank.new) }
@@ -99,7 +99,7 @@ fn visited<B: Bank>(
     clauses: Clauses,
 ) -> Result<Translated, AllocError>
     requires clauses { AreClausesIn (B.trees bank.old) clauses }
-    requires short { IsShortProcess (protocol_of protocol.now).main }
+    requires fit { IsFitProcess (protocol_of protocol.now) (protocol_of protocol.now).main }
     requires rules { HasFitRules (protocol_of protocol.now) }
     requires points { HasFewPoints 1 (protocol_of protocol.now).main }
     ensures grows { Grows (B.trees bank.old) (B.trees bank.new) }

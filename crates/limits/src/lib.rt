@@ -3,7 +3,7 @@
 #![tactic(auto)]
 
 ghost use Rattle.std.specs.Prelude.{◌≡◌};
-ghost use Rattle.spec_calculus.specs.Bounds.{most_bytes, most_report_bytes, most_run_bytes, most_line_bytes, most_digits, most_levels, most_names, most_arguments, most_rules, most_alternatives, most_events, most_queries, most_written_symbols, most_points, most_points_above, most_symbols, most_term_levels, most_visits, most_clauses, most_budget, most_keys};
+ghost use Rattle.spec_calculus.specs.Bounds.{most_bytes, most_report_bytes, most_run_bytes, most_line_bytes, most_digits, most_levels, most_names, most_arguments, most_rules, most_alternatives, most_events, most_queries, most_written_symbols, most_points, most_points_above, most_applications, most_choices, most_symbols, most_term_levels, most_visits, most_clauses, most_budget, most_keys};
 
 /// The most bytes of a protocol's text.
 pub const MOST_BYTES: usize = 1_048_576;
@@ -50,6 +50,12 @@ pub const MOST_POINTS: usize = 4096;
 /// The most points above a point.
 pub const MOST_POINTS_ABOVE: usize = 511;
 
+/// The most applications of destructors in an expression.
+pub const MOST_APPLICATIONS: u32 = 16;
+
+/// The most choices of rules for the destructors of an expression.
+pub const MOST_CHOICES: u64 = 65_536;
+
 /// The most symbols of a clause or a bound term, and of a value in a replay.
 pub const MOST_SYMBOLS: u64 = 16_384;
 
@@ -85,6 +91,8 @@ pub fn limits_are_named()
     ensures written_symbols { MOST_WRITTEN_SYMBOLS ≡ most_written_symbols }
     ensures points { MOST_POINTS ≡ most_points }
     ensures points_above { MOST_POINTS_ABOVE ≡ most_points_above }
+    ensures applications { MOST_APPLICATIONS ≡ most_applications }
+    ensures choices { MOST_CHOICES ≡ most_choices }
     ensures symbols { MOST_SYMBOLS ≡ most_symbols }
     ensures term_levels { MOST_TERM_LEVELS ≡ most_term_levels }
     ensures visits { MOST_VISITS ≡ most_visits }

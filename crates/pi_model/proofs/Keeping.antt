@@ -4,7 +4,8 @@ use Rattle.std.specs.List.{AllByRecursion, list_any}
 use Rattle.spec_calculus.specs.Syntax.{Process, Output, Input, Parallel, Replication, New, Let, Event, Protocol}
 use Rattle.spec_calculus.specs.Points.{numbered, nodes, point_after}
 use Rattle.spec_calculus.specs.Values.{Value, Environment, same_value, value_of}
-use Rattle.spec_calculus.specs.Matching.{matched, rule_value, rules_of, value_at, values_at}
+use Rattle.spec_calculus.specs.Matching.{matched, rule_value, rules_of}
+use Rattle.spec_calculus.specs.Choices.{value_at, values_at}
 use Rattle.spec_calculus.specs.Runs.{Thread, At, Ended, Configuration, Step, Build, Reduce, Part, Fresh, Split, Copy, Make, Pass, Hear, Say, Take, Fail, Mark, acts, acting, knows, learns, goes_on, known_values, can_build, built, part_of, received, after_split, after_copy, after_make, after_receipt, after_pass, after_hear, after_say, after_take, after_fail, after_mark, after_step}
 use Rattle.spec_calculus.specs.Standing.{names_made}
 use Rattle.spec_calculus.proofs.Items.{each-append, each-replaced, if_some-is, if_some-cond, if_some-choice, if_some-then, if_some-map}
@@ -78,7 +79,7 @@ module _ (P : Protocol) where
         (receipt-kept i j (At (point + 1) environment) (value_of environment channel) (value_of environment message) (next-point point environment next (omega (arith, h))))
     pass-kept i j point environment other h = tt
 
-    take-kept : (i label point : ℕ) (environment : Environment) (process : Process) → point + length (nodes process) ≤ length (nodes P.main) + 1 → IfSome (after_take P c i label point environment process) (λ d. AllByRecursion (IsPointOf P) d.threads)
+    take-kept : (i : ℕ) (label : List ℕ) (point : ℕ) (environment : Environment) (process : Process) → point + length (nodes process) ≤ length (nodes P.main) + 1 → IfSome (after_take P c i label point environment process) (λ d. AllByRecursion (IsPointOf P) d.threads)
     take-kept i label point environment (Let pattern expression next otherwise) h =
         let within : point + (1 + (length (nodes next) + length (nodes otherwise))) ≤ length (nodes P.main) + 1 = omega (arith, h, length-append (nodes next) (nodes otherwise)) in
         if_some-map (λ d. AllByRecursion (IsPointOf P) d.threads) (λ bindings. goes_on c i (At (point + 1) (environment ++ bindings))) (option_and_then (matched environment pattern) (value_at P environment expression label))

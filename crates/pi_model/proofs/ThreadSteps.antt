@@ -1,12 +1,13 @@
 -- When each step is possible, and for which cause it is refused, from what stands at its threads.
-use Rattle.std.proofs.Common.{subst, ◌≡◌, ℕ, zero, suc, ◌+◌, Bool, true, false, not, ◌||◌, cond, List, [], ◌∷◌, ◌++◌, Option, None, Some, is_some, is_none, option_and_then, option_map, unwrap_or, option_to_list, slice_get, slice_set, refl, sym, ap, ◌∙◌}
-use Rattle.std.specs.List.{list_any}
+use Rattle.std.proofs.Common.{subst, ◌≡◌, ℕ, zero, suc, ◌+◌, Bool, true, false, not, ◌||◌, cond, List, [], ◌∷◌, ◌++◌, Option, None, Some, is_some, is_none, option_and_then, option_map, unwrap_or, slice_get, slice_set, refl, sym, ap, ◌∙◌}
+use Rattle.std.specs.List.{list_any, flat_map}
 use Rattle.std.specs.Option.{option_map_or, option_or}
 use Rattle.spec_trees.specs.Tree.{Leaf}
 use Rattle.spec_calculus.specs.Syntax.{Made, Term, Pattern, Expression, EventTerm, Process, Output, Input, Parallel, Replication, New, Let, Event, Protocol}
 use Rattle.spec_calculus.specs.Points.{numbered, replaced, point_after}
 use Rattle.spec_calculus.specs.Values.{MadeName, Value, Environment, value_of, values_of}
-use Rattle.spec_calculus.specs.Matching.{matched, value_at, values_at}
+use Rattle.spec_calculus.specs.Matching.{matched}
+use Rattle.spec_calculus.specs.Choices.{choices, choice_at, value_at, values_at, part_values}
 use Rattle.spec_calculus.specs.Runs.{Thread, At, Ended, Configuration, Step, Split, Copy, Make, Hear, Say, Take, Fail, Mark, acts, acting, learns, goes_on, begins, names, performs, knows, received, after_split, after_copy, after_make, after_hear, after_say, after_take, after_fail, after_mark, after_step}
 use Rattle.spec_calculus.specs.Refusals as cause
 use Rattle.spec_calculus.specs.Refusals.{Refusal, Cause, first_cause, where_true, takes, is_public_constructor, first_arity, reduces, at_split, at_copy, at_make, at_output, at_input, at_take, at_fail, at_mark, no_thread, refusal}
@@ -14,7 +15,6 @@ use Rattle.spec_calculus.specs.Limits.{is_large, terms_at, listed, written, trie
 use Rattle.pi_model.specs.declared.errors.StepError.{StepError}
 use Rattle.pi_model.specs.declared.errors.StepError.TheVariants.{NoThread, WrongForm, UnknownChannel, ChannelsDiffer, NoKnowledge, NoRule, NotFailing, NotPublic, Large}
 use Rattle.pi_model.specs.Errors.{refusal_of}
-use Rattle.pi_model.specs.Choices.{some_matches}
 use Rattle.pi_configurations.specs.Moves.{moved_to, moved, advanced}
 use Rattle.pi_model.specs.Plans.{IsPossible, IsRefused, Stands, StandsNowhere}
 use Rattle.term_values.proofs.Room.{any-append}
@@ -203,42 +203,45 @@ module _ (P : Protocol) (c : Configuration) where
       ∙ ap (λ d. Some (performs d (record { event = performed.event; arguments = values_of s performed.arguments }))) (sym (advanced_stands i p (p + 1) s (Event performed next) h)))
 
   -- take
-  pub take-nowhere : (i n : ℕ) (e : StepError) → StandsNowhere c i e → IsRefused P c (Take i n) (refusal_of e)
-  take-nowhere i n e h = refused (Take i n) (refusal_of e) (nowhere (at_take P n) (where_true cause.NoRule (not (option_map_or (λ matches. matches) (acting P c i (at_take P n)) false)) ∷ []) i e h)
+  pub take-nowhere : (i : ℕ) (label : List ℕ) (e : StepError) → StandsNowhere c i e → IsRefused P c (Take i label) (refusal_of e)
+  take-nowhere i label e h = refused (Take i label) (refusal_of e) (nowhere (at_take P label) (where_true cause.NoRule (not (option_map_or (λ matches. matches) (acting P c i (at_take P label)) false)) ∷ []) i e h)
 
-  pub take-elsewhere : (i n p : ℕ) (s : Environment) (q : Process) → Stands P c i p s q → at_take P n p s q ≡ None → IsRefused P c (Take i n) cause.WrongForm
-  take-elsewhere i n p s q h e = refused (Take i n) cause.WrongForm (elsewhere (at_take P n) (where_true cause.NoRule (not (option_map_or (λ matches. matches) (acting P c i (at_take P n)) false)) ∷ []) i p s q h e)
+  pub take-elsewhere : (i : ℕ) (label : List ℕ) (p : ℕ) (s : Environment) (q : Process) → Stands P c i p s q → at_take P label p s q ≡ None → IsRefused P c (Take i label) cause.WrongForm
+  take-elsewhere i label p s q h e = refused (Take i label) cause.WrongForm (elsewhere (at_take P label) (where_true cause.NoRule (not (option_map_or (λ matches. matches) (acting P c i (at_take P label)) false)) ∷ []) i p s q h e)
 
-  take-cause : (i n p : ℕ) (s : Environment) (pattern : Pattern) (expression : Expression) (next otherwise : Process) (o : Option Environment) → Stands P c i p s (Let pattern expression next otherwise) → option_and_then (matched s pattern) (value_at P s expression n) ≡ o → refusal P c (Take i n) ≡ first_cause (where_true cause.NoRule (not (is_some o)) ∷ [])
-  take-cause i n p s pattern expression next otherwise o h e =
-      here (at_take P n) (where_true cause.NoRule (not (option_map_or (λ matches. matches) (acting P c i (at_take P n)) false)) ∷ []) i p s (Let pattern expression next otherwise) (is_some (option_and_then (matched s pattern) (value_at P s expression n))) h refl
-      ∙ (ap (λ x. first_cause (where_true cause.NoRule (not (option_map_or (λ matches. matches) x false)) ∷ [])) (acting_stands (at_take P n) i p s (Let pattern expression next otherwise) h)
-      ∙ ap (λ x. first_cause (where_true cause.NoRule (not (is_some x)) ∷ [])) e)
+  -- at a `let`
+  module _ (i : ℕ) (label : List ℕ) (p : ℕ) (s : Environment) (pattern : Pattern) (expression : Expression) (next otherwise : Process) (h : Stands P c i p s (Let pattern expression next otherwise)) where
+    take-cause : (o : Option Environment) → option_and_then (matched s pattern) (value_at P s expression label) ≡ o → refusal P c (Take i label) ≡ first_cause (where_true cause.NoRule (not (is_some o)) ∷ [])
+    take-cause o e =
+        here (at_take P label) (where_true cause.NoRule (not (option_map_or (λ matches. matches) (acting P c i (at_take P label)) false)) ∷ []) i p s (Let pattern expression next otherwise) (is_some (option_and_then (matched s pattern) (value_at P s expression label))) h refl
+        ∙ (ap (λ x. first_cause (where_true cause.NoRule (not (option_map_or (λ matches. matches) x false)) ∷ [])) (acting_stands (at_take P label) i p s (Let pattern expression next otherwise) h)
+        ∙ ap (λ x. first_cause (where_true cause.NoRule (not (is_some x)) ∷ [])) e)
 
-  pub take-no_value : (i n p : ℕ) (s : Environment) (pattern : Pattern) (expression : Expression) (next otherwise : Process) → Stands P c i p s (Let pattern expression next otherwise) → value_at P s expression n ≡ None → IsRefused P c (Take i n) cause.NoRule
-  take-no_value i n p s pattern expression next otherwise h e =
-      refused (Take i n) cause.NoRule (take-cause i n p s pattern expression next otherwise None h (ap (option_and_then (matched s pattern)) e))
+    pub take-no_value : value_at P s expression label ≡ None → IsRefused P c (Take i label) cause.NoRule
+    take-no_value e = refused (Take i label) cause.NoRule (take-cause None (ap (option_and_then (matched s pattern)) e))
 
-  pub take-no_match : (i n p : ℕ) (s : Environment) (pattern : Pattern) (expression : Expression) (next otherwise : Process) (v : Value) → Stands P c i p s (Let pattern expression next otherwise) → value_at P s expression n ≡ Some v → matched s pattern v ≡ None → IsRefused P c (Take i n) cause.NoRule
-  take-no_match i n p s pattern expression next otherwise v h e m =
-      refused (Take i n) cause.NoRule (take-cause i n p s pattern expression next otherwise None h (ap (option_and_then (matched s pattern)) e ∙ m))
+    pub take-no_match : (v : Value) → value_at P s expression label ≡ Some v → matched s pattern v ≡ None → IsRefused P c (Take i label) cause.NoRule
+    take-no_match v e m = refused (Take i label) cause.NoRule (take-cause None (ap (option_and_then (matched s pattern)) e ∙ m))
 
-  take-values : (i n p : ℕ) (s : Environment) (pattern : Pattern) (expression : Expression) (next otherwise : Process) (v : Value) (b : Bool) → Stands P c i p s (Let pattern expression next otherwise) → value_at P s expression n ≡ Some v → (list_any is_large (values_of s (terms_at (Let pattern expression next otherwise))) || (is_large v || false)) ≡ b → list_any is_large (evaluated P c (Take i n)) ≡ b
-  take-values i n p s pattern expression next otherwise v b h e l =
-      any-append is_large (listed P c i written) (listed P c i (tried P n))
-      ∙ (ap (λ xs. list_any is_large xs || list_any is_large (listed P c i (tried P n))) (listed_stands i p s (Let pattern expression next otherwise) written h)
-      ∙ (ap (λ xs. list_any is_large (values_of s (terms_at (Let pattern expression next otherwise))) || list_any is_large xs) (listed_stands i p s (Let pattern expression next otherwise) (tried P n) h ∙ ap (λ o. option_to_list o) e)
-      ∙ l))
+    -- whether a value that the choice of the label evaluates is large
+    abbrev IsLargeTried : Bool → Type 0
+    IsLargeTried large = large ≡ list_any is_large (option_map_or (λ choice. part_values s choice.ruled) (choice_at P expression label) [])
 
-  pub take-large : (i n p : ℕ) (s : Environment) (pattern : Pattern) (expression : Expression) (next otherwise : Process) (v : Value) (bs : Environment) → Stands P c i p s (Let pattern expression next otherwise) → value_at P s expression n ≡ Some v → matched s pattern v ≡ Some bs → (list_any is_large (values_of s (terms_at (Let pattern expression next otherwise))) || (is_large v || false)) ≡ true → IsRefused P c (Take i n) cause.Large
-  take-large i n p s pattern expression next otherwise v bs h e m l =
-      large (Take i n) (take-cause i n p s pattern expression next otherwise (Some bs) h (ap (option_and_then (matched s pattern)) e ∙ m)) (take-values i n p s pattern expression next otherwise v true h e l)
+    take-values : (large b : Bool) → IsLargeTried large → (list_any is_large (values_of s (terms_at (Let pattern expression next otherwise))) || large) ≡ b → list_any is_large (evaluated P c (Take i label)) ≡ b
+    take-values large b t l =
+        any-append is_large (listed P c i written) (listed P c i (tried P label))
+        ∙ (ap (λ xs. list_any is_large xs || list_any is_large (listed P c i (tried P label))) (listed_stands i p s (Let pattern expression next otherwise) written h)
+        ∙ (ap (λ xs. list_any is_large (values_of s (terms_at (Let pattern expression next otherwise))) || list_any is_large xs) (listed_stands i p s (Let pattern expression next otherwise) (tried P label) h)
+        ∙ (ap (λ d. list_any is_large (values_of s (terms_at (Let pattern expression next otherwise))) || d) (sym t) ∙ l)))
 
-  pub take-possible : (i n p : ℕ) (s : Environment) (pattern : Pattern) (expression : Expression) (next otherwise : Process) (v : Value) (bs : Environment) → Stands P c i p s (Let pattern expression next otherwise) → value_at P s expression n ≡ Some v → matched s pattern v ≡ Some bs → (list_any is_large (values_of s (terms_at (Let pattern expression next otherwise))) || (is_large v || false)) ≡ false → IsPossible P c (Take i n) (goes_on c i (At (p + 1) (s ++ bs)))
-  take-possible i n p s pattern expression next otherwise v bs h e m l =
-      possible (Take i n) (goes_on c i (At (p + 1) (s ++ bs))) (take-cause i n p s pattern expression next otherwise (Some bs) h (ap (option_and_then (matched s pattern)) e ∙ m)) (take-values i n p s pattern expression next otherwise v false h e l)
-      (acting_stands (after_take P c i n) i p s (Let pattern expression next otherwise) h
-      ∙ ap (λ o. option_map (λ xs. goes_on c i (At (p + 1) (s ++ xs))) o) (ap (option_and_then (matched s pattern)) e ∙ m))
+    pub take-large : (v : Value) (large_tried : Bool) (bs : Environment) → value_at P s expression label ≡ Some v → IsLargeTried large_tried → matched s pattern v ≡ Some bs → (list_any is_large (values_of s (terms_at (Let pattern expression next otherwise))) || large_tried) ≡ true → IsRefused P c (Take i label) cause.Large
+    take-large v large_tried bs e t m l = large (Take i label) (take-cause (Some bs) (ap (option_and_then (matched s pattern)) e ∙ m)) (take-values large_tried true t l)
+
+    pub take-possible : (v : Value) (large_tried : Bool) (bs : Environment) → value_at P s expression label ≡ Some v → IsLargeTried large_tried → matched s pattern v ≡ Some bs → (list_any is_large (values_of s (terms_at (Let pattern expression next otherwise))) || large_tried) ≡ false → IsPossible P c (Take i label) (goes_on c i (At (p + 1) (s ++ bs)))
+    take-possible v large_tried bs e t m l =
+        possible (Take i label) (goes_on c i (At (p + 1) (s ++ bs))) (take-cause (Some bs) (ap (option_and_then (matched s pattern)) e ∙ m)) (take-values large_tried false t l)
+        (acting_stands (after_take P c i label) i p s (Let pattern expression next otherwise) h
+        ∙ ap (λ o. option_map (λ xs. goes_on c i (At (p + 1) (s ++ xs))) o) (ap (option_and_then (matched s pattern)) e ∙ m))
 
   -- fail
   pub fail-nowhere : (i : ℕ) (e : StepError) → StandsNowhere c i e → IsRefused P c (Fail i) (refusal_of e)
@@ -247,43 +250,40 @@ module _ (P : Protocol) (c : Configuration) where
   pub fail-elsewhere : (i p : ℕ) (s : Environment) (q : Process) → Stands P c i p s q → at_fail P p s q ≡ None → IsRefused P c (Fail i) cause.WrongForm
   fail-elsewhere i p s q h e = refused (Fail i) cause.WrongForm (elsewhere (at_fail P) (where_true cause.NotFailing (option_map_or (λ matches. matches) (acting P c i (at_fail P)) false) ∷ []) i p s q h e)
 
-  fail-cause : (i p : ℕ) (s : Environment) (pattern : Pattern) (expression : Expression) (next otherwise : Process) (b : Bool) → Stands P c i p s (Let pattern expression next otherwise) → list_any (λ v. is_some (matched s pattern v)) (values_at P s expression) ≡ b → refusal P c (Fail i) ≡ first_cause (where_true cause.NotFailing b ∷ [])
-  fail-cause i p s pattern expression next otherwise b h e =
-      here (at_fail P) (where_true cause.NotFailing (option_map_or (λ matches. matches) (acting P c i (at_fail P)) false) ∷ []) i p s (Let pattern expression next otherwise) (list_any (λ v. is_some (matched s pattern v)) (values_at P s expression)) h refl
-      ∙ (ap (λ x. first_cause (where_true cause.NotFailing (option_map_or (λ matches. matches) x false) ∷ [])) (acting_stands (at_fail P) i p s (Let pattern expression next otherwise) h)
-      ∙ ap (λ x. first_cause (where_true cause.NotFailing x ∷ [])) e)
+  module _ (i p : ℕ) (s : Environment) (pattern : Pattern) (expression : Expression) (next otherwise : Process) (h : Stands P c i p s (Let pattern expression next otherwise)) where
+    -- whether a value matches
+    abbrev IsMatching : Bool → Type 0
+    IsMatching matching = matching ≡ list_any (λ v. is_some (matched s pattern v)) (values_at P s expression)
 
-  fail-values : (i p : ℕ) (s : Environment) (pattern : Pattern) (expression : Expression) (next otherwise : Process) (b : Bool) → Stands P c i p s (Let pattern expression next otherwise) → (list_any is_large (values_of s (terms_at (Let pattern expression next otherwise))) || list_any is_large (values_at P s expression)) ≡ b → list_any is_large (evaluated P c (Fail i)) ≡ b
-  fail-values i p s pattern expression next otherwise b h l =
-      any-append is_large (listed P c i written) (listed P c i (all_tried P))
-      ∙ (ap (λ xs. list_any is_large xs || list_any is_large (listed P c i (all_tried P))) (listed_stands i p s (Let pattern expression next otherwise) written h)
-      ∙ (ap (λ xs. list_any is_large (values_of s (terms_at (Let pattern expression next otherwise))) || list_any is_large xs) (listed_stands i p s (Let pattern expression next otherwise) (all_tried P) h)
-      ∙ l))
+    fail-cause : (matching : Bool) → IsMatching matching → refusal P c (Fail i) ≡ first_cause (where_true cause.NotFailing matching ∷ [])
+    fail-cause matching e =
+        here (at_fail P) (where_true cause.NotFailing (option_map_or (λ matches. matches) (acting P c i (at_fail P)) false) ∷ []) i p s (Let pattern expression next otherwise) (list_any (λ v. is_some (matched s pattern v)) (values_at P s expression)) h refl
+        ∙ (ap (λ x. first_cause (where_true cause.NotFailing (option_map_or (λ matches. matches) x false) ∷ [])) (acting_stands (at_fail P) i p s (Let pattern expression next otherwise) h)
+        ∙ ap (λ x. first_cause (where_true cause.NotFailing x ∷ [])) (sym e))
 
-  fail-matches-of_values : (i p : ℕ) (s : Environment) (pattern : Pattern) (expression : Expression) (next otherwise : Process) → Stands P c i p s (Let pattern expression next otherwise) → some_matches s pattern (values_at P s expression) ≡ true → IsRefused P c (Fail i) cause.NotFailing
-  unfolding some_matches
-  fail-matches-of_values i p s pattern expression next otherwise h e = refused (Fail i) cause.NotFailing (fail-cause i p s pattern expression next otherwise true h e)
+    -- whether a value that a choice evaluates is large
+    abbrev IsAnyLarge : Bool → Type 0
+    IsAnyLarge any_large = any_large ≡ list_any is_large (flat_map (λ choice. part_values s choice.ruled) (choices P expression))
 
-  fail-large-of_values : (i p : ℕ) (s : Environment) (pattern : Pattern) (expression : Expression) (next otherwise : Process) → Stands P c i p s (Let pattern expression next otherwise) → some_matches s pattern (values_at P s expression) ≡ false → (list_any is_large (values_of s (terms_at (Let pattern expression next otherwise))) || list_any is_large (values_at P s expression)) ≡ true → IsRefused P c (Fail i) cause.Large
-  unfolding some_matches
-  fail-large-of_values i p s pattern expression next otherwise h e l = large (Fail i) (fail-cause i p s pattern expression next otherwise false h e) (fail-values i p s pattern expression next otherwise true h l)
+    fail-values : (any_large b : Bool) → IsAnyLarge any_large → (list_any is_large (values_of s (terms_at (Let pattern expression next otherwise))) || any_large) ≡ b → list_any is_large (evaluated P c (Fail i)) ≡ b
+    fail-values any_large b t l =
+        any-append is_large (listed P c i written) (listed P c i (all_tried P))
+        ∙ (ap (λ xs. list_any is_large xs || list_any is_large (listed P c i (all_tried P))) (listed_stands i p s (Let pattern expression next otherwise) written h)
+        ∙ (ap (λ xs. list_any is_large (values_of s (terms_at (Let pattern expression next otherwise))) || list_any is_large xs) (listed_stands i p s (Let pattern expression next otherwise) (all_tried P) h)
+        ∙ (ap (λ d. list_any is_large (values_of s (terms_at (Let pattern expression next otherwise))) || d) (sym t) ∙ l)))
 
-  fail-possible-of_values : (i p : ℕ) (s : Environment) (pattern : Pattern) (expression : Expression) (next otherwise : Process) → Stands P c i p s (Let pattern expression next otherwise) → some_matches s pattern (values_at P s expression) ≡ false → (list_any is_large (values_of s (terms_at (Let pattern expression next otherwise))) || list_any is_large (values_at P s expression)) ≡ false → IsPossible P c (Fail i) (advanced c i (point_after (p + 1) next))
-  unfolding some_matches
-  fail-possible-of_values i p s pattern expression next otherwise h e l =
-      possible (Fail i) (advanced c i (point_after (p + 1) next)) (fail-cause i p s pattern expression next otherwise false h e) (fail-values i p s pattern expression next otherwise false h l)
-      (acting_stands (after_fail P c i) i p s (Let pattern expression next otherwise) h
-      ∙ (ap (λ b. cond b None (Some (goes_on c i (At (point_after (p + 1) next) s)))) e
-      ∙ ap Some (sym (advanced_stands i p (point_after (p + 1) next) s (Let pattern expression next otherwise) h))))
+    pub fail-matches : (matching : Bool) → IsMatching matching → matching ≡ true → IsRefused P c (Fail i) cause.NotFailing
+    fail-matches matching e is = refused (Fail i) cause.NotFailing (fail-cause true (sym is ∙ e))
 
-  pub fail-matches : (i p : ℕ) (s : Environment) (pattern : Pattern) (expression : Expression) (next otherwise : Process) (vs : List Value) → Stands P c i p s (Let pattern expression next otherwise) → vs ≡ values_at P s expression → some_matches s pattern vs ≡ true → IsRefused P c (Fail i) cause.NotFailing
-  fail-matches i p s pattern expression next otherwise vs h same e = fail-matches-of_values i p s pattern expression next otherwise h (ap (some_matches s pattern) (sym same) ∙ e)
+    pub fail-large : (matching any_large : Bool) → IsMatching matching → matching ≡ false → IsAnyLarge any_large → (list_any is_large (values_of s (terms_at (Let pattern expression next otherwise))) || any_large) ≡ true → IsRefused P c (Fail i) cause.Large
+    fail-large matching any_large e is t l = large (Fail i) (fail-cause false (sym is ∙ e)) (fail-values any_large true t l)
 
-  pub fail-large : (i p : ℕ) (s : Environment) (pattern : Pattern) (expression : Expression) (next otherwise : Process) (vs : List Value) → Stands P c i p s (Let pattern expression next otherwise) → vs ≡ values_at P s expression → some_matches s pattern vs ≡ false → (list_any is_large (values_of s (terms_at (Let pattern expression next otherwise))) || list_any is_large vs) ≡ true → IsRefused P c (Fail i) cause.Large
-  fail-large i p s pattern expression next otherwise vs h same e l = fail-large-of_values i p s pattern expression next otherwise h (ap (some_matches s pattern) (sym same) ∙ e) (ap (λ ws. list_any is_large (values_of s (terms_at (Let pattern expression next otherwise))) || list_any is_large ws) (sym same) ∙ l)
-
-  pub fail-possible : (i p : ℕ) (s : Environment) (pattern : Pattern) (expression : Expression) (next otherwise : Process) (vs : List Value) → Stands P c i p s (Let pattern expression next otherwise) → vs ≡ values_at P s expression → some_matches s pattern vs ≡ false → (list_any is_large (values_of s (terms_at (Let pattern expression next otherwise))) || list_any is_large vs) ≡ false → IsPossible P c (Fail i) (advanced c i (point_after (p + 1) next))
-  fail-possible i p s pattern expression next otherwise vs h same e l = fail-possible-of_values i p s pattern expression next otherwise h (ap (some_matches s pattern) (sym same) ∙ e) (ap (λ ws. list_any is_large (values_of s (terms_at (Let pattern expression next otherwise))) || list_any is_large ws) (sym same) ∙ l)
+    pub fail-possible : (matching any_large : Bool) → IsMatching matching → matching ≡ false → IsAnyLarge any_large → (list_any is_large (values_of s (terms_at (Let pattern expression next otherwise))) || any_large) ≡ false → IsPossible P c (Fail i) (advanced c i (point_after (p + 1) next))
+    fail-possible matching any_large e is t l =
+        possible (Fail i) (advanced c i (point_after (p + 1) next)) (fail-cause false (sym is ∙ e)) (fail-values any_large false t l)
+        (acting_stands (after_fail P c i) i p s (Let pattern expression next otherwise) h
+        ∙ (ap (λ b. cond b None (Some (goes_on c i (At (point_after (p + 1) next) s)))) (sym e ∙ is)
+        ∙ ap Some (sym (advanced_stands i p (point_after (p + 1) next) s (Let pattern expression next otherwise) h))))
 
 pub ruleset of_split = (split-nowhere, split-elsewhere, split-possible)
 

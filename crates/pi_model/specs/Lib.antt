@@ -4,4 +4,3 @@ pub mod PointProps
 pub mod Plans
 pub mod Running
 pub mod Answers
-pub mod Choices

@@ -52,7 +52,7 @@ fn plan(alloc: Global, protocol: &Protocol, conf: &Conf, step: &Step) -> Result<
         Step::Pass(sender, receiver) => pass(&run, *sender, *receiver),
         Step::Hear(thread) => hear(&run, *thread),
         Step::Say(thread, value) => say(&run, *thread, *value),
-        Step::Take(thread, label) => take(&run, *thread, *label),
+        Step::Take(thread, label) => take(&run, *thread, label),
         Step::Fail(thread) => fail(&run, *thread),
         Step::Mark(thread) => mark(&run, *thread),
     }

@@ -24,7 +24,7 @@ pub enum StepError {
     /// There is no known value of that number.
     #[error("there is no known value of that number")]
     NoKnowledge,
-    /// There is no such rule, or it does not apply, or its value does not match.
+    /// There is no such rule or no such choice of rules, or they do not all apply, or the value does not match.
     #[error("no rule applies, or its value does not match")]
     NoRule,
     /// A value matches.

@@ -2,7 +2,7 @@
 
 use std::marker::Model;
 
-/// Numbers of known values in order.
+/// Numbers in order, of known values or of rules.
 #[derive(Debug, Drop)]
 pub struct Numbers {
     pub items: Vec<u32>,
@@ -40,8 +40,9 @@ pub enum Step {
     Hear(u32),
     /// The thread at an input receives the known value, the second number, from the attacker.
     Say(u32, u32),
-    /// The thread at a `let` goes on with the value that the rule of that number gives, or its term for 0.
-    Take(u32, u32),
+    /// The thread at a `let` goes on with the value of that label: the numbers of the rules by which its destructors are
+    /// applied, those of arguments before that of the destructor on them, from left to right; 0 alone where it has none.
+    Take(u32, Numbers),
     /// The thread at a `let` goes to its else branch.
     Fail(u32),
     /// The thread performs its event.

@@ -3,6 +3,8 @@ pub mod Terms
 pub mod TermDepths
 pub mod Patterns
 pub mod PatternDepths
+pub mod Expressions
+pub mod ExpressionDepths
 pub mod Events
 pub mod Processes
 pub mod Rules

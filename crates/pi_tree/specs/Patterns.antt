@@ -1,10 +1,8 @@
--- What contracts see of patterns and expressions.
+-- What contracts see of patterns.
 use Rattle.spec_trees.specs.Tree.{Leaf, Node, trees}
 use Rattle.spec_calculus.specs.Syntax as calculus
 use Rattle.pi_tree.specs.declared.syntax.Pat.{Pat}
 use Rattle.pi_tree.specs.declared.syntax.Pat.TheVariants.{Bind, Equal, App, Tuple}
-use Rattle.pi_tree.specs.declared.syntax.Expr.{Expr}
-use Rattle.pi_tree.specs.declared.syntax.Expr.TheVariants.{Term, Call}
 use Rattle.pi_tree.specs.Terms.{term_of}
 
 abbrev pub pattern_of : Pat → calculus.Pattern
@@ -12,7 +10,3 @@ pattern_of (Bind i) = Leaf (calculus.Bind i)
 pattern_of (Equal term) = Leaf (calculus.Equal (term_of term))
 pattern_of (App f arguments) = Node (calculus.Constructor f) (trees arguments)
 pattern_of (Tuple parts) = Node calculus.Tuple (trees parts)
-
-abbrev pub expression_of : Expr → calculus.Expression
-expression_of (Term term) = calculus.Plain (term_of term)
-expression_of (Call d arguments) = calculus.Call d arguments

@@ -2,7 +2,8 @@
 use Rattle.spec_calculus.specs.Syntax as calculus
 use Rattle.pi_tree.specs.declared.syntax.Process.{Process, Nil, Output', Input', Par', Copies', New', Let', Event'}
 use Rattle.pi_tree.specs.Terms.{term_of}
-use Rattle.pi_tree.specs.Patterns.{pattern_of, expression_of}
+use Rattle.pi_tree.specs.Patterns.{pattern_of}
+use Rattle.pi_tree.specs.Expressions.{expression_of}
 use Rattle.pi_tree.specs.Events.{event_of}
 
 abbrev pub process_of : Process → calculus.Process

@@ -1,14 +1,16 @@
-//! Terms, patterns, expressions, events and processes (Blanchet 2016, section 2.1, untyped).
+//! Terms, patterns, events and processes (Blanchet 2016, section 2.1, untyped).
 
 ghost use Rattle.std.specs.Prelude.{◌≡◌, IfOk};
 ghost use Rattle.spec_trees.specs.Tree.{some_leaf, some_leaves, trees};
 ghost use Rattle.spec_calculus.specs.Syntax as calculus;
-ghost use Rattle.spec_calculus.specs.Absence.{term_holds, some_term, some_pattern, some_hole, some_expression, process_holds, is_free};
+ghost use Rattle.spec_calculus.specs.Absence.{term_holds, some_term, some_pattern, some_hole, process_holds, is_free};
 ghost use Rattle.pi_tree.specs.Terms.{term_of};
-ghost use Rattle.pi_tree.specs.Patterns.{pattern_of, expression_of};
+ghost use Rattle.pi_tree.specs.Patterns.{pattern_of};
+ghost use Rattle.pi_tree.specs.Expressions.{expression_of};
 ghost use Rattle.pi_tree.specs.Events.{event_of};
 ghost use Rattle.pi_tree.specs.Processes.{process_of};
 
+use crate::expressions::Expr;
 use crate::names::Word;
 use std::alloc::{AllocError, Global};
 use std::marker::Model;
@@ -96,14 +98,6 @@ impl Model for Pats {
     ghost use Rattle.pi_tree.specs.PatternDepths.{patterns_fall};
 
     ghost size_decreases = { λ a h. patterns_fall a.items.items };
-}
-
-/// What a `let` evaluates.
-#[derive(Debug, Drop)]
-pub enum Expr {
-    Term(Term),
-    /// A destructor, numbered from 1, and its arguments.
-    Call(u32, Terms),
 }
 
 /// An event, numbered from 1, and its arguments.
@@ -215,18 +209,6 @@ impl Pats {
     }
 }
 
-impl Expr {
-    /// Whether a term of the expression holds the free name of that number.
-    pub fn holds_free(&self, number: u32) -> bool
-        ensures { result ≡ some_expression (is_free number) (expression_of self.now) }
-    {
-        match self {
-            Expr::Term(term) => term.holds_free(number),
-            Expr::Call(_, arguments) => arguments.hold_free(number),
-        }
-    }
-}
-
 impl Process {
     /// Whether a term of the process holds the free name of that number.
     pub fn holds_free(&self, number: u32) -> bool
@@ -314,20 +296,6 @@ impl Pats {
             items.push(pattern.copy(alloc)?)?;
         }
         Ok(Pats { items })
-    }
-}
-
-impl Expr {
-    /// A copy, its terms copied.
-    pub fn copy(&self, alloc: Global) -> Result<Expr, AllocError>
-        ensures { IfOk result (λ copied. copied ≡ self.now) }
-    {
-        match self {
-            Expr::Term(term) => Ok(Expr::Term(term.copy(alloc)?)),
-            Expr::Call(destructor, arguments) => {
-                Ok(Expr::Call(*destructor, arguments.copy(alloc)?))
-            }
-        }
     }
 }
 

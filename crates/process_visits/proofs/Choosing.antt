@@ -1,28 +1,34 @@
 -- Choices of a `let`: how each goes on.
-use Rattle.std.proofs.Common.{◌≡◌, ℕ, Bool, true, false, Option, Some, None, List, [], ◌∷◌, map, refl, ap, sym, subst, ◌∙◌}
+use Rattle.std.proofs.Common.{◌≡◌, ◌+◌, Bool, true, false, Option, Some, None, List, [], ◌∷◌, ◌++◌, get_or, refl, ap, sym, subst, ◌∙◌}
 use Rattle.std.specs.Prelude.{MatchOption, MatchBool, IfSome}
-use Rattle.spec_calculus.specs.Syntax.{Pattern, Rule, Protocol}
-use Rattle.spec_calculus.specs.Syntax as calculus
+use Rattle.std.proofs.lemmas.List.{append-nil}
+use Rattle.spec_calculus.specs.Syntax.{Pattern, Ruled, Protocol}
 use Rattle.spec_terms.specs.Term.{Term}
 use Rattle.spec_terms.specs.Binding.{resolved}
 use Rattle.spec_terms.proofs.Resolve.{resolved-most_general}
-use Rattle.spec_clauses.specs.Variables.{AreBelow}
+use Rattle.spec_clauses.specs.Variables.{IsBelow, AreBelow}
+use Rattle.spec_clauses.proofs.Lists.{all_first, all_second}
+use Rattle.spec_choice_walks.specs.Stage.{arguments_of_row, sides_of_row}
 use Rattle.term_tree.specs.Bank.{tree_at, Names}
 use Rattle.term_tree.specs.declared.bank.Id.{Id}
 use Rattle.unify_match.specs.declared.bound.Bound.{Bound}
-use Rattle.unify_match.specs.Seen.{seen}
+use Rattle.unify_match.specs.Outcome.{Unified, NoUnifier}
+use Rattle.unify_match.specs.Seen.{seen, IsReady}
 use Rattle.unify_match.proofs.SeenLemmas.{IsReady-sound}
-use Rattle.spec_translation.specs.Conversion.{term_in, rule_term}
 use Rattle.spec_translation.specs.Visit.{Visit, visit_under, visit_terms, is_large_visit}
-use Rattle.spec_translation.specs.Choice.{Choice, choice_under, IsUnified, GoesOn, TermGoesOn}
+use Rattle.spec_translation.specs.Choice.{Choice, choice_under, IsUnified, ruled_choice, ruled_terms, GoesOn, ChoiceGoesOn}
+use Rattle.clause_form.specs.Seen.{NameTerms}
 use Rattle.process_visits.specs.declared.visit.Visit as source
-use Rattle.process_visits.specs.declared.choices.Way.{Way}
-use Rattle.process_visits.specs.declared.choices.Way.TheVariants as ways
-use Rattle.process_visits.specs.Solving.{AreSolved, AreUnsolvable}
+use Rattle.process_visits.specs.declared.ways.Way.{Way}
+use Rattle.process_visits.specs.declared.ways.Way.TheVariants as ways
+use Rattle.process_visits.specs.declared.row.Row.{Row}
+use Rattle.process_visits.specs.Solving.{AreRowsSolved, AreSolved, AreUnsolvable, HasBelow}
+use Rattle.process_visits.specs.RuledRows.{IsRowOf}
 use Rattle.process_visits.specs.Visits.{visit_at, IsVisitIn, NamesVisit}
 use Rattle.process_visits.specs.Patterns.{WithPattern}
 use Rattle.process_visits.specs.Ways.{IsWay}
-use Rattle.process_visits.specs.Choices.{ByRule}
+use Rattle.process_visits.proofs.Named.{below_more, all_below_more}
+use Rattle.process_visits.proofs.Solving.{all_solved, last_unsolvable, solutions_below}
 
 -- where there is no unifier
 pub goes_nowhere : (c : Choice) → AreUnsolvable c.arguments c.sides c.value c.target → GoesOn c None
@@ -42,28 +48,59 @@ way_is new w (Some made) way names is = go (is_large_visit (visit_at new made)) 
   go true e h = subst (λ x. IsWay new x (Some w)) (sym h) (sym (ap is_large_visit names.is) ∙ e)
   go false e h = subst (λ x. IsWay new x (Some w)) (sym h) (sym (ap is_large_visit names.is) ∙ e, names)
 
--- by a term
-pub by_term_goes : (P : Protocol) (v : Visit) (pattern : Pattern) (term : calculus.Term) (from : ℕ) (new : List Term) (made : source.Visit) (value target : Id) (out : Option Visit) → WithPattern P v pattern from new made target → Names new value (term_in P v.scope term)
-    → GoesOn record { arguments = []; sides = []; value = tree_at new value; target = tree_at new target; visit = visit_at new made } out → TermGoesOn P v pattern term out
-by_term_goes P v pattern term from new made value target out bound names goes = record {
-  at = bound.at;
-  is_fresh = bound.is_fresh;
-  goes_on = subst (λ (c : Choice). GoesOn c out) (λ i. record { arguments = []; sides = []; value = names.is i; target = bound.term.is i; visit = bound.visit.is i }) goes;
-}
+-- a row of one part is a choice
+module _ (P : Protocol) (w : source.Visit) (v : Visit) (pattern : Pattern) (ruled : Ruled) (all : List Term) (row : Row) (is : IsRowOf P w v (ruled ∷ []) all row) (made : source.Visit) (target : Id) (bound : WithPattern P v pattern (row.next + 1) all made target) where
+  abbrev choice : Choice
+  choice = ruled_choice P v pattern ruled w.next bound.at
 
--- by a rule
-pub by_rule_goes : (P : Protocol) (v : Visit) (pattern : Pattern) (values : List Term) (rule : Rule) (base from : ℕ) (new : List Term) (made : source.Visit) (arguments sides : List Id) (value target : Id) (out : Option Visit)
-    → AreBelow base (visit_terms v) → AreBelow from (map (rule_term P base) (rule.right ∷ rule.left)) → WithPattern P v pattern from new made target
-    → map (tree_at new) arguments ≡ values → map (tree_at new) sides ≡ map (rule_term P base) rule.left → Names new value (rule_term P base rule.right)
-    → GoesOn record { arguments = map (tree_at new) arguments; sides = map (tree_at new) sides; value = tree_at new value; target = tree_at new target; visit = visit_at new made } out → ByRule P v pattern values rule out
-by_rule_goes P v pattern values rule base from new made arguments sides value target out is_new apart bound args left right goes = record {
-  base = base;
-  at = bound.at;
-  is_new = is_new;
-  is_apart = subst (λ n. AreBelow n (map (rule_term P base) (rule.right ∷ rule.left))) (sym bound.base) apart;
-  is_fresh = bound.is_fresh;
-  goes_on = subst (λ (c : Choice). GoesOn c out) (λ i. record { arguments = args i; sides = left i; value = right.is i; target = bound.term.is i; visit = bound.visit.is i }) goes;
-}
+  arguments_are : arguments_of_row P v.scope w.next (ruled ∷ []) ≡ choice.arguments
+  arguments_are = append-nil choice.arguments
+
+  sides_are : sides_of_row P v.scope w.next (ruled ∷ []) ≡ choice.sides
+  sides_are = append-nil choice.sides
+
+  solved : AreRowsSolved all row.binds.pairs choice.arguments choice.sides
+  solved = subst (λ (l : List Term). AreRowsSolved all row.binds.pairs l choice.sides) arguments_are (subst (λ (l : List Term). AreRowsSolved all row.binds.pairs (arguments_of_row P v.scope w.next (ruled ∷ [])) l) sides_are is.solved)
+
+  below : AreBelow (row.next + 1) (ruled_terms choice)
+  below = subst (λ (l : List Term). AreBelow (row.next + 1) l) (λ i. choice.value ∷ (arguments_are i ++ sides_are i)) is.below
+
+  pub chosen : (out : Option Visit) → GoesOn choice out → ChoiceGoesOn P v pattern ruled out
+  chosen out goes = record {
+    base = w.next;
+    at = bound.at;
+    is_new = subst (λ (x : Visit). AreBelow w.next (visit_terms x)) is.visit.is is.visit.known.below;
+    is_apart = subst (λ n. AreBelow n (ruled_terms choice)) (sym bound.base) below;
+    is_fresh = bound.is_fresh;
+    goes_on = goes;
+  }
+
+  module _ (value : Id) (named : Names all value choice.value) where
+    pub chosen_nowhere : NoUnifier all row.binds.pairs (tree_at all value) (tree_at all target) → ChoiceGoesOn P v pattern ruled None
+    chosen_nowhere never =
+        chosen None (goes_nowhere choice (last_unsolvable all row.binds.pairs choice.arguments choice.sides choice.value choice.target solved
+        (subst (λ (t : Term). NoUnifier all row.binds.pairs t choice.target) named.is (subst (λ (t : Term). NoUnifier all row.binds.pairs (tree_at all value) t) bound.term.is never))))
+
+    module _ (pairs : List Bound) (ready : IsReady all pairs) (unified : Unified all row.binds.pairs pairs (tree_at all value) (tree_at all target)) where
+      whole : AreSolved all pairs choice.arguments choice.sides choice.value choice.target
+      whole =
+          all_solved all row.binds.pairs pairs choice.arguments choice.sides choice.value choice.target solved ready
+          (subst (λ (t : Term). Unified all row.binds.pairs pairs t choice.target) named.is (subst (λ (t : Term). Unified all row.binds.pairs pairs (tree_at all value) t) bound.term.is unified))
+
+      pub chosen_below : HasBelow (resolved (seen all pairs)) made.next
+      chosen_below =
+          let up = bound.up in
+          let rules = all_below_more (row.next + 1) made.next up (choice.arguments ++ choice.sides) below.1 in
+          solutions_below all pairs choice.arguments choice.sides choice.value choice.target made.next whole (all_first (IsBelow made.next) choice.arguments choice.sides rules) (all_second (IsBelow made.next) choice.arguments choice.sides rules)
+          (below_more (row.next + 1) made.next up choice.value below.0) bound.below
+
+      pub chosen_there : ChoiceGoesOn P v pattern ruled (Some (visit_under (resolved (seen all pairs)) (visit_at all made)))
+      chosen_there = chosen (Some (visit_under (resolved (seen all pairs)) (visit_at all made))) (subst (λ (x : Visit). GoesOn choice (Some (visit_under (resolved (seen all pairs)) x))) (sym bound.visit.is) (goes_there all pairs choice whole))
+
+-- the only part of a row
+pub named_alone : (all : List Term) (ids : List Id) (t : Term) (value : Id) → NameTerms all ids (t ∷ []) → value ≡ get_or ids 0 value → Names all value t
+named_alone all [] t value names is = absurd (let none = names.are in cc)
+named_alone all (id ∷ ids) t value names is = let same : tree_at all id ≡ t = (let are = names.are in cc) in subst (λ (x : Id). Names all x t) (sym is) record { known = names.known.0; is = same }
 
 -- a visit that was made is known
 pub made_known : (new : List Term) (w : Visit) (A : Type 0) (found : Option source.Visit) → MatchOption found A (λ made. NamesVisit new made w) → IfSome found (λ made. IsVisitIn new made)

@@ -1,11 +1,10 @@
 -- Courses, one after another.
-use Rattle.std.proofs.Common.{◌≡◌, ℕ, Bool, true, false, Option, Some, None, List, [], ◌∷◌, ◌++◌, map, refl, ap, sym, subst, ◌∙◌}
+use Rattle.std.proofs.Common.{◌≡◌, ℕ, Bool, true, false, Option, Some, None, List, [], ◌∷◌, ◌++◌, refl, ap, sym, subst, ◌∙◌}
 use Rattle.spec_terms.specs.Term.{Term}
 use Rattle.spec_clauses.specs.Fact.{Clause}
 use Rattle.spec_translation.specs.Visit.{Visit}
 use Rattle.spec_translation.specs.Course.{Outcome, Done, TooLarge, Course, Finished, Unless, preceded, After}
 use Rattle.spec_translation.specs.Visited.{EachThen}
-use Rattle.process_visits.specs.Forms.{present}
 
 pub appended_twice : {A : Type 0} (xs ys zs : List A) → (xs ++ ys) ++ zs ≡ xs ++ (ys ++ zs)
 appended_twice [] ys zs = refl
@@ -43,7 +42,7 @@ is_done (TooLarge point) = false
 not_large : (clauses : List (Clause Term)) (left point : ℕ) → Done clauses left ≡ TooLarge point → ⊥
 not_large clauses left point e = absurd (let same : true ≡ false = ap is_done e in cc)
 
-preceded_none : (out : Outcome) → preceded [] out ≡ out
+pub preceded_none : (out : Outcome) → preceded [] out ≡ out
 preceded_none (Done more left) = refl
 preceded_none (TooLarge point) = refl
 
@@ -91,12 +90,6 @@ module _ (R : Visit → ℕ → Outcome → Type 0) where
   each_append [] ws last left out h = h
   each_append (None ∷ vs) ws last left out h = each_append vs ws last left out h
   each_append (Some v ∷ vs) ws last left out h = (h.0, h.1, after_map h.0 (EachThen R vs (EachThen R ws last)) (EachThen R (vs ++ ws) last) out (λ l o. each_append vs ws last l o) h.2)
-
-  -- those that are there are all
-  pub each_present : (outs : List (Option Visit)) (last : Course) (left : ℕ) (out : Outcome) → EachThen R (map Some (present outs)) last left out → EachThen R outs last left out
-  each_present [] last left out h = h
-  each_present (None ∷ outs) last left out h = each_present outs last left out h
-  each_present (Some v ∷ outs) last left out h = (h.0, h.1, after_map h.0 (EachThen R (map Some (present outs)) last) (EachThen R outs last) out (λ l o. each_present outs last l o) h.2)
 
   -- one more visit behind those that are done
   pub each_more : (vs : List (Option Visit)) (v : Visit) (left mid : ℕ) (more : List (Clause Term)) (out : Outcome) → EachThen R vs Finished left (Done more mid) → R v mid out → EachThen R (vs ++ Some v ∷ []) Finished left (preceded more out)

@@ -16,6 +16,8 @@ pub mod Standing
 pub mod Building
 pub mod Parts
 pub mod Choosing
-pub mod Ruling
-pub mod Calling
+pub mod RuledRows
+pub mod Counting
+pub mod Walking
+pub mod Passing
 pub mod Courses

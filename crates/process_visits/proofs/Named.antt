@@ -4,7 +4,7 @@ use Rattle.std.specs.Prelude.{flat_map, IfOk}
 use Rattle.std.proofs.lemmas.List.{map-append, length-append}
 use Rattle.spec_trees.specs.Tree.{Leaf, node, trees}
 use Rattle.spec_calculus.specs.Syntax.{Name, Made}
-use Rattle.spec_terms.specs.Term.{Point, Term}
+use Rattle.spec_terms.specs.Term.{Point, Sym, Term}
 use Rattle.spec_clauses.specs.Fact.{terms_of}
 use Rattle.spec_clauses.specs.Variables.{leaves, row_leaves, IsBelow, AreBelow}
 use Rattle.spec_clauses.proofs.Lists.{all_append, all_first, all_second, all_weaker}
@@ -17,7 +17,7 @@ use Rattle.clause_form.proofs.Copying.{NameTerms-grows, NameTerms-push, NameFact
 use Rattle.clause_terms.specs.Scopes.{Held, scope_at, IsScopeIn, NamesScope}
 use Rattle.process_visits.specs.declared.visit.Visit as source
 use Rattle.process_visits.specs.Room.{most_next}
-use Rattle.process_visits.specs.Visits.{visit_at, IsVisitIn, NamesVisit, NameVisits}
+use Rattle.process_visits.specs.Visits.{visit_at, IsVisitIn, NamesVisit}
 use Rattle.process_visits.proofs.Scopes.{NamesScope-grows}
 
 -- what holds of an answer, by what holds of it
@@ -102,11 +102,6 @@ module _ (old now : List Term) (v : source.Visit) (grows : Grows old now) (known
 pub NamesVisit-grows : (old now : List Term) (v : source.Visit) (tree : Visit) → Grows old now → NamesVisit old v tree → NamesVisit now v tree
 NamesVisit-grows old now v tree grows names = subst (λ (w : Visit). NamesVisit now v w) names.is (visit_later old now v grows names.known)
 
-pub NameVisits-grow : (old now : List Term) (vs : List source.Visit) (trees : List Visit) → Grows old now → NameVisits old vs trees → NameVisits now vs trees
-NameVisits-grow old now [] trees grows names = names
-NameVisits-grow old now (v ∷ vs) [] grows names = absurd names
-NameVisits-grow old now (v ∷ vs) (tree ∷ trees) grows names = (NamesVisit-grows old now v tree grows names.0, NameVisits-grow old now vs trees grows names.1)
-
 -- below a replication
 pub copied : (old now : List Term) (v : source.Visit) (session : Id) (next : ℕ) → Grows old now → IsVisitIn old v → Names now session (Leaf v.next) → next ≡ v.next + 1
     → NamesVisit now (record v { sessions = v.sessions ++ session ∷ []; next = next }) (after_copy (visit_at old v) v.next)
@@ -133,13 +128,13 @@ NamesScope-push all scope terms x id t names more = record {
   known [] k = (more.known, tt)
   known (h ∷ hs) k = (k.0, known hs k.1)
 
--- a name's variables are those of its arguments
-row_below : (n : ℕ) (ts : List Term) → AreBelow n ts → IsBelow n (node (Point 0) ts)
-row_below n [] b = tt
-row_below n (t ∷ ts) b = all_append (λ x. x < n) (leaves t) (row_leaves (trees ts)) b.0 (row_below n ts b.1)
+-- variables of an application are those of its arguments
+pub node_below : (n : ℕ) (f : Sym) (ts : List Term) → AreBelow n ts → IsBelow n (node f ts)
+node_below n f [] b = tt
+node_below n f (t ∷ ts) b = all_append (λ x. x < n) (leaves t) (row_leaves (trees ts)) b.0 (node_below n f ts b.1)
 
 name_below : (n point : ℕ) (messages sessions : List Term) → AreBelow n messages → AreBelow n sessions → IsBelow n (name_term point messages sessions)
-name_below n point messages sessions b c = row_below n (messages ++ sessions) (all_append (IsBelow n) messages sessions b c)
+name_below n point messages sessions b c = node_below n (Point point) (messages ++ sessions) (all_append (IsBelow n) messages sessions b c)
 
 -- below a restriction
 pub restricted : (old now : List Term) (v : source.Visit) (term : Id) (point : ℕ) → Grows old now → IsVisitIn old v → Names now term (name_term point (visit_at old v).messages (visit_at old v).sessions)

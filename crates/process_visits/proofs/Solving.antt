@@ -1,37 +1,61 @@
 -- Solutions of equations by bindings, and what they leave below a number.
-use Rattle.std.proofs.Common.{◌≡◌, ℕ, ◌<◌, Bool, true, false, cond, nat_lt, List, [], length, map, refl, ap, sym, subst, ◌∙◌, arith}
+use Rattle.std.proofs.Common.{◌≡◌, ℕ, ◌<◌, Bool, true, false, cond, nat_lt, List, [], ◌++◌, length, map, take, drop, refl, ap, sym, subst, ◌∙◌, arith}
 use Rattle.std.specs.List.{AllByRecursion}
 use Rattle.std.proofs.lemmas.Bool.Decides.{nat_tests}
-use Rattle.std.proofs.lemmas.List.{length-map}
+use Rattle.std.specs.Prelude.{◌↔◌}
+use Rattle.std.proofs.lemmas.List.{length-map, map-append, take_at, drop_at}
 use Rattle.spec_trees.specs.Tree.{Tree, Trees, Leaf, Node, none, more, node, bind, binds}
 use Rattle.spec_trees.specs.Leaves.{leaves, row_leaves}
 use Rattle.spec_terms.specs.Term.{Attacker, Sym, Term, Subst}
-use Rattle.spec_terms.specs.Binding.{Solves, resolved}
+use Rattle.spec_terms.specs.Binding.{Binding, Solves, resolved}
 use Rattle.spec_terms.proofs.Resolve.{resolved-factor}
 use Rattle.spec_clauses.specs.Variables.{IsBelow, AreBelow}
 use Rattle.spec_clauses.proofs.Lists.{all_append, all_weaker}
-use Rattle.term_tree.specs.Bank.{tree_at}
-use Rattle.term_tree.specs.declared.bank.Id.{Id}
+use Rattle.term_tree.specs.Bank.{Grows}
 use Rattle.unify_match.specs.declared.bound.Bound.{Bound}
 use Rattle.unify_match.specs.Seen.{seen, IsReady}
 use Rattle.unify_match.specs.Outcome.{Unified, NoUnifier, UnifiedAll, NoUnifierOfAll}
-use Rattle.unify_match.proofs.SeenLemmas.{IsReady-solves}
+use Rattle.unify_match.proofs.SeenLemmas.{seen-grows, IsReady-grows, IsReady-solves}
 use Rattle.spec_translation.proofs.Visits.{below_agree, terms_agree}
 use Rattle.process_visits.specs.Solving.{AreRowsApart, AreRowsSolved, SolvesChoice, AreSolved, AreUnsolvable, HasBelow}
 
--- rows of different lengths are apart
-pub lengths_apart : (all : List Term) (xs ys : List Id) → (length xs ≡ length ys → ⊥) → AreRowsApart (map (tree_at all) xs) (map (tree_at all) ys)
-lengths_apart all xs ys differ s e =
-    differ (sym (length-map xs (tree_at all)) ∙ (sym (length-map (map (tree_at all) xs) (bind s)) ∙ (ap length e ∙ (length-map (map (tree_at all) ys) (bind s) ∙ length-map ys (tree_at all)))))
+-- two lists in two parts each, the first parts of one length
+halves : {A : Type 0} (xs ys zs ws : List A) → length xs ≡ length zs → xs ++ ys ≡ zs ++ ws → (xs ≡ zs) × (ys ≡ ws)
+halves xs ys zs ws long e = (
+  sym (take_at xs ys (length xs) refl) ∙ (ap (take (length xs)) e ∙ take_at zs ws (length xs) (sym long)),
+  sym (drop_at xs ys (length xs) refl) ∙ (ap (drop (length xs)) e ∙ drop_at zs ws (length xs) (sym long)),
+)
 
-pub rows_solved : (all : List Term) (old new : List Bound) (xs ys : List Term) → old ≡ [] → IsReady all new → UnifiedAll all old new xs ys → AreRowsSolved all new xs ys
-rows_solved all old new xs ys e ready u = record {
-  ready = ready;
-  solutions = λ s. (λ h. ((u.solutions s).0 h).1, λ k. (u.solutions s).1 (subst (λ p. Solves s (seen all p)) (sym e) tt, k));
+-- solved rows stay solved as the bank grows
+pub rows_solved-grow : (old new : List Term) (pairs : List Bound) (xs ys : List Term) → Grows old new → AreRowsSolved old pairs xs ys → AreRowsSolved new pairs xs ys
+rows_solved-grow old new pairs xs ys grows solved = record {
+  ready = IsReady-grows old new pairs grows solved.ready;
+  solutions = λ s. subst (λ (bs : List Binding). Solves s bs ↔ (map (bind s) xs ≡ map (bind s) ys)) (sym (seen-grows old new pairs grows solved.ready.known)) (solved.solutions s);
 }
 
-pub rows_apart : (all : List Term) (old : List Bound) (xs ys : List Term) → old ≡ [] → NoUnifierOfAll all old xs ys → AreRowsApart xs ys
-rows_apart all old xs ys e never s k = never s (subst (λ p. Solves s (seen all p)) (sym e) tt) k
+-- no bindings solve no equations
+pub none_solved : (all : List Term) (pairs : List Bound) → pairs ≡ [] → IsReady all pairs → AreRowsSolved all pairs [] []
+none_solved all pairs unbound ready = record { ready = ready; solutions = λ s. (λ h. refl, λ h. subst (λ (p : List Bound). Solves s (seen all p)) (sym unbound) tt) }
+
+-- more equations behind those that are solved, as many on both sides
+module _ (all : List Term) (old : List Bound) (xs ys us vs : List Term) (even : length xs ≡ length ys) (rows : AreRowsSolved all old xs ys) where
+  in_parts : (s : Subst) → map (bind s) (xs ++ us) ≡ map (bind s) (ys ++ vs) → (map (bind s) xs ≡ map (bind s) ys) × (map (bind s) us ≡ map (bind s) vs)
+  in_parts s e =
+      halves (map (bind s) xs) (map (bind s) us) (map (bind s) ys) (map (bind s) vs) (length-map xs (bind s) ∙ (even ∙ sym (length-map ys (bind s)))) (sym (map-append (bind s) xs us) ∙ (e ∙ map-append (bind s) ys vs))
+
+  pub more_solved : (new : List Bound) → IsReady all new → UnifiedAll all old new us vs → AreRowsSolved all new (xs ++ us) (ys ++ vs)
+  more_solved new ready u = record {
+    ready = ready;
+    solutions = λ s. (
+      λ h. (let both = (u.solutions s).0 h in
+          let first = (rows.solutions s).0 both.0 in
+          let second = both.1 in map-append (bind s) xs us ∙ ((λ i. first i ++ second i) ∙ sym (map-append (bind s) ys vs))),
+      λ k. (let parts = in_parts s k in (u.solutions s).1 ((rows.solutions s).1 parts.0, parts.1)),
+    );
+  }
+
+  pub more_apart : NoUnifierOfAll all old us vs → AreRowsApart (xs ++ us) (ys ++ vs)
+  more_apart never s k = let parts = in_parts s k in never s ((rows.solutions s).1 parts.0) parts.1
 
 pub all_solved : (all : List Term) (old new : List Bound) (xs ys : List Term) (a b : Term) → AreRowsSolved all old xs ys → IsReady all new → Unified all old new a b → AreSolved all new xs ys a b
 all_solved all old new xs ys a b rows ready u = record {
@@ -41,9 +65,6 @@ all_solved all old new xs ys a b rows ready u = record {
     λ k. (u.solutions s).1 ((rows.solutions s).1 k.0, k.1),
   );
 }
-
-pub rows_unsolvable : (xs ys : List Term) (a b : Term) → AreRowsApart xs ys → AreUnsolvable xs ys a b
-rows_unsolvable xs ys a b apart s h = apart s h.0
 
 pub last_unsolvable : (all : List Term) (old : List Bound) (xs ys : List Term) (a b : Term) → AreRowsSolved all old xs ys → NoUnifier all old a b → AreUnsolvable xs ys a b
 last_unsolvable all old xs ys a b rows never s h = never s ((rows.solutions s).1 h.0) h.1

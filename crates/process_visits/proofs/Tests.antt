@@ -19,4 +19,4 @@ any-append test (x ∷ xs) ys = ap (λ b. test x || b) (any-append test xs ys) �
 pub large-append : (P : Protocol) (scope : Scope) (xs ys : List calculus.Term) → are_large_in P scope (xs ++ ys) ≡ (are_large_in P scope xs || are_large_in P scope ys)
 large-append P scope xs ys = any-append (λ t. is_large_term (term_in P scope t)) xs ys
 
-pub ruleset of_compared = (large-append)
+pub ruleset of_lists = (large-append)

@@ -1,7 +1,7 @@
 -- What each form of process adds, and where it is too large.
-use Rattle.std.specs.Prelude.{◌≡◌, ℕ, Bool, true, false, ◌||◌, Option, Some, None, List, [], ◌∷◌, ◌++◌, filter_map}
+use Rattle.std.specs.Prelude.{◌≡◌, ℕ, Bool, true, false, ◌||◌, Option, Some, None, List, [], ◌∷◌, ◌++◌}
 use Rattle.std.specs.List.{list_any}
-use Rattle.spec_calculus.specs.Syntax.{EventTerm, Pattern, Expression, Protocol}
+use Rattle.spec_calculus.specs.Syntax.{EventTerm, Pattern, Protocol}
 use Rattle.spec_calculus.specs.Syntax as calculus
 use Rattle.spec_calculus.specs.Limits.{compared}
 use Rattle.spec_terms.specs.Term.{Term}
@@ -11,12 +11,10 @@ use Rattle.spec_clauses.specs.Norm.{norms}
 use Rattle.term_tree.specs.declared.bank.Id.{Id}
 use Rattle.spec_translation.specs.Conversion.{Scope, term_in, Fresh}
 use Rattle.spec_translation.specs.Visit.{Visit, is_large_term, is_large_visit, sent, raw_clause, IsFresh, after_input, event_terms, after_event}
-use Rattle.spec_translation.specs.Choice.{AllGoOn}
-use Rattle.spec_translation.specs.Visited.{some_large}
 use Rattle.clause_form.specs.Seen.{NameClauses}
 use Rattle.process_visits.specs.declared.listing.Listing.{Listing}
 use Rattle.process_visits.specs.declared.visit.Visit as source
-use Rattle.process_visits.specs.Visits.{NamesVisit, NameVisits}
+use Rattle.process_visits.specs.Visits.{NamesVisit}
 
 -- whether one of the terms is large in the scope
 abbrev pub are_large_in : Protocol → Scope → List calculus.Term → Bool
@@ -86,20 +84,3 @@ pub record Receives (P : Protocol) (v : Visit) (channel : calculus.Term) (patter
   pub is_fresh : IsFresh v pattern at
   pub is_small : is_large_visit (after_input P v channel pattern at) ≡ false
   pub names : NamesVisit all made (after_input P v channel pattern at)
-
--- what is there of options
-abbrev pub present : {A : Type 0} → List (Option A) → List A
-present xs = filter_map (λ x. x) xs
-
--- the visits that go on by the choices of a `let`, none of which is too large
-pub record GoOn (P : Protocol) (v : Visit) (pattern : Pattern) (expression : Expression) (all : List Term) (visits : List source.Visit) : Type 0 where
-  pub outs : List (Option Visit)
-  pub go : AllGoOn P v pattern expression outs
-  pub small : some_large outs ≡ false
-  pub names : NameVisits all visits (present outs)
-
--- a choice of a `let` goes on with a visit that is too large
-pub record IsLargeChoice (P : Protocol) (v : Visit) (pattern : Pattern) (expression : Expression) : Type 0 where
-  pub outs : List (Option Visit)
-  pub go : AllGoOn P v pattern expression outs
-  pub large : some_large outs ≡ true

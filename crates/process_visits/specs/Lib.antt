@@ -12,5 +12,6 @@ pub mod Channels
 pub mod Processes
 pub mod Patterns
 pub mod Solving
+pub mod RuledRows
 pub mod Ways
-pub mod Choices
+pub mod Walks

@@ -1,7 +1,8 @@
 -- The processes that the forms are, by their parts.
 use Rattle.spec_calculus.specs.Syntax as calculus
 use Rattle.pi_tree.specs.Terms.{term_of}
-use Rattle.pi_tree.specs.Patterns.{pattern_of, expression_of}
+use Rattle.pi_tree.specs.Patterns.{pattern_of}
+use Rattle.pi_tree.specs.Expressions.{expression_of}
 use Rattle.pi_tree.specs.Events.{event_of}
 use Rattle.pi_tree.specs.Processes.{process_of}
 use Rattle.process_visits.specs.declared.forms.Output.{Output}

@@ -1,29 +1,52 @@
--- Processes and rules whose tuples have no more parts than the limit, and rules with few variables.
-use Rattle.std.specs.Prelude.{ℕ}
+-- Processes and rules whose tuples have no more parts than the limit, expressions that are evaluated by few rules, and rules with few variables.
+use Rattle.std.specs.Prelude.{ℕ, ◌+◌, ◌*◌, ◌≤◌, List, length}
 use Rattle.std.specs.List.{AllByRecursion}
-use Rattle.spec_calculus.specs.Syntax.{Process, Nil, Output, Input, Parallel, Replication, New, Let, Event, Expression, Plain, Call, Rule, Protocol}
+use Rattle.spec_trees.specs.Leaves.{leaves}
+use Rattle.spec_calculus.specs.Syntax.{Process, Nil, Output, Input, Parallel, Replication, New, Let, Event, Head, Builds, Calls, Expression, Rule, Protocol}
+use Rattle.spec_calculus.specs.Bounds.{most_written_symbols, most_applications, most_choices}
+use Rattle.spec_calculus.specs.Choices.{applications, choice_count}
 use Rattle.spec_calculus.specs.Matching.{rules_of}
-use Rattle.clause_terms.specs.Conditions.{HasShortTuples, IsShortPattern, IsShortRule, HasRoomForRule}
+use Rattle.spec_well_formed.specs.Terms.{EachSymbol}
+use Rattle.spec_choice_walks.specs.Instructions.{Instruction, Push, Apply, BecomesOne, applied_by}
+use Rattle.spec_choice_walks.specs.Stage.{IsFull}
+use Rattle.clause_terms.specs.Conditions.{IsShort, HasShortTuples, IsShortPattern, IsShortRule, HasRoomForRule}
 use Rattle.process_visits.specs.Room.{rule_base}
 
--- an expression has short tuples
-abbrev pub IsShortExpression : Expression → Type 0
-IsShortExpression (Plain term) = HasShortTuples term
-IsShortExpression (Call d arguments) = AllByRecursion HasShortTuples arguments
+-- a tuple is short, and a destructor has as many parts as each of its rules has on its left side
+abbrev pub IsFitHead : Protocol → Head ℕ → ℕ → Type 0
+IsFitHead P (Builds f) count = IsShort f count
+IsFitHead P (Calls d) count = IsFull P (Calls d) count
 
--- each term and pattern of the process has
-abbrev pub IsShortProcess : Process → Type 0
-IsShortProcess Nil = Unit {0}
-IsShortProcess (Output channel message next) = HasShortTuples channel × HasShortTuples message × IsShortProcess next
-IsShortProcess (Input channel pattern next) = HasShortTuples channel × IsShortPattern pattern × IsShortProcess next
-IsShortProcess (Parallel left right) = IsShortProcess left × IsShortProcess right
-IsShortProcess (Replication copied) = IsShortProcess copied
-IsShortProcess (New word next) = IsShortProcess next
-IsShortProcess (Let pattern expression next otherwise) =
-    IsShortPattern pattern × IsShortExpression expression × IsShortProcess next × IsShortProcess otherwise
-IsShortProcess (Event performed next) = AllByRecursion HasShortTuples performed.arguments × IsShortProcess next
+-- an expression has short tuples, and few destructors and choices of rules for them
+pub record IsFitExpression (P : Protocol) (e : Expression) : Type 0 where
+  pub terms : AllByRecursion HasShortTuples (leaves e)
+  pub heads : EachSymbol (IsFitHead P) e
+  pub few : applications e ≤ most_applications
+  pub few_choices : choice_count (λ d. length (rules_of P d)) e ≤ most_choices
 
--- a rule has, and no more variables than a rule may have symbols
+-- the same of the instructions that are left, for a row of that length, where the next new variable has that number
+abbrev pub IsFitInstruction : Protocol → Instruction → Type 0
+IsFitInstruction P (Push term) = HasShortTuples term
+IsFitInstruction P (Apply head count) = IsFitHead P head count
+
+pub record AreFitInstructions (P : Protocol) (next height : ℕ) (instructions : List Instruction) : Type 0 where
+  pub each : AllByRecursion (IsFitInstruction P) instructions
+  pub one : BecomesOne height instructions
+  pub room : next + applied_by instructions * most_written_symbols ≤ rule_base
+
+-- each term, pattern and expression of the process has
+abbrev pub IsFitProcess : Protocol → Process → Type 0
+IsFitProcess P Nil = Unit {0}
+IsFitProcess P (Output channel message next) = HasShortTuples channel × HasShortTuples message × IsFitProcess P next
+IsFitProcess P (Input channel pattern next) = HasShortTuples channel × IsShortPattern pattern × IsFitProcess P next
+IsFitProcess P (Parallel left right) = IsFitProcess P left × IsFitProcess P right
+IsFitProcess P (Replication copied) = IsFitProcess P copied
+IsFitProcess P (New word next) = IsFitProcess P next
+IsFitProcess P (Let pattern expression next otherwise) =
+    IsShortPattern pattern × IsFitExpression P expression × IsFitProcess P next × IsFitProcess P otherwise
+IsFitProcess P (Event performed next) = AllByRecursion HasShortTuples performed.arguments × IsFitProcess P next
+
+-- a rule has short tuples, and no more variables than a rule may have symbols
 pub record IsFitRule (rule : Rule) : Type 0 where
   pub short : IsShortRule rule
   pub few : HasRoomForRule rule_base rule

@@ -1,5 +1,5 @@
 -- What contracts see of visits.
-use Rattle.std.specs.Prelude.{◌≡◌, ℕ, ◌+◌, ◌≤◌, List, [], ◌∷◌, length, map}
+use Rattle.std.specs.Prelude.{◌≡◌, ℕ, ◌+◌, ◌≤◌, List, length, map}
 use Rattle.spec_terms.specs.Term.{Term}
 use Rattle.spec_clauses.specs.Variables.{AreBelow}
 use Rattle.term_tree.specs.Bank.{tree_at, AreKnown}
@@ -32,12 +32,6 @@ pub record IsVisitIn (all : List Term) (v : Visit) : Type 0 where
 pub record NamesVisit (all : List Term) (v : Visit) (tree : translation.Visit) : Type 0 where
   pub known : IsVisitIn all v
   pub is : visit_at all v ≡ tree
-
--- the same of visits
-abbrev pub NameVisits : List Term → List Visit → List translation.Visit → Type 0
-NameVisits all [] trees = trees ≡ []
-NameVisits all (v ∷ vs) [] = ⊥
-NameVisits all (v ∷ vs) (tree ∷ trees) = NamesVisit all v tree × NameVisits all vs trees
 
 -- so many copies at most were taken above the visit
 abbrev pub HasFewCopies : ℕ → Visit → Type 0

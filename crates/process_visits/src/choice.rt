@@ -9,14 +9,17 @@ ghost use Rattle.process_visits.specs.Visits.{HasFewCopies};
 use crate::place::Place;
 use crate::visit::Visit;
 use pi_tree::Pat;
+use term_values::Instruction;
 
-/// A `let` where it is visited, up to its expression: the place, what is known there, below few copies, and the pattern,
-/// whose tuples are short.
+/// A `let` where it is visited: the place, what is known there, below few copies, the pattern, whose tuples are short,
+/// the instructions of the expression, and how many choices of rules these leave.
 #[derive(Clone, Copy)]
 pub struct Choosing<'a> {
     pub place: &'a Place<'a>,
     pub visit: &'a Visit,
     pub pattern: &'a Pat,
+    pub instructions: &'a [Instruction<'a>],
+    pub count: usize,
     ghost short: { IsShortPattern (pattern_of pattern.now) } by { Prim.hlevel short_props },
     ghost copies: { HasFewCopies most_points visit.now } by { Prim.hlevel short_props },
 }

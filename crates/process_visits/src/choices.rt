@@ -1,296 +1,243 @@
-//! The ways in which a `let` goes on: by its term, or by each rule of its destructor.
+//! The choices of a `let`: of a rule for each destructor that its expression applies.
+//!
+//! A choice has its number, from 0, in dictionary order. It is looked at by one walk along the instructions of the
+//! expression, which takes from the number the rule of each destructor. Where the arguments of a destructor can't
+//! become the left sides of its rule, nor can they in any other choice that begins with the same rules: all of these
+//! are passed at once. Nothing is kept from one choice to the next.
 
-ghost use Rattle.std.specs.Prelude.{◌≡◌, ◌<◌, Option, length, map, IfOk, IfSome, MatchOption, MatchBool};
-ghost use Rattle.std.specs.List.{AllByRecursion};
-ghost use Rattle.pi_tree.specs.Terms.{term_of};
-ghost use Rattle.pi_tree.specs.Patterns.{pattern_of, expression_of};
-ghost use Rattle.pi_tree.specs.Rules.{rule_of};
-ghost use Rattle.spec_calculus.specs.Bounds.{most_points};
-ghost use Rattle.spec_calculus.specs.Syntax.{Call};
-ghost use Rattle.spec_clauses.specs.Variables.{AreBelow};
-ghost use Rattle.term_tree.specs.Bank.{tree_at, AreKnown, Grows};
+ghost use Rattle.std.specs.Prelude.{◌≡◌, ◌-◌, ◌*◌, ◌<◌, ◌≤◌, List, [], ◌∷◌, map, drop, IfOk, MatchBool};
+ghost use Rattle.spec_calculus.specs.Bounds.{most_choices};
+ghost use Rattle.spec_calculus.specs.Syntax.{Ruled, Calls};
+ghost use Rattle.pi_tree.specs.Protocols.{protocol_of};
+ghost use Rattle.pi_tree.specs.Patterns.{pattern_of};
+ghost use Rattle.term_tree.specs.Bank.{Grows};
 ghost use Rattle.spec_translation.specs.Visit as translation;
-ghost use Rattle.spec_translation.specs.Choice.{GoesOn, TermGoesOn};
-ghost use Rattle.clause_terms.specs.Conditions.{HasShortTuples, IsShortPattern};
+ghost use Rattle.spec_choice_walks.specs.Instructions as walks;
+ghost use Rattle.spec_choice_walks.specs.Instructions.{Apply, choices_by};
+ghost use Rattle.term_values.specs.Instructions.{instruction_of};
 ghost use Rattle.process_visits.specs.Places.{protocol_at};
-ghost use Rattle.process_visits.specs.Short.{IsShortExpression, IsFitRule};
-ghost use Rattle.process_visits.specs.Forms.{GoOn, IsLargeChoice};
-ghost use Rattle.process_visits.specs.Visits.{visit_at, IsVisitIn, HasFewCopies};
-ghost use Rattle.process_visits.specs.Ways.{IsWay, choice_at, HasChoiceBelow};
-ghost use Rattle.process_visits.specs.declared.choices.Way.TheVariants as ways;
-ghost use Rattle.process_visits.specs.Choices.{ByRule, GoByRules, IsLargeByRules, IsAlone};
+ghost use Rattle.process_visits.specs.Visits.{visit_at};
+ghost use Rattle.process_visits.specs.Ways.{Passes, AreCut};
+ghost use Rattle.process_visits.specs.Walks.{choices_of, IsChoosingIn, IsAlong, StandsBefore, StandsAtEnd, LooksAt, HasChoices};
 
 use crate::choice::Choosing;
 use crate::inputs::with_pattern;
-use crate::large::is_large_visit;
-use crate::place::Place;
-use crate::unified::{Equations, unified, visit_under};
-use crate::visit::{Visit, Visits};
-use clause_terms::{rule_term, rule_terms, term_in, terms_in};
-use pi_tree::{Expr, MOST_WRITTEN_SYMBOLS, Pat, Rule, Term, Terms};
-use std::alloc::{AllocError, Global};
-use term_tree::{Bank, Id};
-use term_values::rules_of;
+use crate::row::{Row, Walk, apply_rule, build, push_term};
+use crate::unified::visit_under;
+use crate::ways::{Passed, Way, way_to};
+use clause_terms::constructor_symbol;
+use pi_tree::Protocol;
+use std::alloc::AllocError;
+use term_tree::{Bank, Sym};
+use term_values::{Instruction, rules_of};
+use unify_match::unify;
 
-/// How a choice goes on.
-#[derive(Drop)]
-pub enum Way {
-    /// There is no unifier.
-    Nowhere,
-    /// The visit that goes on is too large.
-    Large,
-    Visit(Visit),
-}
-
-/// The visit, unless it is too large.
-fn way_to<B: Bank>(bank: &B, found: Option<Visit>) -> Way
-    requires { IfSome found (λ made. IsVisitIn (B.trees bank.now) made) }
-    ensures { MatchOption found (result ≡ ways.Large)
-        (λ made. MatchBool (translation.is_large_visit (visit_at (B.trees bank.now) made))
-        (result ≡ ways.Large) (result ≡ ways.Visit made)) }
+/// How many choices the instruction leaves.
+fn choices_at(protocol: &Protocol, instruction: &Instruction<'_>) -> usize
+    ensures { (later : List walks.Instruction) → choices_by (protocol_of protocol.now)
+        (instruction_of instruction.now ∷ later) ≡
+        result * choices_by (protocol_of protocol.now) later }
 {
-    match found {
-        None => Way::Large,
-        Some(made) => {
-            if is_large_visit(bank, &made) {
-                Way::Large
-            } else {
-                Way::Visit(made)
-            }
-        }
+    match instruction {
+        Instruction::Call(destructor, _) => rules_of(protocol, *destructor).len(),
+        Instruction::Term(_) | Instruction::App(..) | Instruction::Tuple(_) => 1,
     }
 }
 
-/// How a choice goes on. On `Err` the bank may have grown.
-fn way_of<B: Bank>(
-    alloc: Global,
-    bank: &mut B,
-    equations: &Equations<'_>,
-    visit: &Visit,
-) -> Result<Way, AllocError>
-    requires visit { IsVisitIn (B.trees bank.old) visit.now }
-    requires arguments { AreKnown (B.trees bank.old) equations.now.arguments.now }
-    requires sides { AreKnown (B.trees bank.old) equations.now.sides.now }
-    requires value { equations.now.value.index < length (B.trees bank.old) }
-    requires target { equations.now.target.index < length (B.trees bank.old) }
-    requires below { HasChoiceBelow visit.now.next
-        (choice_at (B.trees bank.old) equations.now visit.now) }
-    ensures grows { Grows (B.trees bank.old) (B.trees bank.new) }
-    ensures way { IfOk result (λ way. (out : Option translation.Visit)
-        × GoesOn (choice_at (B.trees bank.old) equations.now visit.now) out
-        × IsWay (B.trees bank.new) way out) }
+/// How many choices the instructions leave, where these are few.
+pub fn count_choices(protocol: &Protocol, instructions: &[Instruction<'_>]) -> usize
+    requires { choices_by (protocol_of protocol.now) (map instruction_of instructions.now) ≤
+        most_choices }
+    ensures { result ≡ choices_by (protocol_of protocol.now)
+        (map instruction_of instructions.now) }
 {
-    match unified(alloc, bank, equations)? {
-        None => Ok(Way::Nowhere),
-        Some(binds) => {
-            let found = visit_under(alloc, bank, &binds, visit)?;
-            Ok(way_to(bank, found))
+    let mut count = 1usize;
+    'each: for instruction in instructions {
+        count = count.saturating_mul(choices_at(protocol, instruction));
+    }
+    count
+}
+
+/// Takes the choice's rule of a destructor, and tells whether it applies. On `Err` the bank may have grown.
+fn call<B: Bank>(
+    choosing: &Choosing<'_>,
+    bank: &mut B,
+    walk: &mut Walk,
+    destructor: u32,
+    count: usize,
+) -> Result<bool, AllocError>
+    requires stands { StandsBefore (protocol_at choosing.now.place.now) choosing.now.visit.now
+        (Apply (Calls destructor) count) (B.trees bank.old) walk.old }
+    ensures grows { Grows (B.trees bank.old) (B.trees bank.new) }
+    ensures along { IfOk result (λ applies. (v : translation.Visit) →
+        (later : List walks.Instruction) → (rs : List Ruled) →
+        IsAlong (protocol_at choosing.now.place.now) choosing.now.visit.now v
+        (Apply (Calls destructor) count ∷ later) rs (B.trees bank.old) walk.old → MatchBool applies
+        (IsAlong (protocol_at choosing.now.place.now) choosing.now.visit.now v later rs
+        (B.trees bank.new) walk.new)
+        (AreCut (protocol_at choosing.now.place.now) v (pattern_of choosing.now.pattern.now) rs
+        (walk.new.left - walk.new.number))) }
+{
+    let rules = rules_of(choosing.place.protocol, destructor);
+    walk.left /= rules.len();
+    let rule = &rules[walk.number / walk.left];
+    walk.number %= walk.left;
+    apply_rule(choosing, bank, &mut walk.row, rule, count)
+}
+
+/// Follows an instruction, and tells whether its rule, if it has one, applies. On `Err` the bank may have grown.
+fn step<B: Bank>(
+    choosing: &Choosing<'_>,
+    bank: &mut B,
+    walk: &mut Walk,
+    instruction: &Instruction<'_>,
+) -> Result<bool, AllocError>
+    requires stands { StandsBefore (protocol_at choosing.now.place.now) choosing.now.visit.now
+        (instruction_of instruction.now) (B.trees bank.old) walk.old }
+    ensures grows { Grows (B.trees bank.old) (B.trees bank.new) }
+    ensures along { IfOk result (λ applies. (v : translation.Visit) →
+        (later : List walks.Instruction) → (rs : List Ruled) →
+        IsAlong (protocol_at choosing.now.place.now) choosing.now.visit.now v
+        (instruction_of instruction.now ∷ later) rs (B.trees bank.old) walk.old → MatchBool applies
+        (IsAlong (protocol_at choosing.now.place.now) choosing.now.visit.now v later rs
+        (B.trees bank.new) walk.new)
+        (AreCut (protocol_at choosing.now.place.now) v (pattern_of choosing.now.pattern.now) rs
+        (walk.new.left - walk.new.number))) }
+{
+    match instruction {
+        Instruction::Term(term) => {
+            push_term(choosing, bank, &mut walk.row, term)?;
+            Ok(true)
         }
+        Instruction::App(constructor, count) => {
+            let symbol = constructor_symbol(choosing.place.protocol, *constructor);
+            build(choosing, bank, &mut walk.row, symbol, *count)?;
+            Ok(true)
+        }
+        Instruction::Tuple(count) => {
+            let symbol = Sym::Tuple(*count as u32);
+            build(choosing, bank, &mut walk.row, symbol, *count)?;
+            Ok(true)
+        }
+        Instruction::Call(destructor, count) => call(choosing, bank, walk, *destructor, *count),
     }
 }
 
-/// How a `let` goes on by a term. On `Err` the bank may have grown.
-fn by_term<B: Bank>(choosing: &Choosing<'_>, bank: &mut B, term: &Term) -> Result<Way, AllocError>
-    requires visit { IsVisitIn (B.trees bank.old) choosing.now.visit.now }
-    requires term { HasShortTuples (term_of term.now) }
-    ensures grows { Grows (B.trees bank.old) (B.trees bank.new) }
-    ensures way { IfOk result (λ way. (out : Option translation.Visit)
-        × TermGoesOn (protocol_at choosing.now.place.now)
-        (visit_at (B.trees bank.old) choosing.now.visit.now) (pattern_of choosing.now.pattern.now)
-        (term_of term.now) out × IsWay (B.trees bank.new) way out) }
-{
-    let place = choosing.place;
-    let visit = choosing.visit;
-    let value = term_in(place.alloc, bank, place.protocol, &visit.scope, term)?;
-    let (made, target) = with_pattern(place, bank, visit, visit.next, choosing.pattern)?;
-    let equations = Equations {
-        arguments: &[],
-        sides: &[],
-        value,
-        target,
-    };
-    way_of(place.alloc, bank, &equations, &made)
-}
-
-/// How a `let` goes on by a rule of its destructor, of the values of its arguments. On `Err`, and where there is no
-/// unifier, the bank may have grown.
-fn by_rule_grown<B: Bank>(
+/// How the choice goes on at whose end the walk stands. On `Err` the bank may have grown.
+fn finish<B: Bank>(
     choosing: &Choosing<'_>,
     bank: &mut B,
-    arguments: &[Id],
-    rule: &Rule,
+    walk: &mut Walk,
 ) -> Result<Way, AllocError>
-    requires visit { IsVisitIn (B.trees bank.old) choosing.now.visit.now }
-    requires arguments { AreKnown (B.trees bank.old) arguments.now }
-    requires below { AreBelow choosing.now.visit.now.next
-        (map (tree_at (B.trees bank.old)) arguments.now) }
-    requires rule { IsFitRule (rule_of rule.now) }
+    requires stands { StandsAtEnd (protocol_at choosing.now.place.now) choosing.now.visit.now
+        (B.trees bank.old) walk.old }
     ensures grows { Grows (B.trees bank.old) (B.trees bank.new) }
-    ensures way { IfOk result (λ way. (out : Option translation.Visit)
-        × ByRule (protocol_at choosing.now.place.now)
-        (visit_at (B.trees bank.old) choosing.now.visit.now) (pattern_of choosing.now.pattern.now)
-        (map (tree_at (B.trees bank.old)) arguments.now) (rule_of rule.now) out
-        × IsWay (B.trees bank.new) way out) }
+    ensures passes { IfOk result (λ way. (v : translation.Visit) → (rs : List Ruled) →
+        IsAlong (protocol_at choosing.now.place.now) choosing.now.visit.now v [] rs
+        (B.trees bank.old) walk.old →
+        Passes (protocol_at choosing.now.place.now) v (pattern_of choosing.now.pattern.now) rs
+        (B.trees bank.new) (record { count = 1; way = way })) }
 {
     let place = choosing.place;
-    let visit = choosing.visit;
-    let base = visit.next + MOST_WRITTEN_SYMBOLS;
-    let sides = rule_terms(place.alloc, bank, place.protocol, visit.next, &rule.left)?;
-    let value = rule_term(place.alloc, bank, place.protocol, visit.next, &rule.right)?;
-    let (made, target) = with_pattern(place, bank, visit, base, choosing.pattern)?;
-    let equations = Equations {
-        arguments,
-        sides: &sides.items,
-        value,
-        target,
-    };
-    way_of(place.alloc, bank, &equations, &made)
+    let row = &mut walk.row;
+    let value = row.ids[0];
+    let from = row.next + 1;
+    let (made, target) = with_pattern(place, bank, choosing.visit, from, choosing.pattern)?;
+    if !unify(bank, value, target, &mut row.binds)? {
+        return Ok(Way::Nowhere);
+    }
+    let found = visit_under(place.alloc, bank, &row.binds, &made)?;
+    Ok(way_to(bank, found))
 }
 
-/// How a `let` goes on by a rule of its destructor, of the values of its arguments. Where there is no unifier, the bank
-/// is as before; on `Err` it may have grown.
-fn by_rule<B: Bank>(
+/// Choices from the one of that number on, and how they go on. On `Err` the bank may have grown.
+fn walk_to<B: Bank>(
     choosing: &Choosing<'_>,
     bank: &mut B,
-    arguments: &[Id],
-    rule: &Rule,
-) -> Result<Way, AllocError>
-    requires visit { IsVisitIn (B.trees bank.old) choosing.now.visit.now }
-    requires arguments { AreKnown (B.trees bank.old) arguments.now }
-    requires below { AreBelow choosing.now.visit.now.next
-        (map (tree_at (B.trees bank.old)) arguments.now) }
-    requires rule { IsFitRule (rule_of rule.now) }
+    number: usize,
+) -> Result<Passed, AllocError>
+    requires known { IsChoosingIn (B.trees bank.old) choosing.now }
+    requires within { number < choosing.now.count }
     ensures grows { Grows (B.trees bank.old) (B.trees bank.new) }
-    ensures way { IfOk result (λ way. (out : Option translation.Visit)
-        × ByRule (protocol_at choosing.now.place.now)
-        (visit_at (B.trees bank.old) choosing.now.visit.now) (pattern_of choosing.now.pattern.now)
-        (map (tree_at (B.trees bank.old)) arguments.now) (rule_of rule.now) out
-        × IsWay (B.trees bank.new) way out) }
-    ensures nowhere { IfOk result (λ way. way ≡ ways.Nowhere →
-        B.trees bank.new ≡ B.trees bank.old) }
+    ensures passes { IfOk result (λ passed. Passes (protocol_at choosing.now.place.now)
+        (visit_at (B.trees bank.old) choosing.now.visit.now)
+        (pattern_of choosing.now.pattern.now) (drop number (choices_of choosing.now))
+        (B.trees bank.new) passed) }
+{
+    let row = Row::new(choosing.place.alloc, choosing.visit.next)?;
+    let mut walk = Walk {
+        row,
+        left: choosing.count,
+        number,
+    };
+    'each: for instruction in choosing.instructions {
+        if !step(choosing, bank, &mut walk, instruction)? {
+            return Ok(Passed {
+                count: walk.left - walk.number,
+                way: Way::Nowhere,
+            });
+        }
+    }
+    let way = finish(choosing, bank, &mut walk)?;
+    Ok(Passed { count: 1, way })
+}
+
+/// Choices from the one of that number on, and how they go on. Where this is nowhere, the bank is as before; on `Err`
+/// it may have grown.
+pub fn choices_from<B: Bank>(
+    choosing: &Choosing<'_>,
+    bank: &mut B,
+    number: usize,
+) -> Result<Passed, AllocError>
+    requires known { IsChoosingIn (B.trees bank.old) choosing.now }
+    requires within { number < choosing.now.count }
+    ensures grows { Grows (B.trees bank.old) (B.trees bank.new) }
+    ensures passes { IfOk result (λ passed. Passes (protocol_at choosing.now.place.now)
+        (visit_at (B.trees bank.old) choosing.now.visit.now)
+        (pattern_of choosing.now.pattern.now) (drop number (choices_of choosing.now))
+        (B.trees bank.new) passed) }
 {
     let mark = bank.mark();
-    match by_rule_grown(choosing, bank, arguments, rule)? {
-        Way::Nowhere => {
-            bank.back(mark);
-            Ok(Way::Nowhere)
-        }
-        Way::Large => Ok(Way::Large),
-        Way::Visit(made) => Ok(Way::Visit(made)),
+    let passed = walk_to(choosing, bank, number)?;
+    if passed.is_nowhere() {
+        bank.back(mark);
     }
+    Ok(passed)
 }
 
-/// The visits that go on by rules, of the values of the arguments, in order; none where one is too large. On `Err` the
-/// bank may have grown.
-fn by_rules<B: Bank>(
+/// How many choices from the one of that number on are passed together, and whether one of them goes on with a visit
+/// that is too large. The bank is as before; on `Err` it may have grown.
+fn look_from<B: Bank>(
     choosing: &Choosing<'_>,
     bank: &mut B,
-    arguments: &[Id],
-    rules: &[Rule],
-) -> Result<Option<Visits>, AllocError>
-    requires visit { IsVisitIn (B.trees bank.old) choosing.now.visit.now }
-    requires arguments { AreKnown (B.trees bank.old) arguments.now }
-    requires below { AreBelow choosing.now.visit.now.next
-        (map (tree_at (B.trees bank.old)) arguments.now) }
-    requires rules { AllByRecursion IsFitRule (map rule_of rules.now) }
+    number: usize,
+) -> Result<(usize, bool), AllocError>
+    requires known { IsChoosingIn (B.trees bank.old) choosing.now }
+    requires within { number < choosing.now.count }
     ensures grows { Grows (B.trees bank.old) (B.trees bank.new) }
-    ensures go { IfOk result (λ found. MatchOption found
-        (IsLargeByRules (protocol_at choosing.now.place.now)
-        (visit_at (B.trees bank.old) choosing.now.visit.now) (pattern_of choosing.now.pattern.now)
-        (map (tree_at (B.trees bank.old)) arguments.now) (map rule_of rules.now))
-        (λ visits. GoByRules (protocol_at choosing.now.place.now)
-        (visit_at (B.trees bank.old) choosing.now.visit.now) (pattern_of choosing.now.pattern.now)
-        (map (tree_at (B.trees bank.old)) arguments.now) (map rule_of rules.now)
-        (B.trees bank.new) visits.items.items)) }
+    ensures back { IfOk result (λ found. B.trees bank.new ≡ B.trees bank.old) }
+    ensures looks { IfOk result (λ found. LooksAt (B.trees bank.old) choosing.now number found.0
+        found.1) }
 {
-    let mut items = Vec::new(choosing.place.alloc);
+    let mark = bank.mark();
+    let passed = walk_to(choosing, bank, number)?;
+    bank.back(mark);
+    Ok((passed.count, passed.is_large()))
+}
+
+/// Whether a choice goes on with a visit that is too large. The bank is as before; on `Err` it may have grown.
+pub fn is_large_choice<B: Bank>(choosing: &Choosing<'_>, bank: &mut B) -> Result<bool, AllocError>
+    requires { IsChoosingIn (B.trees bank.old) choosing.now }
+    ensures grows { Grows (B.trees bank.old) (B.trees bank.new) }
+    ensures back { IfOk result (λ found. B.trees bank.new ≡ B.trees bank.old) }
+    ensures large { IfOk result (HasChoices (B.trees bank.old) choosing.now) }
+{
+    let mut number = 0usize;
     let mut large = false;
-    'each: for rule in rules {
-        match by_rule(choosing, bank, arguments, rule)? {
-            Way::Nowhere => {}
-            Way::Large => large = true,
-            Way::Visit(made) => items.push(made)?,
-        }
+    'each: while number < choosing.count {
+        let (count, is_large) = look_from(choosing, bank, number)?;
+        large = large || is_large;
+        number += count;
     }
-    if large {
-        return Ok(None);
-    }
-    Ok(Some(Visits { items }))
-}
-
-/// The visits that go on by a destructor. On `Err` the bank may have grown.
-fn by_call<B: Bank>(
-    choosing: &Choosing<'_>,
-    bank: &mut B,
-    destructor: u32,
-    arguments: &Terms,
-) -> Result<Option<Visits>, AllocError>
-    requires visit { IsVisitIn (B.trees bank.old) choosing.now.visit.now }
-    requires arguments { AllByRecursion HasShortTuples arguments.now }
-    ensures grows { Grows (B.trees bank.old) (B.trees bank.new) }
-    ensures go { IfOk result (λ found. MatchOption found
-        (IsLargeChoice (protocol_at choosing.now.place.now)
-        (visit_at (B.trees bank.old) choosing.now.visit.now) (pattern_of choosing.now.pattern.now)
-        (Call destructor arguments.now))
-        (λ visits. GoOn (protocol_at choosing.now.place.now)
-        (visit_at (B.trees bank.old) choosing.now.visit.now) (pattern_of choosing.now.pattern.now)
-        (Call destructor arguments.now) (B.trees bank.new) visits.items.items)) }
-{
-    let place = choosing.place;
-    let scope = &choosing.visit.scope;
-    let arguments = terms_in(place.alloc, bank, place.protocol, scope, arguments)?;
-    let rules = rules_of(place.protocol, destructor);
-    by_rules(choosing, bank, &arguments.items, rules)
-}
-
-/// The visit of a choice, if it goes on, alone.
-fn alone(alloc: Global, way: Way) -> Result<Option<Visits>, AllocError>
-    ensures { IfOk result (λ found. IsAlone way found) }
-{
-    match way {
-        Way::Nowhere => Ok(Some(Visits {
-            items: Vec::new(alloc),
-        })),
-        Way::Large => Ok(None),
-        Way::Visit(made) => {
-            let mut items = Vec::new(alloc);
-            items.push(made)?;
-            Ok(Some(Visits { items }))
-        }
-    }
-}
-
-/// The visits that go on by the expression of a `let`, in order; none where one is too large. On `Err` the bank may have
-/// grown.
-pub fn choices<B: Bank>(
-    place: &Place<'_>,
-    bank: &mut B,
-    visit: &Visit,
-    pattern: &Pat,
-    expression: &Expr,
-) -> Result<Option<Visits>, AllocError>
-    requires visit { IsVisitIn (B.trees bank.old) visit.now }
-    requires short { IsShortPattern (pattern_of pattern.now) }
-    requires expression { IsShortExpression (expression_of expression.now) }
-    requires copies { HasFewCopies most_points visit.now }
-    ensures grows { Grows (B.trees bank.old) (B.trees bank.new) }
-    ensures go { IfOk result (λ found. MatchOption found
-        (IsLargeChoice (protocol_at place.now) (visit_at (B.trees bank.old) visit.now)
-        (pattern_of pattern.now) (expression_of expression.now))
-        (λ visits. GoOn (protocol_at place.now) (visit_at (B.trees bank.old) visit.now)
-        (pattern_of pattern.now) (expression_of expression.now) (B.trees bank.new)
-        visits.items.items)) }
-{
-    let choosing = Choosing {
-        place,
-        visit,
-        pattern,
-    };
-    match expression {
-        Expr::Term(term) => {
-            let way = by_term(&choosing, bank, term)?;
-            alone(place.alloc, way)
-        }
-        Expr::Call(destructor, arguments) => by_call(&choosing, bank, *destructor, arguments),
-    }
+    Ok(large)
 }

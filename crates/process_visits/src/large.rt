@@ -4,9 +4,11 @@ ghost use Rattle.std.specs.Prelude.{◌≡◌, ◌<◌, ◌++◌, not, nat_le, l
 ghost use Rattle.std.specs.List.{list_any};
 ghost use Rattle.spec_trees.specs.Tree.{trees};
 ghost use Rattle.spec_calculus.specs.Bounds.{most_symbols};
-ghost use Rattle.spec_calculus.specs.Limits.{compared, compared_row, terms_in};
+ghost use Rattle.spec_calculus.specs.Limits.{compared, compared_row};
 ghost use Rattle.pi_tree.specs.Terms.{term_of};
-ghost use Rattle.pi_tree.specs.Patterns.{pattern_of, expression_of};
+ghost use Rattle.spec_trees.specs.Leaves.{leaves, row_leaves};
+ghost use Rattle.pi_tree.specs.Patterns.{pattern_of};
+ghost use Rattle.pi_tree.specs.Expressions.{expression_of};
 ghost use Rattle.spec_clauses.specs.Fact.{fact_size};
 ghost use Rattle.spec_translation.specs.Conversion.{term_in};
 ghost use Rattle.spec_translation.specs.Visit as translation;
@@ -23,7 +25,7 @@ use crate::place::Place;
 use crate::visit::Visit;
 use clause_form::{Fact, size_of_fact};
 use clause_terms::{Scope, Standing, size_in};
-use pi_tree::{Expr, MOST_SYMBOLS, Pat, Pats, Term, Terms};
+use pi_tree::{Expr, Exprs, MOST_SYMBOLS, Pat, Pats, Term, Terms};
 use term_tree::{Bank, Id};
 
 /// Whether the term has more symbols than the limit where it is visited.
@@ -71,7 +73,7 @@ pub fn some_large_compared<B: Bank>(
 }
 
 /// Whether a term with which one of the patterns compares has.
-#[tactic(auto, using(crate::proofs::Tests::of_compared))]
+#[tactic(auto, using(crate::proofs::Tests::of_lists))]
 #[cycle(compared)]
 fn some_large_compared_in<B: Bank>(
     place: &Place<'_>,
@@ -91,20 +93,38 @@ fn some_large_compared_in<B: Bank>(
     false
 }
 
-/// Whether a term of the expression has.
+/// Whether a part of the expression without destructors has.
+#[cycle(parts)]
 pub fn some_large_in<B: Bank>(place: &Place<'_>, bank: &B, scope: &Scope, expression: &Expr) -> bool
     requires { IsScopeIn (B.trees bank.now) scope.now }
     ensures { result ≡ are_large_in (protocol_at place.now) (scope_at (B.trees bank.now) scope.now)
-        (terms_in (expression_of expression.now)) }
+        (leaves (expression_of expression.now)) }
 {
     match expression {
         Expr::Term(term) => is_large_term(place, bank, scope, term),
-        Expr::Call(_, arguments) => some_large_term(place, bank, scope, arguments),
+        Expr::App(_, parts) | Expr::Call(_, parts) => some_large_part(place, bank, scope, parts),
+        Expr::Tuple(parts) => some_large_part(place, bank, scope, parts),
     }
 }
 
+/// Whether a part of one of the expressions has.
+#[tactic(auto, using(crate::proofs::Tests::of_lists))]
+#[cycle(parts)]
+fn some_large_part<B: Bank>(place: &Place<'_>, bank: &B, scope: &Scope, parts: &Exprs) -> bool
+    requires { IsScopeIn (B.trees bank.now) scope.now }
+    ensures { result ≡ are_large_in (protocol_at place.now) (scope_at (B.trees bank.now) scope.now)
+        (row_leaves (trees parts.now)) }
+{
+    for part in &parts.items {
+        if some_large_in(place, bank, scope, part) {
+            return true;
+        }
+    }
+    false
+}
+
 /// Whether a term that a `let` evaluates, or with which its pattern compares, is too large.
-#[tactic(auto, using(crate::proofs::Tests::of_compared))]
+#[tactic(auto, using(crate::proofs::Tests::of_lists))]
 pub fn is_large_let<B: Bank>(
     place: &Place<'_>,
     bank: &B,
@@ -114,7 +134,7 @@ pub fn is_large_let<B: Bank>(
 ) -> bool
     requires { IsScopeIn (B.trees bank.now) scope.now }
     ensures { result ≡ are_large_in (protocol_at place.now) (scope_at (B.trees bank.now) scope.now)
-        (compared (pattern_of pattern.now) ++ terms_in (expression_of expression.now)) }
+        (compared (pattern_of pattern.now) ++ leaves (expression_of expression.now)) }
 {
     some_large_compared(place, bank, scope, pattern)
         || some_large_in(place, bank, scope, expression)

@@ -3,7 +3,7 @@
 
 mod built;
 mod channels;
-mod choice;
+pub mod choice;
 pub mod choices;
 pub mod copies;
 pub mod events;
@@ -17,7 +17,9 @@ pub mod outputs;
 pub mod place;
 mod points;
 mod raw;
+mod row;
 mod spans;
 mod substituted;
 mod unified;
 pub mod visit;
+pub mod ways;

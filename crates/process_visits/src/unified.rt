@@ -13,7 +13,7 @@ ghost use Rattle.clause_terms.specs.Slots.{held_of};
 ghost use Rattle.process_visits.specs.Sizes.{some_standing_over};
 ghost use Rattle.process_visits.specs.Built.{tree_under, AreBuilt};
 ghost use Rattle.process_visits.specs.Visits.{visit_at, IsVisitIn, NamesVisit};
-ghost use Rattle.process_visits.specs.Solving.{AreRowsApart, AreRowsSolved, AreSolved, AreUnsolvable, HasBelow, NamesKnown};
+ghost use Rattle.process_visits.specs.Solving.{HasBelow, NamesKnown};
 
 use crate::built::Built;
 use crate::substituted::{facts_under, term_under};
@@ -22,73 +22,7 @@ use clause_form::{Facts, Ids};
 use clause_terms::{Scope, Standing};
 use std::alloc::{AllocError, Global};
 use term_tree::{Bank, Id};
-use unify_match::{Binds, apply_unlimited, unify, unify_all};
-
-/// The terms that have to become one.
-#[derive(Clone, Copy)]
-pub struct Equations<'a> {
-    pub arguments: &'a [Id],
-    pub sides: &'a [Id],
-    pub value: Id,
-    pub target: Id,
-}
-
-/// The bindings that make the arguments the sides, if there are any.
-fn arguments_unified<B: Bank>(
-    alloc: Global,
-    bank: &B,
-    arguments: &[Id],
-    sides: &[Id],
-) -> Result<Option<Binds>, AllocError>
-    requires arguments { AreKnown (B.trees bank.now) arguments.now }
-    requires sides { AreKnown (B.trees bank.now) sides.now }
-    ensures { let all = B.trees bank.now in
-        IfOk result (λ found. MatchOption found
-        (AreRowsApart (map (tree_at all) arguments.now) (map (tree_at all) sides.now))
-        (λ binds. AreRowsSolved all binds.pairs (map (tree_at all) arguments.now)
-        (map (tree_at all) sides.now))) }
-{
-    if arguments.len() != sides.len() {
-        return Ok(None);
-    }
-    let mut binds = Binds::new(alloc)?;
-    let are_unified = unify_all(bank, arguments, sides, &mut binds)?;
-    if are_unified {
-        return Ok(Some(binds));
-    }
-    Ok(None)
-}
-
-/// The bindings that make the equations hold, if there are any.
-pub fn unified<B: Bank>(
-    alloc: Global,
-    bank: &B,
-    equations: &Equations<'_>,
-) -> Result<Option<Binds>, AllocError>
-    requires arguments { AreKnown (B.trees bank.now) equations.now.arguments.now }
-    requires sides { AreKnown (B.trees bank.now) equations.now.sides.now }
-    requires value { equations.now.value.index < length (B.trees bank.now) }
-    requires target { equations.now.target.index < length (B.trees bank.now) }
-    ensures { let all = B.trees bank.now in
-        IfOk result (λ found. MatchOption found
-        (AreUnsolvable (map (tree_at all) equations.now.arguments.now)
-        (map (tree_at all) equations.now.sides.now) (tree_at all equations.now.value)
-        (tree_at all equations.now.target))
-        (λ binds. AreSolved all binds.pairs (map (tree_at all) equations.now.arguments.now)
-        (map (tree_at all) equations.now.sides.now) (tree_at all equations.now.value)
-        (tree_at all equations.now.target))) }
-{
-    match arguments_unified(alloc, bank, equations.arguments, equations.sides)? {
-        None => Ok(None),
-        Some(mut binds) => {
-            let are_unified = unify(bank, equations.value, equations.target, &mut binds)?;
-            if are_unified {
-                return Ok(Some(binds));
-            }
-            Ok(None)
-        }
-    }
-}
+use unify_match::{Binds, apply_unlimited};
 
 /// The scope under the bindings; none where a term of it has more symbols than the limit. On `Err` the bank may have
 /// grown.

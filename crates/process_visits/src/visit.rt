@@ -33,12 +33,6 @@ impl Drop for Visit {
     }
 }
 
-/// Visits in order.
-#[derive(Drop)]
-pub struct Visits {
-    pub items: Vec<Visit>,
-}
-
 /// The scope with what is bound besides.
 fn joined(alloc: Global, scope: &Scope, mut bound: Scope) -> Result<Scope, AllocError>
     ensures { IfOk result (λ whole. whole ≡ scope.now ++ bound) }

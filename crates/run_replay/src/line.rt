@@ -36,7 +36,10 @@ fn step(alloc: Global, action: Action, numbers: &[u32]) -> Result<Option<Step>, 
         (Action::Pass, [sender, receiver]) => Step::Pass(*sender, *receiver),
         (Action::Hear, [thread]) => Step::Hear(*thread),
         (Action::Say, [thread, value]) => Step::Say(*thread, *value),
-        (Action::Take, [thread, label]) => Step::Take(*thread, *label),
+        (Action::Take, [thread, rules @ ..]) => {
+            let items = Vec::from_slice(alloc, rules)?;
+            Step::Take(*thread, Numbers { items })
+        }
         (Action::Fail, [thread]) => Step::Fail(*thread),
         (Action::Mark, [thread]) => Step::Mark(*thread),
         _ => return Ok(None),

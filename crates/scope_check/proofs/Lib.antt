@@ -9,6 +9,7 @@ pub mod Steps
 pub mod Macros
 pub mod Stopping
 pub mod Rows
+pub mod Extents
 pub mod Restrictions
 pub mod Bytes
 pub mod Few

@@ -7,7 +7,7 @@ use Rattle.spec_calculus.specs.Syntax as calculus
 use Rattle.spec_calculus.specs.Points.{nodes}
 use Rattle.pi_tree.specs.declared.syntax.Process.{Process as Tree, Par, Let}
 use Rattle.pi_tree.specs.declared.syntax.Pat.{Pat}
-use Rattle.pi_tree.specs.declared.syntax.Expr.{Expr}
+use Rattle.pi_tree.specs.declared.expressions.Expr.{Expr}
 use Rattle.pi_tree.specs.Processes.{process_of}
 use Rattle.spec_protocol_scope.specs.Answers.{Answer, Unknown, AmbiguousNew, fault}
 use Rattle.spec_protocol_scope.specs.Queries.{points_of, only_point}

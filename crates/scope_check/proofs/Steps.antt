@@ -1,8 +1,8 @@
 -- What loops come to: lists of which the first items are found already, and counts.
-use Rattle.std.proofs.Common.{◌≡◌, ℕ, ◌+◌, ◌*◌, ◌-◌, ◌≤◌, List, [], ◌∷◌, ◌++◌, length, map, Ok, refl, arith}
+use Rattle.std.proofs.Common.{◌≡◌, ℕ, ◌+◌, ◌*◌, ◌-◌, List, [], ◌∷◌, ◌++◌, length, map, Ok, refl, arith}
 use Rattle.std.proofs.lemmas.List.Sums.{fold-append}
 use Rattle.spec_trees.specs.Tree.{trees, size, sizes}
-use Rattle.spec_protocol_grammar.specs.Sketch.{Grouped, terms_sketch, patterns_sketch}
+use Rattle.spec_protocol_grammar.specs.Sketch.{terms_sketch, patterns_sketch}
 use Rattle.pi_parser.specs.declared.sketch.TermSketch.{TermSketch as Sketched}
 use Rattle.pi_parser.specs.declared.sketch.PatternSketch.{PatternSketch as SketchedPattern}
 use Rattle.pi_parser.specs.Terms.{term_of as sketch_of}
@@ -25,12 +25,6 @@ collected front rest = rest >>= λ r. Ok (front ++ r.0, r.1)
 -- one digit more
 pub decimal_snoc : (ds : List ℕ) (d : ℕ) → decimal (ds ++ d ∷ []) ≡ 10 * decimal ds + (d - 48)
 decimal_snoc ds d = fold-append (λ (number digit : ℕ). 10 * number + (digit - 48)) 0 ds (d ∷ [])
-
--- parentheses round more than one term are not dropped
-pub bare_many : (n : ℕ) (ts : List Sketched) → 2 ≤ length ts → Grouped n (terms_sketch (map sketch_of ts)) ≡ terms.bare (Grouped n (terms_sketch (map sketch_of ts)))
-bare_many n [] h = absurd (omega arith)
-bare_many n (t ∷ []) h = absurd (omega arith)
-bare_many n (t ∷ (u ∷ us)) h = refl
 
 -- a row has as many as its list
 pub count_seen : (ts : List Sketched) → length ts ≡ terms.count (terms_sketch (map sketch_of ts))

@@ -10,6 +10,7 @@ pub mod Bound
 pub mod BoundProps
 pub mod Variables
 pub mod Terms
+pub mod Extents
 pub mod Numbers
 pub mod Forms
 pub mod Restrictions

@@ -104,7 +104,7 @@ fn known_variable(whole: &Text, variables: &Variables, token: usize) -> Result<T
 }
 
 /// A bare identifier in a process: what is bound, or else a declared name.
-fn process_leaf(scope: &Scope, alloc: Global, bound: &Bound, token: usize) -> Result<Term, Stop>
+pub fn process_leaf(scope: &Scope, alloc: Global, bound: &Bound, token: usize) -> Result<Term, Stop>
     requires { FindsBound scope.now.text bound.now }
     ensures { Gives term_of result (rules.process_leaf
         (naming.bound_as (texts_of scope.now.text) (bound_of bound.now) token)

@@ -29,6 +29,7 @@ use std::alloc::{AllocError, Global};
 mod bound;
 mod declarations;
 mod error;
+mod expressions;
 mod leaves;
 mod names;
 mod numbers;

@@ -4,6 +4,7 @@ ghost use Rattle.std.specs.Prelude.{◌≡◌, ◌+◌, ◌<◌, ◌≤◌, [], 
 ghost use Rattle.std.specs.List.{list_all};
 ghost use Rattle.std.specs.Char.{is_ascii_digit};
 ghost use Rattle.spec_calculus.specs.Bounds.{most_names};
+ghost use Rattle.spec_well_formed.specs.Terms.{rule_count};
 ghost use Rattle.spec_protocol_scope.specs.Names as rules;
 ghost use Rattle.spec_protocol_scope.specs.Declarations.{with_free, with_constructor, with_destructor, with_event};
 ghost use Rattle.pi_tree.specs.Names.{declared_of};
@@ -198,6 +199,19 @@ pub fn arity_of(destructor: &Dtor) -> usize
 {
     match destructor.rules.items.first() {
         Some(rule) => rule.left.items.len(),
+        None => 0,
+    }
+}
+
+/// How many rules the destructor of that number has.
+pub fn rule_count(names: &Names, number: u32) -> usize
+    ensures { result ≡ rule_count (rules.signature_with (names_of names.now)) number }
+{
+    if number == 0 {
+        return 0;
+    }
+    match names.dtors.items.get(number as usize - 1) {
+        Some(destructor) => destructor.rules.items.len(),
         None => 0,
     }
 }

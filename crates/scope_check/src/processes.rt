@@ -15,6 +15,7 @@ ghost use Rattle.scope_check.specs.Numbers.{HaveRoom, numbers_of, numbered_of};
 ghost use Rattle.scope_check.specs.Scope.{scope_of};
 
 use crate::bound::{Binding, Bindings, Bound, BoundName, count_of};
+use crate::expressions::expression;
 use crate::leaves::Setting;
 use crate::numbers::Numbers;
 use crate::patterns::whole_pattern;
@@ -23,7 +24,7 @@ use crate::scope::Scope;
 use crate::site::{Form, Site, both_reached, open_form, reached};
 use crate::source::Text;
 use crate::stop::Stop;
-use crate::terms::{event, expression, process_term};
+use crate::terms::{event, process_term};
 use crate::text::text_of;
 use crate::variables::Variables;
 use pi_parser::{AtomSketch, NextSketch, PatternSketch, ProcessSketch, TermSketch, UnitSketch};

@@ -1,31 +1,27 @@
-//! Terms, expressions and events, within their limits.
+//! Terms and events, within their limits.
 
-ghost use Rattle.std.specs.Prelude.{◌≡◌, ◌+◌, ◌≤◌, length, map, IfOk, OnOk};
+ghost use Rattle.std.specs.Prelude.{◌≡◌, ◌+◌, ◌≤◌, IfOk, OnOk};
 ghost use Rattle.spec_calculus.specs.Bounds.{most_written_symbols};
 ghost use Rattle.spec_trees.specs.Tree.{size, sizes, trees, node};
 ghost use Rattle.spec_calculus.specs.Syntax as calculus;
 ghost use Rattle.spec_protocol_grammar.specs.Sketch.{terms_sketch};
-ghost use Rattle.spec_protocol_scope.specs.Names as naming;
 ghost use Rattle.spec_protocol_scope.specs.Terms as rules;
 ghost use Rattle.pi_parser.specs.Terms as sketched;
 ghost use Rattle.pi_tree.specs.Terms.{term_of};
-ghost use Rattle.pi_tree.specs.Patterns.{expression_of};
 ghost use Rattle.pi_tree.specs.Events.{event_of};
 ghost use Rattle.scope_check.specs.Answer.{Gives, GivesWith};
 ghost use Rattle.scope_check.specs.Bound.{bound_of};
-ghost use Rattle.scope_check.specs.Names.{meaning_of};
 ghost use Rattle.scope_check.specs.Scope.{scope_of};
 ghost use Rattle.scope_check.specs.Terms.{setting_of, FindsSetting, capped};
 ghost use Rattle.scope_check.specs.Variables.{FindsVariables};
 
-use crate::leaves::{Setting, constructor, event_named, leaf, taking};
-use crate::names::{Meaning, look};
+use crate::leaves::{Setting, constructor, event_named, leaf};
 use crate::place::Place;
 use crate::scope::Scope;
 use crate::stop::{Code, Stop};
 use crate::variables::Variables;
 use pi_parser::{AtomSketch, TermSketch, TermsSketch};
-use pi_tree::{Atom, Expr, MOST_ARGUMENTS, MOST_WRITTEN_SYMBOLS, Term, Terms};
+use pi_tree::{Atom, MOST_ARGUMENTS, MOST_WRITTEN_SYMBOLS, Term, Terms};
 use std::alloc::Global;
 
 /// The sum of two numbers of symbols, as far as it matters.
@@ -166,74 +162,6 @@ pub fn process_term(sketch: &TermSketch, alloc: Global, place: &Place) -> Result
         &Setting::Process(place.bound),
         &mut variables,
     )?;
-    Ok(Box::new(alloc, read)?)
-}
-
-/// A sketch without the parentheses round the whole of it.
-fn bare(sketch: &TermSketch) -> &TermSketch
-    ensures { sketched.term_of result.now ≡ rules.bare (sketched.term_of sketch.now) }
-{
-    match sketch {
-        TermSketch::Named(..) => sketch,
-        TermSketch::Grouped(_, parts) => match parts.items.as_slice() {
-            [only] => bare(only),
-            _ => sketch,
-        },
-    }
-}
-
-/// A destructor of these arguments.
-fn call(
-    sketches: &TermsSketch,
-    alloc: Global,
-    place: &Place,
-    token: usize,
-    destructor: u32,
-) -> Result<Expr, Stop>
-    ensures { Gives expression_of result (rules.call (scope_of place.now.scope)
-        (bound_of place.now.bound.now) token destructor (terms_sketch sketches.now)) }
-{
-    let mut variables = Variables::new(alloc);
-    let setting = Setting::Process(place.bound);
-    let (arguments, symbols) = terms(sketches, alloc, &place.scope, &setting, &mut variables)?;
-    if plus(1, symbols) > MOST_WRITTEN_SYMBOLS {
-        return Err(Stop::Fault(Code::TooMany, token));
-    }
-    Ok(Expr::Call(destructor, arguments))
-}
-
-/// A term as an expression.
-fn plain(sketch: &TermSketch, alloc: Global, place: &Place) -> Result<Expr, Stop>
-    ensures { Gives expression_of result (rules.plain (scope_of place.now.scope)
-        (bound_of place.now.bound.now) (sketched.term_of sketch.now)) }
-{
-    let read = process_term(sketch, alloc, place)?;
-    Ok(Expr::Term(Box::into_inner(read)))
-}
-
-/// What a `let` evaluates, without the parentheses round it.
-fn expression_of(sketch: &TermSketch, alloc: Global, place: &Place) -> Result<Expr, Stop>
-    ensures { Gives expression_of result (rules.expression_of (scope_of place.now.scope)
-        (bound_of place.now.bound.now) (sketched.term_of sketch.now)) }
-{
-    if let TermSketch::Named(first, arguments) = sketch {
-        let given = count_of(arguments);
-        if given != 0 {
-            if let Some(Meaning::Destructor { number, arity }) = look(&place.scope, *first) {
-                let destructor = taking(*first, number, arity, given)?;
-                return call(arguments, alloc, place, *first, destructor);
-            }
-        }
-    }
-    plain(sketch, alloc, place)
-}
-
-/// What a `let` evaluates, in a box: a term, or a destructor of terms.
-pub fn expression(sketch: &TermSketch, alloc: Global, place: &Place) -> Result<Box<Expr>, Stop>
-    ensures { Gives (λ read. expression_of read.value) result (rules.expression
-        (scope_of place.now.scope) (bound_of place.now.bound.now) (sketched.term_of sketch.now)) }
-{
-    let read = expression_of(bare(sketch), alloc, place)?;
     Ok(Box::new(alloc, read)?)
 }
 

@@ -1,31 +1,32 @@
 -- A thread that takes a value of a `let` is followed by the visit of that choice; one that takes none by the visit of the else branch.
-use Rattle.std.proofs.Common.{◌≡◌, ◌∙◌, ℕ, zero, suc, ◌+◌, Option, Some, None, List, [], ◌∷◌, ◌++◌, map, refl, ap, sym, subst, IfSome}
-use Rattle.std.specs.Prelude.{option_and_then, slice_get, flat_map}
-use Rattle.std.specs.List.{AllByRecursion}
-use Rattle.spec_trees.specs.Tree.{bind, trees}
-use Rattle.spec_trees.specs.Leaves.{leaves, row_leaves}
-use Rattle.spec_calculus.specs.Syntax.{Variable, Pattern, Expression, Plain, Call, Process, Let, Rule, Protocol}
-use Rattle.spec_calculus.specs.Syntax as calculus
-use Rattle.spec_calculus.specs.Points.{numbered, point_after}
-use Rattle.spec_calculus.specs.Values.{Value, Environment, value_of_bound, value_of, values_of}
-use Rattle.spec_calculus.specs.Matching.{matched, IsLinear, rule_value, rules_of, value_at}
-use Rattle.spec_calculus.proofs.Rules.{rule_value-sound}
+use Rattle.std.proofs.Common.{◌≡◌, ◌∙◌, ℕ, ◌+◌, Bool, true, false, cond, Option, Some, None, List, [], ◌∷◌, ◌++◌, map, refl, ap, sym, subst, IfSome, arith}
+use Rattle.std.specs.Prelude.{flat_map}
+use Rattle.std.specs.List.{AllByRecursion, find}
+use Rattle.spec_trees.specs.Leaves.{leaves}
+use Rattle.spec_calculus.specs.Syntax.{Pattern, Expression, Ruled, Process, Let, Protocol}
+use Rattle.spec_calculus.specs.Points.{point_after}
+use Rattle.spec_calculus.specs.Values.{Value, Environment}
+use Rattle.spec_calculus.specs.Matching.{matched, IsLinear, rules_of}
+use Rattle.spec_calculus.specs.Choices.{choices, label_of, same_label, choice_at, ruled_value, value_at}
+use Rattle.spec_calculus.specs.Choices as choosing
+use Rattle.spec_calculus.proofs.Items.{of_some, of_then, each-holds}
+use Rattle.spec_calculus.proofs.Choices.{IsOver, choices_over}
 use Rattle.spec_well_formed.specs.Rules.{IsProperRule}
 use Rattle.spec_terms.specs.Term.{Term, Subst}
 use Rattle.spec_clauses.specs.Fact.{Fact, Clause}
 use Rattle.spec_clauses.specs.Flat.{flat}
+use Rattle.spec_clauses.specs.Variables.{IsBelow}
 use Rattle.spec_clauses.proofs.Lists.{all_first, all_second}
-use Rattle.spec_translation.specs.Conversion.{rule_term, Fresh}
+use Rattle.spec_translation.specs.Conversion.{term_in, Fresh}
 use Rattle.spec_translation.specs.Visit.{Visit, visit_under, IsFresh}
-use Rattle.spec_translation.specs.Choice.{Choice, choice_under, IsUnified, with_pattern, term_choice, rule_choice, GoesOn, TermGoesOn, RuleGoesOn, RulesGoOn}
+use Rattle.spec_translation.specs.Choice.{Choice, choice_under, IsUnified, with_pattern, ruled_choice, GoesOn, ChoiceGoesOn, EachGoesOn}
 use Rattle.spec_translation.proofs.Visits.{visit_under-visit_under, visit_agree, terms_agree, below_agree}
-use Rattle.spec_translation.proofs.Fresh.{mixed_below}
 use Rattle.spec_abstraction.specs.Trace.{Past}
-use Rattle.spec_abstraction.specs.Naming.{Naming, abstracted, abstracted_visit}
+use Rattle.spec_abstraction.specs.Naming.{Naming, abstracted_visit}
 use Rattle.spec_abstraction.specs.Taken.{HasVisit}
-use Rattle.spec_abstraction.proofs.Conclusions.{AttackerHas, Derived, all_numbered}
-use Rattle.spec_abstraction.proofs.Knowledge.{IsRuleVariable, proper_variables, left_variables, rule_values, rule_term_value, rule_terms_value}
-use Rattle.spec_abstraction.proofs.Following.{term_there, terms_there, pattern_values, pattern_values_below, visit_there, scope_there, pattern_there, Follows}
+use Rattle.spec_abstraction.proofs.Conclusions.{AttackerHas, Derived}
+use Rattle.spec_abstraction.proofs.Following.{term_there, pattern_values, pattern_values_below, visit_there, scope_there, pattern_there, Follows}
+use Rattle.spec_abstraction.proofs.Applied.{Agree, AnyTerm, reach}
 
 module _ (P : Protocol) (names : Naming) (all : List (Clause Term)) (has : AttackerHas P all) (events : List (Fact Term)) (next : Process) (point : ℕ) where
   -- A choice that is accepted of what the thread has goes on, and its visit follows the thread.
@@ -47,72 +48,48 @@ module _ (P : Protocol) (names : Naming) (all : List (Clause Term)) (has : Attac
         let scopes = scope_there P names by at bs v environment past facts closed pattern fresh value linear match in
         λ i. record { scope = scopes i; hypotheses = (same i).hypotheses; messages = (same i).messages; sessions = (same i).sessions }
 
-    -- by a term
-    term_follows : (term : calculus.Term) (v : Visit) (by : Subst) (facts : List (Fact Term)) (out : Option Visit) → value ≡ value_of environment term → visit_under by v ≡ abstracted_visit P names environment past facts → Derived P all events (flat_map flat facts) → TermGoesOn P v pattern term out → IfSome out (λ w. HasVisit all P next (point + 1) w) → Follows P names all has events next (point + 1) (environment ++ bs) past
-    term_follows term v by facts out is_value closed derived goes held =
-        let at = goes.at in
-        let pv = pattern_values P names by at bs in
-        let same = visit_there P names by at bs v environment past facts closed pattern goes.is_fresh value linear match in
-        let target = pattern_there P names by at bs v environment past facts closed pattern goes.is_fresh value linear match in
-        let here = term_there P names pv v environment past facts same term in
-        choice_follows (term_choice P v pattern term at) out pv (environment ++ bs) past facts goes.goes_on held
-        (refl, here ∙ (ap (abstracted P names) (sym is_value) ∙ sym target))
-        (pattern_visit v by facts at closed goes.is_fresh) derived
-
-    -- by a rule
-    rule_follows : (arguments : List calculus.Term) (rule : Rule) (v : Visit) (by : Subst) (facts : List (Fact Term)) (out : Option Visit) → IsProperRule rule → rule_value rule (values_of environment arguments) ≡ Some value → visit_under by v ≡ abstracted_visit P names environment past facts → Derived P all events (flat_map flat facts) → RuleGoesOn P v pattern arguments rule out → IfSome out (λ w. HasVisit all P next (point + 1) w) → Follows P names all has events next (point + 1) (environment ++ bs) past
-    rule_follows arguments rule v by facts out proper gives closed derived goes held =
-        let (env, left, right) = rule_value-sound rule (values_of environment arguments) value gives in
+    -- by the rules of a choice that all apply
+    ruled_follows : (ruled : Ruled) (v : Visit) (by : Subst) (facts : List (Fact Term)) (out : Option Visit) → IsOver AnyTerm IsProperRule ruled → ruled_value environment ruled ≡ Some value → visit_under by v ≡ abstracted_visit P names environment past facts → Derived P all events (flat_map flat facts) → ChoiceGoesOn P v pattern ruled out → IfSome out (λ w. HasVisit all P next (point + 1) w) → Follows P names all has events next (point + 1) (environment ++ bs) past
+    ruled_follows ruled v by facts out over gives closed derived goes held =
         let base = goes.base in
         let at = goes.at in
-        let rv = rule_values P names base by env in
-        let moved : visit_under rv v ≡ abstracted_visit P names environment past facts = visit_agree rv by base (mixed_below base by (λ d. abstracted P names (value_of_bound env (Variable (d + 1))))) v goes.is_new ∙ closed in
+        let stays = λ (t : Subst) (a : Agree base t by). (let same : visit_under t v ≡ abstracted_visit P names environment past facts = visit_agree t by base a v goes.is_new ∙ closed in same) in
+        let reads = λ (t : Subst) (a : Agree base t by). term_there P names t v environment past facts (stays t a) in
+        let reached = reach P names environment (term_in P v.scope) base by reads base by (omega arith) (λ x l. refl) ruled value over gives in
+        let rv = reached.to in
+        let moved = stays rv reached.kept in
         let pv = pattern_values P names rv at bs in
-        let same = visit_there P names rv at bs v environment past facts moved pattern goes.is_fresh value linear match in
+        let same = pattern_values_below P names rv at bs in
         let target = pattern_there P names rv at bs v environment past facts moved pattern goes.is_fresh value linear match in
-        let variables = proper_variables rule proper in
-        let lefts = left_variables rule.left (all_first IsRuleVariable (row_leaves (trees rule.left)) (leaves rule.right) variables) in
-        let rights = all_second IsRuleVariable (row_leaves (trees rule.left)) (leaves rule.right) variables in
-        let given = terms_there P names pv v environment past facts same arguments in
-        let sides : map (bind pv) (map (rule_term P base) rule.left) ≡ map (abstracted P names) (values_of environment arguments) =
-        terms_agree pv rv at.base (pattern_values_below P names rv at bs) (map (rule_term P base) rule.left) goes.is_apart.1
-        ∙ (rule_terms_value P names base by env rule.left lefts ∙ ap (map (abstracted P names)) left) in
-        let made : bind pv (rule_term P base rule.right) ≡ abstracted P names value =
-        below_agree pv rv at.base (pattern_values_below P names rv at bs) (rule_term P base rule.right) goes.is_apart.0
-        ∙ (rule_term_value P names base by env rule.right rights ∙ ap (abstracted P names) (sym right)) in
-        choice_follows (rule_choice P v pattern arguments rule base at) out pv (environment ++ bs) past facts goes.goes_on held
-        (given ∙ sym sides, made ∙ sym target)
+        let c = ruled_choice P v pattern ruled base at in
+        let arguments = terms_agree pv rv at.base same c.arguments (all_first (IsBelow at.base) c.arguments c.sides goes.is_apart.1) in
+        let sides = terms_agree pv rv at.base same c.sides (all_second (IsBelow at.base) c.arguments c.sides goes.is_apart.1) in
+        let made = below_agree pv rv at.base same c.value goes.is_apart.0 in
+        choice_follows c out pv (environment ++ bs) past facts goes.goes_on held
+        (arguments ∙ (reached.unified rv (λ x l. refl) ∙ sym sides), made ∙ (reached.gives rv (λ x l. refl) ∙ sym target))
         (pattern_visit v rv facts at moved goes.is_fresh) derived
 
-    -- by the rule of that number
-    found_follows : (arguments : List calculus.Term) (rules : List Rule) (k : ℕ) (rule : Rule) (outs : List (Option Visit)) (v : Visit) (by : Subst) (facts : List (Fact Term)) → slice_get rules k ≡ Some rule → IsProperRule rule → rule_value rule (values_of environment arguments) ≡ Some value → visit_under by v ≡ abstracted_visit P names environment past facts → Derived P all events (flat_map flat facts) → RulesGoOn P v pattern arguments rules outs → AllByRecursion (λ out. IfSome out (λ w. HasVisit all P next (point + 1) w)) outs → Follows P names all has events next (point + 1) (environment ++ bs) past
-    found_follows arguments [] k rule outs v by facts e proper gives closed derived goes held = cc
-    found_follows arguments (first ∷ rules) zero rule outs v by facts e proper gives closed derived goes held =
-        let same : first ≡ rule = cc in
-        let held_all = subst (AllByRecursion (λ out. IfSome out (λ w. HasVisit all P next (point + 1) w))) goes.4 held in
-        rule_follows arguments rule v by facts goes.0 proper gives closed derived (subst (λ r. RuleGoesOn P v pattern arguments r goes.0) same goes.2) held_all.0
-    found_follows arguments (first ∷ rules) (suc k) rule outs v by facts e proper gives closed derived goes held =
-        let held_all = subst (AllByRecursion (λ out. IfSome out (λ w. HasVisit all P next (point + 1) w))) goes.4 held in
-        found_follows arguments rules k rule goes.1 v by facts e proper gives closed derived goes.3 held_all.1
+    -- by the first choice that passes a test, as that of a label does
+    found_follows : (test : choosing.Choice → Bool) (cs : List choosing.Choice) (c : choosing.Choice) (outs : List (Option Visit)) (v : Visit) (by : Subst) (facts : List (Fact Term)) → find test cs ≡ Some c → AllByRecursion (λ d. IsOver AnyTerm IsProperRule d.ruled) cs → ruled_value environment c.ruled ≡ Some value → visit_under by v ≡ abstracted_visit P names environment past facts → Derived P all events (flat_map flat facts) → EachGoesOn P v pattern (map (λ d. d.ruled) cs) outs → AllByRecursion (λ out. IfSome out (λ w. HasVisit all P next (point + 1) w)) outs → Follows P names all has events next (point + 1) (environment ++ bs) past
+    found_follows test [] c outs v by facts e over gives closed derived goes held = cc
+    found_follows test (d ∷ cs) c outs v by facts e over gives closed derived goes held =
+        go (test d) e (λ k. found_follows test cs c goes.1 v by facts k over.1 gives closed derived goes.3 held_all.1)
+      where
+        held_all : AllByRecursion (λ out. IfSome out (λ w. HasVisit all P next (point + 1) w)) (goes.0 ∷ goes.1)
+        held_all = subst (AllByRecursion (λ out. IfSome out (λ w. HasVisit all P next (point + 1) w))) goes.4 held
+
+        go : (b : Bool) → cond b (Some d) (find test cs) ≡ Some c → (find test cs ≡ Some c → Follows P names all has events next (point + 1) (environment ++ bs) past) → Follows P names all has events next (point + 1) (environment ++ bs) past
+        go true k others =
+            let same : d ≡ c = of_some d c k in
+            ruled_follows d.ruled v by facts goes.0 over.0 (ap (λ (x : choosing.Choice). ruled_value environment x.ruled) same ∙ gives) closed derived goes.2 held_all.0
+        go false k others = others k
 
     -- The thread takes the value with the label.
-    pub take_follows : (expression : Expression) (otherwise : Process) (label : ℕ) → ((d : ℕ) → AllByRecursion IsProperRule (rules_of P d)) → value_at P environment expression label ≡ Some value → Follows P names all has events (Let pattern expression next otherwise) point environment past → Follows P names all has events next (point + 1) (environment ++ bs) past
-    take_follows (Plain term) otherwise zero proper e f =
-        let same : value_of environment term ≡ value = cc in
-        let goes = f.has_visit.1 in
-        let held = subst (AllByRecursion (λ out. IfSome out (λ w. HasVisit all P next (point + 1) w))) goes.2 f.has_visit.2 in
-        term_follows term f.visit f.by f.facts goes.0 (sym same) f.closed f.derived goes.1 held.0
-    take_follows (Plain term) otherwise (suc label) proper e f = cc
-    take_follows (Call d arguments) otherwise label proper e f = go (numbered (rules_of P d) label) refl e
-      where
-        at_place : (n : ℕ) (rule : Rule) → numbered (rules_of P d) n ≡ Some rule → rule_value rule (values_of environment arguments) ≡ Some value → Follows P names all has events next (point + 1) (environment ++ bs) past
-        at_place zero rule h gives = cc
-        at_place (suc k) rule h gives =
-            found_follows arguments (rules_of P d) k rule f.has_visit.0 f.visit f.by f.facts h (all_numbered IsProperRule (rules_of P d) (suc k) rule h (proper d)) gives f.closed f.derived f.has_visit.1 f.has_visit.2
-
-        go : (o : Option Rule) → numbered (rules_of P d) label ≡ o → option_and_then (λ rule. rule_value rule (values_of environment arguments)) o ≡ Some value → Follows P names all has events next (point + 1) (environment ++ bs) past
-        go None h gives = cc
-        go (Some rule) h gives = at_place label rule h gives
+    pub take_follows : (expression : Expression) (otherwise : Process) (label : List ℕ) → ((d : ℕ) → AllByRecursion IsProperRule (rules_of P d)) → value_at P environment expression label ≡ Some value → Follows P names all has events (Let pattern expression next otherwise) point environment past → Follows P names all has events next (point + 1) (environment ++ bs) past
+    take_follows expression otherwise label proper e f =
+        let (c, found, gives) = of_then (λ c. ruled_value environment c.ruled) (choice_at P expression label) value e in
+        let over = choices_over AnyTerm IsProperRule P proper expression (each-holds AnyTerm (λ t. tt) (leaves expression)) in
+        found_follows (λ d. same_label (label_of d.rules) label) (choices P expression) c f.has_visit.0 f.visit f.by f.facts found over gives f.closed f.derived f.has_visit.1 f.has_visit.2
 
   -- the else branch
   pub fail_follows : (environment : Environment) (past : Past) (pattern : Pattern) (expression : Expression) (otherwise : Process) → Follows P names all has events (Let pattern expression next otherwise) point environment past → Follows P names all has events otherwise (point_after (point + 1) next) environment past

@@ -13,14 +13,14 @@ use Rattle.spec_calculus.specs.Values.{Atom, FreeName, MadeName, AttackerName, B
 use Rattle.spec_calculus.specs.Runs.{At, Configuration, Step, Build, Reduce, Part, Fresh, Split, Copy, Make, Pass, Hear, Say, Take, Fail, Mark, goes_on, after_make, public_name, start, acting, after_step, after_steps, run}
 use Rattle.spec_calculus.specs.Runs as runs
 use Rattle.spec_calculus.specs.Standing.{Lacks, EnvironmentLacks, ThreadLacks, IsLacking}
-use Rattle.spec_calculus.proofs.Items.{each-append, each-replaced, each-numbered, if_some-is}
+use Rattle.spec_calculus.proofs.Items.{of_some, of_then, each-append, each-replaced, each-numbered, if_some-is}
 use Rattle.spec_calculus.proofs.Lacking.{MakesNone, step_lacks}
 use Rattle.spec_calculus.proofs.Freshness.{none_passes, lacking_weaker}
 use Rattle.spec_clauses.specs.Inclusion.{here, there, Has}
 use Rattle.spec_abstraction.specs.Trace.{MadeAt, Trace, start_trace, past_of, message_at, point_of, standing_at, after_trace, trace_from, trace_of}
 pub use Rattle.spec_abstraction.specs.OneToOne.{is_entry, is_foreign}
 use Rattle.spec_abstraction.proofs.Runs.{hears_made}
-use Rattle.spec_abstraction.proofs.Steps.{of_then, of_some, acted}
+use Rattle.spec_abstraction.proofs.Steps.{acted}
 
 -- with one entry more no name becomes foreign
 more_entries : (e : MadeAt) (made : List MadeAt) (x : Atom) → is_foreign made x ≡ false → is_foreign (e ∷ made) x ≡ false

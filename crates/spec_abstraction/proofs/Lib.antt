@@ -6,6 +6,7 @@ pub mod Conclusions
 pub mod Knowledge
 pub mod Standing
 pub mod Following
+pub mod Applied
 pub mod Choosing
 pub mod Pairs
 pub mod Steps

@@ -13,7 +13,7 @@ use Rattle.spec_calculus.specs.Points.{numbered, replaced}
 use Rattle.spec_calculus.specs.Values.{Atom, FreeName, MadeName, AttackerName, Value, Environment, value_of}
 use Rattle.spec_calculus.specs.Runs.{At, Configuration, Step, Build, Reduce, Part, Fresh, Split, Copy, Make, Pass, Hear, Say, Take, Fail, Mark, start, acting, after_step, after_steps, run}
 use Rattle.spec_calculus.specs.Standing.{Lacks, EnvironmentLacks, ThreadLacks, is_numbered_from, NextIsNew}
-use Rattle.spec_calculus.proofs.Items.{if_some-is}
+use Rattle.spec_calculus.proofs.Items.{of_then, if_some-is}
 use Rattle.spec_calculus.proofs.Growth.{numbers_are_taken}
 use Rattle.spec_calculus.proofs.Leaves.{some_leaf-weaker}
 use Rattle.spec_calculus.proofs.Freshness.{step_keeps_new, next_is_new}
@@ -24,7 +24,7 @@ use Rattle.spec_translation.proofs.Conversions.{converted-same}
 use Rattle.spec_abstraction.specs.Trace.{Past, nothing_past, MadeAt, Trace, start_trace, past_of, message_at, hears, after_trace, trace_from, trace_of}
 use Rattle.spec_abstraction.specs.Naming.{atom_term, abstracted, made_term, Names, naming}
 use Rattle.spec_abstraction.proofs.Conclusions.{all_numbered}
-use Rattle.spec_abstraction.proofs.Steps.{of_then, acted}
+use Rattle.spec_abstraction.proofs.Steps.{acted}
 
 -- no name in the past has this number or a later one
 abbrev pub PastLacks : ℕ → Past → Type 0

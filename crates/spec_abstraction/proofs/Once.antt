@@ -5,19 +5,21 @@ use Rattle.std.specs.Option.{option_map_or}
 use Rattle.std.specs.List.{list_any}
 use Rattle.std.proofs.lemmas.Bool.{eq-eqb}
 use Rattle.spec_trees.specs.Tree.{Leaf}
+use Rattle.spec_calculus.proofs.Items.{of_some, of_cond, of_then, of_map}
 use Rattle.spec_clauses.specs.Inclusion.{Picks, here, there}
 use Rattle.spec_calculus.specs.Syntax as calculus
 use Rattle.spec_calculus.specs.Syntax.{Made, Pattern, Process, Nil, Output, Input, Parallel, Replication, New, Let, Event, Protocol}
 use Rattle.spec_calculus.specs.Points.{numbered, replaced, nodes, point_after}
 use Rattle.spec_calculus.specs.Values.{MadeName, AttackerName, Value, Environment, same_value, value_of, values_of}
-use Rattle.spec_calculus.specs.Matching.{matched, rule_value, rules_of, value_at, values_at}
+use Rattle.spec_calculus.specs.Matching.{matched, rule_value, rules_of}
+use Rattle.spec_calculus.specs.Choices.{value_at, values_at}
 use Rattle.spec_calculus.specs.Runs.{Thread, At, Ended, Configuration, Step, Build, Reduce, Part, Fresh, Split, Copy, Make, Pass, Hear, Say, Take, Fail, Mark, start, acting, learns, goes_on, begins, knows, known_values, can_build, built, part_of, after_split, after_copy, after_make, received, after_receipt, after_pass, after_hear, after_say, after_take, after_fail, after_mark, after_step, after_steps, run}
 use Rattle.spec_calculus.specs.Runs as runs
 use Rattle.spec_abstraction.specs.Trace.{Past, nothing_past, MadeAt, Trace, start_trace, past_of, message_at, hears, goes_with, point_of, standing_at, after_trace, trace_from, trace_of}
 use Rattle.spec_abstraction.specs.OneToOne.{AreOnce}
 use Rattle.spec_abstraction.proofs.Standing.{Stands, whole_stands, stands_numbered, output_next, input_next, parallel_left, parallel_right, replication_next, new_next, let_next, let_otherwise, event_next}
 use Rattle.spec_abstraction.proofs.Pairs.{SideBySide, pairs_append, numbered_pair, replaced_left}
-use Rattle.spec_abstraction.proofs.Steps.{of_some, of_cond, of_then, of_map, acted}
+use Rattle.spec_abstraction.proofs.Steps.{acted}
 use Rattle.spec_abstraction.proofs.Reaching.{continues, same_numbers, weight, extent, is_below, reached, threads_reach, is_made_at, made_at, weight_small, goes_within, goes_apart, goes_copied, goes_made, threads_later, replaced_reach, begun_reach, heard_reach}
 
 -- the same numbers are told to be
@@ -217,7 +219,7 @@ module _ (P : Protocol) where
         (goes_once P.main c.threads t n point environment (received point environment o) at (received_placed P.main point (above + 1) environment next o (past_of t n) r) (received_narrows P.main point above (above + 1) environment (Input channel pattern next) next o s r (omega arith)) a)
     say_once n point above v environment _ d at s e = cc
 
-    take_once : (n label point above : ℕ) (environment : Environment) (process : Process) (d : Configuration) → numbered c.threads n ≡ Some (At point environment) → Stands P.main point process above → after_take P c n label point environment process ≡ Some d → IsOnce P.main d.threads t
+    take_once : (n : ℕ) (label : List ℕ) (point above : ℕ) (environment : Environment) (process : Process) (d : Configuration) → numbered c.threads n ≡ Some (At point environment) → Stands P.main point process above → after_take P c n label point environment process ≡ Some d → IsOnce P.main d.threads t
     take_once n label point above environment (Let pattern expression next otherwise) d at s e =
         let (bs, chosen, is) = of_map (λ bs. goes_on c n (At (point + 1) (environment ++ bs))) (option_and_then (matched environment pattern) (value_at P environment expression label)) d e in
         let sum : length (nodes next ++ nodes otherwise) ≡ length (nodes next) + length (nodes otherwise) = length-append (nodes next) (nodes otherwise) in

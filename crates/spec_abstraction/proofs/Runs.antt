@@ -9,6 +9,7 @@ use Rattle.spec_calculus.specs.Points.{numbered}
 use Rattle.spec_calculus.specs.Values.{FreeName, Value}
 use Rattle.spec_calculus.specs.Matching.{rules_of}
 use Rattle.spec_calculus.specs.Runs.{Performed, Configuration, Step, Build, Reduce, Part, Fresh, Split, Copy, Make, Pass, Hear, Say, Take, Fail, Mark, public_name, start, acting, after_step, after_steps, run}
+use Rattle.spec_calculus.proofs.Items.{of_then}
 use Rattle.spec_well_formed.specs.Rules.{IsProperRule}
 use Rattle.spec_well_formed.specs.Processes.{HasLinearPatterns}
 use Rattle.spec_terms.specs.Term.{Term}
@@ -29,7 +30,7 @@ use Rattle.spec_abstraction.proofs.Listed.{taken_derive}
 use Rattle.spec_abstraction.proofs.Conclusions.{AttackerHas, attacker_has, applied}
 use Rattle.spec_abstraction.proofs.Knowledge.{IsKnown}
 use Rattle.spec_abstraction.proofs.Standing.{whole_stands}
-use Rattle.spec_abstraction.proofs.Steps.{of_then, Tracked, step_tracked}
+use Rattle.spec_abstraction.proofs.Steps.{Tracked, step_tracked}
 
 -- the names that are made stay made
 record MadeMore (t u : Trace) : Type 0 where

@@ -9,10 +9,12 @@ use Rattle.spec_calculus.specs.Syntax.{Made, Pattern, Expression, Process, Nil, 
 use Rattle.spec_calculus.specs.Syntax as calculus
 use Rattle.spec_calculus.specs.Points.{numbered, replaced, nodes, point_after}
 use Rattle.spec_calculus.specs.Values.{MadeName, AttackerName, Value, Environment, same_value, value_of, values_of}
-use Rattle.spec_calculus.specs.Matching.{matched, rule_value, rules_of, value_at, values_at}
+use Rattle.spec_calculus.specs.Matching.{matched, rule_value, rules_of}
+use Rattle.spec_calculus.specs.Choices.{value_at, values_at}
 use Rattle.spec_calculus.specs.Runs.{Thread, At, Ended, Performed, Configuration, Step, Build, Reduce, Part, Fresh, Split, Copy, Make, Pass, Hear, Say, Take, Fail, Mark, acts, acting, learns, goes_on, begins, performs, knows, known_values, can_build, built, part_of, after_split, after_copy, after_make, received, after_receipt, after_pass, after_hear, after_say, after_take, after_fail, after_mark, after_step}
 use Rattle.spec_calculus.specs.Runs as runs
 use Rattle.spec_calculus.proofs.Equality.{same_value-sound}
+use Rattle.spec_calculus.proofs.Items.{of_some, of_cond, of_then, of_map}
 use Rattle.spec_well_formed.specs.Rules.{IsProperRule}
 use Rattle.spec_well_formed.specs.Processes.{HasLinearPatterns}
 use Rattle.spec_terms.specs.Term.{Term}
@@ -58,22 +60,6 @@ acted {A} P c number action x e = go (numbered c.threads number) refl e
     go None f h = cc
     go (Some Ended) f h = cc
     go (Some (At point environment)) f h = inner point environment f (numbered (nodes P.main) point) refl h
-
-pub of_some : {A : Type 0} (x y : A) → Some x ≡ Some y → x ≡ y
-of_some x y e = cc
-
--- a choice that gives something
-pub of_cond : {A : Type 0} (b : Bool) (o : Option A) (x : A) → cond b o None ≡ Some x → (b ≡ true) × (o ≡ Some x)
-of_cond true o x e = (refl, e)
-of_cond false o x e = cc
-
-pub of_then : {A B : Type 0} (f : A → Option B) (o : Option A) (y : B) → option_and_then f o ≡ Some y → (x : A) × (o ≡ Some x) × (f x ≡ Some y)
-of_then f None y e = cc
-of_then f (Some x) y e = (x, refl, e)
-
-pub of_map : {A B : Type 0} (f : A → B) (o : Option A) (y : B) → option_map f o ≡ Some y → (x : A) × (o ≡ Some x) × (f x ≡ y)
-of_map f None y e = cc
-of_map f (Some x) y e = (x, refl, of_some (f x) y e)
 
 -- places in a list with one more at its end
 place_in : {X : Type 0} (xs : List X) (x : X) (k : ℕ) (y : X) → slice_get (xs ++ x ∷ []) k ≡ Some y → ((slice_get xs k ≡ Some y) × (take k (xs ++ x ∷ []) ≡ take k xs)) ⊎ ((x ≡ y) × (take k (xs ++ x ∷ []) ≡ xs))
@@ -237,7 +223,7 @@ module _ (P : Protocol) (names : Naming) (all : List (Clause Term)) (has : Attac
       say_tracked number point v environment _ d known s f e = cc
 
       -- a value is taken, or none
-      take_tracked : (number label point : ℕ) (environment : Environment) (process : Process) (d : Configuration) → Stands P.main point process (past_count (past_of t number)) → Follows P names all has (facts_after c.events) process point environment (past_of t number) → after_take P c number label point environment process ≡ Some d → Tracked d t
+      take_tracked : (number : ℕ) (label : List ℕ) (point : ℕ) (environment : Environment) (process : Process) (d : Configuration) → Stands P.main point process (past_count (past_of t number)) → Follows P names all has (facts_after c.events) process point environment (past_of t number) → after_take P c number label point environment process ≡ Some d → Tracked d t
       take_tracked number label point environment (Let pattern expression next otherwise) d s f e =
           let (bs, chosen, is) = of_map (λ bs. goes_on c number (At (point + 1) (environment ++ bs))) (option_and_then (matched environment pattern) (value_at P environment expression label)) d e in
           let (v, gives, match) = of_then (matched environment pattern) (value_at P environment expression label) bs chosen in

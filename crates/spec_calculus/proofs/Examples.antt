@@ -1,7 +1,7 @@
 -- Small protocols, their runs worked out by hand: the definitions give them so.
 use Rattle.std.proofs.Common.{◌≡◌, true, false, List, [], ◌∷◌, None, Some, Contains, zero, suc, refl, sym, subst, arith, lit<}
 use Rattle.spec_trees.specs.Tree.{Leaf, node}
-use Rattle.spec_calculus.specs.Syntax.{Free, Made, Variable, Constructor, Tuple, Bind, Equal, Plain, Call, EventTerm, Process, Nil, Output, Input, Parallel, Replication, New, Let, Event, Secret, Correspondence, Protocol}
+use Rattle.spec_calculus.specs.Syntax.{Free, Made, Variable, Constructor, Tuple, Bind, Equal, Calls, EventTerm, Process, Nil, Output, Input, Parallel, Replication, New, Let, Event, Secret, Correspondence, Protocol}
 use Rattle.spec_calculus.specs.Values.{FreeName, MadeName, AttackerName, Value, Environment}
 use Rattle.spec_calculus.specs.Runs.{At, Ended, Configuration, Step, Build, Reduce, Part, Fresh, Split, Copy, Make, Pass, Hear, Say, Take, Fail, Mark, run}
 use Rattle.spec_calculus.specs.Secrecy.{IsViolated, AllPerformed, instance, Holds}
@@ -57,7 +57,7 @@ no_thread = refl
 -- `new n; in(c,x); if x = n then out(c,s) else out(c,n)`: the attacker says c, which is not n, and hears n
 abbrev pub compares : Protocol
 compares = with_main (New (110 ∷ []) (Input (Leaf (Free 1)) (Leaf (Bind 1))
-    (Let (Leaf (Equal (Leaf (Made 1)))) (Plain (Leaf (Variable 1)))
+    (Let (Leaf (Equal (Leaf (Made 1)))) (Leaf (Leaf (Variable 1)))
     (Output (Leaf (Free 1)) (Leaf (Free 2)) Nil) (Output (Leaf (Free 1)) (Leaf (Made 1)) Nil))))
 
 pub not_equal : run compares (Make 1 ∷ Say 1 1 ∷ Fail 1 ∷ Hear 1 ∷ []) ≡ Some (record {
@@ -69,10 +69,10 @@ pub not_equal : run compares (Make 1 ∷ Say 1 1 ∷ Fail 1 ∷ Hear 1 ∷ []) �
 not_equal = refl
 
 -- where it is not equal the first branch is not taken, and where it is equal the second is not
-pub no_first_branch : run compares (Make 1 ∷ Say 1 1 ∷ Take 1 0 ∷ []) ≡ None
+pub no_first_branch : run compares (Make 1 ∷ Say 1 1 ∷ Take 1 (0 ∷ []) ∷ []) ≡ None
 no_first_branch = refl
 
-pub no_second_branch : run (with_main (Let (Leaf (Bind 1)) (Plain (Leaf (Free 1))) Nil Nil)) (Fail 1 ∷ []) ≡ None
+pub no_second_branch : run (with_main (Let (Leaf (Bind 1)) (Leaf (Leaf (Free 1))) Nil Nil)) (Fail 1 ∷ []) ≡ None
 no_second_branch = refl
 
 -- `free c. private free k. fun enc/2. reduc dec(enc(x,y),y) -> x. event begin/1. event end/1.
@@ -91,7 +91,7 @@ ends_too_soon = record {
   main = Parallel
       (Replication (New (110 ∷ []) (Output (Leaf (Free 1)) (node (Constructor 1) (Leaf (Made 3) ∷ Leaf (Free 2) ∷ []))
       (Event (record { event = 1; arguments = Leaf (Made 3) ∷ [] }) Nil))))
-      (Replication (Input (Leaf (Free 1)) (Leaf (Bind 1)) (Let (Leaf (Bind 2)) (Call 1 (Leaf (Variable 1) ∷ Leaf (Free 2) ∷ []))
+      (Replication (Input (Leaf (Free 1)) (Leaf (Bind 1)) (Let (Leaf (Bind 2)) (node (Calls 1) (Leaf (Leaf (Variable 1)) ∷ Leaf (Leaf (Free 2)) ∷ []))
       (Event (record { event = 2; arguments = Leaf (Variable 2) ∷ [] }) Nil) Nil)));
 }
 
@@ -102,7 +102,7 @@ abbrev the_message : Value
 the_message = node (Constructor 1) (the_name ∷ Leaf (FreeName 2) ∷ [])
 
 abbrev pub eight_steps : List Step
-eight_steps = Split 1 ∷ Copy 1 ∷ Make 3 ∷ Hear 3 ∷ Copy 2 ∷ Say 4 2 ∷ Take 4 1 ∷ Mark 4 ∷ []
+eight_steps = Split 1 ∷ Copy 1 ∷ Make 3 ∷ Hear 3 ∷ Copy 2 ∷ Say 4 2 ∷ Take 4 (1 ∷ []) ∷ Mark 4 ∷ []
 
 abbrev pub after_eight : Configuration
 after_eight = record {

@@ -2,9 +2,9 @@
 use Rattle.std.proofs.Common.{◌≡◌, ℕ, ◌+◌, ◌≤◌, ◌<◌, Bool, true, false, nat_le, List, [], ◌∷◌, None, Some, IfSome, cond, filter_map, refl, arith}
 use Rattle.std.proofs.lemmas.Bool.Decides.{nat_tests}
 use Rattle.std.specs.List.{AllByRecursion, cons_option, enumerate_from}
-use Rattle.spec_trees.specs.Tree.{Leaf}
+use Rattle.spec_trees.specs.Tree.{Leaf, some_leaf}
 use Rattle.spec_trees.proofs.Occurrence.{some_leaf-never}
-use Rattle.spec_calculus.specs.Syntax.{Term, Hole, Bind, Equal, Expression, Plain, Call, Process, Nil, Output, Input, Parallel, Replication, New, Let, Event, Declared, Protocol}
+use Rattle.spec_calculus.specs.Syntax.{Term, Hole, Bind, Equal, Expression, Process, Nil, Output, Input, Parallel, Replication, New, Let, Event, Declared, Protocol}
 use Rattle.spec_calculus.specs.Values.{Atom, FreeName, MadeName, AttackerName, Value}
 use Rattle.spec_calculus.specs.Runs.{Thread, At, Ended, Configuration, Step, Fresh, Make, public_name, start, after_step, run}
 use Rattle.spec_calculus.specs.Absence.{some_term, some_hole, some_expression, some_name}
@@ -52,8 +52,7 @@ none_in_hole (Bind i) = refl
 none_in_hole (Equal term) = some_leaf-never (λ x. false) (λ x. refl) term
 
 none_in_expression : (e : Expression) → some_expression (λ x. false) e ≡ false
-none_in_expression (Plain term) = some_leaf-never (λ x. false) (λ x. refl) term
-none_in_expression (Call d arguments) = none_among arguments
+none_in_expression e = some_leaf-never (some_leaf (λ x. false)) (λ t. some_leaf-never (λ x. false) (λ x. refl) t) e
 
 pub none_passes : (process : Process) → some_name (λ x. false) process ≡ false
 none_passes Nil = refl

@@ -7,7 +7,8 @@ use Rattle.spec_trees.specs.Tree.{Leaf}
 use Rattle.spec_calculus.specs.Syntax.{EventTerm, Process, Output, Input, Parallel, Replication, New, Let, Event, Protocol, Query, Secret, SecretNew, Correspondence}
 use Rattle.spec_calculus.specs.Points.{numbered, nodes, point_after}
 use Rattle.spec_calculus.specs.Values.{MadeName, AttackerName, Value, Environment, same_value, value_of, values_of}
-use Rattle.spec_calculus.specs.Matching.{matched, rule_value, rules_of, value_at, values_at}
+use Rattle.spec_calculus.specs.Matching.{matched, rule_value, rules_of}
+use Rattle.spec_calculus.specs.Choices.{value_at, values_at}
 use Rattle.spec_calculus.specs.Runs.{Thread, At, Ended, Performed, Configuration, Step, Build, Reduce, Part, Fresh, Split, Copy, Make, Pass, Hear, Say, Take, Fail, Mark, acts, acting, knows, learns, goes_on, known_values, can_build, built, part_of, received, after_split, after_copy, after_make, after_receipt, after_pass, after_hear, after_say, after_take, after_fail, after_mark, after_step, after_steps}
 use Rattle.spec_calculus.specs.Standing.{names_made}
 use Rattle.spec_calculus.specs.Secrecy.{IsViolated, IsUnpreceded, AllPerformed, instance}
@@ -90,7 +91,7 @@ module _ (P : Protocol) where
       (goes_on_advances c j (received point environment (matched environment pattern v)))
   say_advances c j v point environment other = tt
 
-  take_advances : (c : Configuration) (i label point : ℕ) (environment : Environment) (process : Process) → IfSome (after_take P c i label point environment process) (Advances 0 c)
+  take_advances : (c : Configuration) (i : ℕ) (label : List ℕ) (point : ℕ) (environment : Environment) (process : Process) → IfSome (after_take P c i label point environment process) (Advances 0 c)
   take_advances c i label point environment (Let pattern expression next otherwise) =
       if_some-map (Advances 0 c) (λ bindings. goes_on c i (At (point + 1) (environment ++ bindings)))
       (option_and_then (matched environment pattern) (value_at P environment expression label))

@@ -3,15 +3,17 @@ use Rattle.std.proofs.Common.{◌≡◌, ℕ, zero, suc, ◌+◌, Bool, true, fa
 use Rattle.std.specs.List.{AllByRecursion, list_any}
 use Rattle.spec_trees.specs.Tree.{Trees, Leaf, Node, none, more, trees, items_of, some_leaf, some_leaves}
 use Rattle.spec_trees.proofs.Occurrence.{or_false, some_leaf-bind, some_leaf-never}
-use Rattle.spec_calculus.specs.Syntax.{Name, Free, Made, Variable, Symbol, Term, Hole, Bind, Equal, Pattern, Expression, Plain, Call, Rule, Process, Nil, Output, Input, Parallel, Replication, New, Let, Event, Protocol}
+use Rattle.spec_calculus.specs.Syntax.{Name, Free, Made, Variable, Symbol, Term, Hole, Bind, Equal, Pattern, Head, Builds, Calls, Expression, Rule, Ruled, Process, Nil, Output, Input, Parallel, Replication, New, Let, Event, Protocol}
 use Rattle.spec_calculus.specs.Points.{numbered, nodes, point_after}
 use Rattle.spec_calculus.specs.Values.{Atom, FreeName, MadeName, AttackerName, Value, Environment, same_name, same_symbol, same_value, same_values, bound_to, value_of_bound, value_of_name, value_of, values_of}
-use Rattle.spec_calculus.specs.Matching.{matched, matched_row, places, places_row, instance_of, rule_value, rules_of, value_at, values_at}
+use Rattle.spec_calculus.specs.Matching.{matched, matched_row, places, places_row, instance_of, rule_value, rules_of}
+use Rattle.spec_calculus.specs.Choices.{choices, choice_at, same_label, label_of, head_value, ruled_value, ruled_values, value_at, values_at}
 use Rattle.spec_calculus.specs.Runs.{Thread, At, Ended, Configuration, Step, Build, Reduce, Part, Fresh, Split, Copy, Make, Pass, Hear, Say, Take, Fail, Mark, acts, acting, knows, learns, goes_on, begins, known_values, can_build, built, is_data, part_of, received, after_split, after_copy, after_make, after_receipt, after_pass, after_hear, after_say, after_take, after_fail, after_mark, after_step}
 use Rattle.spec_calculus.specs.Absence.{some_term, some_pattern, some_expression, some_name}
 use Rattle.spec_calculus.specs.Standing.{Lacks, EnvironmentLacks, ThreadLacks, EventLacks, IsLacking}
-use Rattle.spec_calculus.proofs.Items.{each-append, each-numbered, each-replaced, if_some-is, if_some-choice, if_some-cond, if_some-unwrap, if_some-then, if_some-map}
+use Rattle.spec_calculus.proofs.Items.{each-append, each-numbered, each-replaced, each-found, each-holds, if_some-is, if_some-choice, if_some-cond, if_some-unwrap, if_some-then, if_some-map}
 use Rattle.spec_calculus.proofs.Leaves.{some_leaf-weaker}
+use Rattle.spec_calculus.proofs.Choices.{IsOver, IsRowOver, choices_over, each_leaf_fails}
 
 -- where no term of a process has a leaf that passes, none of a node of it has one
 pub nodes_lack : (test : Name → Bool) (process : Process) → some_name test process ≡ false → AllByRecursion (λ node. some_name test node ≡ false) (nodes process)
@@ -133,12 +135,38 @@ module _ (p : Atom → Bool) (test : Name → Bool) (free : (n : ℕ) → test (
       (instance_of (places_row (trees rule.left) (trees vs)) rule.right)
       (instance_lacks (places_row (trees rule.left) (trees vs)) rule.right (places_row_lack p (trees rule.left) (trees vs) (row_lacks p vs h)))
 
-  value_at_lacks : (P : Protocol) (environment : Environment) (e : Expression) (label : ℕ) → EnvironmentLacks p environment → some_expression test e ≡ false → IfSome (value_at P environment e label) (Lacks p)
-  value_at_lacks P environment (Plain term) zero h k = value_lacks environment h term k
-  value_at_lacks P environment (Plain term) (suc label) h k = tt
-  value_at_lacks P environment (Call d arguments) label h k =
-      if_some-then (Lacks p) (λ rule. rule_value rule (values_of environment arguments)) (numbered (rules_of P d) label)
-      (λ rule is. rule_value_lacks rule (values_of environment arguments) (values_lack environment h arguments k))
+  -- the value by chosen rules
+  abbrev LacksTerm : Term → Type 0
+  LacksTerm t = some_leaf test t ≡ false
+
+  abbrev AnyRule : Rule → Type 0
+  AnyRule rule = Unit {0}
+
+  mutual
+    ruled_lacks : (environment : Environment) → EnvironmentLacks p environment → (r : Ruled) → IsOver LacksTerm AnyRule r → IfSome (ruled_value environment r) (Lacks p)
+    ruled_lacks environment h (Leaf t) k = value_lacks environment h t k
+    ruled_lacks environment h (Node (Builds f) parts) k =
+        if_some-then (Lacks p) (head_value (Builds f)) (ruled_values environment parts)
+        (λ vs is. row_lacks p vs (if_some-is (AllByRecursion (Lacks p)) (ruled_values environment parts) vs (ruled_row_lacks environment h parts k) is))
+    ruled_lacks environment h (Node (Calls rule) parts) k =
+        if_some-then (Lacks p) (head_value (Calls rule)) (ruled_values environment parts)
+        (λ vs is. rule_value_lacks rule vs (if_some-is (AllByRecursion (Lacks p)) (ruled_values environment parts) vs (ruled_row_lacks environment h parts k.1) is))
+
+    ruled_row_lacks : (environment : Environment) → EnvironmentLacks p environment → (rs : Trees Term (Head Rule)) → IsRowOver LacksTerm AnyRule rs → IfSome (ruled_values environment rs) (AllByRecursion (Lacks p))
+    ruled_row_lacks environment h none k = tt
+    ruled_row_lacks environment h (more part parts) k =
+        if_some-then (AllByRecursion (Lacks p)) (λ v. option_map (λ vs. v ∷ vs) (ruled_values environment parts)) (ruled_value environment part)
+        (λ v is. if_some-map (AllByRecursion (Lacks p)) (λ vs. v ∷ vs) (ruled_values environment parts)
+        (λ vs is_too. (
+          if_some-is (Lacks p) (ruled_value environment part) v (ruled_lacks environment h part k.0) is,
+          if_some-is (AllByRecursion (Lacks p)) (ruled_values environment parts) vs (ruled_row_lacks environment h parts k.1) is_too,
+        )))
+
+  value_at_lacks : (P : Protocol) (environment : Environment) (e : Expression) (label : List ℕ) → EnvironmentLacks p environment → some_expression test e ≡ false → IfSome (value_at P environment e label) (Lacks p)
+  value_at_lacks P environment e label h k =
+      if_some-then (Lacks p) (λ c. ruled_value environment c.ruled) (choice_at P e label)
+      (λ c is. ruled_lacks environment h c.ruled (each-found (λ d. same_label (label_of d.rules) label) (λ d. IsOver LacksTerm AnyRule d.ruled) (choices P e) c
+      (choices_over LacksTerm AnyRule P (λ d. each-holds AnyRule (λ rule. tt) (rules_of P d)) e (each_leaf_fails (some_leaf test) e k)) is))
 
   known_values_lack : (c : Configuration) (ks : List ℕ) → IsLacking p c → IfSome (known_values c ks) (AllByRecursion (Lacks p))
   known_values_lack c [] h = tt
@@ -234,7 +262,7 @@ module _ (p : Atom → Bool) (test : Name → Bool) (free : (n : ℕ) → test (
         (received_lacks point environment (matched environment pattern v) k (matched_lacks p environment pattern v m)))
     say_lacks c j v h m point environment other k l = tt
 
-    take_lacks : (c : Configuration) (i label : ℕ) → IsLacking p c → Keeps (after_take P c i label)
+    take_lacks : (c : Configuration) (i : ℕ) (label : List ℕ) → IsLacking p c → Keeps (after_take P c i label)
     take_lacks c i label h point environment (Let pattern expression next otherwise) k l =
         let parts = or_false (some_pattern test pattern || some_expression test expression || some_name test next) (some_name test otherwise) l in
         let front = or_false (some_pattern test pattern || some_expression test expression) (some_name test next) parts.0 in

@@ -1,6 +1,10 @@
 pub mod Points
 pub mod Items
 pub mod Leaves
+pub mod Choices
+pub mod Labels
+pub mod ByParts
+pub mod PartValues
 pub mod Steps
 pub mod Equality
 pub mod Lacking
@@ -8,6 +12,7 @@ pub mod Absence
 pub mod Growth
 pub mod Freshness
 pub mod Examples
+pub mod ExamplesNested
 pub mod Rules
 pub mod Closure
 pub mod Patterns

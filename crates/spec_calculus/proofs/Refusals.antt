@@ -8,7 +8,8 @@ use Rattle.spec_calculus.specs.Bounds.{most_arguments}
 use Rattle.spec_calculus.specs.Syntax.{Process, Output, Input, Parallel, Replication, New, Let, Event, Declared, Rule, Protocol}
 use Rattle.spec_calculus.specs.Points.{numbered, nodes, point_after}
 use Rattle.spec_calculus.specs.Values.{Value, Environment, same_value, value_of}
-use Rattle.spec_calculus.specs.Matching.{matched, instance_of, rule_value, rules_of, value_at, values_at}
+use Rattle.spec_calculus.specs.Matching.{matched, instance_of, rule_value, rules_of}
+use Rattle.spec_calculus.specs.Choices.{value_at, values_at}
 use Rattle.spec_calculus.specs.Runs.{Thread, At, Ended, Configuration, Step, Build, Reduce, Part, Fresh, Split, Copy, Make, Pass, Hear, Say, Take, Fail, Mark, acts, acting, knows, learns, goes_on, known_values, can_build, built, part_of, received, after_split, after_copy, after_make, after_receipt, after_pass, after_hear, after_say, after_take, after_fail, after_mark, after_step}
 use Rattle.spec_calculus.specs.Refusals.{Refusal, NoThread, WrongForm, UnknownChannel, ChannelsDiffer, NoKnowledge, NoRule, NotFailing, NotPublic, first_cause, where_true, takes, is_public_constructor, first_arity, reduces, at_split, at_copy, at_make, at_output, at_input, at_take, at_fail, at_mark, no_thread, refusal, AreUniform, IsUniform}
 use Rattle.spec_calculus.proofs.Items.{each-slice_get, if_some-is}
@@ -128,7 +129,7 @@ module _ (P : Protocol) (c : Configuration) where
       (receipt_like i j (At (point + 1) environment) (value_of environment channel) (value_of environment message))
   pass_like i j point environment other = refl
 
-  take_like : (i label point : ℕ) (environment : Environment) (process : Process) → is_some (after_take P c i label point environment process) ≡ option_map_or (λ matches. matches) (at_take P label point environment process) false
+  take_like : (i : ℕ) (label : List ℕ) (point : ℕ) (environment : Environment) (process : Process) → is_some (after_take P c i label point environment process) ≡ option_map_or (λ matches. matches) (at_take P label point environment process) false
   take_like i label point environment (Let pattern expression next otherwise) =
       is_some-map (λ bindings. goes_on c i (At (point + 1) (environment ++ bindings))) (option_and_then (matched environment pattern) (value_at P environment expression label))
   take_like i label point environment other = refl

@@ -2,7 +2,7 @@
 use Rattle.std.specs.Prelude.{ℕ, List, Bool, false, not, ◌&&◌, ◌||◌, nat_eq, IsTrue}
 use Rattle.std.specs.Option.{option_map_or}
 use Rattle.spec_trees.specs.Tree.{trees, some_leaf, some_leaves}
-use Rattle.spec_calculus.specs.Syntax.{Name, Free, Term, Hole, Bind, Equal, Pattern, Expression, Plain, Call, Process, Nil, Output, Input, Parallel, Replication, New, Let, Event, Declared, Protocol, Query, Secret}
+use Rattle.spec_calculus.specs.Syntax.{Name, Free, Term, Hole, Bind, Equal, Pattern, Expression, Process, Nil, Output, Input, Parallel, Replication, New, Let, Event, Declared, Protocol, Query, Secret}
 use Rattle.spec_calculus.specs.Points.{numbered}
 
 -- whether the leaf is the free name of that number
@@ -23,8 +23,7 @@ abbrev pub some_pattern : (Name → Bool) → Pattern → Bool
 some_pattern test pattern = some_leaf (some_hole test) pattern
 
 abbrev pub some_expression : (Name → Bool) → Expression → Bool
-some_expression test (Plain term) = some_leaf test term
-some_expression test (Call d arguments) = some_term test arguments
+some_expression test e = some_leaf (some_leaf test) e
 
 -- whether one stands in a term or pattern of the process
 abbrev pub some_name : (Name → Bool) → Process → Bool

@@ -61,6 +61,14 @@ most_points = 4096
 abbrev pub most_points_above : ℕ
 most_points_above = 511
 
+-- applications of destructors in an expression
+abbrev pub most_applications : ℕ
+most_applications = 16
+
+-- choices of rules for the destructors of an expression
+abbrev pub most_choices : ℕ
+most_choices = 65536
+
 -- symbols of a clause or of a bound term, and of a value in a replay
 abbrev pub most_symbols : ℕ
 most_symbols = 16384

@@ -3,7 +3,7 @@ use Rattle.std.specs.Prelude.{◌≡◌, ℕ, zero, suc, ◌⊎◌, List, Option
 use Rattle.std.proofs.Common.{inl, inr}
 use Rattle.std.specs.Coded.{Coded, code_by, coded×, coded⊎, coded_ℕ, coded_list, coded_option}
 use Rattle.spec_trees.specs.Code.{coded_tree}
-use Rattle.spec_calculus.specs.Syntax.{Name, Free, Made, Variable, Symbol, Constructor, Tuple, Term, Hole, Bind, Equal, Pattern, Rule, EventTerm, Destructor, Query, Secret, SecretNew, Correspondence}
+use Rattle.spec_calculus.specs.Syntax.{Name, Free, Made, Variable, Symbol, Constructor, Tuple, Term, Hole, Bind, Equal, Pattern, Head, Builds, Calls, Expression, Rule, EventTerm, Destructor, Query, Secret, SecretNew, Correspondence}
 use Rattle.spec_calculus.specs.Values.{Atom, FreeName, MadeName, AttackerName, Value, Binding, Environment}
 use Rattle.spec_calculus.specs.Runs.{Thread, At, Ended, Performed}
 
@@ -63,6 +63,24 @@ coded_hole = code_by (ℕ ⊎ Term) (coded⊎ coded_ℕ coded_term) hole_parts p
 
 abbrev pub coded_patterns : Coded (List Pattern)
 coded_patterns = coded_list (coded_tree coded_hole coded_symbol)
+
+abbrev head_parts : Head ℕ → Symbol ⊎ ℕ
+head_parts (Builds f) = inl f
+head_parts (Calls d) = inr d
+
+abbrev parts_head : Symbol ⊎ ℕ → Head ℕ
+parts_head (inl f) = Builds f
+parts_head (inr d) = Calls d
+
+pub parts_head-head_parts : (h : Head ℕ) → parts_head (head_parts h) ≡ h
+parts_head-head_parts (Builds f) = refl
+parts_head-head_parts (Calls d) = refl
+
+abbrev pub coded_head : Coded (Head ℕ)
+coded_head = code_by (Symbol ⊎ ℕ) (coded⊎ coded_symbol coded_ℕ) head_parts parts_head parts_head-head_parts
+
+abbrev pub coded_expressions : Coded (List Expression)
+coded_expressions = coded_list (coded_tree coded_term coded_head)
 
 abbrev pub coded_rule : Coded Rule
 coded_rule = code_by (List Term × Term) (coded× coded_terms coded_term) (λ r. (r.left, r.right)) (λ p. record { left = p.0; right = p.1 }) (λ _. refl)

@@ -2,6 +2,8 @@ pub mod Syntax
 pub mod Points
 pub mod Values
 pub mod Matching
+pub mod Choices
+pub mod Labels
 pub mod Runs
 pub mod Codes
 pub mod Secrecy

@@ -1,13 +1,15 @@
 -- The limit of size: which values a step evaluates or makes, and which steps are refused for them.
-use Rattle.std.specs.Prelude.{ℕ, zero, suc, Bool, not, nat_le, List, [], ◌∷◌, ◌++◌, cond, Option, None, Some, option_and_then, option_map, unwrap_or, option_to_list}
-use Rattle.std.specs.List.{list_any}
-use Rattle.std.specs.Option.{option_or}
+use Rattle.std.specs.Prelude.{ℕ, Bool, not, nat_le, List, [], ◌∷◌, ◌++◌, cond, Option, None, Some, option_and_then, option_map, unwrap_or, option_to_list}
+use Rattle.std.specs.List.{list_any, flat_map}
+use Rattle.std.specs.Option.{option_or, option_map_or}
 use Rattle.spec_trees.specs.Tree.{Trees, Leaf, Node, none, more, size}
-use Rattle.spec_calculus.specs.Syntax.{Symbol, Term, Hole, Bind, Equal, Pattern, Expression, Plain, Call, Process, Nil, Output, Input, Parallel, Replication, New, Let, Event, Protocol}
+use Rattle.spec_trees.specs.Leaves.{leaves}
+use Rattle.spec_calculus.specs.Syntax.{Symbol, Term, Hole, Bind, Equal, Pattern, Process, Nil, Output, Input, Parallel, Replication, New, Let, Event, Protocol}
 use Rattle.spec_calculus.specs.Bounds.{most_symbols}
 use Rattle.spec_calculus.specs.Points.{numbered}
 use Rattle.spec_calculus.specs.Values.{Value, Environment, values_of}
-use Rattle.spec_calculus.specs.Matching.{rule_value, rules_of, value_at, values_at}
+use Rattle.spec_calculus.specs.Matching.{rule_value, rules_of}
+use Rattle.spec_calculus.specs.Choices.{choices, choice_at, part_values}
 use Rattle.spec_calculus.specs.Runs.{Configuration, Step, Build, Reduce, Part, Fresh, Split, Copy, Make, Pass, Hear, Say, Take, Fail, Mark, acting, known_values, built, part_of}
 use Rattle.spec_calculus.specs.Refusals.{Refusal, Large, refusal}
 
@@ -26,12 +28,8 @@ abbrev mutual
   compared_row none = []
   compared_row (more p ps) = compared p ++ compared_row ps
 
--- the terms of an expression
-abbrev pub terms_in : Expression → List Term
-terms_in (Plain term) = term ∷ []
-terms_in (Call d arguments) = arguments
-
--- the terms that are written at the root of a process, those of its pattern among them
+-- the terms that are written at the root of a process: those of its pattern, and the largest parts of its expression that hold no
+-- destructor, are among them
 abbrev pub terms_at : Process → List Term
 terms_at Nil = []
 terms_at (Output channel message next) = channel ∷ message ∷ []
@@ -39,7 +37,7 @@ terms_at (Input channel pattern next) = channel ∷ compared pattern
 terms_at (Parallel left right) = []
 terms_at (Replication copied) = []
 terms_at (New word next) = []
-terms_at (Let pattern expression next otherwise) = compared pattern ++ terms_in expression
+terms_at (Let pattern expression next otherwise) = compared pattern ++ leaves expression
 terms_at (Event performed next) = performed.arguments
 
 -- what an action lists at the point of a thread that has not ended
@@ -50,14 +48,15 @@ listed P c i action = unwrap_or (acting P c i action) []
 abbrev pub written : ℕ → Environment → Process → Option (List Value)
 written point environment process = Some (values_of environment (terms_at process))
 
--- the value of that label of a `let`, where there is one
-abbrev pub tried : Protocol → ℕ → ℕ → Environment → Process → Option (List Value)
-tried P label point environment (Let pattern expression next otherwise) = Some (option_to_list (value_at P environment expression label))
+-- the values of the parts of the choice of that label of a `let`, where there is one
+abbrev pub tried : Protocol → List ℕ → ℕ → Environment → Process → Option (List Value)
+tried P label point environment (Let pattern expression next otherwise) =
+    Some (option_map_or (λ c. part_values environment c.ruled) (choice_at P expression label) [])
 tried P label point environment other = None
 
--- all values of a `let`
+-- those of all choices of a `let`
 abbrev pub all_tried : Protocol → ℕ → Environment → Process → Option (List Value)
-all_tried P point environment (Let pattern expression next otherwise) = Some (values_at P environment expression)
+all_tried P point environment (Let pattern expression next otherwise) = Some (flat_map (λ c. part_values environment c.ruled) (choices P expression))
 all_tried P point environment other = None
 
 -- the values that a step evaluates or makes, other than names

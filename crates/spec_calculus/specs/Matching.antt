@@ -1,10 +1,10 @@
 -- Patterns and destructors on values (Blanchet 2016, sections 2.1 and 2.2: patterns, and destructors by rewrite rules).
-use Rattle.std.specs.Prelude.{◌≡◌, ℕ, zero, suc, Bool, true, false, not, nat_eq, List, [], ◌∷◌, ◌++◌, cond, map, Option, None, Some, option_and_then, option_map, filter_map}
+use Rattle.std.specs.Prelude.{◌≡◌, ℕ, Bool, true, false, not, nat_eq, List, [], ◌∷◌, ◌++◌, cond, map, Option, None, Some, option_and_then, option_map}
 use Rattle.std.specs.Option.{option_map_or}
 use Rattle.spec_trees.specs.Tree.{Trees, Leaf, Node, none, more, bind, trees, some_leaf, some_leaves}
-use Rattle.spec_calculus.specs.Syntax.{Name, Variable, Symbol, Term, Hole, Bind, Equal, Pattern, Expression, Plain, Call, Rule, Protocol}
+use Rattle.spec_calculus.specs.Syntax.{Name, Variable, Symbol, Term, Hole, Bind, Equal, Pattern, Rule, Protocol}
 use Rattle.spec_calculus.specs.Points.{numbered}
-use Rattle.spec_calculus.specs.Values.{Atom, Value, Environment, same_name, same_symbol, same_value, same_values, value_of_bound, value_of, values_of}
+use Rattle.spec_calculus.specs.Values.{Atom, Value, Environment, same_name, same_symbol, same_value, same_values, value_of_bound, value_of}
 
 -- what the pattern binds where the value matches it, in order; terms have their values in the environment from before
 abbrev mutual
@@ -72,15 +72,3 @@ IsClosedRule rule = some_leaf (λ x. not (some_leaves (same_name x) (trees rule.
 -- the rules of the destructor of that number
 abbrev pub rules_of : Protocol → ℕ → List Rule
 rules_of P d = option_map_or (λ destructor. destructor.rules) (numbered P.destructors d) []
-
--- the values of an expression; that of a term has the label 0, and that by a rule the rule's number
-abbrev pub value_at : Protocol → Environment → Expression → ℕ → Option Value
-value_at P environment (Plain term) zero = Some (value_of environment term)
-value_at P environment (Plain term) (suc label) = None
-value_at P environment (Call d arguments) label =
-    option_and_then (λ rule. rule_value rule (values_of environment arguments)) (numbered (rules_of P d) label)
-
--- all of them
-abbrev pub values_at : Protocol → Environment → Expression → List Value
-values_at P environment (Plain term) = value_of environment term ∷ []
-values_at P environment (Call d arguments) = filter_map (λ rule. rule_value rule (values_of environment arguments)) (rules_of P d)

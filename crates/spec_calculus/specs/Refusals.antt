@@ -6,7 +6,8 @@ use Rattle.spec_calculus.specs.Syntax.{Process, Output, Input, Parallel, Replica
 use Rattle.spec_calculus.specs.Bounds.{most_arguments}
 use Rattle.spec_calculus.specs.Points.{numbered}
 use Rattle.spec_calculus.specs.Values.{Value, Environment, same_value, value_of}
-use Rattle.spec_calculus.specs.Matching.{matched, rule_value, rules_of, value_at, values_at}
+use Rattle.spec_calculus.specs.Matching.{matched, rule_value, rules_of}
+use Rattle.spec_calculus.specs.Choices.{value_at, values_at}
 use Rattle.spec_calculus.specs.Runs.{Configuration, Step, Build, Reduce, Part, Fresh, Split, Copy, Make, Pass, Hear, Say, Take, Fail, Mark, acting, knows, known_values, part_of}
 
 pub data Refusal : Type 0 where
@@ -20,7 +21,7 @@ pub data Refusal : Type 0 where
   ChannelsDiffer : Refusal
   -- no known value of that number
   NoKnowledge : Refusal
-  -- no such rule, or it does not apply, or its value does not match
+  -- no such rule, or no such choice of rules, or they do not all apply, or the value does not match
   NoRule : Refusal
   -- a value matches
   NotFailing : Refusal
@@ -81,7 +82,7 @@ at_input point environment (Input channel pattern next) = Some (value_of environ
 at_input point environment other = None
 
 -- whether the value of that label of the `let` matches its pattern
-abbrev pub at_take : Protocol → ℕ → ℕ → Environment → Process → Option Bool
+abbrev pub at_take : Protocol → List ℕ → ℕ → Environment → Process → Option Bool
 at_take P label point environment (Let pattern expression next otherwise) =
     Some (is_some (option_and_then (matched environment pattern) (value_at P environment expression label)))
 at_take P label point environment other = None

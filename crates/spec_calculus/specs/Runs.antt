@@ -7,7 +7,8 @@ use Rattle.spec_calculus.specs.Bounds.{most_arguments}
 use Rattle.spec_calculus.specs.Syntax.{Made, Symbol, Constructor, Tuple, Process, Output, Input, Parallel, Replication, New, Let, Event, Declared, Protocol}
 use Rattle.spec_calculus.specs.Points.{numbered, replaced, nodes, point_after}
 use Rattle.spec_calculus.specs.Values.{FreeName, MadeName, AttackerName, Value, Environment, same_value, value_of, values_of}
-use Rattle.spec_calculus.specs.Matching.{matched, rule_value, rules_of, value_at, values_at}
+use Rattle.spec_calculus.specs.Matching.{matched, rule_value, rules_of}
+use Rattle.spec_calculus.specs.Choices.{value_at, values_at}
 
 -- a thread: it stands at a point in an environment, or it has ended
 pub data Thread : Type 0 where
@@ -62,7 +63,7 @@ pub data Step : Type 0 where
   -- the attacker sends the known value to the thread
   Say : (thread value : ℕ) → Step
   -- the thread at a `let` takes the value with that label
-  Take : (thread label : ℕ) → Step
+  Take : (thread : ℕ) → (label : List ℕ) → Step
   -- the thread at a `let` goes to its else branch
   Fail : (thread : ℕ) → Step
   -- the thread performs its event
@@ -169,7 +170,7 @@ after_say c j v point environment (Input channel pattern next) = cond (knows c (
 after_say c j v point environment other = None
 
 -- a `let` goes on with the value of that label, where it matches
-abbrev pub after_take : Protocol → Configuration → ℕ → ℕ → ℕ → Environment → Process → Option Configuration
+abbrev pub after_take : Protocol → Configuration → ℕ → List ℕ → ℕ → Environment → Process → Option Configuration
 after_take P c i label point environment (Let pattern expression next otherwise) =
     option_map (λ bindings. goes_on c i (At (point + 1) (environment ++ bindings)))
     (option_and_then (matched environment pattern) (value_at P environment expression label))

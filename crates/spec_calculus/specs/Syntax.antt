@@ -33,17 +33,25 @@ pub data Hole : Type 0 where
 abbrev pub Pattern : Type 0
 Pattern = Tree Hole Symbol
 
--- what a `let` evaluates
-pub data Expression : Type 0 where
-  -- the term
-  Plain : (term : Term) → Expression
-  -- the destructor of that number, from 1, on the terms
-  Call : (destructor : ℕ) → (arguments : List Term) → Expression
+-- the root of a part of an expression that has parts of its own
+pub data Head (D : Type 0) : Type 0 where
+  -- a constructor or a tuple of the parts
+  Builds : (symbol : Symbol) → Head D
+  -- the destructor, applied to the parts
+  Calls : (destructor : D) → Head D
+
+-- what a `let` evaluates: terms, and constructors, tuples and destructors of such; a destructor is given by its number, from 1
+abbrev pub Expression : Type 0
+Expression = Tree Term (Head ℕ)
 
 -- a rule of a destructor: its leaves are its variables, and each on the right stands on the left
 pub record Rule : Type 0 where
   pub left : List Term
   pub right : Term
+
+-- an expression with a rule in place of each destructor
+abbrev pub Ruled : Type 0
+Ruled = Tree Term (Head Rule)
 
 -- the event of that number, from 1, of the terms
 pub record EventTerm : Type 0 where

@@ -1,7 +1,7 @@
 -- Worked examples: a protocol that sends a new name encrypted, and one whose receiver decrypts what it gets.
 use Rattle.std.specs.Prelude.{ℕ, true, false, List, [], ◌∷◌, codes}
 use Rattle.spec_trees.specs.Tree.{Leaf, node}
-use Rattle.spec_calculus.specs.Syntax.{Declared, Made, Variable, Constructor, Bind, Call, EventTerm, Rule, Nil, Output, Input, Parallel, Replication, New, Let, Event, SecretNew, Correspondence, Protocol}
+use Rattle.spec_calculus.specs.Syntax.{Declared, Made, Variable, Constructor, Bind, Calls, EventTerm, Rule, Nil, Output, Input, Parallel, Replication, New, Let, Event, SecretNew, Correspondence, Protocol}
 use Rattle.spec_calculus.specs.Syntax as calculus
 use Rattle.spec_terms.specs.Term.{Ctor, Free, Point, Term}
 use Rattle.spec_clauses.specs.Fact.{Fact, Att, Clause}
@@ -58,7 +58,7 @@ answering = record {
   queries = Correspondence (event 2 x) ((event 1 x ∷ []) ∷ []) ∷ [];
   main = Parallel
       (Replication (New (codes "n") (Event (event 1 (Leaf (Made 3))) (Output (Leaf (calculus.Free 1)) (encrypted (Leaf (Made 3))) Nil))))
-      (Replication (Input (Leaf (calculus.Free 1)) (Leaf (Bind 1)) (Let (Leaf (Bind 2)) (Call 1 (x ∷ Leaf (calculus.Free 2) ∷ [])) (Event (event 2 y) Nil) Nil)));
+      (Replication (Input (Leaf (calculus.Free 1)) (Leaf (Bind 1)) (Let (Leaf (Bind 2)) (node (Calls 1) (Leaf x ∷ Leaf (Leaf (calculus.Free 2)) ∷ [])) (Event (event 2 y) Nil) Nil)));
 }
 
 abbrev pub clause : List (Fact Term) → Fact Term → Clause Term

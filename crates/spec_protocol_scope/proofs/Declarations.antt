@@ -13,13 +13,12 @@ use Rattle.spec_well_formed.specs.Limits.{IsSmallRule, IsSmallDestructor}
 use Rattle.spec_well_formed.specs.WellFormed.{IsRuleOver}
 use Rattle.spec_protocol_grammar.specs.Sketch.{RuleSketch}
 use Rattle.spec_protocol_scope.specs.Answers.{Twice, Kind, Arity, fault}
-use Rattle.spec_protocol_scope.specs.Names.{Texts, Names, Scope, count_of, look, is_variable, decimal, same_text}
+use Rattle.spec_protocol_scope.specs.Names.{signature_with, Texts, Names, Scope, count_of, look, is_variable, decimal, same_text}
 use Rattle.spec_protocol_scope.specs.Terms.{count}
 use Rattle.spec_protocol_scope.specs.Declarations as rules
 use Rattle.spec_protocol_scope.specs.Declarations.{among}
 use Rattle.spec_protocol_scope.proofs.Stepped.{stepped, kept, chosen, faulty, found_one}
 use Rattle.spec_protocol_scope.proofs.Solid.{IsSolidProcess, IsSolidRule}
-use Rattle.spec_protocol_scope.proofs.Known.{signature_with}
 use Rattle.spec_protocol_scope.proofs.Rules.{Ruled, ruled}
 use Rattle.spec_protocol_scope.proofs.Widening.{Widens, wider_rule}
 

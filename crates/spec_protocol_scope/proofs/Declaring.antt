@@ -6,12 +6,11 @@ use Rattle.spec_calculus.specs.Bounds.{most_names, most_arguments}
 use Rattle.spec_calculus.specs.Syntax as calculus
 use Rattle.spec_calculus.proofs.Items.{each-append, each-weaker}
 use Rattle.spec_protocol_grammar.specs.Sketch.{ProcessSketch, RuleSketch, DeclarationSketch, Free, Fun, Data, Reduc, Event, Query, Definition}
-use Rattle.spec_protocol_scope.specs.Names.{Texts, Names, Macro, no_names, count_of, is_variable}
+use Rattle.spec_protocol_scope.specs.Names.{signature_with, Texts, Names, Macro, no_names, count_of, is_variable}
 use Rattle.spec_protocol_scope.specs.Declarations as rules
 use Rattle.spec_protocol_scope.specs.Declarations.{among}
 use Rattle.spec_protocol_scope.proofs.Stepped.{stepped, found_one}
 use Rattle.spec_protocol_scope.proofs.Solid.{IsSolidProcess, IsSolidRule, IsSolidDeclaration}
-use Rattle.spec_protocol_scope.proofs.Known.{signature_with}
 use Rattle.spec_protocol_scope.proofs.Widening.{wider_arity}
 use Rattle.spec_protocol_scope.proofs.Declarations.{AreDeclared, IsWordOf, IsNew, new_name, new_symbol, arity, Destructed, destructor, wider_destructor}
 

@@ -10,11 +10,10 @@ use Rattle.spec_well_formed.specs.Signature.{Signature}
 use Rattle.spec_well_formed.specs.Words.{DeclaredName, word_of, AreDistinct}
 use Rattle.spec_well_formed.specs.Words as declared
 use Rattle.spec_protocol_grammar.specs.Sketch.{ProcessSketch, RuleSketch, DeclarationSketch, Free, Fun, Data, Reduc, Event, Query, Definition}
-use Rattle.spec_protocol_scope.specs.Names.{Names, Scope, Texts, no_names, find_from, declared_meaning, MeansFree, MeansConstructor, MeansDestructor, MeansEvent, arity_of}
+use Rattle.spec_protocol_scope.specs.Names.{signature_with, Names, Scope, Texts, no_names, find_from, declared_meaning, MeansFree, MeansConstructor, MeansDestructor, MeansEvent, arity_of}
 use Rattle.spec_protocol_scope.specs.Declarations as rules
 use Rattle.spec_protocol_scope.specs.Declarations.{among}
 use Rattle.spec_protocol_scope.proofs.Stepped.{stepped, kept, found_one}
-use Rattle.spec_protocol_scope.proofs.Known.{signature_with}
 use Rattle.spec_protocol_scope.proofs.Declarations.{IsNew, new_name, new_symbol}
 
 -- what is not found stands nowhere in the list

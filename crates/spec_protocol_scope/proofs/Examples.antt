@@ -83,7 +83,7 @@ a_call_is : scope opened (opened_with (Named 17 none) (Process (Let 8 (NamedPatt
       destructors = record { word = codes "g"; rules = record { left = node (calculus.Constructor 1) (Leaf (calculus.Variable 1) ∷ []) ∷ []; right = Leaf (calculus.Variable 1) } ∷ [] } ∷ [];
       events = [];
       queries = [];
-      main = calculus.Let (Leaf (calculus.Bind 1)) (calculus.Call 1 (Leaf (calculus.Free 1) ∷ []))
+      main = calculus.Let (Leaf (calculus.Bind 1)) (node (calculus.Calls 1) (Leaf (Leaf (calculus.Free 1)) ∷ []))
           (calculus.Output (Leaf (calculus.Free 1)) (Leaf (calculus.Variable 1)) calculus.Nil) calculus.Nil;
     })
 a_call_is = refl

@@ -1,7 +1,7 @@
 -- The terms that the rules of scope give are over what is declared and bound.
 use Rattle.std.proofs.Common.{◌≡◌, ℕ, suc, ◌+◌, ◌<◌, ◌≤◌, Bool, true, false, nat_eq, List, [], ◌∷◌, ◌++◌, length, map, Contains, Option, None, Some, Ok, refl, subst, ◌∙◌, sym, arith, if◌then◌else◌}
 use Rattle.std.specs.List.{AllByRecursion}
-use Rattle.spec_trees.specs.Tree.{Leaf, node, trees, size}
+use Rattle.spec_trees.specs.Tree.{Tree, Leaf, node, trees, size}
 use Rattle.spec_calculus.specs.Bounds.{most_written_symbols}
 use Rattle.spec_calculus.specs.Syntax.{Name, Free, Made, Variable, Symbol, Constructor, Tuple, Term}
 use Rattle.spec_calculus.proofs.Items.{each-append}
@@ -11,17 +11,14 @@ use Rattle.spec_well_formed.specs.Rules.{IsVariable}
 use Rattle.spec_well_formed.specs.Queries.{IsFreeOrVariable}
 use Rattle.spec_well_formed.specs.Terms.{row_length, EachSymbolInRow, HasArity, TakesArguments, IsTermOver, IsKnown}
 use Rattle.spec_protocol_scope.specs.Answers.{Answer, Kind, Unknown, Arity, LooseVariable, fault}
-use Rattle.spec_protocol_scope.specs.Names.{Names, Scope, Texts, Meaning, MeansFree, MeansConstructor, MeansDestructor, MeansEvent, MeansMacro, look, variable_of, Bound, bound_as, same_text}
+use Rattle.spec_protocol_scope.specs.Names.{signature_with, Scope, Texts, Meaning, MeansFree, MeansConstructor, MeansDestructor, MeansEvent, MeansMacro, look, variable_of, Bound, bound_as, same_text}
 use Rattle.spec_protocol_scope.specs.Terms as rules
 use Rattle.spec_protocol_scope.specs.Terms.{Setting, InProcess, OnLeft, OnRight, InEvent}
 use Rattle.spec_protocol_scope.proofs.Stepped.{stepped, passed, faulty, found_one}
 use Rattle.spec_protocol_scope.proofs.Terms.{HoldsByForm, equal}
 use Rattle.spec_protocol_scope.proofs.Meanings.{is_meant}
 
-abbrev pub signature_with : Names → Signature
-signature_with names = record { frees = names.frees; constructors = names.constructors; destructors = names.destructors; events = names.events }
-
-pub row_length-trees : (ts : List Term) → row_length (trees ts) ≡ length ts
+pub row_length-trees : {L S : Type 0} (ts : List (Tree L S)) → row_length (trees ts) ≡ length ts
 row_length-trees [] = refl
 row_length-trees (t ∷ ts) = let e = row_length-trees ts in omega arith
 

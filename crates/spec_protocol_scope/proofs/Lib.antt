@@ -1,4 +1,5 @@
 mod Examples
+mod ExamplesNested
 pub mod Stepped
 pub mod Laws
 pub mod Points
@@ -15,10 +16,13 @@ pub mod Declarations
 pub mod Declaring
 pub mod Spelling
 pub mod Patterns
+pub mod Events
 pub mod Expressions
 pub mod Placed
 pub mod Processes
 pub mod Queries
 pub mod Identifiers
 pub mod Complete
+pub mod Evaluated
+pub mod Plain
 pub mod Distinct

@@ -11,20 +11,20 @@ use Rattle.spec_calculus.specs.Syntax.{Name, Variable, Symbol, Hole, Bind, Term,
 use Rattle.spec_calculus.specs.Matching.{is_binding, IsLinear, IsLinearRow}
 use Rattle.spec_calculus.proofs.Items.{each-append, each-weaker}
 use Rattle.spec_well_formed.specs.Leaves.{leaves, leaves_of}
-use Rattle.spec_well_formed.specs.Terms.{row_length, EachSymbol, EachSymbolInRow, HasDataArity, TakesPatterns, IsTermBelow, IsHoleBelow, bound_by_hole}
-use Rattle.spec_protocol_grammar.specs.Sketch.{TermSketch, TermsSketch, PatternSketch, NamedPattern, Equal, GroupedPattern, PatternsSketch, no_patterns, more_patterns}
+use Rattle.spec_well_formed.specs.Terms.{EachSymbol, EachSymbolInRow, HasDataArity, TakesPatterns, IsTermBelow, IsHoleBelow, bound_by_hole}
+use Rattle.spec_protocol_grammar.specs.Sketch.{TermSketch, PatternSketch, NamedPattern, Equal, GroupedPattern, PatternsSketch, no_patterns, more_patterns}
 use Rattle.spec_protocol_scope.specs.Answers.{Twice, Kind, Unknown, ◌>>=◌, fault}
-use Rattle.spec_protocol_scope.specs.Names.{Scope, Meaning, MeansFree, MeansConstructor, MeansDestructor, MeansEvent, MeansMacro, look, Bound, bound_as}
+use Rattle.spec_protocol_scope.specs.Names.{signature_with, Scope, Meaning, MeansFree, MeansConstructor, MeansDestructor, MeansEvent, MeansMacro, look, Bound, bound_as}
 use Rattle.spec_protocol_scope.specs.Terms as terms
 use Rattle.spec_protocol_scope.specs.Terms.{InProcess}
 use Rattle.spec_protocol_scope.specs.Patterns as rules
 use Rattle.spec_protocol_scope.specs.Patterns.{count}
 use Rattle.spec_protocol_scope.proofs.Stepped.{stepped, faulty, kept, chosen, found, found_one}
-use Rattle.spec_protocol_scope.proofs.Solid.{IsSolid, AreSolid, IsSolidPattern, AreSolidPatterns}
-use Rattle.spec_protocol_scope.proofs.Terms.{term_holds, row_holds, taken}
+use Rattle.spec_protocol_scope.proofs.Solid.{IsSolid, IsSolidPattern, AreSolidPatterns}
+use Rattle.spec_protocol_scope.proofs.Terms.{term_holds, taken}
 use Rattle.spec_protocol_scope.proofs.Numbering.{some_leaf-leaves, some_leaves-leaves}
 use Rattle.spec_protocol_scope.proofs.Meanings.{is_meant}
-use Rattle.spec_protocol_scope.proofs.Known.{signature_with, IsBindable, Over, OverRow, over}
+use Rattle.spec_protocol_scope.proofs.Known.{row_length-trees, IsBindable, Over, OverRow, over}
 
 -- the names that are bound
 abbrev pub names_of : List Bound → List Name
@@ -39,16 +39,6 @@ term_below s outer bindable t solid x e =
     let a = stepped (terms.term s (InProcess outer) [] t) _ x e in
     subst (IsTermBelow (signature_with s.names) (names_of outer)) (found_one a.value.0 x a.later)
     (term_holds s (InProcess outer) (Over s (InProcess outer)) (OverRow s (InProcess outer)) (over s (InProcess outer) bindable) t solid [] a.value a.first)
-
-pub record AreTermsBelow (s : Scope) (outer : List Bound) (given : ℕ) (xs : List Term) : Type 0 where
-  pub each : AllByRecursion (IsTermBelow (signature_with s.names) (names_of outer)) xs
-  pub counts : length xs ≡ given
-
-pub terms_below : (s : Scope) (outer : List Bound) → AreBindable outer → (ts : TermsSketch) → AreSolid ts → (xs : List Term) → terms.process_terms s outer ts ≡ Ok xs → AreTermsBelow s outer (terms.count ts) xs
-terms_below s outer bindable ts solid xs e =
-    let a = stepped (terms.terms s (InProcess outer) [] ts) _ xs e in
-    let r = row_holds s (InProcess outer) (Over s (InProcess outer)) (OverRow s (InProcess outer)) (over s (InProcess outer) bindable) ts solid [] a.value a.first in
-    subst (AreTermsBelow s outer (terms.count ts)) (found_one a.value.0 xs a.later) (record { each = r.row; counts = r.counts })
 
 -- the hole binds no variable, or one of these numbers
 abbrev pub BindsIn : ℕ → ℕ → Hole → Type 0
@@ -137,15 +127,11 @@ module _ (s : Scope) (outer : List Bound) (first : ℕ) where
         | inr h ↦ subst (OneRead before) (found_one (Leaf (Bind (first + length before)), before ++ record { token = n; name = Variable (first + length before) } ∷ []) read h.1) (bind_read before n)
       ]
 
-  pattern_row_length : (ps : List Pattern) → row_length (trees ps) ≡ length ps
-  pattern_row_length [] = refl
-  pattern_row_length (p ∷ ps) = let e = pattern_row_length ps in omega arith
-
   over_patterns : (f : Symbol) (before : List Bound) (ps : List Pattern) (behind : List Bound) → TakesPatterns (signature_with s.names) f (length ps) → RowOfPatterns before ps behind → OnePattern before (node f ps) behind
   over_patterns f before ps behind takes row = record {
     binds = row.binds;
     linear = row.linear;
-    arities = (subst (TakesPatterns (signature_with s.names) f) (sym (pattern_row_length ps)) takes, row.arities);
+    arities = (subst (TakesPatterns (signature_with s.names) f) (sym (row_length-trees ps)) takes, row.arities);
   }
 
   data_constructor : (n given : ℕ) (m : Option Meaning) (number : ℕ) → look s n ≡ m → rules.data_constructor n given m ≡ Ok number → HasDataArity s.names.constructors number given

@@ -14,6 +14,7 @@ use Rattle.spec_protocol_scope.proofs.Stepped.{stepped, Refused, passed, faulty,
 use Rattle.spec_protocol_scope.specs.Names as names
 use Rattle.spec_protocol_scope.specs.Names.{Scope}
 use Rattle.spec_protocol_scope.specs.Terms as terms
+use Rattle.spec_protocol_scope.specs.Expressions as expressions
 use Rattle.spec_protocol_scope.specs.Patterns as patterns
 use Rattle.spec_protocol_scope.specs.Declarations.{declare_all}
 use Rattle.spec_protocol_scope.specs.Queries.{queries}
@@ -157,7 +158,7 @@ mutual
   unit_counted s macros all site now (Let n p t u k) read e =
       let a = stepped (rules.reached site now n) _ read e in
       let matched = stepped (patterns.pattern s site.bound a.value.variable [] p) _ read a.later in
-      let evaluated = stepped (terms.expression s site.bound t) _ read matched.later in
+      let evaluated = stepped (expressions.expression s site.bound t) _ read matched.later in
       let b = stepped (rules.unit s macros (rules.binding matched.value.1 site) (rules.with_variables matched.value.1 a.value) u) _ read evaluated.later in
       let c = stepped (rules.after s macros (rules.below site) b.value.1 n k) _ read b.later in
       settled now (calculus.Let matched.value.0 evaluated.value b.value.0 c.value.0, c.value.1) read (two_below now a.value (rules.with_variables matched.value.1 a.value) b.value.1 (calculus.Let matched.value.0 evaluated.value b.value.0 c.value.0, c.value.1) b.value c.value
@@ -169,8 +170,8 @@ mutual
       let right = stepped (terms.process_term s site.bound v) _ read left.later in
       let b = stepped (rules.unit s macros (rules.below site) a.value u) _ read right.later in
       let c = stepped (rules.after s macros (rules.below site) b.value.1 n k) _ read b.later in
-      settled now (calculus.Let (Leaf (calculus.Equal right.value)) (calculus.Plain left.value) b.value.0 c.value.0, c.value.1) read
-      (two_below now a.value a.value b.value.1 (calculus.Let (Leaf (calculus.Equal right.value)) (calculus.Plain left.value) b.value.0 c.value.0, c.value.1) b.value c.value
+      settled now (calculus.Let (Leaf (calculus.Equal right.value)) (Leaf left.value) b.value.0 c.value.0, c.value.1) read
+      (two_below now a.value a.value b.value.1 (calculus.Let (Leaf (calculus.Equal right.value)) (Leaf left.value) b.value.0 c.value.0, c.value.1) b.value c.value
       (reached site now n a.value a.first) refl (unit_counted s macros all (rules.below site) a.value u b.value b.first) refl
       (after_counted s macros all (rules.below site) b.value.1 n k c.value c.first) (together b.value.0 c.value.0) refl) c.later
 

@@ -14,17 +14,18 @@ use Rattle.spec_well_formed.specs.Terms.{IsTermBelow, IsPatternBelow, bound_by}
 use Rattle.spec_protocol_grammar.specs.Sketch.{PatternSketch, ProcessSketch, Process, alone, beside, UnitSketch, Zero, Macro, Inner, Replicated, New, Output, Input, Happens, Let, If, NextSketch, omitted, given}
 use Rattle.spec_protocol_scope.specs.Answers.{◌>>=◌}
 use Rattle.spec_protocol_scope.specs.Names as names
-use Rattle.spec_protocol_scope.specs.Names.{Scope, Bound}
+use Rattle.spec_protocol_scope.specs.Names.{signature_with, Scope, Bound}
 use Rattle.spec_protocol_scope.specs.Terms as terms
+use Rattle.spec_protocol_scope.specs.Expressions as expressions
 use Rattle.spec_protocol_scope.specs.Terms.{InProcess}
 use Rattle.spec_protocol_scope.specs.Patterns as patterns
 use Rattle.spec_protocol_scope.specs.Processes as rules
 use Rattle.spec_protocol_scope.specs.Processes.{Numbers, Site, Expansion, Macros, counted, with_variables}
 use Rattle.spec_protocol_scope.proofs.Stepped.{stepped, found_one}
 use Rattle.spec_protocol_scope.proofs.Solid.{IsSolidPattern, IsSolidProcess, IsSolidUnit, IsSolidNext}
-use Rattle.spec_protocol_scope.proofs.Known.{signature_with}
 use Rattle.spec_protocol_scope.proofs.Patterns.{names_of, pattern_read, BindsIn, binds_in-wider, term_below}
-use Rattle.spec_protocol_scope.proofs.Expressions.{event_over, expression_below}
+use Rattle.spec_protocol_scope.proofs.Events.{event_over}
+use Rattle.spec_protocol_scope.proofs.Expressions.{plain_below, expression_below}
 use Rattle.spec_protocol_scope.proofs.Declarations.{IsWordOf}
 use Rattle.spec_protocol_scope.proofs.Points.{used_macro}
 use Rattle.spec_protocol_scope.proofs.Placed.{Room, room, both_room, AreEarlier, are_earlier, are_bindable, holes_new, holes_earlier, Placed, PatternRead, nil_placed, parallel_placed, replication_placed, new_placed, output_placed, event_placed, input_placed, let_placed}
@@ -161,7 +162,7 @@ module _ (s : Scope) (IsName : ℕ → Type 0) (uniform : AllByRecursion (λ d. 
       unit_placed (Let n p t u k) solid site now earlier read e =
           let a = stepped (rules.reached site now n) _ read e in
           let matched = stepped (patterns.pattern s site.bound a.value.variable [] p) _ read a.later in
-          let evaluated = stepped (terms.expression s site.bound t) _ read matched.later in
+          let evaluated = stepped (expressions.expression s site.bound t) _ read matched.later in
           let b = stepped (rules.unit s macros (rules.binding matched.value.1 site) (with_variables matched.value.1 a.value) u) _ read evaluated.later in
           let c = stepped (rules.after s macros (rules.below site) b.value.1 n k) _ read b.later in
           let r = room site now n a.value a.first in
@@ -186,10 +187,10 @@ module _ (s : Scope) (IsName : ℕ → Type 0) (uniform : AllByRecursion (λ d. 
           let bindable = are_bindable now site.bound earlier in
           let first = unit_placed u solid.2 (rules.below site) a.value early b.value b.first in
           let behind = behind_earlier (names_of site.bound) (site.above + 1) a.value b.value first (names_of site.bound) early in
-          subst (PlacedAt (names_of site.bound) site.above now) (found_one (calculus.Let (Leaf (calculus.Equal right.value)) (calculus.Plain left.value) b.value.0 c.value.0, c.value.1) read c.later)
-          (let_placed signature IsWord (names_of site.bound) site.above now a.value r (Leaf (calculus.Equal right.value)) (calculus.Plain left.value) [] b.value c.value
+          subst (PlacedAt (names_of site.bound) site.above now) (found_one (calculus.Let (Leaf (calculus.Equal right.value)) (Leaf left.value) b.value.0 c.value.0, c.value.1) read c.later)
+          (let_placed signature IsWord (names_of site.bound) site.above now a.value r (Leaf (calculus.Equal right.value)) (Leaf left.value) [] b.value c.value
           (compares (names_of site.bound) right.value (term_below s site.bound bindable v solid.1 right.value right.first))
-          (term_below s site.bound bindable t solid.0 left.value left.first) (no_variables a.value (names_of site.bound) (site.above + 1) b.value first)
+          (plain_below signature (names_of site.bound) left.value (term_below s site.bound bindable t solid.0 left.value left.first)) (no_variables a.value (names_of site.bound) (site.above + 1) b.value first)
           (next_placed k solid.3 (rules.below site) b.value.1 n behind c.value c.first))
 
       next_placed : (k : NextSketch) → IsSolidNext IsName k → (site : Site) (now : Numbers) (n : ℕ) → AreEarlier now (names_of site.bound) → (read : calculus.Process × Numbers)

@@ -17,7 +17,7 @@ use Rattle.spec_well_formed.specs.Limits.{IsSmallEvent, IsSmallAlternative, IsSm
 use Rattle.spec_well_formed.specs.WellFormed.{IsQueryOver}
 use Rattle.spec_protocol_grammar.specs.Sketch.{AtomSketch, AlternativeSketch, QuerySketch, AttackerNew, Attacker, Correspondence, DeclarationSketch, Free, Fun, Data, Reduc, Event, Query, Definition}
 use Rattle.spec_protocol_scope.specs.Answers.{Unknown, AmbiguousNew}
-use Rattle.spec_protocol_scope.specs.Names.{Scope, look}
+use Rattle.spec_protocol_scope.specs.Names.{signature_with, Scope, look}
 use Rattle.spec_protocol_scope.specs.Terms as terms
 use Rattle.spec_protocol_scope.specs.Terms.{InEvent, count}
 use Rattle.spec_protocol_scope.specs.Queries as rules
@@ -26,9 +26,9 @@ use Rattle.spec_protocol_scope.proofs.Solid.{AreSolid, IsSolidAlternative, IsSol
 use Rattle.spec_protocol_scope.proofs.Terms.{row_holds}
 use Rattle.spec_protocol_scope.proofs.Numbering.{Leads, leads-append, leads_numbered}
 use Rattle.spec_protocol_scope.proofs.Leaves.{Leading, LeadingRow, leading}
-use Rattle.spec_protocol_scope.proofs.Known.{signature_with, rows_known}
+use Rattle.spec_protocol_scope.proofs.Known.{rows_known}
 use Rattle.spec_protocol_scope.proofs.Patterns.{term_below}
-use Rattle.spec_protocol_scope.proofs.Expressions.{event_over}
+use Rattle.spec_protocol_scope.proofs.Events.{event_over}
 
 -- the first of the points of a word is a restriction
 record Restricts (first : ℕ) (ps : List Process) (point : ℕ) : Type 0 where

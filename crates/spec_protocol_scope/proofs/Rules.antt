@@ -14,7 +14,7 @@ use Rattle.spec_well_formed.specs.Terms.{IsTermOver}
 use Rattle.spec_well_formed.specs.Limits.{IsSmallRule}
 use Rattle.spec_well_formed.specs.WellFormed.{IsRuleOver}
 use Rattle.spec_protocol_grammar.specs.Sketch.{RuleSketch}
-use Rattle.spec_protocol_scope.specs.Names.{Scope}
+use Rattle.spec_protocol_scope.specs.Names.{signature_with, Scope}
 use Rattle.spec_protocol_scope.specs.Terms as rules
 use Rattle.spec_protocol_scope.specs.Terms.{OnLeft, OnRight, count}
 use Rattle.spec_protocol_scope.specs.Declarations as declarations
@@ -23,7 +23,7 @@ use Rattle.spec_protocol_scope.proofs.Solid.{IsSolid, AreSolid}
 use Rattle.spec_protocol_scope.proofs.Terms.{term_holds, row_holds}
 use Rattle.spec_protocol_scope.proofs.Numbering.{Leads, leads-append, leads_numbered, leads_up_to, IsUpTo, closed_up_to}
 use Rattle.spec_protocol_scope.proofs.Leaves.{Leading, LeadingRow, leading, Unchanged, UnchangedRow, unchanging}
-use Rattle.spec_protocol_scope.proofs.Known.{signature_with, Over, OverRow, over, rows_known}
+use Rattle.spec_protocol_scope.proofs.Known.{Over, OverRow, over, rows_known}
 
 -- a rule as it should be, with so many arguments
 pub record Ruled (s : Scope) (given : ℕ) (rule : calculus.Rule) : Type 0 where

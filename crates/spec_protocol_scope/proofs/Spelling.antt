@@ -15,7 +15,7 @@ use Rattle.spec_well_formed.specs.Words.{AreDistinct, HasDistinctWords}
 use Rattle.spec_well_formed.specs.Rules.{IsProperRule, HasProperRules}
 use Rattle.spec_protocol_grammar.specs.Classes.{source}
 use Rattle.spec_protocol_grammar.specs.Sketch.{FileSketch}
-use Rattle.spec_protocol_scope.specs.Names.{Texts, Names, Scope, no_names}
+use Rattle.spec_protocol_scope.specs.Names.{signature_with, Texts, Names, Scope, no_names}
 use Rattle.spec_protocol_scope.specs.Declarations.{declare_all}
 use Rattle.spec_protocol_scope.specs.Processes.{main_process}
 use Rattle.spec_protocol_scope.specs.Queries.{queries}
@@ -27,7 +27,6 @@ use Rattle.spec_protocol_scope.proofs.Stepped.{stepped, found_one}
 use Rattle.spec_protocol_scope.proofs.Solid.{IsSolidFile}
 use Rattle.spec_protocol_scope.proofs.Spelled.{IsNamed, sketch_solid}
 use Rattle.spec_protocol_scope.proofs.Declarations.{AreDeclared}
-use Rattle.spec_protocol_scope.proofs.Known.{signature_with}
 use Rattle.spec_protocol_scope.proofs.Placed.{Placed}
 use Rattle.spec_protocol_scope.proofs.Processes.{main_placed}
 use Rattle.spec_protocol_scope.proofs.Points.{main_points}
@@ -143,6 +142,12 @@ module _ (IsName : ℕ → Type 0) (text : Texts) (f : FileSketch) (p : Protocol
     events = each-weaker _ _ (λ d k. word d.word k) h.names.events h.declared.events;
     restrictions = each_word-weaker (IsWordOf IsName text) IsIdentifier word h.main placed.words;
   })
+
+pub well_scoped_by : (bytes : List ℕ) (p : Protocol) → Spells bytes p → IsWellScoped p
+well_scoped_by bytes p h = well_scoped (IsNamed (source bytes h.1.tokens)) (texts bytes h.1.tokens) h.1.sketch p (spelled_parts bytes p h)
+
+pub within_limits_by : (bytes : List ℕ) (p : Protocol) → Spells bytes p → IsWithinLimits p
+within_limits_by bytes p h = within_limits (IsNamed (source bytes h.1.tokens)) (texts bytes h.1.tokens) h.1.sketch p (spelled_parts bytes p h)
 
 pub words_are : (bytes : List ℕ) (p : Protocol) → Spells bytes p → HasWords p
 words_are bytes p h =

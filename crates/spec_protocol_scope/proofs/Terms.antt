@@ -28,7 +28,7 @@ pub taken : (n number arity given found : ℕ) → rules.taking n number arity g
 taken n number arity given found e =
     let p = passed (nat_eq arity given) number found (fault Arity n) (faulty Arity n) e in (equal arity given p.0, p.1)
 
-constructed : (n given : ℕ) (meaning : Option Meaning) (number : ℕ) → rules.constructor n given meaning ≡ Ok number → Constructs meaning number given
+pub constructed : (n given : ℕ) (meaning : Option Meaning) (number : ℕ) → rules.constructor n given meaning ≡ Ok number → Constructs meaning number given
 constructed n given None number e = absurd (faulty Unknown n number e)
 constructed n given (Some (MeansConstructor i arity is_data)) number e =
     let t = taken n i arity given number e in

@@ -2,10 +2,12 @@
 pub mod Answers
 pub mod Names
 pub mod Terms
+pub mod Expressions
 pub mod Patterns
 pub mod Declarations
 pub mod Processes
 pub mod Queries
 pub mod Scope
 pub mod Spells
+pub mod Evaluated
 pub mod Words

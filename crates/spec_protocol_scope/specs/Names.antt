@@ -5,6 +5,7 @@ use Rattle.std.specs.List.{list_all}
 use Rattle.std.specs.Char.{is_ascii_digit}
 use Rattle.std.specs.Str.{bytes_eq}
 use Rattle.spec_calculus.specs.Syntax.{Name, Rule, Declared, Destructor}
+use Rattle.spec_well_formed.specs.Signature.{Signature}
 use Rattle.spec_protocol_grammar.specs.Sketch.{ProcessSketch}
 
 -- the text of each token
@@ -23,6 +24,10 @@ pub record Names : Type 0 where
   pub destructors : List Destructor
   pub events : List Declared
   pub macros : List Macro
+
+-- what these names are apart from macros
+abbrev pub signature_with : Names → Signature
+signature_with names = record { frees = names.frees; constructors = names.constructors; destructors = names.destructors; events = names.events }
 
 abbrev pub no_names : Names
 no_names = record { frees = []; constructors = []; destructors = []; events = []; macros = [] }

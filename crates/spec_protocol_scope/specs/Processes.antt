@@ -8,7 +8,8 @@ use Rattle.spec_protocol_grammar.specs.Sketch.{ProcessSketch, Process, alone, be
 use Rattle.spec_protocol_scope.specs.Answers.{Answer, Code, Unknown, Kind, TooMany, fault, ◌>>=◌}
 use Rattle.spec_protocol_scope.specs.Names.{Scope, Meaning, MeansFree, MeansConstructor, MeansDestructor, MeansEvent, MeansMacro, look, Bound}
 use Rattle.spec_protocol_scope.specs.Names as names
-use Rattle.spec_protocol_scope.specs.Terms.{InProcess, process_term, expression, event}
+use Rattle.spec_protocol_scope.specs.Terms.{InProcess, process_term, event}
+use Rattle.spec_protocol_scope.specs.Expressions.{expression}
 use Rattle.spec_protocol_scope.specs.Patterns.{pattern}
 
 -- the numbers that the next point and the next variable get
@@ -180,7 +181,7 @@ abbrev mutual
     right ← process_term s site.bound v
     done ← unit s macros (below site) next u
     otherwise ← after s macros (below site) done.1 n k
-    Ok (calculus.Let (Leaf (calculus.Equal right)) (calculus.Plain left) done.0 otherwise.0, otherwise.1)
+    Ok (calculus.Let (Leaf (calculus.Equal right)) (Leaf left) done.0 otherwise.0, otherwise.1)
 
   -- a continuation or else branch of the unit that begins with this token; where it is omitted, it is `0`
   pub after : Scope → Macros → Site → Numbers → ℕ → NextSketch → Numbered

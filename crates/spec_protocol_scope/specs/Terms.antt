@@ -1,8 +1,8 @@
--- Terms, expressions and events.
+-- Terms and events.
 use Rattle.std.specs.Prelude.{ℕ, ◌+◌, nat_eq, nat_le, ◌&&◌, if◌then◌else◌, List, [], ◌∷◌, ◌++◌, length, Option, Some, None, Ok}
-use Rattle.spec_trees.specs.Tree.{Leaf, node, size, sizes, trees}
+use Rattle.spec_trees.specs.Tree.{Leaf, node, size}
 use Rattle.spec_calculus.specs.Bounds.{most_arguments, most_written_symbols}
-use Rattle.spec_calculus.specs.Syntax.{Name, Free, Variable, Constructor, Tuple, Term, Expression, Plain, Call, EventTerm}
+use Rattle.spec_calculus.specs.Syntax.{Name, Free, Variable, Constructor, Tuple, Term, EventTerm}
 use Rattle.spec_protocol_grammar.specs.Sketch.{TermSketch, Named, Grouped, TermsSketch, none, more, AtomSketch}
 use Rattle.spec_protocol_scope.specs.Answers.{Answer, Unknown, Arity, Kind, LooseVariable, fault, within, ◌>>=◌}
 use Rattle.spec_protocol_scope.specs.Names.{Scope, Meaning, MeansFree, MeansConstructor, MeansDestructor, MeansEvent, MeansMacro, look, Bound, bound_as, variable_of}
@@ -148,51 +148,6 @@ abbrev pub process_term : Scope → List Bound → TermSketch → Answer Term
 process_term s bound t = do
   read ← term s (InProcess bound) [] t
   Ok read.0
-
--- terms of a process
-abbrev pub process_terms : Scope → List Bound → TermsSketch → Answer (List Term)
-process_terms s bound ts = do
-  read ← terms s (InProcess bound) [] ts
-  Ok read.0
-
--- the whole of a `let`'s expression, without the parentheses round it
-abbrev mutual
-  pub bare : TermSketch → TermSketch
-  bare (Named n ts) = Named n ts
-  bare (Grouped n ts) = bare_of n ts
-
-  pub bare_of : ℕ → TermsSketch → TermSketch
-  bare_of n none = Grouped n none
-  bare_of n (more t none) = bare t
-  bare_of n (more t (more u us)) = Grouped n (more t (more u us))
-
--- `g(..)` with a destructor g
-abbrev pub call : Scope → List Bound → ℕ → ℕ → TermsSketch → Answer Expression
-call s bound n destructor ts = do
-  arguments ← process_terms s bound ts
-  within (nat_le (1 + sizes (trees arguments)) most_written_symbols) n (Call destructor arguments)
-
--- a term as an expression
-abbrev pub plain : Scope → List Bound → TermSketch → Answer Expression
-plain s bound t = do
-  read ← process_term s bound t
-  Ok (Plain read)
-
--- what `f(..)` is as the whole of a `let`'s expression, by what f is declared as
-abbrev pub applied : Scope → List Bound → ℕ → TermsSketch → Option Meaning → Answer Expression
-applied s bound n ts (Some (MeansDestructor number arity)) = do
-  destructor ← taking n number arity (count ts)
-  call s bound n destructor ts
-applied s bound n ts meaning = plain s bound (Named n ts)
-
--- what a `let` evaluates: a term, or a destructor of terms
-abbrev pub expression_of : Scope → List Bound → TermSketch → Answer Expression
-expression_of s bound (Named n ts) =
-    if nat_eq (count ts) 0 then plain s bound (Named n ts) else applied s bound n ts (look s n)
-expression_of s bound (Grouped n ts) = plain s bound (Grouped n ts)
-
-abbrev pub expression : Scope → List Bound → TermSketch → Answer Expression
-expression s bound t = expression_of s bound (bare t)
 
 -- an event of terms
 abbrev pub event : Scope → Setting → List ℕ → AtomSketch → Reading EventTerm

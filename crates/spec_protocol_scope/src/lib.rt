@@ -4,20 +4,27 @@
 //! functions below, which do nothing.
 #![tactic(auto)]
 
-ghost use Rattle.std.specs.Prelude.{◌≡◌, ◌≤◌, ℕ, List, length, Ok};
+ghost use Rattle.std.specs.Prelude.{◌≡◌, ◌≤◌, ◌↔◌, ℕ, List, length, Ok};
+ghost use Rattle.spec_trees.specs.Tree.{Leaf};
 ghost use Rattle.spec_calculus.specs.Bounds.{most_points};
-ghost use Rattle.spec_calculus.specs.Syntax.{Process, Protocol};
+ghost use Rattle.spec_calculus.specs.Syntax.{Term, Process, Protocol};
 ghost use Rattle.spec_calculus.specs.Points.{nodes};
+ghost use Rattle.spec_calculus.specs.Matching.{rules_of};
+ghost use Rattle.spec_calculus.specs.Choices.{HasRules};
 ghost use Rattle.spec_well_formed.specs.Limits.{IsWithinLimits};
 ghost use Rattle.spec_well_formed.specs.Processes.{HasLinearPatterns};
 ghost use Rattle.spec_well_formed.specs.Queries.{HasProperQueries};
 ghost use Rattle.spec_well_formed.specs.Rules.{HasProperRules};
+ghost use Rattle.spec_well_formed.specs.Terms.{IsMerged};
 ghost use Rattle.spec_well_formed.specs.WellFormed.{IsWellScoped};
 ghost use Rattle.spec_well_formed.specs.Words.{HasDistinctWords};
-ghost use Rattle.spec_protocol_grammar.specs.Sketch.{ProcessSketch};
-ghost use Rattle.spec_protocol_scope.specs.Names.{Scope};
+ghost use Rattle.spec_protocol_grammar.specs.Sketch.{TermSketch, ProcessSketch};
+ghost use Rattle.spec_protocol_scope.specs.Names.{Scope, Bound};
+ghost use Rattle.spec_protocol_scope.specs.Terms.{process_term};
+ghost use Rattle.spec_protocol_scope.specs.Expressions.{expression};
 ghost use Rattle.spec_protocol_scope.specs.Processes.{main_process};
 ghost use Rattle.spec_protocol_scope.specs.Spells.{Spells, Refusal, Refuses, HasAnswer};
+ghost use Rattle.spec_protocol_scope.specs.Evaluated.{EachExpression, HasFullCalls, HasFewChoices};
 ghost use Rattle.spec_protocol_scope.specs.Words.{HasWords};
 
 /// No bytes spell two protocols.
@@ -80,6 +87,32 @@ pub fn within_limits()
 /// arguments, each term has no more symbols than may be written, and nothing is bound twice on a way.
 pub fn well_scoped()
     ensures { (bytes : List ℕ) (p : Protocol) → Spells bytes p → IsWellScoped p }
+{}
+
+/// What a `let` evaluates is a term exactly where it is read as a term of a process is.
+pub fn terms_are_expressions()
+    ensures { (s : Scope) (bound : List Bound) (t : TermSketch) (x : Term) →
+        (process_term s bound t ≡ Ok x) ↔ (expression s bound t ≡ Ok (Leaf x)) }
+{}
+
+/// In what a `let` of a protocol that bytes spell evaluates, a part without destructors is a term.
+pub fn merged_parts()
+    ensures { (bytes : List ℕ) (p : Protocol) → Spells bytes p → EachExpression IsMerged p.main }
+{}
+
+/// There each destructor has a rule at least, and as many arguments as each of its rules has left sides.
+pub fn full_calls()
+    ensures arguments { (bytes : List ℕ) (p : Protocol) → Spells bytes p →
+        EachExpression (HasFullCalls (rules_of p)) p.main }
+    ensures rules { (bytes : List ℕ) (p : Protocol) → Spells bytes p →
+        EachExpression (HasRules p) p.main }
+{}
+
+/// And the choices of a rule for each destructor are no more than the limit, each of no more rules than the limit of
+/// applications.
+pub fn few_choices()
+    ensures { (bytes : List ℕ) (p : Protocol) → Spells bytes p →
+        EachExpression (HasFewChoices p) p.main }
 {}
 
 /// The words of a protocol that bytes spell are identifiers, and no free name or constructor among them is `v` and digits.

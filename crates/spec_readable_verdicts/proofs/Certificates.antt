@@ -17,7 +17,7 @@ use Rattle.spec_clauses.specs.Limits.{IsWithinLimit}
 use Rattle.spec_clauses.specs.Norm.{IsNormal}
 use Rattle.spec_clauses.specs.Subsumption.{hypothesis_at, firm}
 use Rattle.spec_clauses.specs.Resolvents.{Answer, NoUnifier, Large, Resolvents, Resolves}
-use Rattle.spec_clauses.specs.Inclusion.{there, Has}
+use Rattle.spec_clauses.specs.Inclusion.{Has}
 use Rattle.spec_clauses.proofs.Lists.{all_append, all_first, all_second, all_weaker, all-from_flat_map}
 use Rattle.spec_clauses.proofs.Limits.{norms-within_limit}
 use Rattle.spec_clauses.proofs.NormNumbers.{norm-below}

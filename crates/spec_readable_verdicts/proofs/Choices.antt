@@ -1,27 +1,23 @@
 -- The visits that a `let` goes on with are over the protocol, since the terms that are unified are.
 use Rattle.std.proofs.Common.{◌∙◌, ℕ, Option, Some, None, List, [], ◌∷◌, ◌++◌, map, ap, sym, subst}
-use Rattle.std.specs.Option.{IfSome, option_map_or}
+use Rattle.std.specs.Option.{IfSome}
 use Rattle.std.specs.List.{AllByRecursion}
-use Rattle.spec_calculus.specs.Syntax.{Name, Pattern, Expression, Plain, Call, Rule, Destructor, Protocol}
-use Rattle.spec_calculus.specs.Syntax as calculus
-use Rattle.spec_calculus.specs.Matching.{rules_of}
-use Rattle.spec_calculus.specs.Points.{numbered}
-use Rattle.spec_calculus.proofs.Items.{each-numbered}
+use Rattle.spec_calculus.specs.Syntax.{Name, Pattern, Expression, Ruled, Protocol}
+use Rattle.spec_calculus.specs.Choices.{choices}
+use Rattle.spec_calculus.proofs.Items.{each-map}
 use Rattle.spec_well_formed.specs.Signature.{signature_of}
-use Rattle.spec_well_formed.specs.Rules.{IsVariable}
-use Rattle.spec_well_formed.specs.Terms.{IsTermBelow, IsPatternBelow, IsExpressionBelow, bound_by}
-use Rattle.spec_well_formed.specs.WellFormed.{IsRuleOver, IsWellScoped}
-use Rattle.spec_terms.specs.Term.{Term, Subst}
-use Rattle.spec_translation.specs.Conversion.{rule_leaf, Fresh}
+use Rattle.spec_well_formed.specs.Terms.{IsPatternBelow, IsExpressionBelow, bound_by}
+use Rattle.spec_well_formed.specs.WellFormed.{IsWellScoped}
+use Rattle.spec_terms.specs.Term.{Subst}
+use Rattle.spec_translation.specs.Conversion.{Fresh}
 use Rattle.spec_translation.specs.Visit.{Visit}
-use Rattle.spec_translation.specs.Choice.{Choice, choice_under, IsUnified, with_pattern, term_choice, rule_choice, GoesOn, RulesGoOn, AllGoOn}
+use Rattle.spec_translation.specs.Choice.{Choice, choice_under, IsUnified, with_pattern, ruled_choice, GoesOn, EachGoesOn, AllGoOn}
 use Rattle.spec_certificate_text.specs.OfProtocol.{IsSymbolOf}
 use Rattle.spec_readable_verdicts.proofs.Over.{cleaned, cleaned_under, cleaned-bind, cleaned-binds, most_general-over}
 use Rattle.spec_readable_verdicts.proofs.Symbols.{symbol}
 use Rattle.spec_readable_verdicts.proofs.Facts.{IsTermOver, AreTermsOver}
-use Rattle.spec_readable_verdicts.proofs.Conversion.{term_over, terms_over}
-use Rattle.spec_readable_verdicts.proofs.Given.{rule_leaf_over}
-use Rattle.spec_readable_verdicts.proofs.Scopes.{IsVisitOver, term_in_over, terms_in_over, pattern_over, scope_with, found_with, visit_over-under}
+use Rattle.spec_readable_verdicts.proofs.Applied.{IsRuledBelow, choices_below, value_over, arguments_over, sides_over}
+use Rattle.spec_readable_verdicts.proofs.Scopes.{IsVisitOver, pattern_over, scope_with, found_with, visit_over-under}
 
 module _ (P : Protocol) (scoped : IsWellScoped P) where
   -- the terms of a choice
@@ -63,32 +59,21 @@ module _ (P : Protocol) (scoped : IsWellScoped P) where
     abbrev GoOver : List (Option Visit) → Type 0
     GoOver outs = AllByRecursion (λ out. IfSome out (IsVisitOver P (bound_by pattern ++ bound) above)) outs
 
-    rules_go_over : (arguments : List calculus.Term) → AllByRecursion (IsTermBelow (signature_of P) bound) arguments → (rules : List Rule) → AllByRecursion (IsRuleOver (signature_of P)) rules → (outs : List (Option Visit)) → RulesGoOn P v pattern arguments rules outs → GoOver outs
-    rules_go_over arguments below [] h outs a = subst GoOver (sym a) tt
-    rules_go_over arguments below (rule ∷ rules) h outs (out, others, r, rest, made) =
-        let c = rule_choice P v pattern arguments rule r.base r.at in
+    each_goes_over : (rs : List Ruled) → AllByRecursion (IsRuledBelow P scoped bound) rs → (outs : List (Option Visit)) → EachGoesOn P v pattern rs outs → GoOver outs
+    each_goes_over [] below outs a = subst GoOver (sym a) tt
+    each_goes_over (ruled ∷ rs) below outs (out, others, r, rest, made) =
+        let c = ruled_choice P v pattern ruled r.base r.at in
         let over : IsChoiceOver c = record {
-          arguments = terms_in_over P bound above v is arguments below;
-          sides = terms_over P (rule_leaf r.base) IsVariable (rule_leaf_over P scoped r.base) rule.left h.0.left;
-          value = term_over P (rule_leaf r.base) IsVariable (rule_leaf_over P scoped r.base) rule.right h.0.right;
+          arguments = arguments_over P scoped bound above v is r.base ruled below.0;
+          sides = sides_over P scoped bound above v is r.base ruled below.0;
+          value = value_over P scoped bound above v is r.base ruled below.0;
           target = pattern_over P bound above v is r.at pattern fits;
         } in
         let first = goes_over (bound_by pattern ++ bound) above c out over (with_pattern_over r.at) r.goes_on in
-        let all : GoOver (out ∷ others) = (first, rules_go_over arguments below rules h.1 others rest) in
+        let all : GoOver (out ∷ others) = (first, each_goes_over rs below.1 others rest) in
         subst GoOver (sym made) all
-
-    -- the rules of a destructor
-    destructor_rules : (d : ℕ) → AllByRecursion (IsRuleOver (signature_of P)) (rules_of P d)
-    destructor_rules d = go (numbered P.destructors d) (each-numbered (λ x. AllByRecursion (IsRuleOver (signature_of P)) x.rules) P.destructors d scoped.rules) where
-      go : (o : Option Destructor) → IfSome o (λ x. AllByRecursion (IsRuleOver (signature_of P)) x.rules) → AllByRecursion (IsRuleOver (signature_of P)) (option_map_or (λ destructor. destructor.rules) o [])
-      go None h = tt
-      go (Some x) h = h
 
     -- Each visit that goes on is over the protocol.
     pub all_go_over : (expression : Expression) → IsExpressionBelow (signature_of P) bound expression → (outs : List (Option Visit)) → AllGoOn P v pattern expression outs → GoOver outs
-    all_go_over (Plain term) below outs (out, t, made) =
-        let c = term_choice P v pattern term t.at in
-        let over : IsChoiceOver c = record { arguments = tt; sides = tt; value = term_in_over P bound above v is term below; target = pattern_over P bound above v is t.at pattern fits } in
-        let all : GoOver (out ∷ []) = (goes_over (bound_by pattern ++ bound) above c out over (with_pattern_over t.at) t.goes_on, tt) in
-        subst GoOver (sym made) all
-    all_go_over (Call d arguments) below outs a = rules_go_over arguments below.1 (rules_of P d) (destructor_rules d) outs a
+    all_go_over expression below outs a =
+        each_goes_over (map (λ c. c.ruled) (choices P expression)) (each-map (IsRuledBelow P scoped bound) (λ c. c.ruled) (choices P expression) (choices_below P scoped bound expression below.terms below.heads)) outs a

@@ -11,7 +11,7 @@ use Rattle.spec_calculus.specs.Points.{numbered}
 use Rattle.spec_well_formed.specs.Signature.{signature_of}
 use Rattle.spec_well_formed.specs.Terms as below
 use Rattle.spec_well_formed.specs.Terms.{EachSymbol, EachSymbolInRow, TakesArguments, TakesPatterns, IsEventOver}
-use Rattle.spec_terms.specs.Term.{Ctor, Data, Tuple, Term}
+use Rattle.spec_terms.specs.Term.{Ctor, Data, Term}
 use Rattle.spec_clauses.proofs.Lists.{all_first, all_second, all_weaker}
 use Rattle.spec_translation.specs.Conversion.{free_term, row_length, symbol_over, converted, converted_row}
 use Rattle.spec_certificate_text.specs.OfProtocol.{IsEvent, IsSymbolOf}
@@ -44,12 +44,13 @@ module _ (P : Protocol) where
   symbol_of (Constructor f) n h = constructor_over f n h.declared h.stands h.is
   symbol_of calculus.Tuple n h = (refl, h.0, h.1)
 
+  -- a constructor or a tuple over a row of trees of any kind
+  pub root_over : {L S : Type 0} (f : Symbol) (ts : Trees L S) → TakesArguments (signature_of P) f (below.row_length ts) → IsSymbolOf P (symbol_over P (row_length ts) f) (below.row_length ts)
+  root_over f ts h = subst (IsSymbolOf P (symbol_over P (row_length ts) f)) (rows_alike ts) (symbol_of f (row_length ts) (subst (TakesArguments (signature_of P) f) (sym (rows_alike ts)) h))
+
   module _ {L : Type 0} (Q : Symbol → ℕ → Type 0) (takes : (f : Symbol) (n : ℕ) → Q f n → TakesArguments (signature_of P) f n) (leaf : L → Term) where
     of_root : (f : Symbol) (ts : Trees L Symbol) → Q f (below.row_length ts) → IsSymbolOf P (symbol_over P (row_length ts) f) (below.row_length (converted_row P leaf ts))
-    of_root f ts h =
-        let n = row_length ts in
-        let takes_so : TakesArguments (signature_of P) f n = subst (TakesArguments (signature_of P) f) (sym (rows_alike ts)) (takes f (below.row_length ts) h) in
-        subst (IsSymbolOf P (symbol_over P n f)) (rows_alike ts ∙ sym (converted_row-length leaf ts)) (symbol_of f n takes_so)
+    of_root f ts h = subst (IsSymbolOf P (symbol_over P (row_length ts) f)) (sym (converted_row-length leaf ts)) (root_over f ts (takes f (below.row_length ts) h))
 
     mutual
       pub converted_over : (t : Tree L Symbol) → EachSymbol Q t → AllByRecursion (λ x. IsTermOver P (leaf x)) (leaves t) → IsTermOver P (converted P leaf t)

@@ -5,6 +5,7 @@ pub mod Resolution
 pub mod Conversion
 pub mod Given
 pub mod Scopes
+pub mod Applied
 pub mod Choices
 pub mod Visited
 pub mod Certificates

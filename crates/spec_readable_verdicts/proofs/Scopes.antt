@@ -24,7 +24,7 @@ use Rattle.spec_translation.proofs.Goal.{all_filter_map}
 use Rattle.spec_readable_verdicts.proofs.Over.{bind-over}
 use Rattle.spec_certificate_text.specs.OfProtocol.{IsSymbolOf}
 use Rattle.spec_readable_verdicts.proofs.Facts.{IsTermOver, AreTermsOver, IsFactOver, terms_over-under, facts_over-under}
-use Rattle.spec_readable_verdicts.proofs.Conversion.{converted_over, patterns_take, free_over, term_over, terms_over}
+use Rattle.spec_readable_verdicts.proofs.Conversion.{converted_over, patterns_take, free_over, term_over}
 
 -- something of that name is found in the scope
 abbrev pub IsFound : Scope → Name → Type 0
@@ -100,9 +100,6 @@ module _ (P : Protocol) where
 
     pub term_in_over : (t : calculus.Term) → IsTermBelow (signature_of P) bound t → IsTermOver P (term_in P v.scope t)
     term_in_over t h = term_over P (leaf_term v.scope) (IsKnown (signature_of P) bound) leaf_over t h
-
-    pub terms_in_over : (ts : List calculus.Term) → AllByRecursion (IsTermBelow (signature_of P) bound) ts → AreTermsOver P (map (term_in P v.scope) ts)
-    terms_in_over ts h = terms_over P (leaf_term v.scope) (IsKnown (signature_of P) bound) leaf_over ts h
 
     hole_over : (at : Fresh) (hole : Hole) → IsHoleBelow (signature_of P) bound hole → IsTermOver P (hole_term P v.scope at hole)
     hole_over at (Bind i) h = tt

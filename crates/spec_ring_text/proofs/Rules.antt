@@ -5,12 +5,15 @@ use Rattle.std.proofs.lemmas.Bool.{le-leb}
 use Rattle.spec_trees.specs.Tree.{Leaf}
 use Rattle.spec_calculus.specs.Bounds.{most_points, most_points_above}
 use Rattle.spec_calculus.specs.Syntax as calculus
+use Rattle.spec_well_formed.specs.Terms.{rule_count}
 use Rattle.spec_protocol_grammar.specs.Sketch.{TermSketch, none, more, NamedPattern, no_patterns, UnitSketch, Replicated, Output, Input, Let, omitted, given}
-use Rattle.spec_protocol_scope.specs.Names.{Scope, MeansFree, MeansConstructor, MeansDestructor, look, Bound, bound_as}
-use Rattle.spec_protocol_scope.specs.Terms.{InProcess, term, terms, expression, unchanged, process_leaf, unbound}
+use Rattle.spec_protocol_scope.specs.Answers.{Answer, ◌>>=◌}
+use Rattle.spec_protocol_scope.specs.Names.{Scope, signature_with, MeansFree, MeansConstructor, MeansDestructor, look, Bound, bound_as}
+use Rattle.spec_protocol_scope.specs.Terms.{Reading, InProcess, term, terms, unchanged, process_leaf, unbound}
+use Rattle.spec_protocol_scope.specs.Expressions.{part, parts, expression}
 use Rattle.spec_protocol_scope.specs.Patterns.{pattern}
 use Rattle.spec_protocol_scope.specs.Processes.{Numbers, Site, Macros, is_room, unit}
-use Rattle.spec_ring_text.specs.Meaning.{encrypted}
+use Rattle.spec_ring_text.specs.Meaning.{encrypted, decrypted}
 use Rattle.spec_ring_text.proofs.Sketch.{bare, applied}
 
 -- there is room for a point
@@ -34,8 +37,16 @@ module _ (s : Scope) (bound : List Bound) where
   pub encrypted_term : (n : ℕ) (t u : TermSketch) (x y : calculus.Name) → look s n ≡ Some (MeansConstructor 1 2 false) → Denotes t (Leaf x) → Denotes u (Leaf y) → Denotes (applied n t u) (encrypted (Leaf x) (Leaf y))
   encrypted_term n t u x y e h k = rw (e, two_terms t u (Leaf x) (Leaf y) h k) refl
 
-  pub decrypted_term : (n : ℕ) (t u : TermSketch) (x y : calculus.Name) → look s n ≡ Some (MeansDestructor 1 2) → Denotes t (Leaf x) → Denotes u (Leaf y) → expression s bound (applied n t u) ≡ Ok (calculus.Call 1 (Leaf x ∷ Leaf y ∷ []))
-  decrypted_term n t u x y e h k = rw (e, two_terms t u (Leaf x) (Leaf y) h k) refl
+  -- an identifier is a part of an expression that is a term
+  bare_part : (n : ℕ) (x : calculus.Term) → Denotes (bare n) x → part s bound (bare n) ≡ Ok (Leaf x)
+  bare_part n x h = ap (λ (read : Reading calculus.Term). (read >>= λ r. (let term : Answer calculus.Term = Ok r.0 in term)) >>= λ t. (let made : Answer calculus.Expression = Ok (Leaf t) in made)) h
+
+  two_parts : (t u : TermSketch) (x y : calculus.Expression) → part s bound t ≡ Ok x → part s bound u ≡ Ok y → parts s bound (more t (more u none)) ≡ Ok (x ∷ y ∷ [])
+  two_parts t u x y h k = rw (h, k) refl
+
+  pub decrypted_term : (n m k : ℕ) (x y : calculus.Name) → look s n ≡ Some (MeansDestructor 1 2) → rule_count (signature_with s.names) 1 ≡ 1 → Denotes (bare m) (Leaf x) → Denotes (bare k) (Leaf y)
+      → expression s bound (applied n (bare m) (bare k)) ≡ Ok (decrypted (Leaf x) (Leaf y))
+  decrypted_term n m k x y e one h i = rw (e, two_parts (bare m) (bare k) (Leaf (Leaf x)) (Leaf (Leaf y)) (bare_part m (Leaf x) h) (bare_part k (Leaf y) i), one) refl
 
   -- a name binds the variable of that number
   pub binding_name : (n v : ℕ) → pattern s bound v [] (NamedPattern n no_patterns) ≡ Ok (Leaf (calculus.Bind v), record { token = n; name = calculus.Variable v } ∷ [])

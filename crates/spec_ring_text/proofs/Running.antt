@@ -9,7 +9,7 @@ use Rattle.spec_protocol_scope.specs.Names.{Texts, Scope, Bound, bound_as}
 use Rattle.spec_protocol_grammar.specs.Sketch.{UnitSketch, Input, NamedPattern, no_patterns, given}
 use Rattle.spec_protocol_scope.specs.Processes.{Numbers, no_macros, process, unit, main_process}
 use Rattle.spec_ring_text.specs.Text.{key, successor}
-use Rattle.spec_ring_text.specs.Meaning.{pass, passes, encrypted, key_name, ring_protocol}
+use Rattle.spec_ring_text.specs.Meaning.{pass, passes, encrypted, decrypted, key_name, ring_protocol}
 use Rattle.spec_ring_text.proofs.Chunks.{Chunk, words}
 use Rattle.spec_ring_text.proofs.Lines.{middle_chunks, pass_chunk, pass_chunks}
 use Rattle.spec_ring_text.proofs.Sketch.{further, bare, applied, send_by, open_by, hear_by, pass_sketch, passes_sketch, main_sketch}
@@ -58,11 +58,11 @@ module _ (T : Texts) (n : ℕ) (small : n < 900) (i j : ℕ) (i_low : 1 ≤ i) (
   opened : (P : calculus.Process) → T dec ≡ codes "dec" → T x_again ≡ codes "x" → T key_token ≡ key i
       → unit (ring_scope T n) no_macros (at_site with_y (a + 1 + 1 + 1)) (at_numbers (p + 1 + 1 + 1) (v + 1 + 1)) passed_on ≡ Ok (P, at_numbers (p + 1 + 1 + 1 + 1 + 1) (v + 1 + 1))
       → unit (ring_scope T n) no_macros (at_site with_x (a + 1 + 1)) (at_numbers (p + 1 + 1) (v + 1)) (open_by let_word y dec x_again key_token passed_on)
-      ≡ Ok (calculus.Let (Leaf (calculus.Bind (v + 1))) (calculus.Call 1 (Leaf (calculus.Variable v) ∷ key_name i ∷ [])) P calculus.Nil, at_numbers (p + 1 + 1 + 1 + 1 + 1 + 1) (v + 1 + 1))
+      ≡ Ok (calculus.Let (Leaf (calculus.Bind (v + 1))) (decrypted (Leaf (calculus.Variable v)) (key_name i)) P calculus.Nil, at_numbers (p + 1 + 1 + 1 + 1 + 1 + 1) (v + 1 + 1))
   opened P dec_is x_again_is key_is h =
       rules.let_call (ring_scope T n) no_macros with_x (a + 1 + 1) (p + 1 + 1) (v + 1) (omega arith) (omega arith) let_word y (applied dec (bare x_again) (bare key_token)) passed_on
-      (calculus.Call 1 (Leaf (calculus.Variable v) ∷ key_name i ∷ [])) P (p + 1 + 1 + 1 + 1 + 1) (v + 1 + 1) (omega arith)
-      (rules.decrypted_term (ring_scope T n) with_x dec (bare x_again) (bare key_token) (calculus.Variable v) (calculus.Free (i + 2)) (decryption_meant T n dec dec_is)
+      (decrypted (Leaf (calculus.Variable v)) (key_name i)) P (p + 1 + 1 + 1 + 1 + 1) (v + 1 + 1) (omega arith)
+      (rules.decrypted_term (ring_scope T n) with_x dec x_again key_token (calculus.Variable v) (calculus.Free (i + 2)) (decryption_meant T n dec dec_is) refl
       (rules.bound_name (ring_scope T n) with_x x_again (calculus.Variable v) (rw (x_is, x_again_is) refl))
       (rules.free_name (ring_scope T n) with_x key_token (i + 2) (rw (x_is, key_is) refl) (key_meant T n key_token i i_low i_high small key_is))) h
 
@@ -80,7 +80,7 @@ module _ (T : Texts) (n : ℕ) (small : n < 900) (i j : ℕ) (i_low : 1 ≤ i) (
       let points : p + 1 + 1 + 1 + 1 + 1 + 1 ≡ p + 6 = omega arith in
       let variables : v + 1 + 1 ≡ v + 2 = omega arith in
       heard (open_by let_word y dec x_again key_token passed_on)
-      (calculus.Let (Leaf (calculus.Bind (v + 1))) (calculus.Call 1 (Leaf (calculus.Variable v) ∷ key_name i ∷ [])) (calculus.Output (Leaf (calculus.Free 1)) (message v j) calculus.Nil) calculus.Nil)
+      (calculus.Let (Leaf (calculus.Bind (v + 1))) (decrypted (Leaf (calculus.Variable v)) (key_name i)) (calculus.Output (Leaf (calculus.Free 1)) (message v j) calculus.Nil) calculus.Nil)
       (at_numbers (p + 1 + 1 + 1 + 1 + 1 + 1) (v + 1 + 1)) channel_is
       (opened (calculus.Output (Leaf (calculus.Free 1)) (message v j) calculus.Nil) dec_is x_again_is key_is (handed_on channel_again_is enc_is y_again_is next_is))
       ∙ (ap (λ (k : ℕ). Ok (pass i j v, at_numbers k (v + 1 + 1))) points ∙ ap (λ (k : ℕ). Ok (pass i j v, at_numbers (p + 6) k)) variables)

@@ -6,20 +6,22 @@ use Rattle.std.proofs.lemmas.Bool.Decides.{eqb_tells}
 use Rattle.spec_trees.specs.Tree.{Leaf, node, after}
 use Rattle.spec_calculus.specs.Bounds.{most_visits}
 use Rattle.spec_calculus.specs.Points.{point_after}
-use Rattle.spec_calculus.specs.Syntax.{Variable, Bind, Call, Process, Nil, Output, Let, Rule, Secret}
+use Rattle.spec_calculus.specs.Syntax.{Variable, Bind, Calls, Ruled, Process, Nil, Output, Let, Rule, Secret}
 use Rattle.spec_calculus.specs.Syntax as calculus
 use Rattle.spec_terms.specs.Term.{Ctor, Term, Subst}
 use Rattle.spec_clauses.specs.Fact.{Att, Clause}
+use Rattle.spec_clauses.specs.Variables.{AreBelow}
 use Rattle.spec_clauses.specs.Norm.{norms}
 use Rattle.spec_clauses.specs.Limits.{is_large_raw}
 use Rattle.spec_translation.specs.Conversion.{StandsFor, leaf_term, free_term, Fresh}
 use Rattle.spec_translation.specs.Attacker.{name_known, fresh_known, constructor_applied, rule_applied, message_heard, message_sent}
 use Rattle.spec_translation.specs.Visit.{Visit, first_visit, is_large_term, evaluates_large}
-use Rattle.spec_translation.specs.Choice.{Choice, choice_under, IsUnified, rule_choice, GoesOn, RuleGoesOn}
+use Rattle.spec_translation.specs.Choice.{Choice, choice_under, IsUnified, ruled_choice, GoesOn, ruled_terms, ChoiceGoesOn}
 use Rattle.spec_translation.specs.Course.{Outcome, Done, Course, Finished, Counted, Unless, Adds}
 use Rattle.spec_translation.specs.Visited.{Visited, Chosen}
 use Rattle.spec_translation.specs.Translation.{Clauses, IsTranslation, attacker_clauses, goal_clauses}
 use Rattle.spec_ring_text.specs.Text.{successor}
+use Rattle.spec_ring_text.specs.Meaning as meaning
 use Rattle.spec_ring_text.specs.Meaning.{keys, key_name, encrypted, encryption, decryption, pass, passes, ring_protocol}
 use Rattle.spec_ring_text.proofs.Sizes.{last_successor, next_successor}
 
@@ -84,7 +86,7 @@ abbrev sending : ℕ → ℕ → Process
 sending j v = Output (Leaf (calculus.Free 1)) (encrypted (Leaf (Variable (v + 1))) (key_name j)) Nil
 
 abbrev opening : ℕ → ℕ → ℕ → Process
-opening i j v = Let (Leaf (Bind (v + 1))) (Call 1 (Leaf (Variable v) ∷ key_name i ∷ [])) (sending j v) Nil
+opening i j v = Let (Leaf (Bind (v + 1))) (meaning.decrypted (Leaf (Variable v)) (key_name i)) (sending j v) Nil
 
 sends : (n i j v point left : ℕ) → Visited (ring_protocol n) (sending j v) point (decrypted i v) (suc (suc left)) (Done (norms (passed i j (Leaf 2)) ++ []) left)
 sends n i j v point left =
@@ -94,6 +96,9 @@ sends n i j v point left =
 -- the rule of the destructor: its variables are 2 and 3 where it is applied, and the pattern's is 4
 abbrev rule : Rule
 rule = record { left = encrypted (Leaf (Variable 1)) (Leaf (Variable 2)) ∷ Leaf (Variable 2) ∷ []; right = Leaf (Variable 1) }
+
+abbrev ruled : ℕ → ℕ → Ruled
+ruled i v = node (Calls rule) (Leaf (Leaf (Variable v)) ∷ Leaf (key_name i) ∷ [])
 
 abbrev new : ℕ → Fresh
 new v = record { base = 4; first = v + 1 }
@@ -124,12 +129,12 @@ most_general i v r e (suc (suc (suc zero))) = let rows = e.0 in cc
 most_general i v r e (suc (suc (suc (suc zero)))) = e.1
 most_general i v r e (suc (suc (suc (suc (suc k))))) = refl
 
-decrypts : (n i v : ℕ) → RuleGoesOn (ring_protocol n) (received v 0) (Leaf (Bind (v + 1))) (Leaf (Variable v) ∷ key_name i ∷ []) rule (Some (decrypted i v))
+decrypts : (n i v : ℕ) → ChoiceGoesOn (ring_protocol n) (received v 0) (Leaf (Bind (v + 1))) (ruled i v) (Some (decrypted i v))
 decrypts n i v = record {
   base = 2;
   at = new v;
   is_new = ((omega arith, tt), ((omega arith, tt), ((omega arith, tt), ((omega arith, tt), tt))));
-  is_apart = ((omega arith, tt), ((omega arith, (omega arith, tt)), ((omega arith, tt), tt)));
+  is_apart = subst (λ (c : Choice). AreBelow 4 (ruled_terms c)) same ((omega arith, tt), ((omega arith, tt), (tt, ((omega arith, (omega arith, tt)), ((omega arith, tt), tt)))));
   is_fresh = record {
     is_new = ((omega arith, tt), ((omega arith, tt), ((omega arith, tt), ((omega arith, tt), tt))));
     from_first = (omega arith, tt);
@@ -137,7 +142,7 @@ decrypts n i v = record {
   goes_on = subst (λ (c : Choice). GoesOn c (Some (decrypted i v))) same (unifier i, record { accepted = (refl, refl); most = λ r e. (r, most_general i v r e) }, refl);
 }
   where
-    same : choice_with i v (Leaf 1) 0 ≡ rule_choice (ring_protocol n) (received v 0) (Leaf (Bind (v + 1))) (Leaf (Variable v) ∷ key_name i ∷ []) rule 2 (new v)
+    same : choice_with i v (Leaf 1) 0 ≡ ruled_choice (ring_protocol n) (received v 0) (Leaf (Bind (v + 1))) (ruled i v) 2 (new v)
     same = let t : Leaf 1 ≡ leaf_term (standing v (Leaf 1) ∷ []) (Variable v) = sym (found_first v (Leaf 1)) in let d : 0 ≡ v + 1 - (v + 1) = sym (nothing_left (v + 1)) in λ k. choice_with i v (t k) (d k)
 
 -- the clause of a process, as its visit adds it
@@ -146,7 +151,7 @@ added_by i j = (norms (passed i j (Leaf 2)) ++ []) ++ []
 
 -- what comes behind its `let`
 abbrev goes_on : ℕ → ℕ → ℕ → ℕ → ℕ → Course
-goes_on n i j v point = Chosen (ring_protocol n) (received v 0) (Leaf (Bind (v + 1))) (Call 1 (Leaf (Variable v) ∷ key_name i ∷ [])) point
+goes_on n i j v point = Chosen (ring_protocol n) (received v 0) (Leaf (Bind (v + 1))) (meaning.decrypted (Leaf (Variable v)) (key_name i)) point
     (λ w. Visited (ring_protocol n) (sending j v) (point + 1) w) (Visited (ring_protocol n) Nil (point_after (point + 1) (sending j v)) (received v 0))
 
 opens : (n i j v point left : ℕ) → Visited (ring_protocol n) (opening i j v) point (received v 0) (suc (suc (suc (suc left)))) (Done (added_by i j) left)

@@ -1,7 +1,7 @@
 -- The protocol that the text of the ring of n keys spells.
 use Rattle.std.specs.Prelude.{ℕ, zero, suc, ◌+◌, ◌-◌, Bool, true, false, List, [], ◌∷◌, codes}
 use Rattle.spec_trees.specs.Tree.{Leaf, node}
-use Rattle.spec_calculus.specs.Syntax.{Free, Variable, Constructor, Bind, Term, Call, Process, Nil, Output, Input, Parallel, Replication, Let, Secret, Declared, Destructor, Protocol}
+use Rattle.spec_calculus.specs.Syntax.{Free, Variable, Constructor, Bind, Term, Calls, Expression, Process, Nil, Output, Input, Parallel, Replication, Let, Secret, Declared, Destructor, Protocol}
 use Rattle.spec_ring_text.specs.Text.{key, successor}
 
 -- a free name
@@ -21,6 +21,10 @@ key_name i = Leaf (Free (i + 2))
 abbrev pub encrypted : Term → Term → Term
 encrypted m k = node (Constructor 1) (m ∷ k ∷ [])
 
+-- and one that is decrypted under a key
+abbrev pub decrypted : Term → Term → Expression
+decrypted m k = node (Calls 1) (Leaf m ∷ Leaf k ∷ [])
+
 -- `enc`
 abbrev pub encryption : Declared
 encryption = record { word = codes "enc"; arity = 2; public = true; is_data = false }
@@ -36,7 +40,7 @@ decryption = record {
 abbrev pub pass : ℕ → ℕ → ℕ → Process
 pass i j v =
     Replication (Input (Leaf (Free 1)) (Leaf (Bind v))
-    (Let (Leaf (Bind (v + 1))) (Call 1 (Leaf (Variable v) ∷ key_name i ∷ []))
+    (Let (Leaf (Bind (v + 1))) (decrypted (Leaf (Variable v)) (key_name i))
     (Output (Leaf (Free 1)) (encrypted (Leaf (Variable (v + 1))) (key_name j)) Nil) Nil))
 
 -- the processes of the ring of n for key i and so many behind it; v is their first variable

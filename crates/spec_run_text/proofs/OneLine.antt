@@ -70,7 +70,7 @@ with_word Make = runs.Make 0
 with_word Pass = runs.Pass 0 0
 with_word Hear = runs.Hear 0
 with_word Say = runs.Say 0 0
-with_word Take = runs.Take 0 0
+with_word Take = runs.Take 0 []
 with_word Fail = runs.Fail 0
 with_word Mark = runs.Mark 0
 

@@ -27,8 +27,18 @@ empty_fields = refl
 some_steps : reading (codes "fresh\nbuild 2 1 10\npass 1 2") ≡ Ok (Fresh ∷ Build 2 (1 ∷ 10 ∷ []) ∷ Pass 1 2 ∷ [])
 some_steps = refl
 
-zeros : reading (codes "take 0 0\nhear 999999999\n") ≡ Ok (Take 0 0 ∷ Hear 999999999 ∷ [])
+zeros : reading (codes "take 0 0\nhear 999999999\n") ≡ Ok (Take 0 (0 ∷ []) ∷ Hear 999999999 ∷ [])
 zeros = refl
+
+-- a label of two numbers, and one of none
+labels : reading (codes "take 2 1 3\ntake 1") ≡ Ok (Take 2 (1 ∷ 3 ∷ []) ∷ Take 1 [] ∷ [])
+labels = refl
+
+no_thread : reading (codes "take") ≡ Err (Number, 1)
+no_thread = refl
+
+leading_zero_in_a_label : reading (codes "take 2 1 01") ≡ Err (Number, 1)
+leading_zero_in_a_label = refl
 
 leading_zero : reading (codes "hear 01") ≡ Err (Number, 1)
 leading_zero = refl

@@ -35,7 +35,7 @@ action word =
     else (if bytes_eq word (codes "take") then Some Take else (if bytes_eq word (codes "fail") then Some Fail
     else (if bytes_eq word (codes "mark") then Some Mark else None))))))))))))
 
--- the step of an action with these numbers, where that is their count
+-- the step of an action with these numbers, where that is their count; a label is any numbers, none among them
 abbrev pub step_with : Action → List ℕ → Option Step
 step_with Build (constructor ∷ arguments) = Some (runs.Build constructor arguments)
 step_with Reduce (destructor ∷ rule ∷ arguments) = Some (runs.Reduce destructor rule arguments)
@@ -47,7 +47,7 @@ step_with Make (thread ∷ []) = Some (runs.Make thread)
 step_with Pass (sender ∷ receiver ∷ []) = Some (runs.Pass sender receiver)
 step_with Hear (thread ∷ []) = Some (runs.Hear thread)
 step_with Say (thread ∷ value ∷ []) = Some (runs.Say thread value)
-step_with Take (thread ∷ label ∷ []) = Some (runs.Take thread label)
+step_with Take (thread ∷ label) = Some (runs.Take thread label)
 step_with Fail (thread ∷ []) = Some (runs.Fail thread)
 step_with Mark (thread ∷ []) = Some (runs.Mark thread)
 step_with other numbers = None

@@ -33,7 +33,7 @@ numbers_of (Make thread) = thread ∷ []
 numbers_of (Pass sender receiver) = sender ∷ receiver ∷ []
 numbers_of (Hear thread) = thread ∷ []
 numbers_of (Say thread value) = thread ∷ value ∷ []
-numbers_of (Take thread label) = thread ∷ label ∷ []
+numbers_of (Take thread label) = thread ∷ label
 numbers_of (Fail thread) = thread ∷ []
 numbers_of (Mark thread) = thread ∷ []
 

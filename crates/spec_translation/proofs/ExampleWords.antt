@@ -1,7 +1,7 @@
 -- Words for examples that are worked out by hand.
-use Rattle.std.proofs.Common.{ℕ, zero, suc, true, false, List, [], ◌∷◌}
+use Rattle.std.proofs.Common.{ℕ, zero, suc, true, false, List, [], ◌∷◌, map}
 use Rattle.spec_trees.specs.Tree.{Leaf, Node, none, node}
-use Rattle.spec_calculus.specs.Syntax.{Name, Variable, Constructor, Rule, Declared}
+use Rattle.spec_calculus.specs.Syntax.{Variable, Constructor, Calls, Expression, Rule, Ruled, Declared}
 use Rattle.spec_calculus.specs.Syntax as calculus
 use Rattle.spec_terms.specs.Term.{Free, Attacker, Term, Subst}
 use Rattle.spec_clauses.specs.Fact.{Fact, Att, Mess, Clause}
@@ -30,6 +30,13 @@ variable i = Leaf (Variable i)
 
 abbrev pub apply : ℕ → List calculus.Term → calculus.Term
 apply f ts = node (Constructor f) ts
+
+-- an expression of a process: a destructor on terms, and a rule in its place
+abbrev pub call : ℕ → List calculus.Term → Expression
+call d ts = node (Calls d) (map Leaf ts)
+
+abbrev pub ruled_call : Rule → List calculus.Term → Ruled
+ruled_call rule ts = node (Calls rule) (map Leaf ts)
 
 -- clauses and their terms: variables and free names
 abbrev pub clause : List (Fact Term) → Fact Term → Clause Term

@@ -5,7 +5,7 @@ use Rattle.std.specs.List.{list_any}
 use Rattle.std.proofs.lemmas.Bool.Decides.{nat_tests}
 use Rattle.std.proofs.lemmas.List.Folds.{list_any-append}
 use Rattle.spec_trees.specs.Tree.{Leaf, node, size, bind}
-use Rattle.spec_calculus.specs.Syntax.{Name, Variable, Bind, Plain, Process, Nil, Output, Let, Secret, Protocol}
+use Rattle.spec_calculus.specs.Syntax.{Name, Variable, Bind, Process, Nil, Output, Let, Secret, Protocol}
 use Rattle.spec_calculus.specs.Syntax as calculus
 use Rattle.spec_calculus.specs.Points.{point_after}
 use Rattle.spec_calculus.specs.Values.{same_name}
@@ -32,7 +32,7 @@ last (suc i) = variable (suc i)
 -- so many lets, behind i others: let x(i+1) = h(xi,xi) in .. out(c,x)
 abbrev lets : ℕ → ℕ → Process
 lets zero i = Output (name 1) (last i) Nil
-lets (suc count) i = Let (Leaf (Bind (suc i))) (Plain (apply 1 (last i ∷ last i ∷ []))) (lets count (suc i)) Nil
+lets (suc count) i = Let (Leaf (Bind (suc i))) (Leaf (apply 1 (last i ∷ last i ∷ []))) (lets count (suc i)) Nil
 
 -- free c. private free s. fun h/2. query attacker(s). process let x1 = h(c,c) in let x2 = h(x1,x1) in .. out(c,xK)
 abbrev doubling : ℕ → Protocol
@@ -142,13 +142,13 @@ module _ (total : ℕ) where
   let_term : (i : ℕ) → term_in P (scope_behind i) (apply 1 (last i ∷ last i ∷ [])) ≡ doubled (suc i)
   let_term i = let e = last_term P i in λ k. node (Ctor 1) (e k ∷ e k ∷ [])
 
-  let_evaluates : (i : ℕ) (next : Process) → evaluates_large P (behind i) (Let (Leaf (Bind (suc i))) (Plain (apply 1 (last i ∷ last i ∷ []))) next Nil) ≡ is_large_term (doubled (suc i)) || false
+  let_evaluates : (i : ℕ) (next : Process) → evaluates_large P (behind i) (Let (Leaf (Bind (suc i))) (Leaf (apply 1 (last i ∷ last i ∷ []))) next Nil) ≡ is_large_term (doubled (suc i)) || false
   let_evaluates i next = ap (λ t. is_large_term t || false) (let_term i)
 
   -- one let that is within the limit
   one_let : (i : ℕ) (next : Process) (point left : ℕ) (out : Outcome) → weight (suc i) ≤ 16384
       → Then (Visited P next (point + 1) (behind (suc i))) (Visited P Nil (point_after (point + 1) next) (behind i)) left out
-      → Visited P (Let (Leaf (Bind (suc i))) (Plain (apply 1 (last i ∷ last i ∷ []))) next Nil) point (behind i) (suc left) out
+      → Visited P (Let (Leaf (Bind (suc i))) (Leaf (apply 1 (last i ∷ last i ∷ []))) next Nil) point (behind i) (suc left) out
   one_let i next point left out fits below =
       let e = let_term i in
       let same : bound (behind i) (suc i) (term_in P (scope_behind i) (apply 1 (last i ∷ last i ∷ []))) ≡ behind (suc i) = ap (bound (behind i) (suc i)) e in
@@ -202,14 +202,14 @@ module _ (total : ℕ) where
   -- so many lets, and one more, with others below it
   abbrev lets_behind : ℕ → ℕ → ℕ → Process
   lets_behind zero more i = lets (suc more) i
-  lets_behind (suc count) more i = Let (Leaf (Bind (suc i))) (Plain (apply 1 (last i ∷ last i ∷ []))) (lets_behind count more (suc i)) Nil
+  lets_behind (suc count) more i = Let (Leaf (Bind (suc i))) (Leaf (apply 1 (last i ∷ last i ∷ []))) (lets_behind count more (suc i)) Nil
 
   large_visited : (count more i point left : ℕ) → weight (count + i) ≤ 16384 → 16384 < weight (suc count + i) → Visited P (lets_behind count more i) point (behind i) (visits_behind count left) (TooLarge (point_behind count point))
   large_visited zero more i point left fits over =
       let same : suc 0 + i ≡ suc i = omega arith in
       let here : 16384 < weight (suc i) = subst (λ n. 16384 < weight n) same over in
       let next = lets more (suc i) in
-      let evaluated : evaluates_large P (behind i) (Let (Leaf (Bind (suc i))) (Plain (apply 1 (last i ∷ last i ∷ []))) next Nil) ≡ true = let_evaluates i next ∙ ap (λ b. b || false) (term_large (suc i) here) in
+      let evaluated : evaluates_large P (behind i) (Let (Leaf (Bind (suc i))) (Leaf (apply 1 (last i ∷ last i ∷ []))) next Nil) ≡ true = let_evaluates i next ∙ ap (λ b. b || false) (term_large (suc i) here) in
       rw evaluated refl
   large_visited (suc count) more i point left fits over =
       let same : count + suc i ≡ suc count + i = omega arith in

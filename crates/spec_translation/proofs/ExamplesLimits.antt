@@ -2,7 +2,7 @@
 use Rattle.std.proofs.Common.{◌≡◌, ◌∙◌, ℕ, zero, suc, ◌+◌, Some, List, [], ◌∷◌, length, refl, ap, sym, subst, arith}
 use Rattle.std.proofs.lemmas.List.{length-append}
 use Rattle.spec_trees.specs.Tree.{Leaf, node, after}
-use Rattle.spec_calculus.specs.Syntax.{Variable, Tuple, Hole, Pattern, Bind, Equal, Call, Process, Nil, Output, Input, Parallel, Replication, New, Let, Rule, Destructor, Secret, Protocol}
+use Rattle.spec_calculus.specs.Syntax.{Variable, Tuple, Hole, Pattern, Bind, Equal, Process, Nil, Output, Input, Parallel, Replication, New, Let, Rule, Destructor, Secret, Protocol}
 use Rattle.spec_calculus.specs.Syntax as calculus
 use Rattle.spec_calculus.specs.Points.{nodes, point_after}
 use Rattle.spec_terms.specs.Term.{Ctor, Term, Subst}
@@ -10,11 +10,11 @@ use Rattle.spec_terms.specs.Term as terms
 use Rattle.spec_clauses.specs.Fact.{Att, Bad, clause_size}
 use Rattle.spec_translation.specs.Conversion.{Fresh}
 use Rattle.spec_translation.specs.Visit.{Visit, first_visit, after_copy}
-use Rattle.spec_translation.specs.Choice.{Choice, choice_under, IsUnified, rule_choice, RuleGoesOn}
+use Rattle.spec_translation.specs.Choice.{Choice, choice_under, IsUnified, ruled_choice, ChoiceGoesOn}
 use Rattle.spec_translation.specs.Course.{Done, TooLarge}
 use Rattle.spec_translation.specs.Visited.{Visited}
 use Rattle.spec_translation.specs.Translation.{IsTranslation, Clauses, LargeAt}
-use Rattle.spec_translation.proofs.ExampleWords.{public_name, private_name, constructor_of, name, variable, apply, clause, x, free, own_names, hears, says, same_rule, next_variable, with_value, first_of, two_terms}
+use Rattle.spec_translation.proofs.ExampleWords.{public_name, private_name, constructor_of, name, variable, apply, call, ruled_call, clause, x, free, own_names, hears, says, same_rule, next_variable, with_value, first_of, two_terms}
 use Rattle.spec_translation.proofs.ExamplesLarge.{doubled, weight}
 
 -- the term of 2 ^ (i + 1) - 1 symbols
@@ -98,17 +98,17 @@ two_choices = record {
   destructors = record { word = 100 ∷ []; rules = same_rule ∷ tripled_rule ∷ [] } ∷ [];
   events = [];
   queries = Secret (name 2) ∷ [];
-  main = Let (Leaf (Bind 1)) (Call 1 (written 12 ∷ [])) (Output (name 1) (node Tuple (variable 1 ∷ variable 1 ∷ variable 1 ∷ [])) Nil) Nil;
+  main = Let (Leaf (Bind 1)) (call 1 (written 12 ∷ [])) (Output (name 1) (node Tuple (variable 1 ∷ variable 1 ∷ variable 1 ∷ [])) Nil) Nil;
 }
 
 abbrev tripled : Term
 tripled = node (Ctor 2) (doubled 12 ∷ doubled 12 ∷ doubled 12 ∷ [])
 
 abbrev same_choice : Choice
-same_choice = rule_choice two_choices first_visit (Leaf (Bind 1)) (written 12 ∷ []) same_rule 0 next_variable
+same_choice = ruled_choice two_choices first_visit (Leaf (Bind 1)) (ruled_call same_rule (written 12 ∷ [])) 0 next_variable
 
 abbrev tripled_choice : Choice
-tripled_choice = rule_choice two_choices first_visit (Leaf (Bind 1)) (written 12 ∷ []) tripled_rule 0 next_variable
+tripled_choice = ruled_choice two_choices first_visit (Leaf (Bind 1)) (ruled_call tripled_rule (written 12 ∷ [])) 0 next_variable
 
 module _ (r : Subst) where
   same_most : IsUnified (choice_under r same_choice) → (n : ℕ) → after r (two_terms (doubled 12) (doubled 12)) n ≡ r n
@@ -121,22 +121,22 @@ module _ (r : Subst) where
   tripled_most e (suc zero) = let first = ap first_of e.0 in (λ i. node (Ctor 2) (first i ∷ first i ∷ first i ∷ [])) ∙ e.1
   tripled_most e (suc (suc n)) = refl
 
-same_goes : RuleGoesOn two_choices first_visit (Leaf (Bind 1)) (written 12 ∷ []) same_rule (Some (with_value (doubled 12)))
+same_goes : ChoiceGoesOn two_choices first_visit (Leaf (Bind 1)) (ruled_call same_rule (written 12 ∷ [])) (Some (with_value (doubled 12)))
 same_goes = record {
   base = 0;
   at = next_variable;
   is_new = tt;
-  is_apart = ((omega arith, tt), ((omega arith, tt), tt));
+  is_apart = ((omega arith, tt), (tt, ((omega arith, tt), tt)));
   is_fresh = record { is_new = tt; from_first = (omega arith, tt) };
   goes_on = (two_terms (doubled 12) (doubled 12), record { accepted = (refl, refl); most = λ r e. (r, same_most r e) }, refl);
 }
 
-tripled_goes : RuleGoesOn two_choices first_visit (Leaf (Bind 1)) (written 12 ∷ []) tripled_rule (Some (with_value tripled))
+tripled_goes : ChoiceGoesOn two_choices first_visit (Leaf (Bind 1)) (ruled_call tripled_rule (written 12 ∷ [])) (Some (with_value tripled))
 tripled_goes = record {
   base = 0;
   at = next_variable;
   is_new = tt;
-  is_apart = ((omega arith, (omega arith, (omega arith, tt))), ((omega arith, tt), tt));
+  is_apart = ((omega arith, (omega arith, (omega arith, tt))), (tt, ((omega arith, tt), tt)));
   is_fresh = record { is_new = tt; from_first = (omega arith, tt) };
   goes_on = (two_terms (doubled 12) tripled, record { accepted = (refl, refl); most = λ r e. (r, tripled_most r e) }, refl);
 }

@@ -1,16 +1,16 @@
 -- Translations worked out by hand: names over messages and sessions, private constructors, all branches of a `let`, variables of goals.
 use Rattle.std.proofs.Common.{◌≡◌, ◌∙◌, ℕ, zero, suc, false, Some, List, [], ◌∷◌, refl, ap, arith}
 use Rattle.spec_trees.specs.Tree.{Leaf, node, after}
-use Rattle.spec_calculus.specs.Syntax.{Made, Tuple, Bind, Call, Nil, Output, Input, Replication, New, Let, Event, Rule, EventTerm, Secret, SecretNew, Correspondence, Protocol}
+use Rattle.spec_calculus.specs.Syntax.{Made, Tuple, Bind, Nil, Output, Input, Replication, New, Let, Event, Rule, EventTerm, Secret, SecretNew, Correspondence, Protocol}
 use Rattle.spec_terms.specs.Term.{Ctor, Point, Term, Subst}
 use Rattle.spec_terms.specs.Term as terms
 use Rattle.spec_clauses.specs.Fact.{Att, Mess, Ev, Mev, Bad, Clause}
 use Rattle.spec_translation.specs.Goal.{event_variables}
 use Rattle.spec_translation.specs.Visit.{first_visit}
-use Rattle.spec_translation.specs.Choice.{Choice, choice_under, IsUnified, rule_choice, RuleGoesOn}
+use Rattle.spec_translation.specs.Choice.{Choice, choice_under, IsUnified, ruled_choice, ChoiceGoesOn}
 use Rattle.spec_translation.specs.Course.{Done}
 use Rattle.spec_translation.specs.Translation.{IsTranslation, Clauses, goal_clauses}
-use Rattle.spec_translation.proofs.ExampleWords.{public_name, private_name, constructor_of, name, variable, apply, clause, x, free, own_names, hears, says, same_rule, next_variable, with_value, first_of, two_terms}
+use Rattle.spec_translation.proofs.ExampleWords.{public_name, private_name, constructor_of, name, variable, apply, call, ruled_call, clause, x, free, own_names, hears, says, same_rule, next_variable, with_value, first_of, two_terms}
 
 -- free c. private fun f/1. query attacker(new n). process !in(c,x); new n; out(c,n)
 abbrev answering : Protocol
@@ -69,14 +69,14 @@ branches = record {
   destructors = record { word = 100 ∷ []; rules = same_rule ∷ pair_rule ∷ [] } ∷ [];
   events = [];
   queries = Secret (name 2) ∷ [];
-  main = Let (Leaf (Bind 1)) (Call 1 (name 1 ∷ [])) (Output (name 1) (apply 1 (variable 1 ∷ name 2 ∷ [])) Nil) (Output (name 1) (apply 1 (name 2 ∷ name 2 ∷ [])) Nil);
+  main = Let (Leaf (Bind 1)) (call 1 (name 1 ∷ [])) (Output (name 1) (apply 1 (variable 1 ∷ name 2 ∷ [])) Nil) (Output (name 1) (apply 1 (name 2 ∷ name 2 ∷ [])) Nil);
 }
 
 abbrev h : Term → Term → Term
 h t u = node (Ctor 1) (t ∷ u ∷ [])
 
 abbrev choice : Rule → Choice
-choice rule = rule_choice branches first_visit (Leaf (Bind 1)) (name 1 ∷ []) rule 0 next_variable
+choice rule = ruled_choice branches first_visit (Leaf (Bind 1)) (ruled_call rule (name 1 ∷ [])) 0 next_variable
 
 module _ (r : Subst) where
   same_most : IsUnified (choice_under r (choice same_rule)) → (n : ℕ) → after r (two_terms (free 1) (free 1)) n ≡ r n
@@ -89,22 +89,22 @@ module _ (r : Subst) where
   pair_most e (suc zero) = let first = ap first_of e.0 in (λ i. h (first i) (first i)) ∙ e.1
   pair_most e (suc (suc n)) = refl
 
-same_goes : RuleGoesOn branches first_visit (Leaf (Bind 1)) (name 1 ∷ []) same_rule (Some (with_value (free 1)))
+same_goes : ChoiceGoesOn branches first_visit (Leaf (Bind 1)) (ruled_call same_rule (name 1 ∷ [])) (Some (with_value (free 1)))
 same_goes = record {
   base = 0;
   at = next_variable;
   is_new = tt;
-  is_apart = ((omega arith, tt), ((omega arith, tt), tt));
+  is_apart = ((omega arith, tt), (tt, ((omega arith, tt), tt)));
   is_fresh = record { is_new = tt; from_first = (omega arith, tt) };
   goes_on = (two_terms (free 1) (free 1), record { accepted = (refl, refl); most = λ r e. (r, same_most r e) }, refl);
 }
 
-pair_goes : RuleGoesOn branches first_visit (Leaf (Bind 1)) (name 1 ∷ []) pair_rule (Some (with_value (h (free 1) (free 1))))
+pair_goes : ChoiceGoesOn branches first_visit (Leaf (Bind 1)) (ruled_call pair_rule (name 1 ∷ [])) (Some (with_value (h (free 1) (free 1))))
 pair_goes = record {
   base = 0;
   at = next_variable;
   is_new = tt;
-  is_apart = ((omega arith, (omega arith, tt)), ((omega arith, tt), tt));
+  is_apart = ((omega arith, (omega arith, tt)), (tt, ((omega arith, tt), tt)));
   is_fresh = record { is_new = tt; from_first = (omega arith, tt) };
   goes_on = (two_terms (free 1) (h (free 1) (free 1)), record { accepted = (refl, refl); most = λ r e. (r, pair_most r e) }, refl);
 }

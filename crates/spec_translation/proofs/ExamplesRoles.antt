@@ -1,16 +1,16 @@
 -- A translation worked out by hand: two roles with events, of which one decrypts.
 use Rattle.std.proofs.Common.{◌≡◌, ℕ, zero, suc, Some, [], ◌∷◌, refl, arith}
 use Rattle.spec_trees.specs.Tree.{Leaf, node, after}
-use Rattle.spec_calculus.specs.Syntax.{Made, Variable, Bind, Call, Nil, Output, Input, Parallel, Replication, New, Let, Event, EventTerm, Rule, Query, Correspondence, Protocol}
+use Rattle.spec_calculus.specs.Syntax.{Made, Variable, Bind, Nil, Output, Input, Parallel, Replication, New, Let, Event, EventTerm, Rule, Query, Correspondence, Protocol}
 use Rattle.spec_calculus.specs.Syntax as calculus
 use Rattle.spec_terms.specs.Term.{Ctor, Point, Term, Subst}
 use Rattle.spec_clauses.specs.Fact.{Att, Ev, Mev, Bad, Clause}
 use Rattle.spec_translation.specs.Conversion.{Fresh}
 use Rattle.spec_translation.specs.Visit.{Visit}
-use Rattle.spec_translation.specs.Choice.{Choice, choice_under, IsUnified, rule_choice, RuleGoesOn}
+use Rattle.spec_translation.specs.Choice.{Choice, choice_under, IsUnified, ruled_choice, ChoiceGoesOn}
 use Rattle.spec_translation.specs.Course.{Done}
 use Rattle.spec_translation.specs.Translation.{IsTranslation, Clauses}
-use Rattle.spec_translation.proofs.ExampleWords.{public_name, private_name, constructor_of, name, variable, apply, clause, x, free, own_names, hears, says, decryption}
+use Rattle.spec_translation.proofs.ExampleWords.{public_name, private_name, constructor_of, name, variable, apply, call, ruled_call, clause, x, free, own_names, hears, says, decryption}
 
 abbrev begin : calculus.Term → EventTerm
 begin t = record { event = 1; arguments = t ∷ [] }
@@ -33,7 +33,7 @@ roles = record {
   queries = asked ∷ [];
   main = Parallel
       (Replication (New (110 ∷ []) (Event (begin (Leaf (Made 3))) (Output (name 1) (apply 1 (Leaf (Made 3) ∷ name 2 ∷ [])) Nil))))
-      (Replication (Input (name 1) (Leaf (Bind 1)) (Let (Leaf (Bind 2)) (Call 1 (variable 1 ∷ name 2 ∷ [])) (Event (finish (variable 2)) Nil) Nil)));
+      (Replication (Input (name 1) (Leaf (Bind 1)) (Let (Leaf (Bind 2)) (call 1 (variable 1 ∷ name 2 ∷ [])) (Event (finish (variable 2)) Nil) Nil)));
 }
 
 abbrev enc : Term → Term → Term
@@ -62,7 +62,7 @@ abbrev new : Fresh
 new = record { base = 4; first = 2 }
 
 abbrev choice : Choice
-choice = rule_choice roles received (Leaf (Bind 2)) (variable 1 ∷ name 2 ∷ []) decryption 2 new
+choice = ruled_choice roles received (Leaf (Bind 2)) (ruled_call decryption (variable 1 ∷ name 2 ∷ [])) 2 new
 
 -- the most general unifier: the message is enc(v2,k), the key k, and what is bound v2
 abbrev unifier : Subst
@@ -90,12 +90,12 @@ decrypted = record {
   sessions = x 0 ∷ [];
 }
 
-decrypts : RuleGoesOn roles received (Leaf (Bind 2)) (variable 1 ∷ name 2 ∷ []) decryption (Some decrypted)
+decrypts : ChoiceGoesOn roles received (Leaf (Bind 2)) (ruled_call decryption (variable 1 ∷ name 2 ∷ [])) (Some decrypted)
 decrypts = record {
   base = 2;
   at = new;
   is_new = ((omega arith, tt), ((omega arith, tt), ((omega arith, tt), ((omega arith, tt), tt))));
-  is_apart = ((omega arith, tt), ((omega arith, (omega arith, tt)), ((omega arith, tt), tt)));
+  is_apart = ((omega arith, tt), ((omega arith, tt), (tt, ((omega arith, (omega arith, tt)), ((omega arith, tt), tt)))));
   is_fresh = record {
     is_new = ((omega arith, tt), ((omega arith, tt), ((omega arith, tt), ((omega arith, tt), tt))));
     from_first = (omega arith, tt);

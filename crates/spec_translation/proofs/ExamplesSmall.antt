@@ -1,15 +1,15 @@
 -- Translations worked out by hand: no process, private and public channels, data patterns, and rules that do not unify.
 use Rattle.std.proofs.Common.{None, [], ◌∷◌, refl, arith}
 use Rattle.spec_trees.specs.Tree.{Leaf, node}
-use Rattle.spec_calculus.specs.Syntax.{Constructor, Bind, Equal, Call, Nil, Output, Input, Parallel, Let, Secret, Protocol}
+use Rattle.spec_calculus.specs.Syntax.{Constructor, Bind, Equal, Nil, Output, Input, Parallel, Let, Secret, Protocol}
 use Rattle.spec_terms.specs.Term.{Ctor}
 use Rattle.spec_clauses.specs.Fact.{Att, Mess, Bad}
 use Rattle.spec_translation.specs.Conversion.{Fresh}
 use Rattle.spec_translation.specs.Visit.{first_visit}
-use Rattle.spec_translation.specs.Choice.{RuleGoesOn}
+use Rattle.spec_translation.specs.Choice.{ChoiceGoesOn}
 use Rattle.spec_translation.specs.Course.{Done}
 use Rattle.spec_translation.specs.Translation.{IsTranslation, Clauses}
-use Rattle.spec_translation.proofs.ExampleWords.{public_name, private_name, constructor_of, data_of, name, variable, apply, clause, x, free, own_names, hears, says, decryption}
+use Rattle.spec_translation.proofs.ExampleWords.{public_name, private_name, constructor_of, data_of, name, variable, apply, call, ruled_call, clause, x, free, own_names, hears, says, decryption}
 
 -- free c. private free s. query attacker(s). process 0
 abbrev nothing : Protocol
@@ -92,16 +92,16 @@ no_instance = record {
   destructors = record { word = 100 ∷ []; rules = decryption ∷ [] } ∷ [];
   events = [];
   queries = Secret (name 2) ∷ [];
-  main = Let (Leaf (Bind 1)) (Call 1 (name 1 ∷ name 2 ∷ [])) (Output (name 1) (name 2) Nil) (Output (name 1) (name 1) Nil);
+  main = Let (Leaf (Bind 1)) (call 1 (name 1 ∷ name 2 ∷ [])) (Output (name 1) (name 2) Nil) (Output (name 1) (name 1) Nil);
 }
 
 -- a free name is no ciphertext
-nothing_is_decrypted : RuleGoesOn no_instance first_visit (Leaf (Bind 1)) (name 1 ∷ name 2 ∷ []) decryption None
+nothing_is_decrypted : ChoiceGoesOn no_instance first_visit (Leaf (Bind 1)) (ruled_call decryption (name 1 ∷ name 2 ∷ [])) None
 nothing_is_decrypted = record {
   base = 0;
   at = record { base = 2; first = 1 };
   is_new = tt;
-  is_apart = ((omega arith, tt), ((omega arith, (omega arith, tt)), ((omega arith, tt), tt)));
+  is_apart = ((omega arith, tt), (tt, (tt, ((omega arith, (omega arith, tt)), ((omega arith, tt), tt)))));
   is_fresh = record { is_new = tt; from_first = (omega arith, tt) };
   goes_on = λ s e. let clash = e.0 in cc;
 }

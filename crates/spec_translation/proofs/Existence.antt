@@ -1,10 +1,9 @@
 -- A protocol and a query have a translation: variables that are new are there, unification is decided, and each course has an end.
 use Rattle.std.proofs.Common.{◌≡◌, ◌⊎◌, ℕ, zero, suc, ◌+◌, ◌≤◌, Bool, true, false, ◌||◌, Option, Some, None, List, [], ◌∷◌, ◌++◌, map, refl, inl, inr, arith}
 use Rattle.std.specs.List.{AllByRecursion}
-use Rattle.spec_calculus.specs.Syntax.{Process, Nil, Output, Input, Parallel, Replication, New, Let, Event, Pattern, Expression, Plain, Call, Rule, Query, Protocol}
-use Rattle.spec_calculus.specs.Syntax as calculus
+use Rattle.spec_calculus.specs.Syntax.{Process, Nil, Output, Input, Parallel, Replication, New, Let, Event, Pattern, Expression, Ruled, Query, Protocol}
 use Rattle.spec_calculus.specs.Points.{point_after}
-use Rattle.spec_calculus.specs.Matching.{rules_of}
+use Rattle.spec_calculus.specs.Choices.{choices}
 use Rattle.spec_calculus.specs.Bounds.{most_visits}
 use Rattle.spec_trees.specs.Tree.{node, bind}
 use Rattle.spec_terms.specs.Term.{Attacker, Term, Subst}
@@ -17,9 +16,9 @@ use Rattle.spec_clauses.specs.Norm.{norms}
 use Rattle.spec_clauses.specs.Limits.{is_large_raw}
 use Rattle.spec_clauses.proofs.Lists.{all_first, all_second}
 use Rattle.spec_clauses.proofs.Answers.{an_offset}
-use Rattle.spec_translation.specs.Conversion.{rule_term, term_in, Fresh, bound_numbers}
+use Rattle.spec_translation.specs.Conversion.{term_in, Fresh, bound_numbers}
 use Rattle.spec_translation.specs.Visit.{Visit, first_visit, visit_terms, visit_under, is_large_visit, evaluates_large, sent, raw_clause, IsFresh, after_input, after_copy, after_new, event_terms, after_event}
-use Rattle.spec_translation.specs.Choice.{Choice, choice_under, IsUnified, term_choice, rule_choice, GoesOn, TermGoesOn, RuleGoesOn, RulesGoOn, AllGoOn}
+use Rattle.spec_translation.specs.Choice.{Choice, choice_under, IsUnified, ruled_choice, ruled_terms, GoesOn, ChoiceGoesOn, EachGoesOn, AllGoOn}
 use Rattle.spec_translation.specs.Course.{Outcome, Done, TooLarge, Course, Finished, Counted, Unless, preceded, After, Then, Adds}
 use Rattle.spec_translation.specs.Visited.{some_large, EachThen, Copied, Received, Chosen, Visited}
 use Rattle.spec_translation.specs.Translation.{Translated, whole, IsTranslation}
@@ -30,7 +29,7 @@ above_terms ts =
     let c : Clause Term = record { hypotheses = []; conclusion = Bad ts } in
     let (n, below) = an_offset c in (n, all_first (IsBelow n) ts [] below)
 
-from_zero : (xs : List ℕ) → AllByRecursion (λ i. 0 ≤ i) xs
+pub from_zero : (xs : List ℕ) → AllByRecursion (λ i. 0 ≤ i) xs
 from_zero [] = tt
 from_zero (x ∷ xs) = (omega arith, from_zero xs)
 
@@ -62,39 +61,32 @@ choice_goes c = go (unification_decided (node Attacker (c.value ∷ c.arguments)
 
 -- each way of a `let` goes on or ends
 module _ (P : Protocol) (v : Visit) (pattern : Pattern) where
-  term_goes : (term : calculus.Term) → (out : Option Visit) × TermGoesOn P v pattern term out
-  term_goes term =
-      let (at, fresh) = new_variables v pattern in
-      let (out, goes) = choice_goes (term_choice P v pattern term at) in
-      (out, record { at = at; is_fresh = fresh; goes_on = goes })
-
-  rule_goes : (arguments : List calculus.Term) (rule : Rule) → (out : Option Visit) × RuleGoesOn P v pattern arguments rule out
-  rule_goes arguments rule =
+  ruled_goes : (ruled : Ruled) → (out : Option Visit) × ChoiceGoesOn P v pattern ruled out
+  ruled_goes ruled =
       let (base, new) = above_terms (visit_terms v) in
-      let sides = map (rule_term P base) (rule.right ∷ rule.left) in
-      let (n, below) = above_terms (visit_terms v ++ sides) in
+      let terms = ruled_terms (ruled_choice P v pattern ruled base (record { base = 0; first = 0 })) in
+      let (n, below) = above_terms (visit_terms v ++ terms) in
       let at : Fresh = record { base = n; first = 0 } in
-      let (out, goes) = choice_goes (rule_choice P v pattern arguments rule base at) in (
+      let (out, goes) = choice_goes (ruled_choice P v pattern ruled base at) in (
         out,
         record {
           base = base;
           at = at;
           is_new = new;
-          is_apart = all_second (IsBelow n) (visit_terms v) sides below;
-          is_fresh = record { is_new = all_first (IsBelow n) (visit_terms v) sides below; from_first = from_zero (bound_numbers pattern) };
+          is_apart = all_second (IsBelow n) (visit_terms v) terms below;
+          is_fresh = record { is_new = all_first (IsBelow n) (visit_terms v) terms below; from_first = from_zero (bound_numbers pattern) };
           goes_on = goes;
         },
       )
 
-  rules_go : (arguments : List calculus.Term) (rules : List Rule) → (outs : List (Option Visit)) × RulesGoOn P v pattern arguments rules outs
-  rules_go arguments [] = ([], refl)
-  rules_go arguments (rule ∷ rules) =
-      let (out, first) = rule_goes arguments rule in
-      let (outs, others) = rules_go arguments rules in (out ∷ outs, (out, outs, first, others, refl))
+  each_goes : (rs : List Ruled) → (outs : List (Option Visit)) × EachGoesOn P v pattern rs outs
+  each_goes [] = ([], refl)
+  each_goes (ruled ∷ rs) =
+      let (out, first) = ruled_goes ruled in
+      let (outs, others) = each_goes rs in (out ∷ outs, (out, outs, first, others, refl))
 
   all_go : (expression : Expression) → (outs : List (Option Visit)) × AllGoOn P v pattern expression outs
-  all_go (Plain term) = let (out, goes) = term_goes term in (out ∷ [], (out, goes, refl))
-  all_go (Call d arguments) = rules_go arguments (rules_of P d)
+  all_go expression = each_goes (map (λ c. c.ruled) (choices P expression))
 
 -- from each number of visits left the course has an outcome
 abbrev HasEnds : Course → Type 0

@@ -1,6 +1,7 @@
 pub mod Conversions
 pub mod Visits
 pub mod Fresh
+pub mod Applied
 pub mod Choices
 pub mod Courses
 pub mod OneTranslation
@@ -12,9 +13,11 @@ pub mod Sizes
 pub mod Few
 pub mod Examples
 pub mod PlainLet
+pub mod Lets
 pub mod ExampleWords
 pub mod ExamplesSmall
 pub mod ExamplesRoles
 pub mod ExamplesLarge
 pub mod ExamplesLimits
 pub mod ExamplesNames
+pub mod ExamplesNested

@@ -1,13 +1,12 @@
 -- What holds of each clause that visits add, one combinator of courses at a time.
-use Rattle.std.proofs.Common.{◌≡◌, ◌∙◌, ℕ, zero, suc, ◌+◌, Bool, true, false, ◌&&◌, ◌||◌, cond, Option, Some, None, List, [], ◌∷◌, ◌++◌, refl, ap, sym, subst, ⊎_elim}
+use Rattle.std.proofs.Common.{◌≡◌, ◌∙◌, ℕ, zero, suc, ◌+◌, Bool, true, false, ◌&&◌, ◌||◌, cond, Option, Some, None, List, [], ◌∷◌, ◌++◌, map, refl, ap, sym, subst, ⊎_elim}
 use Rattle.std.specs.Option.{IfSome}
 use Rattle.std.specs.List.{AllByRecursion, list_all}
 use Rattle.std.proofs.lemmas.List.Folds.{list_all-append}
 use Rattle.spec_trees.proofs.Occurrence.{or_false}
-use Rattle.spec_calculus.specs.Syntax.{Process, Nil, Output, Input, Parallel, Replication, New, Let, Event, Pattern, Expression, Plain, Call, EventTerm, Rule, Protocol}
-use Rattle.spec_calculus.specs.Syntax as calculus
+use Rattle.spec_calculus.specs.Syntax.{Process, Nil, Output, Input, Parallel, Replication, New, Let, Event, Pattern, Expression, Ruled, Protocol}
 use Rattle.spec_calculus.specs.Points.{point_after}
-use Rattle.spec_calculus.specs.Matching.{rules_of}
+use Rattle.spec_calculus.specs.Choices.{choices}
 use Rattle.spec_terms.specs.Term.{Term}
 use Rattle.spec_clauses.specs.Fact.{Fact, Att, Mess, Ev, Mev, Clause}
 use Rattle.spec_clauses.specs.Norm.{norms, IsNormal}
@@ -18,7 +17,7 @@ use Rattle.spec_clauses.proofs.NormAnswers.{norms-normal}
 use Rattle.spec_clauses.proofs.Limits.{norms-within_limit}
 use Rattle.spec_translation.specs.Conversion.{term_in, pattern_term}
 use Rattle.spec_translation.specs.Visit.{Visit, is_large_visit, evaluates_large, is_public_channel, sent, raw_clause, after_input, after_copy, after_new, event_terms, after_event}
-use Rattle.spec_translation.specs.Choice.{Choice, term_choice, rule_choice, GoesOn, RulesGoOn, AllGoOn}
+use Rattle.spec_translation.specs.Choice.{Choice, ruled_choice, GoesOn, EachGoesOn, AllGoOn}
 use Rattle.spec_translation.specs.Course.{Outcome, Done, TooLarge, Course, Finished, Counted, Unless, preceded, After, Then, Adds}
 use Rattle.spec_translation.specs.Visited.{some_large, EachThen, Copied, Received, Chosen, Visited}
 use Rattle.spec_translation.specs.Satisfied.{is_bad}
@@ -85,19 +84,16 @@ choice_sound : (c : Choice) (out : Option Visit) → IsSound c.visit → GoesOn 
 choice_sound c None sound goes = tt
 choice_sound c (Some w) sound goes = ap (λ v. list_all may_be_supposed v.hypotheses) goes.2 ∙ (all_supposed-under goes.0 c.visit.hypotheses ∙ sound)
 
-rules_sound : (P : Protocol) (v : Visit) (pattern : Pattern) (arguments : List calculus.Term) → IsSound v → (rules : List Rule) (outs : List (Option Visit)) → RulesGoOn P v pattern arguments rules outs → AllByRecursion (λ out. IfSome out IsSound) outs
-rules_sound P v pattern arguments sound [] outs a = subst (AllByRecursion (λ out. IfSome out IsSound)) (sym a) tt
-rules_sound P v pattern arguments sound (rule ∷ rules) outs a =
+each_choice_sound : (P : Protocol) (v : Visit) (pattern : Pattern) → IsSound v → (rs : List Ruled) (outs : List (Option Visit)) → EachGoesOn P v pattern rs outs → AllByRecursion (λ out. IfSome out IsSound) outs
+each_choice_sound P v pattern sound [] outs a = subst (AllByRecursion (λ out. IfSome out IsSound)) (sym a) tt
+each_choice_sound P v pattern sound (ruled ∷ rs) outs a =
     let r = a.2 in
-    let first : IfSome a.0 IsSound = choice_sound (rule_choice P v pattern arguments rule r.base r.at) a.0 sound r.goes_on in
-    let both : AllByRecursion (λ out. IfSome out IsSound) (a.0 ∷ a.1) = (first, rules_sound P v pattern arguments sound rules a.1 a.3) in
+    let first : IfSome a.0 IsSound = choice_sound (ruled_choice P v pattern ruled r.base r.at) a.0 sound r.goes_on in
+    let both : AllByRecursion (λ out. IfSome out IsSound) (a.0 ∷ a.1) = (first, each_choice_sound P v pattern sound rs a.1 a.3) in
     subst (AllByRecursion (λ out. IfSome out IsSound)) (sym a.4) both
 
 ways_sound : (P : Protocol) (v : Visit) (pattern : Pattern) → IsSound v → (expression : Expression) (outs : List (Option Visit)) → AllGoOn P v pattern expression outs → AllByRecursion (λ out. IfSome out IsSound) outs
-ways_sound P v pattern sound (Plain term) outs a =
-    let both : AllByRecursion (λ out. IfSome out IsSound) (a.0 ∷ []) = (choice_sound (term_choice P v pattern term a.1.at) a.0 sound a.1.goes_on, tt) in
-    subst (AllByRecursion (λ out. IfSome out IsSound)) (sym a.2) both
-ways_sound P v pattern sound (Call d arguments) outs a = rules_sound P v pattern arguments sound (rules_of P d) outs a
+ways_sound P v pattern sound expression outs a = each_choice_sound P v pattern sound (map (λ c. c.ruled) (choices P expression)) outs a
 
 -- A clause that a visit adds: its own norm, within the limit of size, its facts where they may stand, and no goal.
 pub record IsVisited (c : Clause Term) : Type 0 where

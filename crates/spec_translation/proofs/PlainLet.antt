@@ -3,7 +3,7 @@ use Rattle.std.proofs.Common.{◌≡◌, ◌∙◌, ℕ, suc, ◌+◌, ◌-◌, 
 use Rattle.std.proofs.lemmas.List.{map-append}
 use Rattle.spec_trees.specs.Tree.{Leaf, bind}
 use Rattle.spec_trees.proofs.Substitution.{bind-Leaf}
-use Rattle.spec_calculus.specs.Syntax.{Variable, Bind, Plain, Process, Nil, Let, Protocol}
+use Rattle.spec_calculus.specs.Syntax.{Variable, Bind, Process, Nil, Let, Protocol}
 use Rattle.spec_calculus.specs.Syntax as calculus
 use Rattle.spec_calculus.specs.Points.{point_after}
 use Rattle.spec_terms.specs.Term.{Term}
@@ -13,7 +13,7 @@ use Rattle.spec_clauses.specs.Fact.{map_fact}
 use Rattle.spec_clauses.proofs.Facts.{map_facts-id}
 use Rattle.spec_translation.specs.Conversion.{Scope, term_in, Fresh}
 use Rattle.spec_translation.specs.Visit.{Visit, bound, standing_under, visit_under, visit_terms, is_large_visit, evaluates_large}
-use Rattle.spec_translation.specs.Choice.{TermGoesOn}
+use Rattle.spec_translation.specs.Choice.{ChoiceGoesOn}
 use Rattle.spec_translation.specs.Course.{Outcome, Then}
 use Rattle.spec_translation.specs.Visited.{Visited}
 use Rattle.spec_translation.proofs.Visits.{below_agree, visit_agree}
@@ -28,7 +28,7 @@ scope_under-Leaf : (scope : Scope) → map (standing_under Leaf) scope ≡ scope
 scope_under-Leaf [] = refl
 scope_under-Leaf (b ∷ bs) = let first = bind-Leaf b.term in let others = scope_under-Leaf bs in λ i. record { name = b.name; term = first i } ∷ others i
 
-visit_under-Leaf : (v : Visit) → visit_under Leaf v ≡ v
+pub visit_under-Leaf : (v : Visit) → visit_under Leaf v ≡ v
 visit_under-Leaf v =
     let scopes = scope_under-Leaf v.scope in
     let facts = (λ i. map (map_fact (λ x. bind-Leaf x i)) v.hypotheses) ∙ map_facts-id v.hypotheses in
@@ -37,7 +37,7 @@ visit_under-Leaf v =
     λ i. record { scope = scopes i; hypotheses = facts i; messages = messages i; sessions = sessions i }
 
 -- The most general unifier replaces the pattern's new variable by the term.
-pub plain_let_binds : (P : Protocol) (v : Visit) (i : ℕ) (term : calculus.Term) → TermGoesOn P v (Leaf (Bind i)) term (Some (bound v i (term_in P v.scope term)))
+pub plain_let_binds : (P : Protocol) (v : Visit) (i : ℕ) (term : calculus.Term) → ChoiceGoesOn P v (Leaf (Bind i)) (Leaf term) (Some (bound v i (term_in P v.scope term)))
 plain_let_binds P v i term =
     let t = term_in P v.scope term in
     let (n, below) = above_terms (t ∷ visit_terms v) in
@@ -51,7 +51,10 @@ plain_let_binds P v i term =
     let scopes : map (standing_under s) (v.scope ++ record { name = Variable i; term = Leaf z } ∷ []) ≡ v.scope ++ record { name = Variable i; term = t } ∷ [] =
     map-append (standing_under s) v.scope (record { name = Variable i; term = Leaf z } ∷ []) ∙ (λ k. (visits k).scope ++ record { name = Variable i; term = self k } ∷ []) in
     record {
+      base = n;
       at = at;
+      is_new = below.1;
+      is_apart = (below.0, tt);
       is_fresh = record { is_new = below.1; from_first = (omega arith, tt) };
       goes_on = (
         s,
@@ -62,9 +65,9 @@ plain_let_binds P v i term =
 
 -- So the process below is visited with the variable bound, and then nothing else.
 pub plain_let_visited : (P : Protocol) (v : Visit) (i : ℕ) (term : calculus.Term) (next : Process) (point left : ℕ) (out : Outcome)
-    → evaluates_large P v (Let (Leaf (Bind i)) (Plain term) next Nil) ≡ false → is_large_visit (bound v i (term_in P v.scope term)) ≡ false
+    → evaluates_large P v (Let (Leaf (Bind i)) (Leaf term) next Nil) ≡ false → is_large_visit (bound v i (term_in P v.scope term)) ≡ false
     → Then (Visited P next (point + 1) (bound v i (term_in P v.scope term))) (Visited P Nil (point_after (point + 1) next) v) left out
-    → Visited P (Let (Leaf (Bind i)) (Plain term) next Nil) point v (suc left) out
+    → Visited P (Let (Leaf (Bind i)) (Leaf term) next Nil) point v (suc left) out
 plain_let_visited P v i term next point left out evaluated fits below =
     let w = bound v i (term_in P v.scope term) in
-    rw evaluated (Some w ∷ [], (Some w, plain_let_binds P v i term, refl), rw fits below)
+    rw evaluated (Some w ∷ [], (Some w, [], plain_let_binds P v i term, refl, refl), rw fits below)

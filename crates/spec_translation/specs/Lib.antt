@@ -2,6 +2,7 @@ pub mod Conversion
 pub mod Attacker
 pub mod Goal
 pub mod Visit
+pub mod Applied
 pub mod Choice
 pub mod Course
 pub mod Visited

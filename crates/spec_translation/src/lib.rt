@@ -2,22 +2,24 @@
 //! have empty bodies, and say in their contracts what holds of the definitions.
 #![tactic(auto)]
 
-ghost use Rattle.std.specs.Prelude.{◌≡◌, ℕ, ◌≤◌, Some, List, ◌++◌, false, true, [], ◌∷◌, length};
+ghost use Rattle.std.specs.Prelude.{◌≡◌, ℕ, ◌≤◌, Option, Some, None, List, ◌++◌, false, true, [], ◌∷◌, length, map};
 ghost use Rattle.std.specs.List.{AllByRecursion};
-ghost use Rattle.spec_trees.specs.Tree.{Leaf};
-ghost use Rattle.spec_calculus.specs.Syntax.{Bind, Query, Protocol};
+ghost use Rattle.spec_trees.specs.Tree.{Leaf, bind};
+ghost use Rattle.spec_calculus.specs.Syntax.{Bind, Pattern, Expression, Ruled, Query, Protocol};
 ghost use Rattle.spec_calculus.specs.Syntax as calculus;
 ghost use Rattle.spec_calculus.specs.Bounds.{most_symbols, most_points_above};
 ghost use Rattle.spec_well_formed.specs.Limits.{IsSmallQuery, IsWithinLimits};
-ghost use Rattle.spec_terms.specs.Term.{Term};
+ghost use Rattle.spec_terms.specs.Term.{Term, Subst};
 ghost use Rattle.spec_clauses.specs.Fact.{Clause, clause_terms};
 ghost use Rattle.spec_clauses.specs.Variables.{leaves, fact_variables, AreBelow};
 ghost use Rattle.spec_clauses.specs.Norm.{IsNormal};
 ghost use Rattle.spec_clauses.specs.Limits.{is_large_raw, IsWithinLimit};
 ghost use Rattle.spec_clauses.specs.Inclusion.{Has};
-ghost use Rattle.spec_translation.specs.Conversion.{StandsFor, term_in};
-ghost use Rattle.spec_translation.specs.Visit.{Visit, bound, is_large_visit};
-ghost use Rattle.spec_translation.specs.Choice.{TermGoesOn};
+ghost use Rattle.spec_translation.specs.Conversion.{StandsFor, term_in, rule_term};
+ghost use Rattle.spec_translation.specs.Visit.{Visit, bound, visit_terms, is_large_visit};
+ghost use Rattle.spec_translation.specs.Applied.{ruled_arguments, ruled_sides};
+ghost use Rattle.spec_translation.specs.Choice.{ChoiceGoesOn, AllGoOn};
+ghost use Rattle.spec_translation.specs.Visited.{some_large};
 ghost use Rattle.spec_translation.specs.Translation.{Translated, Clauses, IsTranslation};
 ghost use Rattle.spec_translation.specs.Translation.{attacker_clauses, goal_clauses};
 ghost use Rattle.spec_translation.specs.Attacker.{attacker_raw};
@@ -42,7 +44,20 @@ pub fn a_translation()
 /// else of the visit changed.
 pub fn plain_lets_bind()
     ensures { (P : Protocol) (v : Visit) (i : ℕ) (t : calculus.Term) →
-        TermGoesOn P v (Leaf (Bind i)) t (Some (bound v i (term_in P v.scope t))) }
+        ChoiceGoesOn P v (Leaf (Bind i)) (Leaf t) (Some (bound v i (term_in P v.scope t))) }
+{}
+
+/// Whether a way of a `let` is too large is the same whatever new variables and most general unifiers are taken; and a choice
+/// whose arguments can't become the left sides of its rules doesn't go on.
+pub fn lets_go_on_alike()
+    ensures large { (P : Protocol) (v : Visit) (pattern : Pattern) (e : Expression) →
+        (os ps : List (Option Visit)) → AllGoOn P v pattern e os → AllGoOn P v pattern e ps →
+        some_large os ≡ some_large ps }
+    ensures nowhere { (P : Protocol) (v : Visit) (pattern : Pattern) (ruled : Ruled) (base : ℕ) →
+        AreBelow base (visit_terms v) → ((s : Subst) →
+        map (bind s) (ruled_arguments P (term_in P v.scope) (rule_term P) base ruled) ≡
+        map (bind s) (ruled_sides P (term_in P v.scope) (rule_term P) base ruled) → ⊥) →
+        ChoiceGoesOn P v pattern ruled None }
 {}
 
 /// Each clause of a translation is its own norm, and its facts stand where they may: no `bad` among its

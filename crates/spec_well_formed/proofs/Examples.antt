@@ -1,13 +1,14 @@
 -- Small rules, patterns, queries and processes, worked out by hand: what the definitions take, and what they refuse.
-use Rattle.std.proofs.Common.{◌≡◌, ℕ, zero, suc, ◌<◌, ap, sym, ◌∙◌, true, false, List, [], ◌∷◌, codes, Contains, refl, arith}
+use Rattle.std.proofs.Common.{◌≡◌, ℕ, zero, suc, ◌<◌, ap, sym, subst, ◌∙◌, true, false, List, [], ◌∷◌, length, codes, Contains, refl, arith}
+use Rattle.std.specs.List.{AllByRecursion}
 use Rattle.spec_trees.specs.Tree.{Leaf, node}
-use Rattle.spec_calculus.specs.Syntax.{Name, Free, Made, Variable, Constructor, Tuple, Term, Bind, Pattern, Rule, Nil, Output, Input, New, Declared, Secret, SecretNew, Correspondence, Protocol}
+use Rattle.spec_calculus.specs.Syntax.{Name, Free, Made, Variable, Constructor, Tuple, Term, Bind, Pattern, Builds, Calls, Expression, Rule, Nil, Output, Input, New, Declared, Destructor, Secret, SecretNew, Correspondence, Protocol}
 use Rattle.spec_calculus.specs.Points.{is_restriction}
 use Rattle.spec_calculus.specs.Matching.{IsLinear}
 use Rattle.spec_well_formed.specs.Signature.{Signature, signature_of}
 use Rattle.spec_well_formed.specs.Rules.{IsProperRule}
 use Rattle.spec_well_formed.specs.Queries.{HasQueryLeaves}
-use Rattle.spec_well_formed.specs.Terms.{IsTermBelow}
+use Rattle.spec_well_formed.specs.Terms.{IsTermBelow, HasRulesFor, IsExpressionBelow}
 use Rattle.spec_well_formed.specs.Processes.{IsProcessBelow, HasLinearPatterns, height}
 
 abbrev x : Term
@@ -110,3 +111,49 @@ asks_of_variables = ((tt, (tt, (tt, tt))), (omega arith, omega arith, (omega ari
 -- the nodes on the way to `0`
 three_points : height sends.main ≡ 3
 three_points = refl
+
+-- dec(dec(c,a),a) is an expression of this signature: two applications of a destructor of one rule
+abbrev deciphering : Signature
+deciphering = record { frees = channel ∷ []; constructors = pairing ∷ []; destructors = record { word = codes "dec"; rules = decryption ∷ [] } ∷ []; events = [] }
+
+free_deciphered : IsTermBelow deciphering [] (Leaf (Free 1))
+free_deciphered = record { known = ((omega arith, omega arith), tt); arities = tt; few = omega arith }
+
+abbrev c : Expression
+c = Leaf (Leaf (Free 1))
+
+abbrev opened : Expression → Expression
+opened e = node (Calls 1) (e ∷ c ∷ [])
+
+opened_twice : IsExpressionBelow deciphering [] (opened (opened c))
+opened_twice = record {
+  terms = (free_deciphered, (free_deciphered, (free_deciphered, tt)));
+  heads = (two, ((two, (tt, (tt, tt))), (tt, tt)));
+  merged = ((tt, (tt, tt)), (tt, tt));
+  few = omega arith;
+  few_applications = omega arith;
+  few_choices = omega arith;
+}
+  where
+    two : HasRulesFor deciphering 1 2
+    two = record { destructor = record { word = codes "dec"; rules = decryption ∷ [] }; stands = refl; are = (refl, tt) }
+
+-- a pair without a destructor below it is one term, and not a part of an expression; with one it is such a part
+not_merged : IsExpressionBelow deciphering [] (node (Builds Tuple) (c ∷ c ∷ [])) → ⊥
+not_merged h = let some = h.merged.0 in omega (arith, some)
+
+-- one argument, where the rule has two
+too_few_arguments : IsExpressionBelow deciphering [] (node (Calls 1) (c ∷ [])) → ⊥
+too_few_arguments h =
+    let a = h.heads.0 in
+    let same : record { word = codes "dec"; rules = decryption ∷ [] } ≡ a.destructor = (let found = a.stands in cc) in
+    let rules : AllByRecursion (λ (r : Rule). length r.left ≡ 1) (decryption ∷ []) = subst (λ (d : Destructor). AllByRecursion (λ (r : Rule). length r.left ≡ 1) d.rules) (sym same) a.are in
+    differ 1 2 (omega arith) (sym rules.0)
+
+-- seventeen applications are too many
+abbrev many : ℕ → Expression
+many zero = c
+many (suc n) = opened (many n)
+
+seventeen_applications : IsExpressionBelow deciphering [] (many 17) → ⊥
+seventeen_applications h = let few = h.few_applications in omega (arith, few)

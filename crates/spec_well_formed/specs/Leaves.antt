@@ -1,5 +1,5 @@
 -- The leaves of trees in order, and variables that are numbered by first occurrence.
-use Rattle.std.specs.Prelude.{ℕ, ◌+◌, ◌<◌, ◌≤◌, max, List, [], ◌∷◌, ◌++◌}
+use Rattle.std.specs.Prelude.{ℕ, ◌+◌, ◌<◌, ◌≤◌, max, List, [], ◌∷◌}
 use Rattle.spec_trees.specs.Tree.{Tree, trees}
 pub use Rattle.spec_trees.specs.Leaves.{leaves, row_leaves}
 use Rattle.spec_calculus.specs.Syntax.{Name, Free, Made, Variable}

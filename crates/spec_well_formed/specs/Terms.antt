@@ -1,11 +1,13 @@
 -- What terms and patterns may hold where they stand: leaves that are bound or declared, and symbols with their numbers of arguments.
 use Rattle.std.specs.Prelude.{◌≡◌, ℕ, ◌+◌, ◌<◌, ◌≤◌, true, List, length, Some, Contains, filter_map, Option, None}
 use Rattle.std.specs.List.{AllByRecursion}
-use Rattle.spec_trees.specs.Tree.{Tree, Trees, Leaf, Node, none, more, trees, size, sizes}
-use Rattle.spec_calculus.specs.Bounds.{most_arguments, most_written_symbols}
-use Rattle.spec_calculus.specs.Syntax.{Name, Free, Made, Variable, Symbol, Constructor, Tuple, Term, Hole, Bind, Equal, Pattern, Expression, Plain, Call, EventTerm, Declared, Destructor}
+use Rattle.std.specs.Option.{option_map_or}
+use Rattle.spec_trees.specs.Tree.{Tree, Trees, Leaf, Node, none, more, size}
+use Rattle.spec_calculus.specs.Bounds.{most_arguments, most_written_symbols, most_applications, most_choices}
+use Rattle.spec_calculus.specs.Syntax.{Name, Free, Made, Variable, Symbol, Constructor, Tuple, Term, Hole, Bind, Equal, Pattern, Head, Builds, Calls, Expression, EventTerm, Declared, Destructor}
 use Rattle.spec_calculus.specs.Points.{numbered}
 use Rattle.spec_calculus.specs.Matching.{IsLinear}
+use Rattle.spec_calculus.specs.Choices.{applications, row_applications, choice_count}
 use Rattle.spec_well_formed.specs.Signature.{Signature}
 use Rattle.spec_well_formed.specs.Leaves.{leaves}
 
@@ -88,12 +90,45 @@ pub record HasRulesFor (signature : Signature) (number arity : ℕ) : Type 0 whe
   pub stands : numbered signature.destructors number ≡ Some destructor
   pub are : AllByRecursion (λ r. length r.left ≡ arity) destructor.rules
 
--- what a `let` evaluates where these leaves are bound; a destructor's name counts as a symbol
-abbrev pub IsExpressionBelow : Signature → List Name → Expression → Type 0
-IsExpressionBelow signature bound (Plain t) = IsTermBelow signature bound t
-IsExpressionBelow signature bound (Call d arguments) =
-    HasRulesFor signature d (length arguments) × AllByRecursion (IsTermBelow signature bound) arguments
-    × (1 + sizes (trees arguments) ≤ most_written_symbols)
+-- how many rules the destructor of that number has
+abbrev pub rule_count : Signature → ℕ → ℕ
+rule_count signature d = option_map_or (λ destructor. length destructor.rules) (numbered signature.destructors d) 0
+
+-- a root of an expression takes so many parts
+abbrev pub TakesParts : Signature → Head ℕ → ℕ → Type 0
+TakesParts signature (Builds f) count = TakesArguments signature f count
+TakesParts signature (Calls d) count = HasRulesFor signature d count
+
+-- below each constructor and each tuple of an expression a destructor stands: a part without destructors is a term
+abbrev mutual
+  pub IsMerged : Expression → Type 0
+  IsMerged (Leaf t) = Unit {0}
+  IsMerged (Node (Builds f) parts) = (0 < row_applications parts) × IsMergedRow parts
+  IsMerged (Node (Calls d) parts) = IsMergedRow parts
+
+  pub IsMergedRow : Trees Term (Head ℕ) → Type 0
+  IsMergedRow none = Unit {0}
+  IsMergedRow (more part parts) = IsMerged part × IsMergedRow parts
+
+-- the symbols of an expression; a destructor's name counts as one
+abbrev mutual
+  pub expression_size : Expression → ℕ
+  expression_size (Leaf t) = size t
+  expression_size (Node head parts) = 1 + row_expression_size parts
+
+  pub row_expression_size : Trees Term (Head ℕ) → ℕ
+  row_expression_size none = 0
+  row_expression_size (more part parts) = expression_size part + row_expression_size parts
+
+-- what a `let` evaluates where these leaves are bound: within the limits of symbols, of applications of destructors, and of choices
+-- of a rule for each
+pub record IsExpressionBelow (signature : Signature) (bound : List Name) (e : Expression) : Type 0 where
+  pub terms : AllByRecursion (IsTermBelow signature bound) (leaves e)
+  pub heads : EachSymbol (TakesParts signature) e
+  pub merged : IsMerged e
+  pub few : expression_size e ≤ most_written_symbols
+  pub few_applications : applications e ≤ most_applications
+  pub few_choices : choice_count (rule_count signature) e ≤ most_choices
 
 -- an event over these leaves
 pub record IsEventOver (signature : Signature) (IsLeaf : Name → Type 0) (e : EventTerm) : Type 0 where

@@ -1,5 +1,11 @@
 pub mod Items
 pub mod Rows
 pub mod Room
-pub mod Calls
 pub mod Places
+pub mod Postfix
+pub mod Searched
+pub mod Ruled
+pub mod Behind
+pub mod Reading
+pub mod Stacks
+pub mod Trying

@@ -2,3 +2,8 @@ pub mod Bindings
 pub mod Room
 pub mod ByRules
 pub mod Bound
+pub mod Instructions
+pub mod Searching
+pub mod Labelled
+pub mod RuleTests
+pub mod Trying

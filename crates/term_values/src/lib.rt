@@ -5,13 +5,21 @@
 pub mod bindings;
 pub mod environments;
 pub mod evaluation;
-pub mod expressions;
+pub mod instructions;
+pub mod labels;
 pub mod matching;
+pub mod rules;
+pub mod searching;
 pub mod sizes;
+pub mod trials;
 
 pub use crate::bindings::Bound;
 pub use crate::environments::Environment;
 pub use crate::evaluation::{are_values_of, evaluate, evaluate_all, is_value_of};
-pub use crate::expressions::{rules_of, value_at, value_by_rule, values_at};
+pub use crate::instructions::{Instruction, list_instructions};
+pub use crate::labels::{Context, Valued, value_at};
 pub use crate::matching::matched;
-pub use crate::sizes::{is_large, some_large_at, some_large_beside};
+pub use crate::rules::{rules_of, value_by_rule};
+pub use crate::searching::some_value_matches;
+pub use crate::sizes::{is_large, some_large_at};
+pub use crate::trials::some_large_tried;

@@ -1,20 +1,22 @@
 //! Sizes of values, and of the values of terms, against the limit.
 
-ghost use Rattle.std.specs.Prelude.{◌≡◌, ◌+◌, ◌||◌, map};
+ghost use Rattle.std.specs.Prelude.{◌≡◌, ◌+◌, map};
 ghost use Rattle.std.specs.List.{list_any};
 ghost use Rattle.spec_trees.specs.Tree.{size, sizes, trees, binds};
+ghost use Rattle.spec_trees.specs.Leaves.{leaves, row_leaves};
 ghost use Rattle.spec_calculus.specs.Values as calculus;
 ghost use Rattle.spec_calculus.specs.Values.{bound_to};
-ghost use Rattle.spec_calculus.specs.Limits.{is_large, compared, compared_row, terms_in, terms_at};
+ghost use Rattle.spec_calculus.specs.Limits.{is_large, compared, compared_row, terms_at};
 ghost use Rattle.pi_tree.specs.Terms.{term_of};
-ghost use Rattle.pi_tree.specs.Patterns.{pattern_of, expression_of};
+ghost use Rattle.pi_tree.specs.Patterns.{pattern_of};
+ghost use Rattle.pi_tree.specs.Expressions.{expression_of};
 ghost use Rattle.pi_tree.specs.Processes.{process_of};
 ghost use Rattle.pi_tree.specs.Values.{value_of};
 ghost use Rattle.pi_tree.specs.Slots.{name_of};
 ghost use Rattle.term_values.specs.Room.{room_after};
 
 use crate::environments::Environment;
-use pi_tree::{Expr, MOST_SYMBOLS, Pat, Pats, Process, Slot, Term, Terms, Value};
+use pi_tree::{Expr, Exprs, MOST_SYMBOLS, Pat, Pats, Process, Slot, Term, Terms, Value};
 
 /// How many of `room` symbols are left beside the value; `None` where it has more.
 #[cycle(room)]
@@ -55,18 +57,6 @@ pub fn is_large(value: &Value) -> bool
         Some(_) => false,
         None => true,
     }
-}
-
-/// Whether one of the values has.
-pub fn some_large(values: &[Value]) -> bool
-    ensures { result ≡ list_any is_large (map value_of values.now) }
-{
-    for value in values {
-        if is_large(value) {
-            return true;
-        }
-    }
-    false
 }
 
 /// How many of `room` symbols are left beside what the slot is bound to.
@@ -166,15 +156,33 @@ fn some_large_compared_in(patterns: &Pats, environment: &Environment) -> bool
     false
 }
 
-/// Whether the value of a term of the expression has.
-fn some_large_in(expression: &Expr, environment: &Environment) -> bool
+/// Whether the value of a part of the expression that holds no destructor has.
+#[cycle(leaves)]
+fn some_large_leaf(expression: &Expr, environment: &Environment) -> bool
     ensures { result ≡ list_any is_large (calculus.values_of environment.now
-        (terms_in (expression_of expression.now))) }
+        (leaves (expression_of expression.now))) }
 {
     match expression {
         Expr::Term(term) => is_large_term(term, environment),
-        Expr::Call(_, arguments) => some_large_term(arguments, environment),
+        Expr::App(_, arguments) => some_large_leaf_in(arguments, environment),
+        Expr::Tuple(parts) => some_large_leaf_in(parts, environment),
+        Expr::Call(_, arguments) => some_large_leaf_in(arguments, environment),
     }
+}
+
+/// Whether the value of a part of one of the expressions that holds no destructor has.
+#[tactic(auto, using(crate::proofs::Room::of_compared))]
+#[cycle(leaves)]
+fn some_large_leaf_in(expressions: &Exprs, environment: &Environment) -> bool
+    ensures { result ≡ list_any is_large (calculus.values_of environment.now
+        (row_leaves (trees expressions.now))) }
+{
+    for expression in &expressions.items {
+        if some_large_leaf(expression, environment) {
+            return true;
+        }
+    }
+    false
 }
 
 /// Whether the value of a term that is written at the root of the process has.
@@ -191,17 +199,9 @@ pub fn some_large_at(process: &Process, environment: &Environment) -> bool
             is_large_term(channel, environment) || some_large_compared(pattern, environment)
         }
         Process::Let(pattern, expression, _, _) => {
-            some_large_compared(pattern, environment) || some_large_in(expression, environment)
+            some_large_compared(pattern, environment) || some_large_leaf(expression, environment)
         }
         Process::Event(performed, _) => some_large_term(&performed.args, environment),
         Process::Nil | Process::Par(..) | Process::Copies(_) | Process::New(..) => false,
     }
-}
-
-/// Whether the value of a term that is written at the root of the process, or one of these values, has.
-pub fn some_large_beside(process: &Process, environment: &Environment, values: &[Value]) -> bool
-    ensures { result ≡ (list_any is_large (calculus.values_of environment.now
-        (terms_at (process_of process.now))) || list_any is_large (map value_of values.now)) }
-{
-    some_large_at(process, environment) || some_large(values)
 }

@@ -1,9 +1,6 @@
 -- The law, from the lemma that proves it.
-use Rattle.spec_protocol_grammar.specs.Classes.{source}
-use Rattle.spec_protocol_scope.specs.Spells.{texts}
-use Rattle.spec_protocol_scope.proofs.Spelled.{IsNamed}
-use Rattle.spec_protocol_scope.proofs.Spelling as spelling
+use Rattle.spec_protocol_scope.proofs.Spelling.{well_scoped_by}
 use Rattle.spec_protocol_scope.proofs.well_scoped.Goals as goal
 
 pub returns : goal.returns
-returns c = λ bytes p h. spelling.well_scoped (IsNamed (source bytes h.1.tokens)) (texts bytes h.1.tokens) h.1.sketch p (spelling.spelled_parts bytes p h)
+returns c = λ bytes p h. well_scoped_by bytes p h

@@ -1,9 +1,6 @@
 -- The law, from the lemma that proves it.
-use Rattle.spec_protocol_grammar.specs.Classes.{source}
-use Rattle.spec_protocol_scope.specs.Spells.{texts}
-use Rattle.spec_protocol_scope.proofs.Spelled.{IsNamed}
-use Rattle.spec_protocol_scope.proofs.Spelling as spelling
+use Rattle.spec_protocol_scope.proofs.Spelling.{within_limits_by}
 use Rattle.spec_protocol_scope.proofs.within_limits.Goals as goal
 
 pub returns : goal.returns
-returns c = λ bytes p h. spelling.within_limits (IsNamed (source bytes h.1.tokens)) (texts bytes h.1.tokens) h.1.sketch p (spelling.spelled_parts bytes p h)
+returns c = λ bytes p h. within_limits_by bytes p h

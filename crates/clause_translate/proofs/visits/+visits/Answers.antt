@@ -1,9 +1,10 @@
-use Rattle.std.proofs.Common.{◌≡◌, ℕ, suc, ◌+◌, ◌-◌, ◌≤◌, true, false, Option, Some, None, List, [], length, take, refl, ap, sym, subst, ◌∙◌, arith}
+use Rattle.std.proofs.Common.{◌≡◌, ℕ, suc, ◌+◌, ◌-◌, ◌≤◌, true, false, Option, Some, None, List, [], map, length, take, drop, refl, ap, sym, subst, ◌∙◌, arith}
 use Rattle.std.specs.Prelude.{IfOk, IfSome, MatchOption, MatchBool}
 use Rattle.spec_calculus.specs.Syntax as calculus
 use Rattle.pi_tree.specs.declared.syntax.Process.{Process}
 use Rattle.pi_tree.specs.Terms.{term_of}
-use Rattle.pi_tree.specs.Patterns.{pattern_of, expression_of}
+use Rattle.pi_tree.specs.Patterns.{pattern_of}
+use Rattle.pi_tree.specs.Expressions.{expression_of}
 use Rattle.pi_tree.specs.Events.{event_of}
 use Rattle.pi_tree.specs.Processes.{process_of}
 use Rattle.spec_terms.specs.Term.{Term}
@@ -11,23 +12,29 @@ use Rattle.spec_clauses.specs.Fact.{Clause}
 use Rattle.term_tree.specs.Bank.{Grows}
 use Rattle.term_tree.specs.declared.bank.Id.{Id}
 use Rattle.term_tree.proofs.BankLaws.{Grows_refl, Grows_trans, take-grows, Grows-length}
-use Rattle.spec_translation.specs.Visit.{is_large_visit, after_new}
+use Rattle.spec_calculus.specs.Syntax.{Ruled}
+use Rattle.spec_translation.specs.Visit.{Visit, is_large_visit, after_new}
+use Rattle.spec_translation.specs.Choice.{EachGoesOn}
+use Rattle.spec_choice_walks.specs.Instructions.{completions, choices_by}
+use Rattle.term_values.specs.Instructions.{instruction_of}
 use Rattle.process_visits.specs.declared.listing.Listing.{Listing}
 use Rattle.process_visits.specs.declared.visit.Visit as source
-use Rattle.process_visits.specs.declared.visit.Visits.{Visits}
+use Rattle.process_visits.specs.declared.ways.Way.{Way}
 use Rattle.process_visits.specs.Places.{protocol_at, HasFewPoints}
 use Rattle.process_visits.specs.Processes.{output_form, input_form, parallel_form, let_form, event_form}
-use Rattle.process_visits.specs.Short.{IsShortProcess}
-use Rattle.process_visits.specs.Visits.{visit_at, NamesVisit, HasFewCopies}
-use Rattle.process_visits.specs.Forms.{is_large_output, present, Receives, IsLargeInput, EventAdds, GoOn, IsLargeChoice}
-use Rattle.clause_translate.specs.Jobs.{Once, Uncounted, Each, Ends, visits_at}
-use Rattle.process_visits.proofs.Named.{visit_later}
+use Rattle.process_visits.specs.Short.{IsFitProcess}
+use Rattle.process_visits.specs.Visits.{visit_at, NamesVisit}
+use Rattle.process_visits.specs.Forms.{is_large_output, Receives, IsLargeInput, EventAdds}
+use Rattle.process_visits.specs.Walks.{choices_of}
+use Rattle.clause_translate.specs.Jobs.{Once, Uncounted, Each, Ends, AreSmallWays, IsKnownWay, EndsEach}
+use Rattle.process_visits.proofs.Named.{if_ok, visit_later}
+use Rattle.process_visits.proofs.Passing.{choices_counted}
 use Rattle.clause_translate.proofs.Weights.{weight}
-use Rattle.process_visits.proofs.Lists.{all_at}
-use Rattle.clause_translate.proofs.FewCopies.{next_copies, later_copies, kept_copies, one_copy, below_copies, chosen_copies}
-use Rattle.clause_translate.proofs.FewPoints.{next_few, next_point, left_few, right_few, left_point, right_point}
-use Rattle.clause_translate.proofs.Visiting.{none_left, nil_ends, spelled, counted_ok, ends_back, moved, moved_each, output_ends, event_ends, input_ends, copies_ends, new_ends, parallel_ends, let_ends, next_large, known_visits, output_large, event_large, input_large, new_large, left_large, let_large, choice_large}
-use Rattle.clause_translate.proofs.Repeating.{visit_of, none_visited, one_visited, one_large, all_visited}
+use Rattle.clause_translate.proofs.FewCopies.{next_copies, later_copies, kept_copies, one_copy, below_copies, known_way}
+use Rattle.clause_translate.proofs.FewPoints.{next_fit, next_few, next_point, left_few, right_few, left_point, right_point}
+use Rattle.clause_translate.proofs.Visiting.{none_left, nil_ends, spelled, counted_ok, ends_back, moved, moved_each, output_ends, event_ends, input_ends, copies_ends, new_ends, parallel_ends, let_ends, next_large, output_large, event_large, input_large, new_large, left_large, let_large, choice_large}
+use Rattle.clause_translate.proofs.LetVisits.{few_left, completed_by, choosing_known, small_let, small_later, choosing_later, passes_as, passed_within}
+use Rattle.clause_translate.proofs.Repeating.{none_visited, passed_small, more_visited, large_visited, all_visited, nowhere_of, nowhere_ends, visit_ends}
 use Rattle.clause_translate.proofs.visits.+visits.Goals as goal
 
 pub visit_copies-visit_process-requires : goal.visit_copies-visit_process-requires
@@ -35,7 +42,7 @@ visit_copies-visit_process-requires g t c κs within =
     let old = g.B.Bank.trees c.args.bank.now in
     let w = c.args.visit.now in
     let mid = g.B.Bank.trees c.after_copy.new.bank in
-    (omega (arith, c.decreases), (within, (c.in_ok-made.ensures.names.known, (c.requires.short, (next_few c.args.place.now.point (calculus.Replication (process_of c.args.copied.now)) (process_of c.args.copied.now) refl c.below-below.result c.below-below.ensures c.requires.points, below_copies old mid w c.in_ok-made.made c.below-below.result c.args.place.now.point c.below-below.ensures c.requires.copies (omega (arith, one_copy old mid w c.in_ok-made.made w.next c.in_ok-made.ensures.names)))))))
+    (omega (arith, c.decreases), (within, (c.in_ok-made.ensures.names.known, (next_fit (process_of c.args.copied.now) c.below-below.result c.below-below.ensures c.requires.fit, (next_few c.args.place.now.point (calculus.Replication (process_of c.args.copied.now)) (process_of c.args.copied.now) refl c.below-below.result c.below-below.ensures c.requires.points, below_copies old mid w c.in_ok-made.made c.below-below.result c.args.place.now.point c.below-below.ensures c.requires.copies (omega (arith, one_copy old mid w c.in_ok-made.made w.next c.in_ok-made.ensures.names)))))))
 
 pub visit_copies-returns-clause-ends : goal.visit_copies-returns-clause-ends
 visit_copies-returns-clause-ends g t c =
@@ -47,46 +54,6 @@ visit_copies-returns-clause-ends g t c =
     copies_ends c.visit_process.result P v w.next (process_of c.args.copied.now) c.args.place.now.point c.below-below.result c.in_ok-made.made mid (g.B.Bank.trees c.visit_process.new.bank) c.args.listing.now c.visit_process.new.listing
     c.below-below.ensures c.requires.visit.below c.in_ok-made.ensures.names c.visit_process.ensures.ends
 
-pub visit_each-each-init : goal.visit_each-each-init
-visit_each-each-init g t c =
-    none_visited (protocol_at c.args.place.now) (process_of c.args.process.now) c.args.place.now.point (g.B.Bank.trees c.args.bank.now) c.args.visits.now c.args.listing.now
-
-pub visit_each-visit_process-requires : goal.visit_each-visit_process-requires
-visit_each-visit_process-requires g t c κs within =
-    let old = g.B.Bank.trees c.args.bank.now in
-    let now = g.B.Bank.trees c.each.bank in
-    let known = visit_of old c.args.visits.now c.each.visit-index c.visit-item.result c.visit-item.is c.requires.visits c.each-test.true in
-    (omega (arith, c.decreases), (within, ((visit_later old now c.visit-item.result c.each.invariant.grows known).known, (c.requires.short, (c.requires.points, subst (λ (v : source.Visit). HasFewCopies c.args.place.now.point v) (sym c.visit-item.is) (all_at (HasFewCopies c.args.place.now.point) c.args.visits.now c.each.visit-index c.visit-item.result c.requires.copies c.each-test.true))))))
-
-pub visit_each-returns-in_err-point-clause-grows : goal.visit_each-returns-in_err-point-clause-grows
-visit_each-returns-in_err-point-clause-grows g t c =
-    Grows_trans (g.B.Bank.trees c.args.bank.now) (g.B.Bank.trees c.each.bank) (g.B.Bank.trees c.visit_process.new.bank) c.each.invariant.grows c.visit_process.ensures.grows
-
-pub visit_each-returns-in-Some-clause-grows : goal.visit_each-returns-in-Some-clause-grows
-visit_each-returns-in-Some-clause-grows g t c =
-    Grows_trans (g.B.Bank.trees c.args.bank.now) (g.B.Bank.trees c.each.bank) (g.B.Bank.trees c.visit_process.new.bank) c.each.invariant.grows c.visit_process.ensures.grows
-
-pub visit_each-returns-in-Some-clause-ends : goal.visit_each-returns-in-Some-clause-ends
-visit_each-returns-in-Some-clause-ends g t c =
-    let old = g.B.Bank.trees c.args.bank.now in
-    one_large (protocol_at c.args.place.now) (process_of c.args.process.now) c.args.place.now.point old c.args.visits.now c.args.listing.now (g.B.Bank.trees c.each.bank) (g.B.Bank.trees c.visit_process.new.bank) c.each.listing c.visit_process.new.listing c.each.visit-index c.visit-item.result c.in_ok-point.field-0 c.in-Some.point
-    c.each.invariant c.requires.visits c.each-test.true c.visit-item.is c.visit_process.ensures.grows c.in-Some.is c.in_ok-point.ensures.ends
-
-pub visit_each-returns-clause-grows : goal.visit_each-returns-clause-grows
-visit_each-returns-clause-grows g t c =
-    c.each.invariant.grows
-
-pub visit_each-returns-clause-ends : goal.visit_each-returns-clause-ends
-visit_each-returns-clause-ends g t c =
-    let old = g.B.Bank.trees c.args.bank.now in
-    all_visited (protocol_at c.args.place.now) (process_of c.args.process.now) c.args.place.now.point old c.args.visits.now c.args.listing.now (g.B.Bank.trees c.each.bank) c.each.listing c.each.visit-index c.each.invariant (omega (arith, c.each-test.false))
-
-pub visit_each-each-preserved : goal.visit_each-each-preserved
-visit_each-each-preserved g t c =
-    let old = g.B.Bank.trees c.args.bank.now in
-    one_visited (protocol_at c.args.place.now) (process_of c.args.process.now) c.args.place.now.point old c.args.visits.now c.args.listing.now (g.B.Bank.trees c.each.bank) (g.B.Bank.trees c.visit_process.new.bank) c.each.listing c.visit_process.new.listing c.each.visit-index c.visit-item.result c.in_ok-point.field-0
-    c.each.invariant c.requires.visits c.each-test.true c.visit-item.is c.visit_process.ensures.grows c.in-None.is c.in_ok-point.ensures.ends
-
 pub visit_event-visit_process-requires : goal.visit_event-visit_process-requires
 visit_event-visit_process-requires g t c κs within =
     let old = g.B.Bank.trees c.args.bank.now in
@@ -95,7 +62,7 @@ visit_event-visit_process-requires g t c κs within =
     let v = visit_at old w in
     let mid = g.B.Bank.trees c.add_event.new.bank in
     let adds = subst (λ (o : Option source.Visit). EventAdds P v (event_of c.args.event.now.atom.now) mid c.args.listing.now c.add_event.new.listing o) c.in-Some.is c.in_ok-add_event.ensures.adds in
-    (omega (arith, c.decreases), (within, (adds.names.known, (c.requires.short.1, (next_few c.args.place.now.point (event_form c.args.event.now) (process_of c.args.event.now.next.now) refl c.below-below.result c.below-below.ensures c.requires.points, below_copies old mid w c.in-Some.made c.below-below.result c.args.place.now.point c.below-below.ensures c.requires.copies (omega (arith, kept_copies old mid w c.in-Some.made _ adds.names refl)))))))
+    (omega (arith, c.decreases), (within, (adds.names.known, (next_fit (process_of c.args.event.now.next.now) c.below-below.result c.below-below.ensures c.requires.fit.1, (next_few c.args.place.now.point (event_form c.args.event.now) (process_of c.args.event.now.next.now) refl c.below-below.result c.below-below.ensures c.requires.points, below_copies old mid w c.in-Some.made c.below-below.result c.args.place.now.point c.below-below.ensures c.requires.copies (omega (arith, kept_copies old mid w c.in-Some.made _ adds.names refl)))))))
 
 pub visit_event-returns-in-Some-clause-ends : goal.visit_event-returns-in-Some-clause-ends
 visit_event-returns-in-Some-clause-ends g t c =
@@ -116,7 +83,7 @@ visit_input-visit_process-requires g t c κs within =
     let v = visit_at old w in
     let mid = g.B.Bank.trees c.after_input.new.bank in
     let got = subst (λ (o : Option source.Visit). MatchOption o (IsLargeInput P v (term_of c.args.input.now.channel.now) (pattern_of c.args.input.now.pattern.now)) (λ made. Receives P v (term_of c.args.input.now.channel.now) (pattern_of c.args.input.now.pattern.now) mid made)) c.in-Some.is c.in_ok-after_input.ensures.receives in
-    (omega (arith, c.decreases), (within, (got.names.known, (c.requires.short.2, (next_few c.args.place.now.point (input_form c.args.input.now) (process_of c.args.input.now.next.now) refl c.below-below.result c.below-below.ensures c.requires.points, below_copies old mid w c.in-Some.made c.below-below.result c.args.place.now.point c.below-below.ensures c.requires.copies (omega (arith, kept_copies old mid w c.in-Some.made _ got.names refl)))))))
+    (omega (arith, c.decreases), (within, (got.names.known, (next_fit (process_of c.args.input.now.next.now) c.below-below.result c.below-below.ensures c.requires.fit.2, (next_few c.args.place.now.point (input_form c.args.input.now) (process_of c.args.input.now.next.now) refl c.below-below.result c.below-below.ensures c.requires.points, below_copies old mid w c.in-Some.made c.below-below.result c.args.place.now.point c.below-below.ensures c.requires.copies (omega (arith, kept_copies old mid w c.in-Some.made _ got.names refl)))))))
 
 pub visit_input-returns-in-Some-clause-ends : goal.visit_input-returns-in-Some-clause-ends
 visit_input-returns-in-Some-clause-ends g t c =
@@ -136,7 +103,7 @@ visit_new-visit_process-requires g t c κs within =
     let v = visit_at old w in
     let mid = g.B.Bank.trees c.after_new.new.bank in
     let names : NamesVisit mid c.in-Some.made (after_new v c.args.place.now.point) = subst (λ (o : Option source.Visit). IfSome o (λ made. NamesVisit mid made (after_new v c.args.place.now.point))) c.in-Some.is c.in_ok-after_new.ensures.names in
-    (omega (arith, c.decreases), (within, (names.known, (c.requires.short, (next_few c.args.place.now.point (calculus.New [] (process_of c.args.next.now)) (process_of c.args.next.now) refl c.below-below.result c.below-below.ensures c.requires.points, below_copies old mid w c.in-Some.made c.below-below.result c.args.place.now.point c.below-below.ensures c.requires.copies (omega (arith, kept_copies old mid w c.in-Some.made _ names refl)))))))
+    (omega (arith, c.decreases), (within, (names.known, (next_fit (process_of c.args.next.now) c.below-below.result c.below-below.ensures c.requires.fit, (next_few c.args.place.now.point (calculus.New [] (process_of c.args.next.now)) (process_of c.args.next.now) refl c.below-below.result c.below-below.ensures c.requires.points, below_copies old mid w c.in-Some.made c.below-below.result c.args.place.now.point c.below-below.ensures c.requires.copies (omega (arith, kept_copies old mid w c.in-Some.made _ names refl)))))))
 
 pub visit_new-returns-in-Some-clause-ends : goal.visit_new-returns-in-Some-clause-ends
 visit_new-returns-in-Some-clause-ends g t c =
@@ -156,7 +123,7 @@ visit_output-visit_process-requires g t c κs within =
     let w = c.args.visit.now in
     let mid = g.B.Bank.trees c.add_output.new.bank in
     let later = visit_later old mid w c.add_output.ensures.grows c.requires.visit in
-    (omega (arith, c.decreases), (within, (later.known, (c.requires.short.2, (next_few c.args.place.now.point (output_form c.args.output.now) (process_of c.args.output.now.next.now) refl c.below-below.result c.below-below.ensures c.requires.points, next_copies c.below-below.result c.args.place.now.point w c.below-below.ensures c.requires.copies)))))
+    (omega (arith, c.decreases), (within, (later.known, (next_fit (process_of c.args.output.now.next.now) c.below-below.result c.below-below.ensures c.requires.fit.2, (next_few c.args.place.now.point (output_form c.args.output.now) (process_of c.args.output.now.next.now) refl c.below-below.result c.below-below.ensures c.requires.points, next_copies c.below-below.result c.args.place.now.point w c.below-below.ensures c.requires.copies)))))
 
 pub visit_output-returns-clause-ends : goal.visit_output-returns-clause-ends
 visit_output-returns-clause-ends g t c =
@@ -173,7 +140,7 @@ visit_output-returns-clause-ends g t c =
 
 pub visit_parallel-visit_process-requires : goal.visit_parallel-visit_process-requires
 visit_parallel-visit_process-requires g t c κs within =
-    (omega (arith, c.decreases), (within, (c.requires.visit, (c.requires.short.0, (left_few c.args.place.now.point (parallel_form c.args.both.now) (process_of c.args.both.now.left.now) (process_of c.args.both.now.right.now) refl c.below-below.result c.below-below.ensures c.requires.points, next_copies c.below-below.result c.args.place.now.point c.args.visit.now c.below-below.ensures c.requires.copies)))))
+    (omega (arith, c.decreases), (within, (c.requires.visit, (next_fit (process_of c.args.both.now.left.now) c.below-below.result c.below-below.ensures c.requires.fit.0, (left_few c.args.place.now.point (parallel_form c.args.both.now) (process_of c.args.both.now.left.now) (process_of c.args.both.now.right.now) refl c.below-below.result c.below-below.ensures c.requires.points, next_copies c.below-below.result c.args.place.now.point c.args.visit.now c.below-below.ensures c.requires.copies)))))
 
 pub visit_parallel-visit_process-requires-in-None : goal.visit_parallel-visit_process-requires-in-None
 visit_parallel-visit_process-requires-in-None g t c κs within =
@@ -185,7 +152,7 @@ visit_parallel-visit_process-requires-in-None g t c κs within =
     let later = visit_later old mid w c.visit_process.ensures.grows c.requires.visit in
     let done = moved P (c.args.place.now.point + 1) v c.below-below.result v (process_of c.args.both.now.left.now) mid c.args.listing.now c.visit_process.new.listing None c.below-below.ensures refl
     (subst (λ (o : Option ℕ). Ends (protocol_at c.below-below.result) (Once (process_of c.args.both.now.left.now) c.below-below.result.point v) mid c.args.listing.now c.visit_process.new.listing o) c.in-None.is c.in_ok-point.ensures.ends) in
-    (omega (arith, c.decreases), (within, (later.known, (c.requires.short.1, (right_few c.args.place.now.point (parallel_form c.args.both.now) (process_of c.args.both.now.left.now) (process_of c.args.both.now.right.now) refl c.after-after.result c.after-after.ensures c.requires.points, later_copies c.after-after.result c.args.place.now.point (process_of c.args.both.now.left.now) w c.after-after.ensures c.requires.copies)))))
+    (omega (arith, c.decreases), (within, (later.known, (next_fit (process_of c.args.both.now.right.now) c.after-after.result c.after-after.ensures c.requires.fit.1, (right_few c.args.place.now.point (parallel_form c.args.both.now) (process_of c.args.both.now.left.now) (process_of c.args.both.now.right.now) refl c.after-after.result c.after-after.ensures c.requires.points, later_copies c.after-after.result c.args.place.now.point (process_of c.args.both.now.left.now) w c.after-after.ensures c.requires.copies)))))
 
 pub visit_parallel-returns-in-None-clause-ends : goal.visit_parallel-returns-in-None-clause-ends
 visit_parallel-returns-in-None-clause-ends g t c =
@@ -200,84 +167,6 @@ visit_parallel-returns-in-None-clause-ends g t c =
     parallel_ends c.visit_process-in-None.result P v (process_of c.args.both.now.left.now) (process_of c.args.both.now.right.now) c.args.place.now.point c.after-after.result (visit_at mid w) mid (g.B.Bank.trees c.visit_process-in-None.new.bank) c.args.listing.now c.visit_process.new.listing c.visit_process-in-None.new.listing
     c.after-after.ensures later.is c.visit_process-in-None.ensures.grows done c.visit_process-in-None.ensures.ends
 
-pub visit_let-visit_each-requires : goal.visit_let-visit_each-requires
-visit_let-visit_each-requires g t c κs within =
-    let old = g.B.Bank.trees c.args.bank.now in
-    let P = protocol_at c.args.place.now in
-    let w = c.args.visit.now in
-    let v = visit_at old w in
-    let all = g.B.Bank.trees c.choices.new.bank in
-    let pattern = pattern_of c.args.choice.now.pattern.now in
-    let expression = expression_of c.args.choice.now.expression.now in
-    let items = c.deref.result.now in
-    let go = subst (λ (vs : List source.Visit). GoOn P v pattern expression all vs) (sym c.deref.ensures.value)
-    (subst (λ (o : Option Visits). MatchOption o (IsLargeChoice P v pattern expression) (λ visits. GoOn P v pattern expression all visits.items.items)) c.in-Some.is c.in_ok-choices.ensures.go) in
-    (omega (arith, c.decreases), (within, (known_visits all items (present go.outs) go.names, (c.requires.short.2, (left_few c.args.place.now.point (let_form c.args.choice.now) (process_of c.args.choice.now.next.now) (process_of c.args.choice.now.otherwise.now) refl c.below-below.result c.below-below.ensures c.requires.points, chosen_copies P c.below-below.result c.args.place.now.point old all w pattern expression items c.below-below.ensures c.requires.copies go)))))
-
-pub visit_let-returns-in-Some-2-clause-ends : goal.visit_let-returns-in-Some-2-clause-ends
-visit_let-returns-in-Some-2-clause-ends g t c =
-    let old = g.B.Bank.trees c.args.bank.now in
-    let P = protocol_at c.args.place.now in
-    let w = c.args.visit.now in
-    let v = visit_at old w in
-    let all = g.B.Bank.trees c.choices.new.bank in
-    let pattern = pattern_of c.args.choice.now.pattern.now in
-    let expression = expression_of c.args.choice.now.expression.now in
-    let next = process_of c.args.choice.now.next.now in
-    let otherwise = process_of c.args.choice.now.otherwise.now in
-    let point = c.args.place.now.point in
-    let items = c.deref.result.now in
-    let go = subst (λ (vs : List source.Visit). GoOn P v pattern expression all vs) (sym c.deref.ensures.value)
-    (subst (λ (o : Option Visits). MatchOption o (IsLargeChoice P v pattern expression) (λ visits. GoOn P v pattern expression all visits.items.items)) c.in-Some.is c.in_ok-choices.ensures.go) in
-    let mid = g.B.Bank.trees c.visit_each.new.bank in
-    let small = sym c.is_large_let.ensures ∙ c.if-is_large_let.false in
-    next_large P v pattern expression next otherwise point all items c.args.listing.now.left c.in-Some-2.point small go
-    (moved_each P (point + 1) c.below-below.result (visits_at all items) next mid c.args.listing.now c.visit_each.new.listing (Some c.in-Some-2.point) c.below-below.ensures
-    (subst (λ (o : Option ℕ). Ends (protocol_at c.below-below.result) (Each next c.below-below.result.point (visits_at all items)) mid c.args.listing.now c.visit_each.new.listing o) c.in-Some-2.is c.in_ok-point-in-Some.ensures.ends))
-
-pub visit_let-visit_process-requires : goal.visit_let-visit_process-requires
-visit_let-visit_process-requires g t c κs within =
-    let old = g.B.Bank.trees c.args.bank.now in
-    let P = protocol_at c.args.place.now in
-    let w = c.args.visit.now in
-    let v = visit_at old w in
-    let all = g.B.Bank.trees c.choices.new.bank in
-    let pattern = pattern_of c.args.choice.now.pattern.now in
-    let expression = expression_of c.args.choice.now.expression.now in
-    let next = process_of c.args.choice.now.next.now in
-    let point = c.args.place.now.point in
-    let items = c.deref.result.now in
-    let go = subst (λ (vs : List source.Visit). GoOn P v pattern expression all vs) (sym c.deref.ensures.value)
-    (subst (λ (o : Option Visits). MatchOption o (IsLargeChoice P v pattern expression) (λ visits. GoOn P v pattern expression all visits.items.items)) c.in-Some.is c.in_ok-choices.ensures.go) in
-    let mid = g.B.Bank.trees c.visit_each.new.bank in
-    let done = moved_each P (point + 1) c.below-below.result (visits_at all items) next mid c.args.listing.now c.visit_each.new.listing None c.below-below.ensures
-    (subst (λ (o : Option ℕ). Ends (protocol_at c.below-below.result) (Each next c.below-below.result.point (visits_at all items)) mid c.args.listing.now c.visit_each.new.listing o) c.in-None-2.is c.in_ok-point-in-Some.ensures.ends) in
-    let later = visit_later old mid w (Grows_trans old all mid c.choices.ensures.grows c.visit_each.ensures.grows) c.requires.visit in
-    (omega (arith, c.decreases), (within, (later.known, (c.requires.short.3, (right_few c.args.place.now.point (let_form c.args.choice.now) (process_of c.args.choice.now.next.now) (process_of c.args.choice.now.otherwise.now) refl c.after-after.result c.after-after.ensures c.requires.points, later_copies c.after-after.result c.args.place.now.point next w c.after-after.ensures c.requires.copies)))))
-
-pub visit_let-returns-clause-ends : goal.visit_let-returns-clause-ends
-visit_let-returns-clause-ends g t c =
-    let old = g.B.Bank.trees c.args.bank.now in
-    let P = protocol_at c.args.place.now in
-    let w = c.args.visit.now in
-    let v = visit_at old w in
-    let all = g.B.Bank.trees c.choices.new.bank in
-    let pattern = pattern_of c.args.choice.now.pattern.now in
-    let expression = expression_of c.args.choice.now.expression.now in
-    let next = process_of c.args.choice.now.next.now in
-    let otherwise = process_of c.args.choice.now.otherwise.now in
-    let point = c.args.place.now.point in
-    let items = c.deref.result.now in
-    let go = subst (λ (vs : List source.Visit). GoOn P v pattern expression all vs) (sym c.deref.ensures.value)
-    (subst (λ (o : Option Visits). MatchOption o (IsLargeChoice P v pattern expression) (λ visits. GoOn P v pattern expression all visits.items.items)) c.in-Some.is c.in_ok-choices.ensures.go) in
-    let mid = g.B.Bank.trees c.visit_each.new.bank in
-    let small = sym c.is_large_let.ensures ∙ c.if-is_large_let.false in
-    let done = moved_each P (point + 1) c.below-below.result (visits_at all items) next mid c.args.listing.now c.visit_each.new.listing None c.below-below.ensures
-    (subst (λ (o : Option ℕ). Ends (protocol_at c.below-below.result) (Each next c.below-below.result.point (visits_at all items)) mid c.args.listing.now c.visit_each.new.listing o) c.in-None-2.is c.in_ok-point-in-Some.ensures.ends) in
-    let later = visit_later old mid w (Grows_trans old all mid c.choices.ensures.grows c.visit_each.ensures.grows) c.requires.visit in
-    let_ends P v pattern expression next otherwise point c.visit_process.result c.after-after.result (visit_at mid w) all mid (g.B.Bank.trees c.visit_process.new.bank) items c.args.listing.now c.visit_each.new.listing c.visit_process.new.listing
-    c.after-after.ensures later.is small go c.visit_process.ensures.grows done c.visit_process.ensures.ends
-
 pub visit_process-returns-then-listing-eq0-clause-ends : goal.visit_process-returns-then-listing-eq0-clause-ends
 visit_process-returns-then-listing-eq0-clause-ends g t c =
     let old = g.B.Bank.trees c.args.bank.now in
@@ -288,7 +177,7 @@ visit_process-returns-then-listing-eq0-clause-ends g t c =
 
 pub visit_process-visit_counted-requires : goal.visit_process-visit_counted-requires
 visit_process-visit_counted-requires g t c κs within =
-    (omega (arith, c.decreases), (within, (c.requires.visit, (c.requires.short, (c.requires.points, c.requires.copies)))))
+    (omega (arith, c.decreases), (within, (c.requires.visit, (c.requires.fit, (c.requires.points, c.requires.copies)))))
 
 pub visit_process-returns-clause-ends : goal.visit_process-returns-clause-ends
 visit_process-returns-clause-ends g t c =
@@ -300,7 +189,7 @@ visit_process-returns-clause-ends g t c =
 
 pub visit_counted-visit_form-requires : goal.visit_counted-visit_form-requires
 visit_counted-visit_form-requires g t c κs within =
-    (omega (arith, c.decreases), (within, (c.requires.visit, (c.requires.short, (c.requires.points, c.requires.copies)))))
+    (omega (arith, c.decreases), (within, (c.requires.visit, (c.requires.fit, (c.requires.points, c.requires.copies)))))
 
 pub visit_counted-returns-then-count-clause-back : goal.visit_counted-returns-then-count-clause-back
 visit_counted-returns-then-count-clause-back g t c = λ same. absurd (omega (arith, ap (λ (cs : List (Clause Id)). length cs) same))
@@ -327,7 +216,7 @@ visit_counted-returns-clause-ends g t c =
 pub visit_form-visit_output-requires : goal.visit_form-visit_output-requires
 visit_form-visit_output-requires g t c κs within =
     let same : process_of c.args.process.now ≡ calculus.Output (term_of c.in-Output.channel) (term_of c.in-Output.message) (process_of c.deref.result.now) = ap process_of c.in-Output.is ∙ ap (λ (x : Process). calculus.Output (term_of c.in-Output.channel) (term_of c.in-Output.message) (process_of x)) (sym c.deref.ensures) in
-    (omega (arith, c.decreases, ap (λ (p : calculus.Process). weight p) same), (within, (c.requires.visit, (subst (λ (p : calculus.Process). IsShortProcess p) same c.requires.short, (subst (λ (p : calculus.Process). HasFewPoints c.args.place.now.point p) same c.requires.points, c.requires.copies)))))
+    (omega (arith, c.decreases, ap (λ (p : calculus.Process). weight p) same), (within, (c.requires.visit, (subst (λ (p : calculus.Process). IsFitProcess (protocol_at c.args.place.now) p) same c.requires.fit, (subst (λ (p : calculus.Process). HasFewPoints c.args.place.now.point p) same c.requires.points, c.requires.copies)))))
 
 pub visit_form-returns-in-Output-clause-ends : goal.visit_form-returns-in-Output-clause-ends
 visit_form-returns-in-Output-clause-ends g t c =
@@ -342,7 +231,7 @@ visit_form-returns-in-Output-clause-ends g t c =
 pub visit_form-visit_input-requires : goal.visit_form-visit_input-requires
 visit_form-visit_input-requires g t c κs within =
     let same : process_of c.args.process.now ≡ calculus.Input (term_of c.in-Input.channel) (pattern_of c.in-Input.pattern) (process_of c.deref-in-Input.result.now) = ap process_of c.in-Input.is ∙ ap (λ (x : Process). calculus.Input (term_of c.in-Input.channel) (pattern_of c.in-Input.pattern) (process_of x)) (sym c.deref-in-Input.ensures) in
-    (omega (arith, c.decreases, ap (λ (p : calculus.Process). weight p) same), (within, (c.requires.visit, (subst (λ (p : calculus.Process). IsShortProcess p) same c.requires.short, (subst (λ (p : calculus.Process). HasFewPoints c.args.place.now.point p) same c.requires.points, c.requires.copies)))))
+    (omega (arith, c.decreases, ap (λ (p : calculus.Process). weight p) same), (within, (c.requires.visit, (subst (λ (p : calculus.Process). IsFitProcess (protocol_at c.args.place.now) p) same c.requires.fit, (subst (λ (p : calculus.Process). HasFewPoints c.args.place.now.point p) same c.requires.points, c.requires.copies)))))
 
 pub visit_form-returns-in-Input-clause-ends : goal.visit_form-returns-in-Input-clause-ends
 visit_form-returns-in-Input-clause-ends g t c =
@@ -357,7 +246,7 @@ visit_form-returns-in-Input-clause-ends g t c =
 pub visit_form-visit_parallel-requires : goal.visit_form-visit_parallel-requires
 visit_form-visit_parallel-requires g t c κs within =
     let same : process_of c.args.process.now ≡ calculus.Parallel (process_of c.deref-in-Par.result.now) (process_of c.deref-in-Par-2.result.now) = ap process_of c.in-Par.is ∙ ap (λ (x : Process). calculus.Parallel (process_of x) (process_of c.in-Par.right.value)) (sym c.deref-in-Par.ensures) ∙ ap (λ (x : Process). calculus.Parallel (process_of c.deref-in-Par.result.now) (process_of x)) (sym c.deref-in-Par-2.ensures) in
-    (omega (arith, c.decreases, ap (λ (p : calculus.Process). weight p) same), (within, (c.requires.visit, (subst (λ (p : calculus.Process). IsShortProcess p) same c.requires.short, (subst (λ (p : calculus.Process). HasFewPoints c.args.place.now.point p) same c.requires.points, c.requires.copies)))))
+    (omega (arith, c.decreases, ap (λ (p : calculus.Process). weight p) same), (within, (c.requires.visit, (subst (λ (p : calculus.Process). IsFitProcess (protocol_at c.args.place.now) p) same c.requires.fit, (subst (λ (p : calculus.Process). HasFewPoints c.args.place.now.point p) same c.requires.points, c.requires.copies)))))
 
 pub visit_form-returns-in-Par-clause-ends : goal.visit_form-returns-in-Par-clause-ends
 visit_form-returns-in-Par-clause-ends g t c =
@@ -372,7 +261,7 @@ visit_form-returns-in-Par-clause-ends g t c =
 pub visit_form-visit_copies-requires : goal.visit_form-visit_copies-requires
 visit_form-visit_copies-requires g t c κs within =
     let same : process_of c.args.process.now ≡ calculus.Replication (process_of c.deref-in-Copies.result.now) = ap process_of c.in-Copies.is ∙ ap (λ (x : Process). calculus.Replication (process_of x)) (sym c.deref-in-Copies.ensures) in
-    (omega (arith, c.decreases, ap (λ (p : calculus.Process). weight p) same), (within, (c.requires.visit, (subst (λ (p : calculus.Process). IsShortProcess p) same c.requires.short, (subst (λ (p : calculus.Process). HasFewPoints c.args.place.now.point p) same c.requires.points, c.requires.copies)))))
+    (omega (arith, c.decreases, ap (λ (p : calculus.Process). weight p) same), (within, (c.requires.visit, (subst (λ (p : calculus.Process). IsFitProcess (protocol_at c.args.place.now) p) same c.requires.fit, (subst (λ (p : calculus.Process). HasFewPoints c.args.place.now.point p) same c.requires.points, c.requires.copies)))))
 
 pub visit_form-returns-in-Copies-clause-ends : goal.visit_form-returns-in-Copies-clause-ends
 visit_form-returns-in-Copies-clause-ends g t c =
@@ -387,7 +276,7 @@ visit_form-returns-in-Copies-clause-ends g t c =
 pub visit_form-visit_new-requires : goal.visit_form-visit_new-requires
 visit_form-visit_new-requires g t c κs within =
     let same : process_of c.args.process.now ≡ calculus.New c.in-New.field-0 (process_of c.deref-in-New.result.now) = ap process_of c.in-New.is ∙ ap (λ (x : Process). calculus.New c.in-New.field-0 (process_of x)) (sym c.deref-in-New.ensures) in
-    (omega (arith, c.decreases, ap (λ (p : calculus.Process). weight p) same), (within, (c.requires.visit, (subst (λ (p : calculus.Process). IsShortProcess p) same c.requires.short, (subst (λ (p : calculus.Process). HasFewPoints c.args.place.now.point p) same c.requires.points, c.requires.copies)))))
+    (omega (arith, c.decreases, ap (λ (p : calculus.Process). weight p) same), (within, (c.requires.visit, (subst (λ (p : calculus.Process). IsFitProcess (protocol_at c.args.place.now) p) same c.requires.fit, (subst (λ (p : calculus.Process). HasFewPoints c.args.place.now.point p) same c.requires.points, c.requires.copies)))))
 
 pub visit_form-returns-in-New-clause-ends : goal.visit_form-returns-in-New-clause-ends
 visit_form-returns-in-New-clause-ends g t c =
@@ -402,7 +291,7 @@ visit_form-returns-in-New-clause-ends g t c =
 pub visit_form-visit_let-requires : goal.visit_form-visit_let-requires
 visit_form-visit_let-requires g t c κs within =
     let same : process_of c.args.process.now ≡ calculus.Let (pattern_of c.in-Let.pattern) (expression_of c.in-Let.expression) (process_of c.deref-in-Let.result.now) (process_of c.deref-in-Let-2.result.now) = ap process_of c.in-Let.is ∙ ap (λ (x : Process). calculus.Let (pattern_of c.in-Let.pattern) (expression_of c.in-Let.expression) (process_of x) (process_of c.in-Let.otherwise.value)) (sym c.deref-in-Let.ensures) ∙ ap (λ (x : Process). calculus.Let (pattern_of c.in-Let.pattern) (expression_of c.in-Let.expression) (process_of c.deref-in-Let.result.now) (process_of x)) (sym c.deref-in-Let-2.ensures) in
-    (omega (arith, c.decreases, ap (λ (p : calculus.Process). weight p) same), (within, (c.requires.visit, (subst (λ (p : calculus.Process). IsShortProcess p) same c.requires.short, (subst (λ (p : calculus.Process). HasFewPoints c.args.place.now.point p) same c.requires.points, c.requires.copies)))))
+    (omega (arith, c.decreases, ap (λ (p : calculus.Process). weight p) same), (within, (c.requires.visit, (subst (λ (p : calculus.Process). IsFitProcess (protocol_at c.args.place.now) p) same c.requires.fit, (subst (λ (p : calculus.Process). HasFewPoints c.args.place.now.point p) same c.requires.points, c.requires.copies)))))
 
 pub visit_form-returns-in-Let-clause-ends : goal.visit_form-returns-in-Let-clause-ends
 visit_form-returns-in-Let-clause-ends g t c =
@@ -417,7 +306,7 @@ visit_form-returns-in-Let-clause-ends g t c =
 pub visit_form-visit_event-requires : goal.visit_form-visit_event-requires
 visit_form-visit_event-requires g t c κs within =
     let same : process_of c.args.process.now ≡ calculus.Event (event_of c.in-Event.atom) (process_of c.deref-in-Event.result.now) = ap process_of c.in-Event.is ∙ ap (λ (x : Process). calculus.Event (event_of c.in-Event.atom) (process_of x)) (sym c.deref-in-Event.ensures) in
-    (omega (arith, c.decreases, ap (λ (p : calculus.Process). weight p) same), (within, (c.requires.visit, (subst (λ (p : calculus.Process). IsShortProcess p) same c.requires.short, (subst (λ (p : calculus.Process). HasFewPoints c.args.place.now.point p) same c.requires.points, c.requires.copies)))))
+    (omega (arith, c.decreases, ap (λ (p : calculus.Process). weight p) same), (within, (c.requires.visit, (subst (λ (p : calculus.Process). IsFitProcess (protocol_at c.args.place.now) p) same c.requires.fit, (subst (λ (p : calculus.Process). HasFewPoints c.args.place.now.point p) same c.requires.points, c.requires.copies)))))
 
 pub visit_form-returns-in-Event-clause-ends : goal.visit_form-returns-in-Event-clause-ends
 visit_form-returns-in-Event-clause-ends g t c =
@@ -453,20 +342,8 @@ visit_copies-returns-clause-grows g t c = Grows_trans (g.B.Bank.trees c.args.ban
 pub visit_new-returns-in-Some-clause-grows : goal.visit_new-returns-in-Some-clause-grows
 visit_new-returns-in-Some-clause-grows g t c = Grows_trans (g.B.Bank.trees c.args.bank.now) (g.B.Bank.trees c.after_new.new.bank) (g.B.Bank.trees c.visit_process.new.bank) c.after_new.ensures.grows c.visit_process.ensures.grows
 
-pub visit_let-returns-in-Some-2-clause-grows : goal.visit_let-returns-in-Some-2-clause-grows
-visit_let-returns-in-Some-2-clause-grows g t c = Grows_trans (g.B.Bank.trees c.args.bank.now) (g.B.Bank.trees c.choices.new.bank) (g.B.Bank.trees c.visit_each.new.bank) c.choices.ensures.grows c.visit_each.ensures.grows
-
-pub visit_let-returns-clause-grows : goal.visit_let-returns-clause-grows
-visit_let-returns-clause-grows g t c = Grows_trans (g.B.Bank.trees c.args.bank.now) (g.B.Bank.trees c.visit_each.new.bank) (g.B.Bank.trees c.visit_process.new.bank) (Grows_trans (g.B.Bank.trees c.args.bank.now) (g.B.Bank.trees c.choices.new.bank) (g.B.Bank.trees c.visit_each.new.bank) c.choices.ensures.grows c.visit_each.ensures.grows) c.visit_process.ensures.grows
-
 pub visit_event-returns-in-Some-clause-grows : goal.visit_event-returns-in-Some-clause-grows
 visit_event-returns-in-Some-clause-grows g t c = Grows_trans (g.B.Bank.trees c.args.bank.now) (g.B.Bank.trees c.add_event.new.bank) (g.B.Bank.trees c.visit_process.new.bank) c.add_event.ensures.grows c.visit_process.ensures.grows
-
-pub visit_let-returns-in_err-point-in-Some-clause-grows : goal.visit_let-returns-in_err-point-in-Some-clause-grows
-visit_let-returns-in_err-point-in-Some-clause-grows g t c = Grows_trans (g.B.Bank.trees c.args.bank.now) (g.B.Bank.trees c.choices.new.bank) (g.B.Bank.trees c.visit_each.new.bank) c.choices.ensures.grows c.visit_each.ensures.grows
-
-pub visit_let-returns-then-is_large_let-clause-grows : goal.visit_let-returns-then-is_large_let-clause-grows
-visit_let-returns-then-is_large_let-clause-grows g t c = Grows_refl (g.B.Bank.trees c.args.bank.now)
 
 pub visit_form-returns-in-Nil-clause-grows : goal.visit_form-returns-in-Nil-clause-grows
 visit_form-returns-in-Nil-clause-grows g t c = Grows_refl (g.B.Bank.trees c.args.bank.now)
@@ -476,12 +353,6 @@ visit_process-returns-then-listing-eq0-clause-grows g t c = Grows_refl (g.B.Bank
 
 pub visit_output-returns-then-not-branch-clause-grows : goal.visit_output-returns-then-not-branch-clause-grows
 visit_output-returns-then-not-branch-clause-grows g t c = c.add_output.ensures.grows
-
-pub visit_let-returns-in-None-clause-grows : goal.visit_let-returns-in-None-clause-grows
-visit_let-returns-in-None-clause-grows g t c = c.choices.ensures.grows
-
-pub visit_let-returns-in_err-choices-clause-grows : goal.visit_let-returns-in_err-choices-clause-grows
-visit_let-returns-in_err-choices-clause-grows g t c = c.choices.ensures.grows
 
 pub visit_event-returns-in-None-clause-grows : goal.visit_event-returns-in-None-clause-grows
 visit_event-returns-in-None-clause-grows g t c = c.add_event.ensures.grows
@@ -585,26 +456,6 @@ visit_parallel-returns-in-Some-clause-ends g t c =
     (moved P (point + 1) v c.below-below.result v left mid c.args.listing.now c.visit_process.new.listing (Some c.in-Some.point) c.below-below.ensures refl
     (subst (λ (o : Option ℕ). Ends (protocol_at c.below-below.result) (Once left c.below-below.result.point v) mid c.args.listing.now c.visit_process.new.listing o) c.in-Some.is c.in_ok-point.ensures.ends))
 
-pub visit_let-returns-then-is_large_let-clause-ends : goal.visit_let-returns-then-is_large_let-clause-ends
-visit_let-returns-then-is_large_let-clause-ends g t c =
-    let P = protocol_at c.args.place.now in
-    let v = visit_at (g.B.Bank.trees c.args.bank.now) c.args.visit.now in
-    let point = c.args.place.now.point in
-    let choice = c.args.choice.now in
-    let_large P v (pattern_of choice.pattern.now) (expression_of choice.expression.now) (process_of choice.next.now) (process_of choice.otherwise.now) point c.args.listing.now.left
-    (sym c.is_large_let.ensures ∙ c.if-is_large_let.true)
-
-pub visit_let-returns-in-None-clause-ends : goal.visit_let-returns-in-None-clause-ends
-visit_let-returns-in-None-clause-ends g t c =
-    let P = protocol_at c.args.place.now in
-    let v = visit_at (g.B.Bank.trees c.args.bank.now) c.args.visit.now in
-    let point = c.args.place.now.point in
-    let choice = c.args.choice.now in
-    let pattern = pattern_of choice.pattern.now in
-    let expression = expression_of choice.expression.now in
-    choice_large P v pattern expression (process_of choice.next.now) (process_of choice.otherwise.now) point c.args.listing.now.left (sym c.is_large_let.ensures ∙ c.if-is_large_let.false)
-    (subst (λ (o : Option Visits). MatchOption o (IsLargeChoice P v pattern expression) (λ visits. GoOn P v pattern expression (g.B.Bank.trees c.choices.new.bank) visits.items.items)) c.in-None.is c.in_ok-choices.ensures.go)
-
 pub visit_output-below-below-requires : goal.visit_output-below-below-requires
 visit_output-below-below-requires g t c = next_point c.args.place.now.point (output_form c.args.output.now) (process_of c.args.output.now.next.now) refl c.requires.points
 
@@ -626,14 +477,275 @@ visit_parallel-below-below-requires g t c = left_point c.args.place.now.point (p
 pub visit_parallel-after-after-requires : goal.visit_parallel-after-after-requires
 visit_parallel-after-after-requires g t c = right_point c.args.place.now.point (parallel_form c.args.both.now) (process_of c.args.both.now.left.now) (process_of c.args.both.now.right.now) refl c.requires.points
 
+pub visit_copies-after_copy-requires-clause-copies : goal.visit_copies-after_copy-requires-clause-copies
+visit_copies-after_copy-requires-clause-copies g t c = omega (arith, c.requires.copies, next_point c.args.place.now.point (calculus.Replication (process_of c.args.copied.now)) (process_of c.args.copied.now) refl c.requires.points)
+
+-- a `let`
 pub visit_let-below-below-requires : goal.visit_let-below-below-requires
 visit_let-below-below-requires g t c = left_point c.args.place.now.point (let_form c.args.choice.now) (process_of c.args.choice.now.next.now) (process_of c.args.choice.now.otherwise.now) refl c.requires.points
 
 pub visit_let-after-after-requires : goal.visit_let-after-after-requires
 visit_let-after-after-requires g t c = right_point c.args.place.now.point (let_form c.args.choice.now) (process_of c.args.choice.now.next.now) (process_of c.args.choice.now.otherwise.now) refl c.requires.points
 
-pub visit_copies-after_copy-requires-clause-copies : goal.visit_copies-after_copy-requires-clause-copies
-visit_copies-after_copy-requires-clause-copies g t c = omega (arith, c.requires.copies, next_point c.args.place.now.point (calculus.Replication (process_of c.args.copied.now)) (process_of c.args.copied.now) refl c.requires.points)
+pub visit_let-returns-then-is_large_let-clause-grows : goal.visit_let-returns-then-is_large_let-clause-grows
+visit_let-returns-then-is_large_let-clause-grows g t c = Grows_refl (g.B.Bank.trees c.args.bank.now)
 
-pub visit_let-choices-requires-clause-copies : goal.visit_let-choices-requires-clause-copies
-visit_let-choices-requires-clause-copies g t c = omega (arith, c.requires.copies, left_point c.args.place.now.point (let_form c.args.choice.now) (process_of c.args.choice.now.next.now) (process_of c.args.choice.now.otherwise.now) refl c.requires.points)
+pub visit_let-returns-then-is_large_let-clause-ends : goal.visit_let-returns-then-is_large_let-clause-ends
+visit_let-returns-then-is_large_let-clause-ends g t c =
+    let P = protocol_at c.args.place.now in
+    let v = visit_at (g.B.Bank.trees c.args.bank.now) c.args.visit.now in
+    let point = c.args.place.now.point in
+    let choice = c.args.choice.now in
+    let_large P v (pattern_of choice.pattern.now) (expression_of choice.expression.now) (process_of choice.next.now) (process_of choice.otherwise.now) point c.args.listing.now.left
+    (sym c.is_large_let.ensures ∙ c.if-is_large_let.true)
+
+pub visit_let-count_choices-count-requires : goal.visit_let-count_choices-count-requires
+visit_let-count_choices-count-requires g t c =
+    few_left (protocol_at c.args.place.now) (map instruction_of c.deref.result.now) (expression_of c.args.choice.now.expression.now) (ap (map instruction_of) c.deref.ensures.value ∙ c.in_ok-instructions.ensures) c.requires.fit.1
+
+pub visit_let-is_large_choice-requires : goal.visit_let-is_large_choice-requires
+visit_let-is_large_choice-requires g t c =
+    let old = g.B.Bank.trees c.args.bank.now in
+    let P = protocol_at c.args.place.now in
+    let w = c.args.visit.now in
+    let v = visit_at old w in
+    let choice = c.args.choice.now in
+    let e = expression_of choice.expression.now in
+    let listed = ap (map instruction_of) c.deref-2.ensures.value ∙ c.in_ok-instructions.ensures in
+    choosing_known old _ e listed c.requires.visit (omega (arith, c.requires.copies, left_point c.args.place.now.point (let_form choice) (process_of choice.next.now) (process_of choice.otherwise.now) refl c.requires.points)) c.requires.fit.1
+    (c.count_choices-count.ensures ∙ ap (λ l. choices_by P (map instruction_of l)) (c.deref.ensures.value ∙ sym c.deref-2.ensures.value))
+
+pub visit_let-returns-then-branch-clause-ends : goal.visit_let-returns-then-branch-clause-ends
+visit_let-returns-then-branch-clause-ends g t c =
+    let old = g.B.Bank.trees c.args.bank.now in
+    let P = protocol_at c.args.place.now in
+    let w = c.args.visit.now in
+    let v = visit_at old w in
+    let choice = c.args.choice.now in
+    let e = expression_of choice.expression.now in
+    let listed = ap (map instruction_of) c.deref-2.ensures.value ∙ c.in_ok-instructions.ensures in
+    let pattern = pattern_of choice.pattern.now in
+    let found = c.in_ok-is_large_choice.ensures.large in
+    choice_large P v pattern e (process_of choice.next.now) (process_of choice.otherwise.now) c.args.place.now.point c.args.listing.now.left found.outs (sym c.is_large_let.ensures ∙ c.if-is_large_let.false)
+    (subst (λ (l : List Ruled). EachGoesOn P v pattern l found.outs) (completed_by P (map instruction_of c.deref-2.result.now) e listed) found.go) (found.is ∙ c.if-branch.true)
+
+pub visit_let-visit_choices-requires : goal.visit_let-visit_choices-requires
+visit_let-visit_choices-requires g t c κs within =
+    let old = g.B.Bank.trees c.args.bank.now in
+    let P = protocol_at c.args.place.now in
+    let w = c.args.visit.now in
+    let v = visit_at old w in
+    let choice = c.args.choice.now in
+    let e = expression_of choice.expression.now in
+    let listed = ap (map instruction_of) c.deref-2.ensures.value ∙ c.in_ok-instructions.ensures in
+    let mid = g.B.Bank.trees c.is_large_choice.new.bank in
+    let next = process_of choice.next.now in
+    let otherwise = process_of choice.otherwise.now in
+    let point = c.args.place.now.point in (
+      omega (arith, c.decreases),
+      (
+        within,
+        (
+          choosing_known mid _ e listed (visit_later old mid w c.is_large_choice.ensures.grows c.requires.visit).known (omega (arith, c.requires.copies, left_point point (let_form choice) next otherwise refl c.requires.points)) c.requires.fit.1
+              (c.count_choices-count.ensures ∙ ap (λ l. choices_by P (map instruction_of l)) (c.deref.ensures.value ∙ sym c.deref-2.ensures.value)),
+          (
+            (e, small_let mid _ e listed (small_later old mid _ c.in_ok-is_large_choice.field-0 c.in_ok-is_large_choice.ensures.back c.if-branch.false c.in_ok-is_large_choice.ensures.large)),
+            (c.below-below.ensures, (next_fit next c.below-below.result c.below-below.ensures c.requires.fit.2, (left_few point (let_form choice) next otherwise refl c.below-below.result c.below-below.ensures c.requires.points, c.requires.copies))),
+          ),
+        ),
+      ),
+    )
+
+pub visit_let-returns-in-Some-clause-ends : goal.visit_let-returns-in-Some-clause-ends
+visit_let-returns-in-Some-clause-ends g t c =
+    let old = g.B.Bank.trees c.args.bank.now in
+    let P = protocol_at c.args.place.now in
+    let w = c.args.visit.now in
+    let v = visit_at old w in
+    let choice = c.args.choice.now in
+    let e = expression_of choice.expression.now in
+    let listed = ap (map instruction_of) c.deref-2.ensures.value ∙ c.in_ok-instructions.ensures in
+    let mid = g.B.Bank.trees c.is_large_choice.new.bank in
+    let end = g.B.Bank.trees c.visit_choices.new.bank in
+    let pattern = pattern_of choice.pattern.now in
+    let next = process_of choice.next.now in
+    let point = c.args.place.now.point in
+    let all = map instruction_of c.deref-2.result.now in
+    let rs = completions P all [] in
+    let before = c.args.listing.now in
+    let after = c.visit_choices.new.listing in
+    let ends = subst (λ (o : Option ℕ). EndsEach P (visit_at mid w) pattern rs next (point + 1) end before after o) c.in-Some.is c.in_ok-point.ensures.ends in
+    next_large P v pattern e next (process_of choice.otherwise.now) point rs (completed_by P all e listed) (sym c.is_large_let.ensures ∙ c.if-is_large_let.false) end before after c.in-Some.point
+    (subst (λ (x : Visit). EndsEach P x pattern rs next (point + 1) end before after (Some c.in-Some.point)) (visit_later old mid w c.is_large_choice.ensures.grows c.requires.visit).is ends)
+
+pub visit_let-visit_process-requires : goal.visit_let-visit_process-requires
+visit_let-visit_process-requires g t c κs within =
+    let old = g.B.Bank.trees c.args.bank.now in
+    let mid = g.B.Bank.trees c.is_large_choice.new.bank in
+    let end = g.B.Bank.trees c.visit_choices.new.bank in
+    let w = c.args.visit.now in
+    let choice = c.args.choice.now in
+    let next = process_of choice.next.now in
+    let otherwise = process_of choice.otherwise.now in
+    let later = visit_later old end w (Grows_trans old mid end c.is_large_choice.ensures.grows c.visit_choices.ensures.grows) c.requires.visit in
+    (omega (arith, c.decreases), (within, (later.known, (next_fit otherwise c.after-after.result c.after-after.ensures c.requires.fit.3, (right_few c.args.place.now.point (let_form choice) next otherwise refl c.after-after.result c.after-after.ensures c.requires.points, later_copies c.after-after.result c.args.place.now.point next w c.after-after.ensures c.requires.copies)))))
+
+pub visit_let-returns-clause-ends : goal.visit_let-returns-clause-ends
+visit_let-returns-clause-ends g t c =
+    let old = g.B.Bank.trees c.args.bank.now in
+    let P = protocol_at c.args.place.now in
+    let w = c.args.visit.now in
+    let v = visit_at old w in
+    let choice = c.args.choice.now in
+    let e = expression_of choice.expression.now in
+    let listed = ap (map instruction_of) c.deref-2.ensures.value ∙ c.in_ok-instructions.ensures in
+    let mid = g.B.Bank.trees c.is_large_choice.new.bank in
+    let end = g.B.Bank.trees c.visit_choices.new.bank in
+    let pattern = pattern_of choice.pattern.now in
+    let next = process_of choice.next.now in
+    let point = c.args.place.now.point in
+    let all = map instruction_of c.deref-2.result.now in
+    let rs = completions P all [] in
+    let before = c.args.listing.now in
+    let midway = c.visit_choices.new.listing in
+    let ends = subst (λ (o : Option ℕ). EndsEach P (visit_at mid w) pattern rs next (point + 1) end before midway o) c.in-None.is c.in_ok-point.ensures.ends in
+    let first = subst (λ (x : Visit). EndsEach P x pattern rs next (point + 1) end before midway None) (visit_later old mid w c.is_large_choice.ensures.grows c.requires.visit).is ends in
+    let later = visit_later old end w (Grows_trans old mid end c.is_large_choice.ensures.grows c.visit_choices.ensures.grows) c.requires.visit in
+    let_ends P v pattern e next (process_of choice.otherwise.now) point rs (completed_by P all e listed) (sym c.is_large_let.ensures ∙ c.if-is_large_let.false)
+    c.visit_process.result c.after-after.result (visit_at end w) end (g.B.Bank.trees c.visit_process.new.bank) before midway c.visit_process.new.listing c.after-after.ensures later.is c.visit_process.ensures.grows first c.visit_process.ensures.ends
+
+-- the choices of a `let`
+pub visit_choices-each-init : goal.visit_choices-each-init
+visit_choices-each-init g t c =
+    let choosing = c.args.choosing.now in
+    let old = g.B.Bank.trees c.args.bank.now in
+    none_visited (protocol_at choosing.place.now) (visit_at old choosing.visit.now) (pattern_of choosing.pattern.now) (choices_of choosing) (process_of c.args.process.now) (choosing.place.now.point + 1) old c.args.listing.now
+
+pub visit_choices-choices_from-requires-clause-known : goal.visit_choices-choices_from-requires-clause-known
+visit_choices-choices_from-requires-clause-known g t c = choosing_later (g.B.Bank.trees c.args.bank.now) (g.B.Bank.trees c.each.bank) c.args.choosing.now c.each.invariant.grows c.requires.known
+
+pub visit_choices-overflow_add-number : goal.visit_choices-overflow_add-number
+visit_choices-overflow_add-number g t c =
+    let old = g.B.Bank.trees c.args.bank.now in
+    omega (arith, passed_within old (g.B.Bank.trees c.each.bank) (g.B.Bank.trees c.choices_from.new.bank) c.args.choosing.now c.each.number c.in_ok-passed.passed c.each.invariant.grows c.requires.known c.each-test.true c.in_ok-passed.ensures.passes)
+
+pub visit_choices-visit_way-requires : goal.visit_choices-visit_way-requires
+visit_choices-visit_way-requires g t c κs within =
+    let old = g.B.Bank.trees c.args.bank.now in
+    let mid = g.B.Bank.trees c.choices_from.new.bank in
+    let choosing = c.args.choosing.now in
+    let passed = c.in_ok-passed.passed in
+    let passes = passes_as old (g.B.Bank.trees c.each.bank) mid choosing c.each.number passed c.each.invariant.grows c.requires.known c.in_ok-passed.ensures.passes in (
+      omega (arith, c.decreases),
+      (
+        within,
+        (
+          known_way (protocol_at choosing.place.now) (pattern_of choosing.pattern.now) c.args.place.now choosing.place.now.point old mid choosing.visit.now (drop c.each.number (choices_of choosing)) passed c.requires.at c.requires.copies passes,
+          (c.requires.fit, c.requires.points),
+        ),
+      ),
+    )
+
+pub visit_choices-each-preserved : goal.visit_choices-each-preserved
+visit_choices-each-preserved g t c =
+    let old = g.B.Bank.trees c.args.bank.now in
+    let now = g.B.Bank.trees c.each.bank in
+    let mid = g.B.Bank.trees c.choices_from.new.bank in
+    let next = g.B.Bank.trees c.visit_way.new.bank in
+    let choosing = c.args.choosing.now in
+    let P = protocol_at choosing.place.now in
+    let v = visit_at old choosing.visit.now in
+    let pattern = pattern_of choosing.pattern.now in
+    let rs = choices_of choosing in
+    let process = process_of c.args.process.now in
+    let point = choosing.place.now.point + 1 in
+    let sl = c.requires.small in
+    let passed = c.in_ok-passed.passed in
+    let after = c.visit_way.new.listing in
+    let from_now = Grows_trans now mid next c.choices_from.ensures.grows c.visit_way.ensures.grows in
+    let from_old = Grows_trans old now next c.each.invariant.grows from_now in
+    let passes = passes_as old now mid choosing c.each.number passed c.each.invariant.grows c.requires.known c.in_ok-passed.ensures.passes in
+    let small = passed_small P v pattern rs sl.0 sl.1.are sl.1.small.outs sl.1.small.go sl.1.small.is process point old c.args.listing.now now c.each.listing c.each.number c.each.invariant mid next passed passes from_now from_old after in
+    more_visited P v pattern rs sl.0 sl.1.are sl.1.small.outs sl.1.small.go sl.1.small.is process point old c.args.listing.now now c.each.listing c.each.number c.each.invariant mid next passed passes from_now from_old after
+    (moved_each P point c.args.place.now passes.outs process next c.each.listing after None c.requires.at
+    (subst (λ (o : Option ℕ). Ends (protocol_at c.args.place.now) (Each process c.args.place.now.point passes.outs) next c.each.listing after o) c.in-None.is (c.in_ok-point.ensures.ends passes.outs small)))
+
+pub visit_choices-each-preserved-in-None : goal.visit_choices-each-preserved-in-None
+visit_choices-each-preserved-in-None g t c =
+    let old = g.B.Bank.trees c.args.bank.now in
+    let now = g.B.Bank.trees c.each.bank in
+    let mid = g.B.Bank.trees c.choices_from.new.bank in
+    let next = g.B.Bank.trees c.visit_way.new.bank in
+    let choosing = c.args.choosing.now in
+    let P = protocol_at choosing.place.now in
+    let v = visit_at old choosing.visit.now in
+    let pattern = pattern_of choosing.pattern.now in
+    let rs = choices_of choosing in
+    let process = process_of c.args.process.now in
+    let point = choosing.place.now.point + 1 in
+    let sl = c.requires.small in
+    let passed = c.in_ok-passed.passed in
+    let after = c.visit_way.new.listing in
+    let from_now = Grows_trans now mid next c.choices_from.ensures.grows c.visit_way.ensures.grows in
+    let from_old = Grows_trans old now next c.each.invariant.grows from_now in
+    let passes = passes_as old now mid choosing c.each.number passed c.each.invariant.grows c.requires.known c.in_ok-passed.ensures.passes in
+    let small = passed_small P v pattern rs sl.0 sl.1.are sl.1.small.outs sl.1.small.go sl.1.small.is process point old c.args.listing.now now c.each.listing c.each.number c.each.invariant mid next passed passes from_now from_old after in
+    more_visited P v pattern rs sl.0 sl.1.are sl.1.small.outs sl.1.small.go sl.1.small.is process point old c.args.listing.now now c.each.listing c.each.number c.each.invariant mid next passed passes from_now from_old after
+    (moved_each P point c.args.place.now passes.outs process next c.each.listing after None c.requires.at
+    (subst (λ (o : Option ℕ). Ends (protocol_at c.args.place.now) (Each process c.args.place.now.point passes.outs) next c.each.listing after o) c.in-None.is (c.in_ok-point.ensures.ends passes.outs small)))
+
+pub visit_choices-returns-in-Some-clause-ends : goal.visit_choices-returns-in-Some-clause-ends
+visit_choices-returns-in-Some-clause-ends g t c =
+    let old = g.B.Bank.trees c.args.bank.now in
+    let now = g.B.Bank.trees c.each.bank in
+    let mid = g.B.Bank.trees c.choices_from.new.bank in
+    let next = g.B.Bank.trees c.visit_way.new.bank in
+    let choosing = c.args.choosing.now in
+    let P = protocol_at choosing.place.now in
+    let v = visit_at old choosing.visit.now in
+    let pattern = pattern_of choosing.pattern.now in
+    let rs = choices_of choosing in
+    let process = process_of c.args.process.now in
+    let point = choosing.place.now.point + 1 in
+    let sl = c.requires.small in
+    let passed = c.in_ok-passed.passed in
+    let after = c.visit_way.new.listing in
+    let from_now = Grows_trans now mid next c.choices_from.ensures.grows c.visit_way.ensures.grows in
+    let from_old = Grows_trans old now next c.each.invariant.grows from_now in
+    let passes = passes_as old now mid choosing c.each.number passed c.each.invariant.grows c.requires.known c.in_ok-passed.ensures.passes in
+    let small = passed_small P v pattern rs sl.0 sl.1.are sl.1.small.outs sl.1.small.go sl.1.small.is process point old c.args.listing.now now c.each.listing c.each.number c.each.invariant mid next passed passes from_now from_old after in
+    large_visited P v pattern rs sl.0 sl.1.are sl.1.small.outs sl.1.small.go sl.1.small.is process point old c.args.listing.now now c.each.listing c.each.number c.each.invariant mid next passed passes from_now from_old after c.in-Some.point
+    (moved_each P point c.args.place.now passes.outs process next c.each.listing after (Some c.in-Some.point) c.requires.at
+    (subst (λ (o : Option ℕ). Ends (protocol_at c.args.place.now) (Each process c.args.place.now.point passes.outs) next c.each.listing after o) c.in-Some.is (c.in_ok-point.ensures.ends passes.outs small)))
+
+pub visit_choices-returns-clause-ends : goal.visit_choices-returns-clause-ends
+visit_choices-returns-clause-ends g t c =
+    let old = g.B.Bank.trees c.args.bank.now in
+    let choosing = c.args.choosing.now in
+    let sl = c.requires.small in
+    all_visited (protocol_at choosing.place.now) (visit_at old choosing.visit.now) (pattern_of choosing.pattern.now) (choices_of choosing) sl.0 sl.1.are sl.1.small.outs sl.1.small.go sl.1.small.is (process_of c.args.process.now) (choosing.place.now.point + 1) old c.args.listing.now
+    (g.B.Bank.trees c.each.bank) c.each.listing c.each.number c.each.invariant (omega (arith, choices_counted old choosing c.requires.known, c.each-test.false))
+
+pub visit_way-visit_process-requires : goal.visit_way-visit_process-requires
+visit_way-visit_process-requires g t c κs within =
+    let known = subst (λ (x : Way). IsKnownWay (g.B.Bank.trees c.args.bank.now) c.args.place.now.point x) c.in-Visit.is c.requires.known in
+    (omega (arith, c.decreases), (within, (known.0, (c.requires.fit, (c.requires.points, known.1)))))
+
+pub visit_way-returns-in-Visit-clause-ends : goal.visit_way-returns-in-Visit-clause-ends
+visit_way-returns-in-Visit-clause-ends g t c =
+    let old = g.B.Bank.trees c.args.bank.now in
+    let new = g.B.Bank.trees c.visit_process.new.bank in
+    let P = protocol_at c.args.place.now in
+    let process = process_of c.args.process.now in
+    let point = c.args.place.now.point in
+    let before = c.args.listing.now in
+    let after = c.visit_process.new.listing in
+    let w = visit_at old c.in-Visit.made in
+    if_ok c.visit_process.result (λ (large : Option ℕ). Ends P (Once process point w) new before after large) (λ (large : Option ℕ). (outs : List (Option Visit)) → AreSmallWays old c.args.way.now outs → Ends P (Each process point outs) new before after large)
+    (λ large h. λ outs small. visit_ends P process point w outs new before after large (subst (λ (x : Way). AreSmallWays old x outs) c.in-Visit.is small) h) c.visit_process.ensures.ends
+
+pub visit_way-returns-in-Nowhere-clause-ends : goal.visit_way-returns-in-Nowhere-clause-ends
+visit_way-returns-in-Nowhere-clause-ends g t c =
+    let old = g.B.Bank.trees c.args.bank.now in
+    λ outs small.
+    nowhere_ends (protocol_at c.args.place.now) (process_of c.args.process.now) c.args.place.now.point old outs c.args.listing.now (nowhere_of old c.args.way.now outs c.in-Nowhere.is small)

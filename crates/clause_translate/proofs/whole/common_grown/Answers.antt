@@ -3,13 +3,13 @@ use Rattle.pi_tree.specs.Protocols.{protocol_of}
 use Rattle.clause_translate.specs.declared.whole.Translated.{Translated}
 use Rattle.clause_translate.specs.Whole.{IsVisited}
 use Rattle.clause_translate.proofs.FewPoints.{first_few}
-use Rattle.clause_translate.proofs.Reading.{main_short, has_fit_rules}
+use Rattle.clause_translate.proofs.Reading.{main_fit, has_fit_rules}
 use Rattle.clause_translate.proofs.Translating.{common_to, all_end_at}
 use Rattle.term_tree.proofs.BankLaws.{Grows_trans}
 use Rattle.clause_translate.proofs.whole.common_grown.Goals as goal
 
-pub visited-requires-clause-short : goal.visited-requires-clause-short
-visited-requires-clause-short g c = main_short (protocol_of c.args.protocol.now) c.requires.scoped
+pub visited-requires-clause-fit : goal.visited-requires-clause-fit
+visited-requires-clause-fit g c = main_fit (protocol_of c.args.protocol.now) c.requires.scoped
 
 pub visited-requires-clause-rules : goal.visited-requires-clause-rules
 visited-requires-clause-rules g c = has_fit_rules (protocol_of c.args.protocol.now) c.requires.rules c.requires.limits c.requires.scoped

@@ -1,0 +1,169 @@
+-- Choices of a `let` that are passed, one after the other.
+use Rattle.std.proofs.Common.{◌≡◌, ◌∙◌, ℕ, zero, suc, ◌+◌, ◌<◌, ◌≤◌, Bool, true, false, ◌||◌, Option, Some, None, List, [], ◌∷◌, ◌++◌, length, map, take, drop, refl, ap, sym, subst, arith}
+use Rattle.std.specs.List.{AllByRecursion}
+use Rattle.std.specs.Option.{option_map_or}
+use Rattle.std.proofs.lemmas.List.{length-drop, take_all}
+use Rattle.spec_calculus.specs.Syntax.{Pattern, Ruled, Protocol}
+use Rattle.spec_terms.specs.Term.{Term}
+use Rattle.pi_tree.specs.Patterns.{pattern_of}
+use Rattle.spec_translation.specs.Visit.{Visit, is_large_visit}
+use Rattle.spec_translation.specs.Choice.{ChoiceGoesOn, EachGoesOn}
+use Rattle.spec_translation.specs.Visited.{some_large}
+use Rattle.spec_choice_walks.proofs.Counting.{counted}
+use Rattle.spec_choice_walks.proofs.Ways.{each-append}
+use Rattle.process_visits.specs.declared.choice.Choosing.{Choosing}
+use Rattle.process_visits.specs.declared.visit.Visit as source
+use Rattle.process_visits.specs.declared.row.Walk.{Walk}
+use Rattle.process_visits.specs.declared.ways.Passed.{Passed}
+use Rattle.process_visits.specs.declared.ways.Way.{Way}
+use Rattle.process_visits.specs.declared.ways.Way.TheVariants as ways
+use Rattle.process_visits.specs.Places.{protocol_at}
+use Rattle.process_visits.specs.Visits.{visit_at}
+use Rattle.process_visits.specs.RuledRows.{IsRowOf}
+use Rattle.process_visits.specs.Ways.{is_large_way, IsWay, AreWays, Passes, AreCut}
+use Rattle.process_visits.specs.Walks.{instructions_of, choices_of, IsChoosingIn, IsAlong, LooksAt, HasChoices}
+use Rattle.process_visits.proofs.Tests.{any-append}
+
+take_none : {A : Type 0} (xs : List A) (k : ℕ) → xs ≡ [] → take k xs ≡ []
+take_none [] zero e = refl
+take_none [] (suc k) e = refl
+take_none (x ∷ xs) k e = absurd (let same = e in cc)
+
+-- some items, and some behind them
+pub take_on : {A : Type 0} (m n : ℕ) (xs : List A) → take (m + n) xs ≡ take m xs ++ take n (drop m xs)
+take_on zero n xs = let same : 0 + n ≡ n = omega arith in ap (λ k. take k xs) same
+take_on (suc m) n [] = take_none [] (suc m + n) refl ∙ sym (take_none [] n refl)
+take_on (suc m) n (x ∷ xs) = let same : suc m + n ≡ suc (m + n) = omega arith in ap (λ k. take k (x ∷ xs)) same ∙ ap (λ l. x ∷ l) (take_on m n xs)
+
+-- at the end of the instructions one part is left, which is the choice
+pub record IsAtEnd (P : Protocol) (w : source.Visit) (v : Visit) (rs : List Ruled) (all : List Term) (walk : Walk) : Type 0 where
+  pub ruled : Ruled
+  pub row : IsRowOf P w v (ruled ∷ []) all walk.row
+  pub more : List Ruled
+  pub are : rs ≡ ruled ∷ more
+
+module _ (P : Protocol) (w : source.Visit) (v : Visit) (rs : List Ruled) (all : List Term) (walk : Walk) where
+  pub at_end : IsAlong P w v [] rs all walk → IsAtEnd P w v rs all walk
+  at_end was = go was.parts was.fit.one was.row was.are where
+    first : walk.number ≡ 0
+    first = omega (arith, was.within, was.left)
+
+    go : (parts : List Ruled) → length parts ≡ 1 → IsRowOf P w v parts all walk.row → rs ≡ drop walk.number parts ++ was.more → IsAtEnd P w v rs all walk
+    go [] one row are = absurd (omega (arith, one))
+    go (ruled ∷ []) one row are = record { ruled = ruled; row = row; more = was.more; are = are ∙ ap (λ k. drop k (ruled ∷ []) ++ was.more) first }
+    go (ruled ∷ other ∷ parts) one row are = absurd (omega (arith, one))
+
+module _ (P : Protocol) (v : Visit) (pattern : Pattern) (rs : List Ruled) (all : List Term) where
+  -- the way of one choice
+  one_way : (way : Way) (out : Option Visit) → IsWay all way out → AreWays all way (out ∷ [])
+  one_way ways.Nowhere out is = (is, tt)
+  one_way ways.Large None is = absurd is
+  one_way ways.Large (Some x) is = (x, refl, is)
+  one_way (ways.Visit made) None is = absurd is
+  one_way (ways.Visit made) (Some x) is = (x, refl, is.0, is.1)
+
+  pub one_passes : (ruled : Ruled) (more : List Ruled) (way : Way) (out : Option Visit) → rs ≡ ruled ∷ more → ChoiceGoesOn P v pattern ruled out → IsWay all way out → Passes P v pattern rs all (record { count = 1; way = way })
+  one_passes ruled more way out are goes is = record {
+    some = omega arith;
+    within = omega (arith, ap length are);
+    outs = out ∷ [];
+    go = subst (λ (l : List Ruled). EachGoesOn P v pattern (take 1 l) (out ∷ [])) (sym are) (out, [], goes, refl, refl);
+    ways = one_way way out is;
+  }
+
+  -- choices that go nowhere
+  all_none : (xs : List Ruled) → AllByRecursion (λ (out : Option Visit). out ≡ None) (map (λ r. None) xs)
+  all_none [] = tt
+  all_none (x ∷ xs) = (refl, all_none xs)
+
+  pub cut_passes : (count : ℕ) → AreCut P v pattern rs count → Passes P v pattern rs all (record { count = count; way = ways.Nowhere })
+  cut_passes count cut = record {
+    some = cut.some;
+    within = cut.within;
+    outs = map (λ r. None) (take count rs);
+    go = cut.go;
+    ways = all_none (take count rs);
+  }
+
+  -- whatever the bank is
+  pub passes_back : (other : List Term) (passed : Passed) → passed.way ≡ ways.Nowhere → Passes P v pattern rs all passed → Passes P v pattern rs other passed
+  passes_back other passed nowhere p = record {
+    some = p.some;
+    within = p.within;
+    outs = p.outs;
+    go = p.go;
+    ways = subst (λ (x : Way). AreWays other x p.outs) (sym nowhere) (subst (λ (x : Way). AreWays all x p.outs) nowhere p.ways);
+  }
+
+  none_large : (outs : List (Option Visit)) → AllByRecursion (λ out. out ≡ None) outs → some_large outs ≡ false
+  none_large [] h = refl
+  none_large (out ∷ outs) h = ap (λ (o : Option Visit). option_map_or is_large_visit o false || some_large outs) h.0 ∙ none_large outs h.1
+
+  alone : (x : Visit) (outs : List (Option Visit)) (b : Bool) → outs ≡ Some x ∷ [] → is_large_visit x ≡ b → some_large outs ≡ b
+  alone x outs b are is = ap some_large are ∙ (or_none (is_large_visit x) ∙ is) where
+    or_none : (a : Bool) → (a || false) ≡ a
+    or_none true = refl
+    or_none false = refl
+
+  -- whether one of those that are passed is too large
+  pub way_large : (way : Way) (outs : List (Option Visit)) → AreWays all way outs → some_large outs ≡ is_large_way way
+  way_large ways.Nowhere outs is = none_large outs is
+  way_large ways.Large outs is = alone is.0 outs true is.1 is.2
+  way_large (ways.Visit made) outs is = alone is.0 outs false is.1 is.2
+
+-- there are as many choices as the instructions leave
+pub choices_counted : (all : List Term) (choosing : Choosing) → IsChoosingIn all choosing → length (choices_of choosing) ≡ choosing.count
+choices_counted all choosing known = counted (protocol_at choosing.place.now) (instructions_of choosing) [] known.fit.one ∙ sym known.count
+
+-- how far the choices have been looked at
+pub record AreLooked (all : List Term) (choosing : Choosing) (number : ℕ) (large : Bool) : Type 0 where
+  pub within : number ≤ choosing.count
+  pub outs : List (Option Visit)
+  pub go : EachGoesOn (protocol_at choosing.place.now) (visit_at all choosing.visit.now) (pattern_of choosing.pattern.now) (take number (choices_of choosing)) outs
+  pub is : some_large outs ≡ large
+
+module _ (old : List Term) (choosing : Choosing) (known : IsChoosingIn old choosing) where
+  abbrev P : Protocol
+  P = protocol_at choosing.place.now
+
+  abbrev v : Visit
+  v = visit_at old choosing.visit.now
+
+  abbrev pattern : Pattern
+  pattern = pattern_of choosing.pattern.now
+
+  abbrev rs : List Ruled
+  rs = choices_of choosing
+
+  -- what was passed, without the visit
+  pub looks_at : (all : List Term) (number : ℕ) (passed : Passed) (large : Bool) → number < choosing.count → large ≡ is_large_way passed.way → Passes P v pattern (drop number rs) all passed → LooksAt old choosing number passed.count large
+  looks_at all number passed large low is p = record {
+    some = p.some;
+    within = omega (arith, p.within, length-drop number rs, choices_counted old choosing known, low);
+    outs = p.outs;
+    go = p.go;
+    is = way_large P v pattern rs all passed.way p.outs p.ways ∙ sym is;
+  }
+
+  pub none_looked : AreLooked old choosing 0 false
+  none_looked = record { within = omega arith; outs = []; go = refl; is = refl }
+
+  pub more_looked : (number count : ℕ) (large more : Bool) → AreLooked old choosing number large → LooksAt old choosing number count more → AreLooked old choosing (number + count) (large || more)
+  more_looked number count large more was next =
+      let first = was.is in
+      let second = next.is in
+      record {
+        within = next.within;
+        outs = was.outs ++ next.outs;
+        go = subst (λ (l : List Ruled). EachGoesOn P v pattern l (was.outs ++ next.outs)) (sym (take_on number count rs)) (each-append P v pattern (take number rs) (take count (drop number rs)) was.outs next.outs was.go next.go);
+        is = any-append (λ out. option_map_or is_large_visit out false) was.outs next.outs ∙ (λ i. first i || second i);
+      }
+
+  pub all_looked : (number : ℕ) (large : Bool) → choosing.count ≤ number → AreLooked old choosing number large → HasChoices old choosing large
+  all_looked number large past was =
+      let long : length rs ≤ number = omega (arith, past, choices_counted old choosing known) in
+      record {
+        outs = was.outs;
+        go = subst (λ (l : List Ruled). EachGoesOn P v pattern l was.outs) (take_all number rs long) was.go;
+        is = was.is;
+      }

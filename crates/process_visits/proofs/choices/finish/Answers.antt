@@ -1,0 +1,120 @@
+use Rattle.std.proofs.Common.{◌+◌, Some, None, [], ◌∷◌, refl, subst, arith}
+use Rattle.pi_tree.specs.Patterns.{pattern_of}
+use Rattle.spec_terms.specs.Binding.{resolved}
+use Rattle.spec_translation.specs.Conversion.{term_in, rule_term}
+use Rattle.spec_translation.specs.Visit.{Visit, visit_under}
+use Rattle.spec_translation.specs.Applied.{ruled_term}
+use Rattle.term_tree.specs.Bank.{tree_at}
+use Rattle.term_tree.proofs.BankLaws.{Names-grows}
+use Rattle.unify_match.specs.Seen.{seen}
+use Rattle.unify_match.specs.Outcome.{Unified, NoUnifier}
+use Rattle.process_visits.specs.declared.ways.Way.TheVariants as ways
+use Rattle.process_visits.specs.Patterns.{WithPattern}
+use Rattle.process_visits.specs.Places.{protocol_at}
+use Rattle.process_visits.specs.Visits.{visit_at}
+use Rattle.process_visits.proofs.Choosing.{chosen_nowhere, chosen_below, chosen_there, named_alone, way_is}
+use Rattle.process_visits.proofs.Happening.{if_true, if_false}
+use Rattle.process_visits.proofs.Passing.{at_end, one_passes}
+use Rattle.process_visits.proofs.RuledRows.{ids_counted, row_grows}
+use Rattle.process_visits.proofs.choices.finish.Goals as goal
+
+pub index-value-requires : goal.index-value-requires
+index-value-requires g c =
+    let old = g.B.Bank.trees c.args.bank.now in
+    let P = protocol_at c.args.choosing.now.place.now in
+    let w = c.args.choosing.now.visit.now in
+    let has = c.requires.stands in
+    let end = at_end P w has.0 has.1 old c.args.walk.now has.2 in
+    omega (arith, c.args.walk.now.row.ids.ok.0, ids_counted P w has.0 old (end.ruled ∷ []) c.args.walk.now.row end.row)
+
+pub unify-requires-clause-left_known : goal.unify-requires-clause-left_known
+unify-requires-clause-left_known g c =
+    let old = g.B.Bank.trees c.args.bank.now in
+    let mid = g.B.Bank.trees c.with_pattern.new.bank in
+    let P = protocol_at c.args.choosing.now.place.now in
+    let w = c.args.choosing.now.visit.now in
+    let has = c.requires.stands in
+    let end = at_end P w has.0 has.1 old c.args.walk.now has.2 in
+    let t = ruled_term P (term_in P has.0.scope) (rule_term P) w.next end.ruled in
+    let value = c.index-value.result.now in
+    (Names-grows old mid value t c.with_pattern.ensures.grows (named_alone old c.args.walk.now.row.ids.items t value end.row.terms c.index-value.ensures)).known
+
+pub unify-requires-clause-ready : goal.unify-requires-clause-ready
+unify-requires-clause-ready g c =
+    let old = g.B.Bank.trees c.args.bank.now in
+    let mid = g.B.Bank.trees c.with_pattern.new.bank in
+    let P = protocol_at c.args.choosing.now.place.now in
+    let w = c.args.choosing.now.visit.now in
+    let has = c.requires.stands in
+    let end = at_end P w has.0 has.1 old c.args.walk.now has.2 in
+    (row_grows P w has.0 old mid (end.ruled ∷ []) c.args.walk.now.row c.with_pattern.ensures.grows end.row).solved.ready
+
+pub returns-then-not-branch-clause-passes : goal.returns-then-not-branch-clause-passes
+returns-then-not-branch-clause-passes g c =
+    let old = g.B.Bank.trees c.args.bank.now in
+    let mid = g.B.Bank.trees c.with_pattern.new.bank in
+    let P = protocol_at c.args.choosing.now.place.now in
+    let w = c.args.choosing.now.visit.now in
+    let row = c.args.walk.now.row in
+    let pattern = pattern_of c.args.choosing.now.pattern.now in
+    let value = c.index-value.result.now in
+    let made = c.in_ok-made.made in
+    let target = c.in_ok-made.target in
+    let a = tree_at mid value in
+    let b = tree_at mid target in
+    let never = if_false c.in_ok-unify.field-0 (Unified mid row.binds.pairs c.unify.new.binds.pairs a b) (NoUnifier mid row.binds.pairs a b) c.if-not-branch.true c.in_ok-unify.ensures.outcome in
+    λ v rs was.
+    let end = at_end P w v rs old c.args.walk.now was in
+    let t = ruled_term P (term_in P v.scope) (rule_term P) w.next end.ruled in
+    let bound = subst (λ (x : Visit). WithPattern P x pattern (row.next + 1) mid made target) end.row.visit.is c.in_ok-made.ensures.names in
+    let named = Names-grows old mid value t c.with_pattern.ensures.grows (named_alone old row.ids.items t value end.row.terms c.index-value.ensures) in
+    one_passes P v pattern rs mid end.ruled end.more ways.Nowhere None end.are
+    (chosen_nowhere P w v pattern end.ruled mid row (row_grows P w v old mid (end.ruled ∷ []) row c.with_pattern.ensures.grows end.row) made target bound value named never) refl
+
+pub visit_under-requires-clause-below : goal.visit_under-requires-clause-below
+visit_under-requires-clause-below g c =
+    let old = g.B.Bank.trees c.args.bank.now in
+    let mid = g.B.Bank.trees c.with_pattern.new.bank in
+    let P = protocol_at c.args.choosing.now.place.now in
+    let w = c.args.choosing.now.visit.now in
+    let row = c.args.walk.now.row in
+    let pattern = pattern_of c.args.choosing.now.pattern.now in
+    let value = c.index-value.result.now in
+    let made = c.in_ok-made.made in
+    let target = c.in_ok-made.target in
+    let a = tree_at mid value in
+    let b = tree_at mid target in
+    let unified = if_true c.in_ok-unify.field-0 (Unified mid row.binds.pairs c.unify.new.binds.pairs a b) (NoUnifier mid row.binds.pairs a b) c.if-not-branch.false c.in_ok-unify.ensures.outcome in
+    let has = c.requires.stands in
+    let v = has.0 in
+    let end = at_end P w v has.1 old c.args.walk.now has.2 in
+    let t = ruled_term P (term_in P v.scope) (rule_term P) w.next end.ruled in
+    let bound = subst (λ (x : Visit). WithPattern P x pattern (row.next + 1) mid made target) end.row.visit.is c.in_ok-made.ensures.names in
+    let named = Names-grows old mid value t c.with_pattern.ensures.grows (named_alone old row.ids.items t value end.row.terms c.index-value.ensures) in
+    chosen_below P w v pattern end.ruled mid row (row_grows P w v old mid (end.ruled ∷ []) row c.with_pattern.ensures.grows end.row) made target bound value named c.unify.new.binds.pairs c.in_ok-unify.ensures.ready unified
+
+pub returns-clause-passes : goal.returns-clause-passes
+returns-clause-passes g c =
+    let old = g.B.Bank.trees c.args.bank.now in
+    let mid = g.B.Bank.trees c.with_pattern.new.bank in
+    let new = g.B.Bank.trees c.visit_under.new.bank in
+    let P = protocol_at c.args.choosing.now.place.now in
+    let w = c.args.choosing.now.visit.now in
+    let row = c.args.walk.now.row in
+    let pattern = pattern_of c.args.choosing.now.pattern.now in
+    let value = c.index-value.result.now in
+    let made = c.in_ok-made.made in
+    let target = c.in_ok-made.target in
+    let pairs = c.unify.new.binds.pairs in
+    let a = tree_at mid value in
+    let b = tree_at mid target in
+    let x = visit_under (resolved (seen mid pairs)) (visit_at mid made) in
+    let unified = if_true c.in_ok-unify.field-0 (Unified mid row.binds.pairs pairs a b) (NoUnifier mid row.binds.pairs a b) c.if-not-branch.false c.in_ok-unify.ensures.outcome in
+    λ v rs was.
+    let end = at_end P w v rs old c.args.walk.now was in
+    let t = ruled_term P (term_in P v.scope) (rule_term P) w.next end.ruled in
+    let bound = subst (λ (y : Visit). WithPattern P y pattern (row.next + 1) mid made target) end.row.visit.is c.in_ok-made.ensures.names in
+    let named = Names-grows old mid value t c.with_pattern.ensures.grows (named_alone old row.ids.items t value end.row.terms c.index-value.ensures) in
+    one_passes P v pattern rs new end.ruled end.more c.way_to.result (Some x) end.are
+    (chosen_there P w v pattern end.ruled mid row (row_grows P w v old mid (end.ruled ∷ []) row c.with_pattern.ensures.grows end.row) made target bound value named pairs c.in_ok-unify.ensures.ready unified)
+    (way_is new x c.in_ok-found.found c.way_to.result c.in_ok-found.ensures.under c.way_to.ensures)

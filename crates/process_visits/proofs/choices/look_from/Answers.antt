@@ -1,0 +1,14 @@
+use Rattle.std.proofs.Common.{take, ap, ◌∙◌}
+use Rattle.term_tree.proofs.BankLaws.{Grows_same, take-grows}
+use Rattle.process_visits.proofs.Passing.{looks_at}
+use Rattle.process_visits.proofs.choices.look_from.Goals as goal
+
+pub returns-clause-grows : goal.returns-clause-grows
+returns-clause-grows g c =
+    let old = g.B.Bank.trees c.args.bank.now in
+    let new = g.B.Bank.trees c.walk_to.new.bank in
+    Grows_same old (g.B.Bank.trees c.back.new.self) (c.back.ensures ∙ (ap (λ n. take n new) c.mark-mark.ensures ∙ take-grows old new c.walk_to.ensures.grows))
+
+pub returns-clause-looks : goal.returns-clause-looks
+returns-clause-looks g c =
+    looks_at (g.B.Bank.trees c.args.bank.now) c.args.choosing.now c.requires.known (g.B.Bank.trees c.walk_to.new.bank) c.args.number c.in_ok-passed.passed c.is_large.result c.requires.within c.is_large.ensures c.in_ok-passed.ensures.passes

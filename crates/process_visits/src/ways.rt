@@ -1,0 +1,63 @@
+//! How the choices of a `let` go on.
+
+ghost use Rattle.std.specs.Prelude.{◌≡◌, true, IfSome, MatchOption, MatchBool};
+ghost use Rattle.spec_translation.specs.Visit as translation;
+ghost use Rattle.process_visits.specs.Visits.{visit_at, IsVisitIn};
+ghost use Rattle.process_visits.specs.Ways.{is_large_way};
+ghost use Rattle.process_visits.specs.declared.ways.Way.TheVariants as ways;
+
+use crate::large::is_large_visit;
+use crate::visit::Visit;
+use term_tree::Bank;
+
+/// How a choice goes on.
+#[derive(Drop)]
+pub enum Way {
+    /// There is no unifier.
+    Nowhere,
+    /// The visit that goes on is too large.
+    Large,
+    Visit(Visit),
+}
+
+/// Choices that were passed, one after the other, and how they go on: all of them nowhere, or the one that it is.
+#[derive(Drop)]
+pub struct Passed {
+    pub count: usize,
+    pub way: Way,
+}
+
+impl Passed {
+    /// Whether they go on nowhere.
+    pub fn is_nowhere(&self) -> bool
+        ensures { result ≡ true → self.now.way ≡ ways.Nowhere }
+    {
+        matches!(self.way, Way::Nowhere)
+    }
+
+    /// Whether the visit that goes on is too large.
+    pub fn is_large(&self) -> bool
+        ensures { result ≡ is_large_way self.now.way }
+    {
+        matches!(self.way, Way::Large)
+    }
+}
+
+/// The visit, unless it is too large.
+pub fn way_to<B: Bank>(bank: &B, found: Option<Visit>) -> Way
+    requires { IfSome found (λ made. IsVisitIn (B.trees bank.now) made) }
+    ensures { MatchOption found (result ≡ ways.Large)
+        (λ made. MatchBool (translation.is_large_visit (visit_at (B.trees bank.now) made))
+        (result ≡ ways.Large) (result ≡ ways.Visit made)) }
+{
+    match found {
+        None => Way::Large,
+        Some(made) => {
+            if is_large_visit(bank, &made) {
+                Way::Large
+            } else {
+                Way::Visit(made)
+            }
+        }
+    }
+}

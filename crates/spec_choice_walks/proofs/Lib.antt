@@ -1,0 +1,5 @@
+pub mod Completing
+pub mod Counting
+pub mod Rows
+pub mod Beginning
+pub mod Ways

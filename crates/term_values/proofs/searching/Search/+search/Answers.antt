@@ -1,0 +1,16 @@
+use Rattle.std.proofs.Common.{◌-◌, length, refl}
+use Rattle.spec_calculus.specs.Syntax.{Constructor, Tuple}
+use Rattle.term_values.proofs.Stacks.{put_back}
+use Rattle.term_values.proofs.searching.Search.+search.Goals as goal
+
+pub some_end-returns-in_ok-arguments-in-App-clause-kept : goal.some_end-returns-in_ok-arguments-in-App-clause-kept
+some_end-returns-in_ok-arguments-in-App-clause-kept t c =
+    put_back c.some_end_over.result c.args.stack.now c.taken.new.stack c.in_ok-arguments-in-App.arguments c.some_end_over.new.stack (length c.args.stack.now - c.in-App.count)
+    c.in_ok-arguments-in-App.ensures.rest c.in_ok-arguments-in-App.ensures.top
+    (c.some_end_over.ensures.kept (Constructor c.in-App.constructor) c.in_ok-arguments-in-App.arguments refl)
+
+pub some_end-returns-in_ok-parts-in-Tuple-clause-kept : goal.some_end-returns-in_ok-parts-in-Tuple-clause-kept
+some_end-returns-in_ok-parts-in-Tuple-clause-kept t c =
+    put_back c.some_end_over-in-Tuple.result c.args.stack.now c.taken-in-Tuple.new.stack c.in_ok-parts-in-Tuple.parts c.some_end_over-in-Tuple.new.stack (length c.args.stack.now - c.in-Tuple.count)
+    c.in_ok-parts-in-Tuple.ensures.rest c.in_ok-parts-in-Tuple.ensures.top
+    (c.some_end_over-in-Tuple.ensures.kept Tuple c.in_ok-parts-in-Tuple.parts refl)
