@@ -1,13 +1,11 @@
 -- Clauses that are their own norms within the limit of size: they stay so as the bank grows, and so are resolvents and what is translated.
-use Rattle.std.proofs.Common.{◌≡◌, ℕ, zero, suc, ◌+◌, ◌<◌, ◌^◌, Some, List, [], ◌∷◌, length, map, get_or, ap, sym, subst, arith}
+use Rattle.std.proofs.Common.{◌≡◌, ℕ, zero, suc, ◌+◌, ◌<◌, ◌^◌, Some, List, [], ◌∷◌, length, get_or, ap, sym, arith}
 use Rattle.std.specs.Prelude.{slice_get}
 use Rattle.spec_terms.specs.Term.{Term}
 use Rattle.spec_clauses.specs.Fact.{Clause, clause_size}
-use Rattle.spec_clauses.specs.Norm.{IsNormal}
-use Rattle.spec_clauses.specs.Limits.{IsWithinLimit}
 use Rattle.spec_certificates.specs.Certificate.{numbered_from}
 use Rattle.term_tree.specs.declared.bank.Id.{Id}
-use Rattle.clause_form.specs.Seen.{clause_at, AreClausesIn, NameClauses}
+use Rattle.clause_form.specs.Seen.{clause_at, AreClausesIn}
 use Rattle.cert_checker.specs.Stages.{AreInShape}
 use Rattle.clause_form.specs.Fit.{IsFit, AreFit, clauses_at}
 
@@ -18,18 +16,9 @@ clause_at_index all (d ∷ cs) zero c is within = ap (λ x. Some (clause_at all 
 clause_at_index all (d ∷ cs) (suc i) c is within = clause_at_index all cs i c is (omega arith)
 
 -- so are those of which the shapes were looked at
-pub shaped_fit : (all : List Term) (n k : ℕ) (clauses : List (Clause Id)) (cs : List (Clause Term)) → NameClauses all clauses cs → AreInShape n (numbered_from k cs) → AreFit all clauses
-shaped_fit all n k clauses cs names shaped = go k clauses cs names.known names.are shaped
-  where
-    go : (k : ℕ) (clauses : List (Clause Id)) (ds : List (Clause Term)) → AreClausesIn all clauses → map (clause_at all) clauses ≡ ds → AreInShape n (numbered_from k ds) → AreFit all clauses
-    go k [] ds known are shaped = tt
-    go k (c ∷ clauses) [] known are shaped = cc
-    go k (c ∷ clauses) (d ∷ ds) known are shaped =
-        let first : clause_at all c ≡ d = cc in
-        let rest : map (clause_at all) clauses ≡ ds = cc in (
-          record { known = known.0; normal = subst IsNormal (sym first) shaped.0.normal; small = subst IsWithinLimit (sym first) shaped.0.small },
-          go (k + 1) clauses ds known.1 rest shaped.1,
-        )
+pub shaped_fit : (all : List Term) (n k : ℕ) (cs : List (Clause Id)) → AreClausesIn all cs → AreInShape n (numbered_from k (clauses_at all cs)) → AreFit all cs
+shaped_fit all n k [] known shaped = tt
+shaped_fit all n k (c ∷ cs) known shaped = (record { known = known.0; normal = shaped.0.normal; small = shaped.0.small }, shaped_fit all n (k + 1) cs known.1 shaped.1)
 
 -- the size of a fit clause is told
 pub fit_size : (all : List Term) (c : Clause Id) → IsFit all c → clause_size (clause_at all c) < 2 ^ 63

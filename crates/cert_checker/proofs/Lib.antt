@@ -12,3 +12,5 @@ pub mod Passing
 pub mod Reaching
 pub mod Proper
 pub mod Sufficing
+pub mod Accepting
+pub mod Standing

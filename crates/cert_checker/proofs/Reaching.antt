@@ -1,5 +1,5 @@
 -- How far a check has come by what is answered of each stage, and what is ruled where a stage ends it.
-use Rattle.std.proofs.Common.{◌≡◌, ◌∙◌, ℕ, Some, List, drop, sym, subst}
+use Rattle.std.proofs.Common.{◌≡◌, ◌∙◌, ℕ, Option, Some, None, List, drop, sym, subst}
 use Rattle.spec_calculus.specs.Syntax.{Query, Protocol}
 use Rattle.spec_calculus.specs.Points.{numbered}
 use Rattle.spec_well_formed.specs.Limits.{IsWithinLimits}
@@ -13,7 +13,6 @@ use Rattle.spec_certificates.specs.Certificate.{Certificate, bad_arguments, Cove
 use Rattle.spec_certificates.specs.Ruling.{IsRuled}
 use Rattle.spec_certificates.specs.Ruling as certificates
 use Rattle.term_tree.specs.declared.bank.Id.{Id}
-use Rattle.clause_form.specs.Seen.{NameClauses}
 use Rattle.query_derive.proofs.Deciding.{small_query}
 use Rattle.clause_translate.specs.Whole.{Translates, TranslatesTo, EndsAt}
 use Rattle.clause_translate.specs.declared.whole.Translated.{Translated}
@@ -28,11 +27,8 @@ use Rattle.cert_checker.specs.declared.ruling.Ruling.{Ruling}
 use Rattle.cert_checker.specs.declared.ruling.Shown.TheVariants as shown_so
 use Rattle.cert_checker.specs.declared.ruling.Closed as closed
 use Rattle.cert_checker.specs.declared.ruling.Closed.TheVariants as closed_so
-use Rattle.cert_checker.specs.declared.shaping.Shaped.{Shaped}
-use Rattle.cert_checker.specs.declared.shaping.Shaped.TheVariants as shaped_so
 use Rattle.cert_checker.proofs.Composing.{shape_fails, translation_large, cover_fails, closure_fails}
 use Rattle.clause_form.proofs.Fit.{named_fit}
-use Rattle.cert_checker.proofs.Fitting.{shaped_fit}
 
 -- The clauses of a certificate over a bank.
 module _ (P : Protocol) (q : Query) (cert : Certificate) (all : List Term) (cs : List (Clause Id)) (are : clauses_at all cs ≡ cert.clauses) where
@@ -84,18 +80,12 @@ module _ (P : Protocol) (number : ℕ) (all : List Term) (found : Translated) (t
       translation_large P q cert point shaped (subst (λ (p : Query). IsTranslation P p (LargeAt point)) same at.translates)
 
 -- The shapes of a certificate's clauses.
-module _ (cert : Certificate) (n : ℕ) (all : List Term) (found : Shaped) (told : AreShaped n all cert.clauses found) where
-  pub shapes_are : (cs : List (Clause Id)) → found ≡ shaped_so.All cs → NameClauses all cs cert.clauses × AreInShape n (clauses_of cert)
-  shapes_are cs e = subst (λ (s : Shaped). AreShaped n all cert.clauses s) e told
+module _ (cert : Certificate) (n : ℕ) (found : Option ℕ) (told : AreShaped n (clauses_of cert) found) where
+  pub shapes_are : found ≡ None → AreInShape n (clauses_of cert)
+  shapes_are e = subst (λ (o : Option ℕ). AreShaped n (clauses_of cert) o) e told
 
-  pub shapes_fit : (cs : List (Clause Id)) → found ≡ shaped_so.All cs → AreFit all cs
-  shapes_fit cs e = let both = shapes_are cs e in shaped_fit all n 1 cs cert.clauses both.0 both.1
+  pub shapes_met : (q : Query) → found ≡ None → n ≡ bad_arguments q → HasShapes q cert
+  shapes_met q e same = subst (λ m. AreInShape m (clauses_of cert)) same (shapes_are e)
 
-  pub shapes_seen : (cs : List (Clause Id)) → found ≡ shaped_so.All cs → clauses_at all cs ≡ cert.clauses
-  shapes_seen cs e = (shapes_are cs e).0.are
-
-  pub shapes_met : (q : Query) (cs : List (Clause Id)) → found ≡ shaped_so.All cs → n ≡ bad_arguments q → HasShapes q cert
-  shapes_met q cs e same = subst (λ m. AreInShape m (clauses_of cert)) same (shapes_are cs e).1
-
-  pub shapes_rule : (P : Protocol) (q : Query) (number : ℕ) → found ≡ shaped_so.Except number → n ≡ bad_arguments q → IsRuled P q cert (certificates.Shape number)
-  shapes_rule P q number e same = shape_fails P q cert number (subst (λ m. FirstMisshapen m (clauses_of cert) number) same (subst (λ (s : Shaped). AreShaped n all cert.clauses s) e told))
+  pub shapes_rule : (P : Protocol) (q : Query) (number : ℕ) → found ≡ Some number → n ≡ bad_arguments q → IsRuled P q cert (certificates.Shape number)
+  shapes_rule P q number e same = shape_fails P q cert number (subst (λ m. FirstMisshapen m (clauses_of cert) number) same (subst (λ (o : Option ℕ). AreShaped n (clauses_of cert) o) e told))

@@ -3,6 +3,7 @@ pub mod Reached
 pub mod Arguments
 pub mod Rulings
 pub mod Answers
+pub mod Checked
 pub mod Shaping
 pub mod Sufficing
 pub mod Unsolved

@@ -15,7 +15,9 @@ ghost use Rattle.query_derive.specs.GoalRows.{OfQuery};
 ghost use Rattle.cert_checker.specs.Reached.{HasShapes};
 ghost use Rattle.cert_checker.specs.declared.ruling.Ruling.TheVariants.{Accepted};
 ghost use Rattle.cert_checker.specs.Rulings.{ruling_of};
-ghost use Rattle.clause_form.specs.Fit.{AreFit, clauses_at};
+ghost use Rattle.clause_form.specs.Fit.{AreFit};
+ghost use Rattle.clause_form.specs.Seen.{AreClausesIn};
+ghost use Rattle.cert_checker.specs.Checked.{cert_in};
 ghost use Rattle.cert_checker.specs.Sufficing.{SolvedOnesSuffice};
 
 use crate::accepted_certificates_suffice;
@@ -24,10 +26,11 @@ use crate::checker::Checker;
 use crate::covering::are_covered;
 use crate::judging::judge;
 use crate::ruling::Ruling;
-use crate::shaping::{Shaped, look_at_shapes};
+use crate::shaping::{copied, first_misshapen};
 use cert_form::Cert;
 use clause_translate::{Translated, translate};
 use pi_tree::Protocol;
+use shared_cert::SharedCert;
 use spec_soundness::accepted_queries_hold;
 use std::alloc::{AllocError, Global};
 use term_store::SharedBank;
@@ -37,15 +40,13 @@ use term_tree::Bank;
 /// The bank is as before.
 fn check_shaped<B: Bank>(bank: &mut B, checker: &Checker<'_>) -> Result<Ruling, AllocError>
     requires fit { AreFit (B.trees bank.old) checker.now.clauses.now }
-    requires clauses { clauses_at (B.trees bank.old) checker.now.clauses.now ≡
-        checker.now.cert.now.clauses }
     requires limits { IsWithinLimits (protocol_of checker.now.protocol.now) }
     requires rules { HasProperRules (protocol_of checker.now.protocol.now) }
     requires scoped { IsWellScoped (protocol_of checker.now.protocol.now) }
     requires queries { HasProperQueries (protocol_of checker.now.protocol.now) }
     requires there { IsThere (protocol_of checker.now.protocol.now) OfQueries checker.now.query }
     ensures ruled { let P = protocol_of checker.now.protocol.now in
-        let cert = checker.now.cert.now in
+        let cert = cert_in (B.trees bank.old) checker.now in
         IfOk result (λ ruling. OfQuery P checker.now.query (λ q.
         HasShapes q cert → IsRuled P q cert (ruling_of ruling))) }
     ensures bank { B.trees bank.new ≡ B.trees bank.old }
@@ -60,6 +61,27 @@ fn check_shaped<B: Bank>(bank: &mut B, checker: &Checker<'_>) -> Result<Ruling, 
             let shown = covered?;
             judge(bank, checker, shown)
         }
+    }
+}
+
+/// What is ruled of a certificate whose clauses stand in the bank. The bank is as before.
+fn check_standing<B: Bank>(bank: &mut B, checker: &Checker<'_>) -> Result<Ruling, AllocError>
+    requires known { AreClausesIn (B.trees bank.old) checker.now.clauses.now }
+    requires limits { IsWithinLimits (protocol_of checker.now.protocol.now) }
+    requires rules { HasProperRules (protocol_of checker.now.protocol.now) }
+    requires scoped { IsWellScoped (protocol_of checker.now.protocol.now) }
+    requires queries { HasProperQueries (protocol_of checker.now.protocol.now) }
+    requires there { IsThere (protocol_of checker.now.protocol.now) OfQueries checker.now.query }
+    ensures ruled { let P = protocol_of checker.now.protocol.now in
+        let cert = cert_in (B.trees bank.old) checker.now in
+        IfOk result (λ ruling. OfQuery P checker.now.query (λ q.
+        IsRuled P q cert (ruling_of ruling))) }
+    ensures bank { B.trees bank.new ≡ B.trees bank.old }
+{
+    let arguments = goal_arguments(checker.alloc, bank, checker.protocol, checker.query)?;
+    match first_misshapen(bank, checker.clauses, arguments) {
+        Some(number) => Ok(Ruling::Shape(number)),
+        None => check_shaped(bank, checker),
     }
 }
 
@@ -80,20 +102,43 @@ fn check_copied<B: Bank>(
         IsRuled (protocol_of protocol.now) q cert.now (ruling_of ruling))) }
     ensures grows { Grows (B.trees bank.old) (B.trees bank.new) }
 {
-    let arguments = goal_arguments(alloc, bank, protocol, query)?;
-    match look_at_shapes(alloc, bank, &cert.clauses, arguments)? {
-        Shaped::Except(number) => Ok(Ruling::Shape(number)),
-        Shaped::All(clauses) => {
-            let checker = Checker {
-                alloc,
-                protocol,
-                query,
-                cert,
-                clauses: &clauses.items,
-            };
-            check_shaped(bank, &checker)
-        }
-    }
+    let clauses = copied(alloc, bank, &cert.clauses)?;
+    let checker = Checker {
+        alloc,
+        protocol,
+        query,
+        rows: &cert.rows,
+        goals: &cert.goals,
+        clauses: &clauses.items,
+    };
+    check_standing(bank, &checker)
+}
+
+/// What is ruled of a certificate whose clauses are over the ids of a bank of their own.
+fn check_over(
+    alloc: Global,
+    protocol: &Protocol,
+    query: u32,
+    cert: SharedCert,
+) -> Result<Ruling, AllocError>
+    requires limits { IsWithinLimits (protocol_of protocol.now) }
+    requires rules { HasProperRules (protocol_of protocol.now) }
+    requires scoped { IsWellScoped (protocol_of protocol.now) }
+    requires queries { HasProperQueries (protocol_of protocol.now) }
+    requires there { IsThere (protocol_of protocol.now) OfQueries query }
+    ensures { IfOk result (λ ruling. OfQuery (protocol_of protocol.now) query (λ q.
+        IsRuled (protocol_of protocol.now) q cert (ruling_of ruling))) }
+{
+    let (mut bank, clauses) = cert.clauses.apart();
+    let checker = Checker {
+        alloc,
+        protocol,
+        query,
+        rows: &cert.rows,
+        goals: &cert.goals,
+        clauses: &clauses.items,
+    };
+    check_standing(&mut bank, &checker)
 }
 
 /// What is ruled of a certificate of the protocol's query of that number: that it is accepted, or the first obligation that
@@ -157,4 +202,30 @@ pub fn check_cert(
 {
     let mut bank = SharedBank::new(alloc)?;
     check_cert_in(alloc, &mut bank, protocol, query, cert)
+}
+
+/// What is ruled of a certificate whose clauses are over the ids of a bank of their own: the same as `check_cert`. Each term is
+/// there once, and none is made but those of the translation and of resolvents.
+pub fn check_shared(
+    alloc: Global,
+    protocol: &Protocol,
+    query: u32,
+    cert: SharedCert,
+) -> Result<Ruling, AllocError>
+    requires limits { IsWithinLimits (protocol_of protocol.now) }
+    requires rules { HasProperRules (protocol_of protocol.now) }
+    requires scoped { IsWellScoped (protocol_of protocol.now) }
+    requires queries { HasProperQueries (protocol_of protocol.now) }
+    requires there { IsThere (protocol_of protocol.now) OfQueries query }
+    ensures ruled { IfOk result (λ ruling. OfQuery (protocol_of protocol.now) query (λ q.
+        IsRuled (protocol_of protocol.now) q cert (ruling_of ruling))) }
+    ensures suffices { IfOk result (λ ruling. ruling ≡ Accepted →
+        OfQuery (protocol_of protocol.now) query (λ q.
+        SolvedOnesSuffice (protocol_of protocol.now) q cert.clauses)) }
+    ensures holds { IfOk result (λ ruling. ruling ≡ Accepted →
+        OfQuery (protocol_of protocol.now) query (λ q. Holds (protocol_of protocol.now) q)) }
+{
+    accepted_certificates_suffice();
+    accepted_queries_hold();
+    check_over(alloc, protocol, query, cert)
 }

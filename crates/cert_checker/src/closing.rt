@@ -69,7 +69,7 @@ fn close_pair<B: Bank>(
     ensures closed { let all = B.trees bank.old in IfOk result (λ closed.
         IsClosedSo (clauses_at all checker.now.clauses.now)
         (pair_at (numbered_at all checker.now.clauses.now) pair.solved pair.unsolved)
-        checker.now.cert.now.rows from closed) }
+        checker.now.rows.now from closed) }
     ensures bank { B.trees bank.new ≡ B.trees bank.old }
 {
     let mark = bank.mark();
@@ -119,7 +119,7 @@ fn close_met<B: Bank>(
     ensures closed { let all = B.trees bank.old in IfOk result (λ closed.
         IsClosedSo (clauses_at all checker.now.clauses.now)
         (pair_at (numbered_at all checker.now.clauses.now) solving.now.solved one.place)
-        checker.now.cert.now.rows from closed) }
+        checker.now.rows.now from closed) }
     ensures bank { B.trees bank.new ≡ B.trees bank.old }
 {
     if !may_resolve(&solving.print, &solving.prints[one.place]) {
@@ -156,7 +156,7 @@ fn close_solved<B: Bank>(
     ensures closed { let all = B.trees bank.old in IfOk result (λ closed.
         IsClosedSo (clauses_at all checker.now.clauses.now)
         (pairs_at (numbered_at all checker.now.clauses.now) solved)
-        checker.now.cert.now.rows from closed) }
+        checker.now.rows.now from closed) }
     ensures bank { B.trees bank.new ≡ B.trees bank.old }
 {
     let solving = Solving {
@@ -191,7 +191,7 @@ fn close_one<B: Bank>(
     ensures closed { let all = B.trees bank.old in IfOk result (λ closed.
         IsClosedSo (clauses_at all checker.now.clauses.now)
         (pairs_at_solved (numbered_at all checker.now.clauses.now) solved)
-        checker.now.cert.now.rows from closed) }
+        checker.now.rows.now from closed) }
     ensures bank { B.trees bank.new ≡ B.trees bank.old }
 {
     if !is_solved(bank, &checker.clauses[solved]) {
@@ -215,7 +215,7 @@ fn close_all<B: Bank>(
     ensures closed { let all = B.trees bank.old in IfOk result (λ closed.
         IsClosedSo (clauses_at all checker.now.clauses.now)
         (let each = numbered_at all checker.now.clauses.now in pairs_of each each)
-        checker.now.cert.now.rows from closed) }
+        checker.now.rows.now from closed) }
     ensures bank { B.trees bank.new ≡ B.trees bank.old }
 {
     let mut next = from;
@@ -239,7 +239,7 @@ pub(crate) fn are_closed<B: Bank>(
     ensures closed { let all = B.trees bank.old in IfOk result (λ closed.
         IsClosedSo (clauses_at all checker.now.clauses.now)
         (let each = numbered_at all checker.now.clauses.now in pairs_of each each)
-        checker.now.cert.now.rows from closed) }
+        checker.now.rows.now from closed) }
     ensures bank { B.trees bank.new ≡ B.trees bank.old }
 {
     let unsolved = unsolved_ones(bank, checker)?;

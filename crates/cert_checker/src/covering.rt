@@ -74,12 +74,11 @@ fn next_covers<B: Bank>(
     requires small { IsWithinLimit (clause_at (B.trees bank.now) clause.now) }
     ensures covers { let all = B.trees bank.now in IfOk result (λ yes. IsTrue yes ↔
         NextShows (CoverRowHolds (clauses_at all checker.now.clauses.now))
-        (drop next checker.now.cert.now.rows) (clause_at all clause.now)) }
+        (drop next checker.now.rows.now) (clause_at all clause.now)) }
     ensures within { IfOk result (λ yes.
         IsTrue yes → next + 1 < 2 ^ 64) }
 {
-    let cert = checker.cert;
-    let rows = &cert.rows;
+    let rows = checker.rows;
     match rows.items.get(next) {
         None => Ok(false),
         Some(row) => covers(bank, checker, row, clause),
@@ -97,7 +96,7 @@ pub(crate) fn are_covered<B: Bank>(
     requires clauses { AreFit (B.trees bank.now) clauses.now }
     ensures { let all = B.trees bank.now in IfOk result (λ shown.
         IsShownSo (CoverRowHolds (clauses_at all checker.now.clauses.now))
-        (numbered_from 1 (clauses_at all clauses.now)) checker.now.cert.now.rows from shown) }
+        (numbered_from 1 (clauses_at all clauses.now)) checker.now.rows.now from shown) }
 {
     let mut next = from;
     'each: for (k, clause) in clauses.iter().enumerate() {

@@ -13,7 +13,8 @@ ghost use Rattle.query_derive.specs.GoalRows.{OfQuery};
 ghost use Rattle.cert_checker.specs.Answers.{IsShownSo};
 ghost use Rattle.cert_checker.specs.Reached.{IsTranslatedTo, HasCovered, HasClosed};
 ghost use Rattle.cert_checker.specs.Rulings.{ruling_of};
-ghost use Rattle.clause_form.specs.Fit.{AreFit, clauses_at};
+ghost use Rattle.clause_form.specs.Fit.{AreFit};
+ghost use Rattle.cert_checker.specs.Checked.{cert_in};
 
 use crate::checker::Checker;
 use crate::closing::are_closed;
@@ -26,11 +27,10 @@ use term_tree::Bank;
 /// What is ruled behind the pairs, where the cover rows before the place were used.
 fn judge_goals<B: Bank>(bank: &B, checker: &Checker<'_>, row: usize) -> Result<Ruling, AllocError>
     requires fit { AreFit (B.trees bank.now) checker.now.clauses.now }
-    requires clauses { clauses_at (B.trees bank.now) checker.now.clauses.now ≡
-        checker.now.cert.now.clauses }
     requires limits { IsWithinLimits (protocol_of checker.now.protocol.now) }
     requires there { IsThere (protocol_of checker.now.protocol.now) OfQueries checker.now.query }
-    ensures { let P = protocol_of checker.now.protocol.now in let cert = checker.now.cert.now in
+    ensures { let P = protocol_of checker.now.protocol.now in
+        let cert = cert_in (B.trees bank.now) checker.now in
         IfOk result (λ ruling. OfQuery P checker.now.query (λ q.
         HasClosed P q cert (drop row cert.rows) → IsRuled P q cert (ruling_of ruling))) }
 {
@@ -47,12 +47,10 @@ fn judge_pairs<B: Bank>(
     row: usize,
 ) -> Result<Ruling, AllocError>
     requires fit { AreFit (B.trees bank.old) checker.now.clauses.now }
-    requires clauses { clauses_at (B.trees bank.old) checker.now.clauses.now ≡
-        checker.now.cert.now.clauses }
     requires limits { IsWithinLimits (protocol_of checker.now.protocol.now) }
     requires there { IsThere (protocol_of checker.now.protocol.now) OfQueries checker.now.query }
     ensures ruled { let P = protocol_of checker.now.protocol.now in
-        let cert = checker.now.cert.now in
+        let cert = cert_in (B.trees bank.old) checker.now in
         IfOk result (λ ruling. OfQuery P checker.now.query (λ q.
         HasCovered P q cert (drop row cert.rows) → IsRuled P q cert (ruling_of ruling))) }
     ensures bank { B.trees bank.new ≡ B.trees bank.old }
@@ -70,12 +68,10 @@ pub(crate) fn judge<B: Bank>(
     shown: Shown,
 ) -> Result<Ruling, AllocError>
     requires fit { AreFit (B.trees bank.old) checker.now.clauses.now }
-    requires clauses { clauses_at (B.trees bank.old) checker.now.clauses.now ≡
-        checker.now.cert.now.clauses }
     requires limits { IsWithinLimits (protocol_of checker.now.protocol.now) }
     requires there { IsThere (protocol_of checker.now.protocol.now) OfQueries checker.now.query }
     ensures ruled { let P = protocol_of checker.now.protocol.now in
-        let cert = checker.now.cert.now in
+        let cert = cert_in (B.trees bank.old) checker.now in
         (given : List (Clause Term)) →
         IsShownSo (CoverRowHolds cert.clauses) (numbered_from 1 given) cert.rows 0 shown →
         IfOk result (λ ruling. OfQuery P checker.now.query (λ q.

@@ -1,7 +1,9 @@
 //! Rows that are left over where all obligations are met.
 
-ghost use Rattle.std.specs.Prelude.{drop};
+ghost use Rattle.std.specs.Prelude.{List, drop};
+ghost use Rattle.spec_terms.specs.Term.{Term};
 ghost use Rattle.spec_certificates.specs.Ruling.{NoneLeft};
+ghost use Rattle.cert_checker.specs.Checked.{cert_in};
 ghost use Rattle.cert_checker.specs.Rulings.{ruling_of};
 
 use crate::checker::Checker;
@@ -9,12 +11,11 @@ use crate::ruling::Ruling;
 
 /// What is ruled where all obligations are met by the rows before these places: whether a row is left over.
 pub(crate) fn left_over(checker: &Checker<'_>, row: usize, goal: usize) -> Ruling
-    ensures { NoneLeft checker.now.cert.now (drop row checker.now.cert.now.rows)
-        (drop goal checker.now.cert.now.goals) (ruling_of result) }
+    ensures { (all : List Term) → NoneLeft (cert_in all checker.now)
+        (drop row checker.now.rows.now) (drop goal checker.now.goals.now) (ruling_of result) }
 {
-    let cert = checker.cert;
-    let rows = &cert.rows;
-    let goals = &cert.goals;
+    let rows = checker.rows;
+    let goals = checker.goals;
     if row < rows.items.len() {
         return Ruling::Extra(row as u64 + 1);
     }

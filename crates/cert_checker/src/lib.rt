@@ -28,7 +28,7 @@ mod satisfying;
 mod shaping;
 mod unsolved;
 
-pub use crate::checking::{check_cert, check_cert_in};
+pub use crate::checking::{check_cert, check_cert_in, check_shared};
 pub use crate::ruling::Ruling;
 use spec_certificates::accepted_certificates_show;
 use spec_derivations::solved_clauses_suffice;

@@ -85,13 +85,12 @@ fn next_satisfies<B: Bank>(
     requires there { IsThere (protocol_of checker.now.protocol.now) OfQueries checker.now.query }
     ensures satisfies { let P = protocol_of checker.now.protocol.now in
         IfOk result (λ yes. OfQuery P checker.now.query (λ q. IsTrue yes ↔
-        NextShows (GoalHolds P q) (drop next checker.now.cert.now.goals)
+        NextShows (GoalHolds P q) (drop next checker.now.goals.now)
         (clause_at (B.trees bank.now) clause.now))) }
     ensures within { IfOk result (λ yes.
         IsTrue yes → next + 1 < 2 ^ 64) }
 {
-    let cert = checker.cert;
-    let goals = &cert.goals;
+    let goals = checker.goals;
     match goals.items.get(next) {
         None => Ok(false),
         Some(row) => is_satisfied(bank, checker, row, clause),
@@ -106,7 +105,7 @@ pub(crate) fn are_satisfied<B: Bank>(bank: &B, checker: &Checker<'_>) -> Result<
     ensures { let P = protocol_of checker.now.protocol.now in
         IfOk result (λ shown. OfQuery P checker.now.query (λ q. IsShownSo (GoalHolds P q)
         (bad_ones (numbered_at (B.trees bank.now) checker.now.clauses.now))
-        checker.now.cert.now.goals 0 shown)) }
+        checker.now.goals.now 0 shown)) }
 {
     let mut next = 0usize;
     'each: for (k, clause) in checker.clauses.iter().enumerate() {

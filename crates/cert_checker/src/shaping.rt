@@ -1,10 +1,11 @@
-//! The shape of a certificate's clauses.
+//! The clauses of a certificate in a bank, and their shape.
 
 ghost use Rattle.std.specs.Prelude.{◌≡◌, ◌↔◌, IsTrue, IfOk};
 ghost use Rattle.spec_certificates.specs.Certificate.{HasArguments};
 ghost use Rattle.term_tree.specs.Bank.{Grows};
 ghost use Rattle.clause_form.specs.Facts.{fact_of};
-ghost use Rattle.clause_form.specs.Seen.{fact_at, clause_at, IsClauseIn};
+ghost use Rattle.clause_form.specs.Seen.{fact_at, clause_at, IsClauseIn, AreClausesIn, NameClauses};
+ghost use Rattle.cert_checker.specs.Answers.{numbered_at};
 ghost use Rattle.cert_checker.specs.Stages.{HasShape};
 ghost use Rattle.cert_checker.specs.Shaping.{AreShaped};
 
@@ -13,15 +14,6 @@ use clause_form::{Clause, Clauses, Fact, copy_into, is_normal, size_of};
 use pi_tree::MOST_SYMBOLS;
 use std::alloc::{AllocError, Global};
 use term_tree::Bank;
-
-/// The clauses of a certificate, over a bank.
-#[derive(Drop)]
-pub(crate) enum Shaped {
-    /// They have the shape of a certificate's.
-    All(Clauses),
-    /// The one of this number is the first that hasn't.
-    Except(u64),
-}
 
 /// Whether the fact has so many arguments, if it is `bad`.
 fn has_arguments<B: Bank>(bank: &B, fact: &Fact, arguments: usize) -> bool
@@ -48,26 +40,37 @@ fn is_shaped<B: Bank>(bank: &B, clause: &Clause, arguments: usize) -> bool
     has_arguments(bank, &clause.concl, arguments)
 }
 
-/// The clauses of a certificate in a bank, or the number of the first that hasn't the shape of one. On `Err` the bank may have
-/// grown.
-pub(crate) fn look_at_shapes<B: Bank>(
+/// The number, from 1, of the first clause that hasn't the shape of a certificate's, for a query whose `bad` has so many
+/// arguments.
+pub(crate) fn first_misshapen<B: Bank>(
+    bank: &B,
+    clauses: &[Clause],
+    arguments: usize,
+) -> Option<u64>
+    requires { AreClausesIn (B.trees bank.now) clauses.now }
+    ensures { AreShaped arguments (numbered_at (B.trees bank.now) clauses.now) result }
+{
+    'each: for (k, clause) in clauses.iter().enumerate() {
+        if !is_shaped(bank, clause, arguments) {
+            return Some(k as u64 + 1);
+        }
+    }
+    None
+}
+
+/// The clauses of a certificate, copied into the bank. On `Err` the bank may have grown.
+pub(crate) fn copied<B: Bank>(
     alloc: Global,
     bank: &mut B,
     clauses: &PlainClauses,
-    arguments: usize,
-) -> Result<Shaped, AllocError>
+) -> Result<Clauses, AllocError>
     ensures grows { Grows (B.trees bank.old) (B.trees bank.new) }
-    ensures shaped { IfOk result (λ made.
-        AreShaped arguments (B.trees bank.new) clauses.now made) }
+    ensures names { IfOk result (λ made. NameClauses (B.trees bank.new) made clauses.now) }
 {
-    let mut made = Vec::new(alloc);
+    let mut items = Vec::new(alloc);
     'each: for (k, plain) in clauses.items.iter().enumerate() {
         let clause = copy_into(alloc, bank, plain)?;
-        if !is_shaped(bank, &clause, arguments) {
-            drop(clause);
-            return Ok(Shaped::Except(k as u64 + 1));
-        }
-        made.push(clause)?;
+        items.push(clause)?;
     }
-    Ok(Shaped::All(Clauses { items: made }))
+    Ok(Clauses { items })
 }

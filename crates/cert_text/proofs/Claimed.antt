@@ -7,8 +7,8 @@ use Rattle.spec_certificate_reading.specs.Outcomes.{Outcome, Found, Faulty, next
 use Rattle.spec_certificate_reading.specs.Reports.{Claim, claim_by, behind_claims, claims_by}
 use Rattle.fact_reader.specs.declared.error.CertError.{CertError}
 use Rattle.fact_reader.specs.Gives.{HasFault}
-use Rattle.cert_text.specs.Seen.{GivesClaims}
-use Rattle.cert_text.specs.declared.claims.Claim.{Claim as Claim'}
+use Rattle.cert_text.specs.Seen.{GivesShared}
+use Rattle.cert_text.specs.declared.shared_claims.SharedClaim.{SharedClaim}
 use Rattle.fact_reader.proofs.Things.{next_fault}
 
 -- these claims are read, and reading of so many more, from that of the query of this number on, goes on with the rest
@@ -89,9 +89,9 @@ claims_done reader whole most query number rest place claims going past none =
     (place, claims_all reader whole most query number rest place claims going past ∙ ap (λ bs. behind_claims claims place bs) none)
 
 -- all claims are read, and something stands behind them
-pub claims_further : (reader : Reader Certificate) (whole : Outcome (List Claim)) (most query number : ℕ) (rest : List ℕ) (place : ℕ) (claims : List Claim) (r : Result (List Claim') CertError) → AreClaimed reader whole (most - query) number rest place claims → most ≤ query → rest ≢ []
-    → ((claims : List Claim) → rest ≢ [] → GivesClaims r (behind_claims claims place rest)) → GivesClaims r whole
+pub claims_further : (reader : Reader Certificate) (whole : Outcome (List Claim)) (most query number : ℕ) (rest : List ℕ) (place : ℕ) (claims : List Claim) (r : Result (List SharedClaim) CertError) → AreClaimed reader whole (most - query) number rest place claims → most ≤ query → rest ≢ []
+    → ((claims : List Claim) → rest ≢ [] → GivesShared r (behind_claims claims place rest)) → GivesShared r whole
 claims_further reader whole most query number rest place claims r going past some gives =
-    subst (λ (o : Outcome (List Claim)). GivesClaims r o) (sym (claims_all reader whole most query number rest place claims going past)) (gives claims some)
+    subst (λ (o : Outcome (List Claim)). GivesShared r o) (sym (claims_all reader whole most query number rest place claims going past)) (gives claims some)
 
 pub ruleset claims = (claims_start, claims_cut, claims_done)

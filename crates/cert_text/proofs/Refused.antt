@@ -9,8 +9,7 @@ use Rattle.fact_reader.specs.declared.error.CertError.{CertError}
 use Rattle.fact_reader.specs.declared.error.CertError.TheVariants.{Syntax, Number, Symbol, Arity, Count, NodeOrder, NodeLarge, Memory}
 use Rattle.fact_reader.specs.Errors.{refusal_of}
 use Rattle.fact_reader.specs.Gives.{HasFault, Gives}
-use Rattle.cert_text.specs.declared.claims.Claim.{Claim}
-use Rattle.cert_text.specs.Seen.{GivesClaims}
+use Rattle.cert_text.specs.Seen.{GivesBy}
 use Rattle.cert_text.specs.Spelled.{IsMemory}
 use Rattle.cert_text.specs.Refused.{IsFirstOf, GivesRefusal}
 
@@ -60,12 +59,13 @@ pub first_is_refusal : {T X : Type 0} (view : T → X) (bytes : List ℕ) (resul
 first_is_refusal view bytes (Ok x) o place code is read = never_both o (view x.0) x.1 place (drop x.1 bytes) code read is
 first_is_refusal view bytes (Err e) o place code is read = first_refused o e place code is read
 
--- Reports.
+-- Reports, whatever their claims are made of.
 
-pub report_refusal-is_first : (K : Kind) (bytes : List ℕ) (result : Result (List Claim) CertError) (o : Outcome (List reports.Claim)) → ToldFirst K bytes 0 o → GivesClaims result o → IfErr result (λ e. IsFirstOf K bytes 0 (refusal_of e))
-report_refusal-is_first K bytes (Ok claims) o told read = tt
-report_refusal-is_first K bytes (Err e) o told read = refused_first K bytes 0 o e told read
+pub report_refusal-is_first : {C : Type 0} (view : C → reports.Claim) (K : Kind) (bytes : List ℕ) (result : Result (List C) CertError) (o : Outcome (List reports.Claim)) → ToldFirst K bytes 0 o → GivesBy view result o
+    → IfErr result (λ e. IsFirstOf K bytes 0 (refusal_of e))
+report_refusal-is_first view K bytes (Ok claims) o told read = tt
+report_refusal-is_first view K bytes (Err e) o told read = refused_first K bytes 0 o e told read
 
-pub report_first-is_refusal : (result : Result (List Claim) CertError) (o : Outcome (List reports.Claim)) (place : ℕ) (code : Code) → o ≡ Faulty place code → GivesClaims result o → GivesRefusal place code result
-report_first-is_refusal (Ok claims) o place code is read = never_both o _ read.0 place [] code read.1 is
-report_first-is_refusal (Err e) o place code is read = first_refused o e place code is read
+pub report_first-is_refusal : {C : Type 0} (view : C → reports.Claim) (result : Result (List C) CertError) (o : Outcome (List reports.Claim)) (place : ℕ) (code : Code) → o ≡ Faulty place code → GivesBy view result o → GivesRefusal place code result
+report_first-is_refusal view (Ok claims) o place code is read = never_both o _ read.0 place [] code read.1 is
+report_first-is_refusal view (Err e) o place code is read = first_refused o e place code is read

@@ -10,9 +10,8 @@ use Rattle.spec_node_reading.specs.Reports.{SpellsReport, read_report_in_both}
 use Rattle.fact_reader.specs.declared.error.CertError.{CertError}
 use Rattle.fact_reader.specs.declared.error.CertError.TheVariants.{Syntax, Number, Symbol, Arity, Count, NodeOrder, NodeLarge, Memory}
 use Rattle.fact_reader.specs.Gives.{HasFault, Gives, same}
-use Rattle.cert_text.specs.declared.claims.Claim.{Claim}
-use Rattle.cert_text.specs.Seen.{claim_of, GivesClaims}
-use Rattle.cert_text.specs.Spelled.{IsMemory, GivesCertificate, GivesReport}
+use Rattle.cert_text.specs.Seen.{GivesBy}
+use Rattle.cert_text.specs.Spelled.{IsMemory, GivesCertificate, GivesReportBy}
 
 -- where something is found there is no fault
 found_no_fault : {X : Type 0} (e : CertError) (o : Outcome X) (x : X) (p : ℕ) (r : List ℕ) → o ≡ Found x p r → HasFault e o → IsMemory e
@@ -42,16 +41,16 @@ certificate_given P bytes at (Ok x) c rest found read =
 certificate_given P bytes at (Err e) c rest found read =
     found_no_fault e (read_in_both P (drop at bytes) at) c found.0 rest found.1 read
 
--- Reports.
+-- Reports, whatever their claims are made of.
 
-pub report_spelled : (P : Protocol) (bytes : List ℕ) (result : Result (List Claim) CertError)
+pub report_spelled : {C : Type 0} (view : C → reports.Claim) (P : Protocol) (bytes : List ℕ) (result : Result (List C) CertError)
     → ((claims : List reports.Claim) (place : ℕ) (rest : List ℕ) → read_report_in_both P bytes ≡ Found claims place rest → SpellsReport P bytes claims)
-    → GivesClaims result (read_report_in_both P bytes) → IfOk result (λ claims. SpellsReport P bytes (map claim_of claims))
-report_spelled P bytes (Ok claims) there read = there (map claim_of claims) read.0 [] read.1
-report_spelled P bytes (Err e) there read = tt
+    → GivesBy view result (read_report_in_both P bytes) → IfOk result (λ claims. SpellsReport P bytes (map view claims))
+report_spelled view P bytes (Ok claims) there read = there (map view claims) read.0 [] read.1
+report_spelled view P bytes (Err e) there read = tt
 
-pub report_given : (P : Protocol) (bytes : List ℕ) (result : Result (List Claim) CertError) (claims : List reports.Claim)
-    → (place : ℕ) × (read_report_in_both P bytes ≡ Found claims place []) → GivesClaims result (read_report_in_both P bytes) → GivesReport claims result
-report_given P bytes (Ok found) claims is read =
-    let both : Found (map claim_of found) read.0 [] ≡ Found claims is.0 [] = sym read.1 ∙ is.1 in cc
-report_given P bytes (Err e) claims is read = found_no_fault e (read_report_in_both P bytes) claims is.0 [] is.1 read
+pub report_given : {C : Type 0} (view : C → reports.Claim) (P : Protocol) (bytes : List ℕ) (result : Result (List C) CertError) (claims : List reports.Claim)
+    → (place : ℕ) × (read_report_in_both P bytes ≡ Found claims place []) → GivesBy view result (read_report_in_both P bytes) → GivesReportBy view claims result
+report_given view P bytes (Ok found) claims is read =
+    let both : Found (map view found) read.0 [] ≡ Found claims is.0 [] = sym read.1 ∙ is.1 in cc
+report_given view P bytes (Err e) claims is read = found_no_fault e (read_report_in_both P bytes) claims is.0 [] is.1 read

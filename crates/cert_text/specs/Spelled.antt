@@ -4,8 +4,9 @@ use Rattle.spec_certificates.specs.Certificate.{Certificate}
 use Rattle.spec_certificate_reading.specs.Reports as reports
 use Rattle.fact_reader.specs.declared.error.CertError.{CertError}
 use Rattle.fact_reader.specs.declared.error.CertError.TheVariants.{Memory}
-use Rattle.cert_text.specs.Seen.{claim_of}
+use Rattle.cert_text.specs.Seen.{claim_of, shared_claim_of}
 use Rattle.cert_text.specs.declared.claims.Claim.{Claim}
+use Rattle.cert_text.specs.declared.shared_claims.SharedClaim.{SharedClaim}
 
 abbrev pub IsMemory : CertError → Type 0
 IsMemory (Memory e) = Unit {0}
@@ -16,7 +17,14 @@ abbrev pub GivesCertificate : List ℕ → Certificate → List ℕ → Result (
 GivesCertificate bytes certificate rest (Ok x) = (x.0 ≡ certificate) × (drop x.1 bytes ≡ rest)
 GivesCertificate bytes certificate rest (Err e) = IsMemory e
 
--- these claims were read, unless memory ran out
+-- claims that are seen as these were read, unless memory ran out
+abbrev pub GivesReportBy : {C : Type 0} → (C → reports.Claim) → List reports.Claim → Result (List C) CertError → Type 0
+GivesReportBy view claims (Ok found) = map view found ≡ claims
+GivesReportBy view claims (Err e) = IsMemory e
+
+-- claims over trees, and over ids
 abbrev pub GivesReport : List reports.Claim → Result (List Claim) CertError → Type 0
-GivesReport claims (Ok found) = map claim_of found ≡ claims
-GivesReport claims (Err e) = IsMemory e
+GivesReport claims result = GivesReportBy claim_of claims result
+
+abbrev pub GivesSharedReport : List reports.Claim → Result (List SharedClaim) CertError → Type 0
+GivesSharedReport claims result = GivesReportBy shared_claim_of claims result

@@ -20,11 +20,12 @@ ghost use Rattle.cert_text.specs.Spelled.{GivesCertificate};
 ghost use Rattle.cert_text.specs.Refused.{IsFirstOf, GivesRefusal};
 
 use crate::rows::rows;
-use cert_form::{Cert, PlainClauses};
+use cert_form::Cert;
 use clause_form::PlainClause;
 use fact_reader::{CertError, Cursor, read_clause};
 use numbered_reader::read_numbered;
 use pi_tree::{MOST_CLAUSES, Protocol};
+use shared_cert::{SharedCert, SharedClauses};
 use spec_node_counts::numbers_are_read_by_counts;
 use spec_node_first_faults::the_first_fault_of_a_certificate_in_either_format_is_told;
 use spec_node_reading::{texts_are_read, what_is_read_is_spelled};
@@ -43,45 +44,45 @@ fn clause_line(names: &Names<'_>, cursor: &mut Cursor<'_>) -> Result<PlainClause
     Ok(clause)
 }
 
-/// Lines of clauses, at most so many.
+/// Lines of clauses, at most so many. Each is read as it is spelled, and kept over the ids of a bank.
 #[tactic(auto, using(crate::proofs::Lines::lines))]
 fn clauses(
     names: &Names<'_>,
     cursor: &mut Cursor<'_>,
     most: usize,
-) -> Result<PlainClauses, CertError>
+) -> Result<SharedClauses, CertError>
     ensures read { Reads same
         (lines_from 99 (reading.clause_line (protocol_in names.now)) most [])
         cursor.old cursor.new result }
     ensures same { cursor.new.bytes.now ≡ cursor.old.bytes.now }
 {
-    let mut items = Vec::new(names.alloc);
+    let mut found = SharedClauses::new(names.alloc)?;
     for round in 0..most {
         if cursor.front() != b'c' {
-            return Ok(PlainClauses { items });
+            return Ok(found);
         }
         let next = clause_line(names, cursor)?;
-        items.push(next)?;
+        found.push(names.alloc, &next)?;
     }
     if cursor.front() == b'c' {
         return Err(CertError::Count(cursor.at));
     }
-    Ok(PlainClauses { items })
+    Ok(found)
 }
 
 /// The two kinds of rows, and the last line.
 fn certificate_end(
     alloc: Global,
     cursor: &mut Cursor<'_>,
-    clauses: PlainClauses,
-) -> Result<Cert, CertError>
+    clauses: SharedClauses,
+) -> Result<SharedCert, CertError>
     ensures read { Reads same (reading.certificate_end clauses) cursor.old cursor.new result }
     ensures same { cursor.new.bytes.now ≡ cursor.old.bytes.now }
 {
     let cover = rows(alloc, cursor, b'r')?;
     let goals = rows(alloc, cursor, b'g')?;
     cursor.pass(b"end\n")?;
-    Ok(Cert {
+    Ok(SharedCert {
         clauses,
         rows: cover,
         goals,
@@ -89,7 +90,11 @@ fn certificate_end(
 }
 
 /// The certificate without a table that stands there, of at most so many clauses.
-fn plain_within(names: &Names<'_>, cursor: &mut Cursor<'_>, most: usize) -> Result<Cert, CertError>
+fn plain_within(
+    names: &Names<'_>,
+    cursor: &mut Cursor<'_>,
+    most: usize,
+) -> Result<SharedCert, CertError>
     ensures read { Reads same (reading.certificate_within most (protocol_in names.now))
         cursor.old cursor.new result }
     ensures same { cursor.new.bytes.now ≡ cursor.old.bytes.now }
@@ -100,7 +105,7 @@ fn plain_within(names: &Names<'_>, cursor: &mut Cursor<'_>, most: usize) -> Resu
 }
 
 /// The certificate without a table that stands there.
-fn plain(names: &Names<'_>, cursor: &mut Cursor<'_>) -> Result<Cert, CertError>
+fn plain(names: &Names<'_>, cursor: &mut Cursor<'_>) -> Result<SharedCert, CertError>
     ensures read { Reads same (reading.read_certificate (protocol_in names.now))
         cursor.old cursor.new result }
     ensures same { cursor.new.bytes.now ≡ cursor.old.bytes.now }
@@ -109,7 +114,7 @@ fn plain(names: &Names<'_>, cursor: &mut Cursor<'_>) -> Result<Cert, CertError>
 }
 
 /// The certificate by a table that stands there.
-fn numbered(names: &Names<'_>, cursor: &mut Cursor<'_>) -> Result<Cert, CertError>
+fn numbered(names: &Names<'_>, cursor: &mut Cursor<'_>) -> Result<SharedCert, CertError>
     ensures read { Reads same (by_numbers.read_numbered (protocol_in names.now))
         cursor.old cursor.new result }
     ensures same { cursor.new.bytes.now ≡ cursor.old.bytes.now }
@@ -120,7 +125,7 @@ fn numbered(names: &Names<'_>, cursor: &mut Cursor<'_>) -> Result<Cert, CertErro
 }
 
 /// The certificate that stands there, in the format that its first line names.
-pub fn certificate(names: &Names<'_>, cursor: &mut Cursor<'_>) -> Result<Cert, CertError>
+pub fn certificate(names: &Names<'_>, cursor: &mut Cursor<'_>) -> Result<SharedCert, CertError>
     ensures read { Reads same (by_numbers.read_in_both (protocol_in names.now))
         cursor.old cursor.new result }
     ensures same { cursor.new.bytes.now ≡ cursor.old.bytes.now }
@@ -146,7 +151,8 @@ fn certificate_at(
     ensures within { StopsWithin bytes.now result }
 {
     let mut cursor = Cursor { bytes, at };
-    let cert = certificate(&Names { alloc, protocol }, &mut cursor)?;
+    let found = certificate(&Names { alloc, protocol }, &mut cursor)?;
+    let cert = found.spelled_out(alloc)?;
     Ok((cert, cursor.at))
 }
 

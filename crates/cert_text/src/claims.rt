@@ -1,31 +1,26 @@
 //! Reports: what they claim of each query.
 
-ghost use Rattle.std.specs.Prelude.{◌≡◌, ◌≢◌, ℕ, List, [], ◌+◌, ◌≤◌, ◌==◌, drop, length, map, IfOk, IfErr};
-ghost use Rattle.std.specs.List.{position_or_len};
+ghost use Rattle.std.specs.Prelude.{◌≡◌, ℕ, List, length, map, IfOk, IfErr};
 ghost use Rattle.pi_tree.specs.Protocols.{protocol_of};
-ghost use Rattle.term_reader.specs.Naming.{protocol_in};
 ghost use Rattle.term_reader.specs.Few.{HasFewNames};
 ghost use Rattle.spec_certificate_reading.specs.Reports as reading;
-ghost use Rattle.fact_reader.specs.Reads.{left_of, Reads, Passes};
 ghost use Rattle.spec_certificate_text.specs.OfProtocol.{HasNames, IsShort};
-ghost use Rattle.spec_node_reading.specs.Reading.{read_in_both};
 ghost use Rattle.spec_node_reading.specs.Reports.{SpellsReport, read_report_in_both, reports_of_both};
-ghost use Rattle.cert_text.specs.Seen.{claim_of, GivesClaims};
+ghost use Rattle.cert_text.specs.Seen.{claim_of, shared_claim_of, GivesClaims};
 ghost use Rattle.spec_certificate_reading.specs.Terms.{Code};
 ghost use Rattle.spec_certificate_faults.specs.First.{IsFirstFault};
 ghost use Rattle.fact_reader.specs.Errors.{refusal_of};
 ghost use Rattle.cert_text.specs.Spelled.{GivesReport};
 ghost use Rattle.cert_text.specs.Refused.{IsFirstOf, GivesRefusal};
 
-use crate::certs::certificate;
+use crate::shared_claims::{SharedClaim, SharedClaims, read_shared_report};
 use cert_form::Cert;
-use fact_reader::{CertError, Cursor};
+use fact_reader::CertError;
 use pi_tree::Protocol;
 use spec_node_first_faults::the_first_fault_of_a_report_in_either_format_is_told;
 use spec_node_reading::{texts_are_read, what_is_read_is_spelled};
-use std::alloc::Global;
+use std::alloc::{AllocError, Global};
 use std::marker::Model;
-use term_reader::Names;
 
 /// What a report claims of a query.
 #[derive(Drop)]
@@ -56,148 +51,26 @@ impl Model for Claims {
     ghost view = { λ a. a.items.items };
 }
 
-/// `query ` and the number of the query, which has to be this one.
-fn query_number(cursor: &mut Cursor<'_>, number: usize) -> Result<(), CertError>
-    ensures read { Passes (reading.query_number number) cursor.old cursor.new result }
-    ensures same { cursor.new.bytes.now ≡ cursor.old.bytes.now }
+/// The claim, its certificate over trees.
+fn spelled_claim(alloc: Global, claim: SharedClaim) -> Result<Claim, AllocError>
+    ensures { IfOk result (λ spelled. claim_of spelled ≡ shared_claim_of claim) }
 {
-    cursor.pass(b"query ")?;
-    let from = cursor.at;
-    let found = cursor.number()?;
-    if found as usize == number {
-        Ok(())
-    } else {
-        Err(CertError::Count(from))
+    match claim {
+        SharedClaim::Proved(cert) => Ok(Claim::Proved(cert.spelled_out(alloc)?)),
+        SharedClaim::Bare => Ok(Claim::Bare),
+        SharedClaim::Unknown => Ok(Claim::Unknown),
     }
 }
 
-/// How many bytes stand before the first end of a line, or how many there are where there is none.
-fn line_len(bytes: &[u8]) -> usize
-    ensures is { result ≡ position_or_len (λ b. b == 10) bytes.now }
-    ensures within { result ≤ length bytes.now }
+/// The claims, their certificates over trees.
+fn spelled_claims(alloc: Global, claims: SharedClaims) -> Result<Claims, AllocError>
+    ensures { IfOk result (λ spelled. map claim_of spelled ≡ map shared_claim_of claims) }
 {
-    bytes.iter().take_while(|byte| **byte != b'\n').count()
-}
-
-/// The place of the end of the line.
-fn line_end(bytes: &[u8], at: usize) -> usize
-    requires { at ≤ length bytes.now }
-    ensures is { result ≡ at + position_or_len (λ b. b == 10) (drop at bytes.now) }
-    ensures within { result ≤ length bytes.now }
-{
-    at + line_len(&bytes[at..])
-}
-
-/// Passes over some bytes, one at least, and the end of their line.
-fn text(cursor: &mut Cursor<'_>) -> Result<(), CertError>
-    ensures read { Passes reading.read_text cursor.old cursor.new result }
-    ensures same { cursor.new.bytes.now ≡ cursor.old.bytes.now }
-{
-    let end = line_end(cursor.bytes, cursor.at);
-    if end == cursor.at {
-        return Err(CertError::Syntax(cursor.at));
+    let mut items = Vec::with_capacity(alloc, claims.items.len())?;
+    for claim in claims.items {
+        items.push(spelled_claim(alloc, claim)?)?;
     }
-    cursor.at = end;
-    cursor.pass(b"\n")
-}
-
-/// A certificate, if one begins here.
-fn proof(names: &Names<'_>, cursor: &mut Cursor<'_>) -> Result<Claim, CertError>
-    ensures read { Reads claim_of (reading.proof_by (read_in_both (protocol_in names.now)))
-        cursor.old cursor.new result }
-    ensures same { cursor.new.bytes.now ≡ cursor.old.bytes.now }
-{
-    if cursor.front() != b'c' {
-        return Ok(Claim::Bare);
-    }
-    let cert = certificate(names, cursor)?;
-    Ok(Claim::Proved(cert))
-}
-
-/// ` proved` and the end of the line, and a certificate, if one stands behind it.
-fn proved(names: &Names<'_>, cursor: &mut Cursor<'_>) -> Result<Claim, CertError>
-    ensures read { Reads claim_of (reading.proved_by (read_in_both (protocol_in names.now)))
-        cursor.old cursor.new result }
-    ensures same { cursor.new.bytes.now ≡ cursor.old.bytes.now }
-{
-    cursor.pass(b" proved\n")?;
-    proof(names, cursor)
-}
-
-/// ` unknown `, a reason, which isn't looked at, and the end of the line.
-fn unknown(cursor: &mut Cursor<'_>) -> Result<Claim, CertError>
-    ensures read { Reads claim_of reading.read_unknown cursor.old cursor.new result }
-    ensures same { cursor.new.bytes.now ≡ cursor.old.bytes.now }
-{
-    cursor.pass(b" unknown ")?;
-    text(cursor)?;
-    Ok(Claim::Unknown)
-}
-
-/// What is claimed: the second byte tells ` unknown ` from ` proved`.
-fn verdict(names: &Names<'_>, cursor: &mut Cursor<'_>) -> Result<Claim, CertError>
-    ensures read { Reads claim_of (reading.verdict_by (read_in_both (protocol_in names.now)))
-        cursor.old cursor.new result }
-    ensures same { cursor.new.bytes.now ≡ cursor.old.bytes.now }
-{
-    if cursor.front_behind(1) == b'u' {
-        unknown(cursor)
-    } else {
-        proved(names, cursor)
-    }
-}
-
-/// The claim of the query of this number.
-fn query_claim(
-    names: &Names<'_>,
-    cursor: &mut Cursor<'_>,
-    number: usize,
-) -> Result<Claim, CertError>
-    ensures read { Reads claim_of
-        (reading.claim_by (read_in_both (protocol_in names.now)) number)
-        cursor.old cursor.new result }
-    ensures same { cursor.new.bytes.now ≡ cursor.old.bytes.now }
-{
-    query_number(cursor, number)?;
-    verdict(names, cursor)
-}
-
-/// The fault of what stands behind the claim of the last query: no number is that of a further query.
-fn further(cursor: &mut Cursor<'_>) -> Result<Claims, CertError>
-    ensures { (claims : List reading.Claim) → left_of cursor.old ≢ [] →
-        GivesClaims result (reading.behind_claims claims cursor.old.at (left_of cursor.old)) }
-{
-    cursor.pass(b"query ")?;
-    let from = cursor.at;
-    cursor.number()?;
-    Err(CertError::Count(from))
-}
-
-/// How many queries the protocol has.
-fn query_count(protocol: &Protocol) -> usize
-    ensures { result ≡ length (protocol_of protocol.now).queries }
-{
-    protocol.queries.items.len()
-}
-
-/// The claims that stand there, one for each query of the protocol, with nothing behind them.
-#[tactic(auto, using(crate::proofs::Claimed::claims))]
-fn all_claims(names: &Names<'_>, cursor: &mut Cursor<'_>) -> Result<Claims, CertError>
-    ensures { GivesClaims result (reading.claims_by (read_in_both (protocol_in names.now))
-        (length (protocol_in names.now).queries) 1 [] (left_of cursor.old) cursor.old.at) }
-{
-    let mut items = Vec::new(names.alloc);
-    for query in 0..query_count(names.protocol) {
-        if cursor.is_at_end() {
-            return Err(CertError::Count(cursor.at));
-        }
-        let next = query_claim(names, cursor, query + 1)?;
-        items.push(next)?;
-    }
-    if cursor.is_at_end() {
-        return Ok(Claims { items });
-    }
-    further(cursor)
+    Ok(Claims { items })
 }
 
 /// The claims of all bytes, one for each query of the protocol.
@@ -205,8 +78,9 @@ fn report_claims(alloc: Global, protocol: &Protocol, bytes: &[u8]) -> Result<Cla
     requires { HasFewNames (protocol_of protocol.now) }
     ensures { GivesClaims result (read_report_in_both (protocol_of protocol.now) bytes.now) }
 {
-    let mut cursor = Cursor { bytes, at: 0 };
-    all_claims(&Names { alloc, protocol }, &mut cursor)
+    let shared = read_shared_report(alloc, protocol, bytes)?;
+    let claims = spelled_claims(alloc, shared)?;
+    Ok(claims)
 }
 
 /// The claims of a report, one for each query of the protocol; or the first fault.

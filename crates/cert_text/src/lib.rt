@@ -8,8 +8,11 @@
 mod certs;
 mod claims;
 mod rows;
+mod shared_claims;
 
 pub use crate::certs::read_cert;
 pub use crate::claims::{Claim, Claims, read_report};
+pub use crate::shared_claims::{SharedClaim, SharedClaims, read_shared_report};
 pub use cert_form::{Cert, PlainClauses, Rows, write_cert, write_clause};
 pub use fact_reader::{CertError, code_and_place};
+pub use shared_cert::SharedCert;

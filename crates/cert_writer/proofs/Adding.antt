@@ -102,6 +102,17 @@ module _ (clauses : List (Clause Term)) where
       go None e = let yes = (select-none c.hypotheses).0 e in cc
       go (Some at) e = not_solved i c each at rows e
 
+  -- nor with others
+  pub neither_solved : (i : ℕ) (c : Clause Term) (each others : List Numbered) (a b : List (List ℕ)) → is_solved c.hypotheses ≡ false → AddsPairs clauses (pairs_if_solved i c each) a b → AddsPairs clauses (pairs_if_solved i c others) a b
+  neither_solved i c each others a b unsolved x = go (select c.hypotheses) refl
+    where
+      go : (o : Option Selection) → select c.hypotheses ≡ o → AddsPairs clauses (pairs_if_solved i c others) a b
+      go None e = let yes = (select-none c.hypotheses).0 e in cc
+      go (Some at) e = subst (λ o. AddsPairs clauses (pairs_of_solved o (with_number i c) others) a b) (sym e) (subst (λ o. AddsPairs clauses (pairs_of_solved o (with_number i c) each) a b) e x)
+
+  pub of_solved : (i : ℕ) (c : Clause Term) (each : List Numbered) (a b : List (List ℕ)) → select c.hypotheses ≡ None → AddsPairs clauses (pairs_if_solved i c each) a b → AddsPairs clauses (pairs_of_one i c each) a b
+  of_solved i c each a b none x = subst (λ o. AddsPairs clauses (pairs_of_solved o (with_number i c) each) a b) none x
+
   pub if_solved : (i : ℕ) (c : Clause Term) (each : List Numbered) (a b : List (List ℕ)) → select c.hypotheses ≡ None → AddsPairs clauses (pairs_of_one i c each) a b → AddsPairs clauses (pairs_if_solved i c each) a b
   if_solved i c each a b none x = subst (λ o. AddsPairs clauses (pairs_of_solved o (with_number i c) each) a b) (sym none) x
 

@@ -8,3 +8,5 @@ pub mod Verdicts
 pub mod Fits
 pub mod Prints
 pub mod Classed
+pub mod KeptRows
+pub mod SameLists

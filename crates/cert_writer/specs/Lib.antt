@@ -4,3 +4,4 @@ pub mod Goals
 pub mod Certifying
 pub mod Classed
 pub mod Ready
+pub mod Known

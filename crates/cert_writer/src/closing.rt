@@ -1,18 +1,16 @@
 //! The rows of what pairs of a solved clause with an unsolved one give.
 
-ghost use Rattle.std.specs.Prelude.{◌≡◌, ◌<◌, ◌≤◌, ℕ, true, Some, length, map, slice_get, option_map, take, OnOk};
+ghost use Rattle.std.specs.Prelude.{◌≡◌, ◌<◌, ◌≤◌, ℕ, true, Some, List, length, slice_get, take, OnOk};
 ghost use Rattle.spec_terms.specs.Term.{Term};
 ghost use Rattle.spec_clauses.specs.Fact.{Clause as ClauseOf};
-ghost use Rattle.spec_clauses.specs.Selection.{select, is_solved as is_solved_list};
+ghost use Rattle.spec_clauses.specs.Selection.{is_solved as is_solved_list};
 ghost use Rattle.spec_clauses.specs.Inclusion.{Has};
 ghost use Rattle.spec_saturation.specs.Live.{MustBeCovered};
-ghost use Rattle.spec_certificates.specs.Certificate.{numbered_from, pairs_of};
-ghost use Rattle.spec_fingerprints.specs.Fingerprints.{fingerprint_of, hypothesis_print};
+ghost use Rattle.spec_certificates.specs.Certificate.{numbered_from};
 ghost use Rattle.term_tree.specs.declared.bank.Id.{Id};
 ghost use Rattle.clause_form.specs.Seen.{clause_at};
 ghost use Rattle.clause_form.specs.Fit.{IsFit, AreFit, clauses_at};
-ghost use Rattle.fact_fingerprint.specs.Seen.{fingerprint_seen};
-ghost use Rattle.cert_writer.specs.Ready.{IsReady};
+ghost use Rattle.cert_writer.specs.Ready.{IsReady, AreTold};
 ghost use Rattle.cert_writer.specs.Adding.{AddsRows, AddsPairs, MustClose};
 ghost use Rattle.cert_writer.specs.Adding.{pairs_of_two, pairs_of_one, pairs_if_solved};
 
@@ -21,7 +19,7 @@ use crate::writer::Writer;
 use cert_form::Rows;
 use clause_form::Clause;
 use clause_resolve::{Resolved, resolvents};
-use fact_fingerprint::{Fingerprint, conclusion_fingerprint, hypothesis_fingerprints, may_resolve};
+use fact_fingerprint::{Fingerprint, may_resolve};
 use literal_selection::{is_solved, selected};
 use std::alloc::AllocError;
 use term_tree::{Bank, Mark};
@@ -86,12 +84,15 @@ fn cover_pair<B: Bank>(
     }
 }
 
-/// A solved clause with the fingerprint of its conclusion, and the fingerprints of the selected hypotheses of the live clauses.
+/// A solved clause with the fingerprint of its conclusion, and the fingerprints of the selected hypotheses of the live clauses. It is
+/// resolved with those that stand from a place on and before another, from 0.
 #[derive(Clone, Copy)]
 pub(crate) struct Solving<'a> {
     pub clause: &'a Clause,
     pub print: Fingerprint,
     pub prints: &'a [Option<Fingerprint>],
+    pub from: usize,
+    pub to: usize,
 }
 
 /// Adds the rows of what a solved clause gives with the live clause at a place, from 0: none, where fingerprints tell that there
@@ -111,10 +112,7 @@ fn cover_met<B: Bank>(
     requires is_solved { is_solved_list
         (clause_at (B.trees bank.old) solving.now.clause.now).hypotheses ≡ true }
     requires closed { MustClose (clauses_at (B.trees bank.old) writer.now.live.now) }
-    requires print { fingerprint_seen solving.now.print ≡
-        fingerprint_of (clause_at (B.trees bank.old) solving.now.clause.now).conclusion }
-    requires prints { map (option_map fingerprint_seen) solving.now.prints.now ≡
-        map hypothesis_print (clauses_at (B.trees bank.old) writer.now.live.now) }
+    requires told { AreTold (B.trees bank.old) writer.now solving.now }
     ensures rows { let all = B.trees bank.old in OnOk result ((c : ClauseOf Id) →
         slice_get writer.now.live.now place ≡ Some c → (i j : ℕ) →
         AddsPairs (clauses_at all writer.now.live.now)
@@ -128,84 +126,62 @@ fn cover_met<B: Bank>(
     cover_pair(bank, writer, solving.clause, &writer.live[place], rows)
 }
 
-/// Adds the rows of what a solved clause gives with each unsolved one. The bank is as before.
+/// Adds the rows of what a solved clause gives with each unsolved one of its places. The bank is as before.
 fn cover_solved<B: Bank>(
     bank: &mut B,
     writer: &Writer<'_>,
-    prints: &[Option<Fingerprint>],
-    solved: &Clause,
+    solving: &Solving<'_>,
     rows: &mut Rows,
 ) -> Result<(), AllocError>
     requires ready { IsReady (B.trees bank.old) writer.now }
-    requires prints { map (option_map fingerprint_seen) prints.now ≡
-        map hypothesis_print (clauses_at (B.trees bank.old) writer.now.live.now) }
-    requires solved_fit { IsFit (B.trees bank.old) solved.now }
-    requires solved_live { let all = B.trees bank.old in
-        Has (clauses_at all writer.now.live.now) (clause_at all solved.now) }
-    requires is_solved { is_solved_list (clause_at (B.trees bank.old) solved.now).hypotheses
-        ≡ true }
+    requires fit { IsFit (B.trees bank.old) solving.now.clause.now }
+    requires live { let all = B.trees bank.old in
+        Has (clauses_at all writer.now.live.now) (clause_at all solving.now.clause.now) }
+    requires told { AreTold (B.trees bank.old) writer.now solving.now }
+    requires places { solving.now.from ≤ solving.now.to }
+    requires within { solving.now.to ≤ length writer.now.live.now }
+    requires is_solved { is_solved_list
+        (clause_at (B.trees bank.old) solving.now.clause.now).hypotheses ≡ true }
     requires closed { MustClose (clauses_at (B.trees bank.old) writer.now.live.now) }
     ensures rows { let live = clauses_at (B.trees bank.old) writer.now.live.now in
-        OnOk result ((i : ℕ) → AddsPairs live
-        (pairs_of_one i (clause_at (B.trees bank.old) solved.now) (numbered_from 1 live))
-        rows.old rows.new) }
+        let c = clause_at (B.trees bank.old) solving.now.clause.now in
+        OnOk result ((i : ℕ) (first : List (List ℕ)) → AddsPairs live
+        (pairs_of_one i c (take solving.now.from (numbered_from 1 live))) first rows.old →
+        AddsPairs live (pairs_of_one i c (take solving.now.to (numbered_from 1 live)))
+        first rows.new) }
     ensures bank { B.trees bank.new ≡ B.trees bank.old }
 {
-    let solving = Solving {
-        clause: solved,
-        print: conclusion_fingerprint(bank, solved),
-        prints,
-    };
-    'each: for place in 0..writer.live.len() {
-        cover_met(bank, writer, &solving, place, rows)?;
+    'each: for place in solving.from..solving.to {
+        cover_met(bank, writer, solving, place, rows)?;
     }
     Ok(())
 }
 
 /// The same, if the clause is solved.
-fn cover_one<B: Bank>(
+pub(crate) fn cover_one<B: Bank>(
     bank: &mut B,
     writer: &Writer<'_>,
-    prints: &[Option<Fingerprint>],
-    solved: &Clause,
+    solving: &Solving<'_>,
     rows: &mut Rows,
 ) -> Result<(), AllocError>
     requires ready { IsReady (B.trees bank.old) writer.now }
-    requires prints { map (option_map fingerprint_seen) prints.now ≡
-        map hypothesis_print (clauses_at (B.trees bank.old) writer.now.live.now) }
-    requires solved_fit { IsFit (B.trees bank.old) solved.now }
-    requires solved_live { let all = B.trees bank.old in
-        Has (clauses_at all writer.now.live.now) (clause_at all solved.now) }
+    requires fit { IsFit (B.trees bank.old) solving.now.clause.now }
+    requires live { let all = B.trees bank.old in
+        Has (clauses_at all writer.now.live.now) (clause_at all solving.now.clause.now) }
+    requires told { AreTold (B.trees bank.old) writer.now solving.now }
+    requires places { solving.now.from ≤ solving.now.to }
+    requires within { solving.now.to ≤ length writer.now.live.now }
     requires closed { MustClose (clauses_at (B.trees bank.old) writer.now.live.now) }
     ensures rows { let live = clauses_at (B.trees bank.old) writer.now.live.now in
-        OnOk result ((i : ℕ) → AddsPairs live
-        (pairs_if_solved i (clause_at (B.trees bank.old) solved.now) (numbered_from 1 live))
-        rows.old rows.new) }
+        let c = clause_at (B.trees bank.old) solving.now.clause.now in
+        OnOk result ((i : ℕ) (first : List (List ℕ)) → AddsPairs live
+        (pairs_if_solved i c (take solving.now.from (numbered_from 1 live))) first rows.old →
+        AddsPairs live (pairs_if_solved i c (take solving.now.to (numbered_from 1 live)))
+        first rows.new) }
     ensures bank { B.trees bank.new ≡ B.trees bank.old }
 {
-    if !is_solved(bank, solved) {
+    if !is_solved(bank, solving.clause) {
         return Ok(());
     }
-    cover_solved(bank, writer, prints, solved, rows)
-}
-
-/// Adds the rows of what all pairs give, solved clauses ascending, and for each the unsolved ones ascending. The bank is as
-/// before.
-pub(crate) fn cover_pairs<B: Bank>(
-    bank: &mut B,
-    writer: &Writer<'_>,
-    rows: &mut Rows,
-) -> Result<(), AllocError>
-    requires ready { IsReady (B.trees bank.old) writer.now }
-    requires closed { MustClose (clauses_at (B.trees bank.old) writer.now.live.now) }
-    ensures rows { let live = clauses_at (B.trees bank.old) writer.now.live.now in
-        OnOk result (AddsPairs live (pairs_of (numbered_from 1 live) (numbered_from 1 live))
-        rows.old rows.new) }
-    ensures bank { B.trees bank.new ≡ B.trees bank.old }
-{
-    let prints = hypothesis_fingerprints(writer.alloc, bank, writer.live)?;
-    'each: for solved in writer.live {
-        cover_one(bank, writer, &prints, solved, rows)?;
-    }
-    Ok(())
+    cover_solved(bank, writer, solving, rows)
 }

@@ -8,6 +8,7 @@ pub mod Counting
 pub mod Tables
 pub mod Ordering
 pub mod Keying
+pub mod Remembering
 pub mod Renumber
 pub mod Norming
 pub mod Bounding

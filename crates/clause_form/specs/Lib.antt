@@ -6,6 +6,7 @@ pub mod Plain
 pub mod PlainDepths
 pub mod PlainFacts
 pub mod Numbers
+pub mod Remembered
 pub mod Tables
 pub mod Keys
 pub mod Bounds

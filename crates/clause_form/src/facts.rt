@@ -115,9 +115,22 @@ impl Fact {
     pub fn copy(&self, alloc: Global) -> Result<Fact, AllocError>
         ensures { IfOk result (λ copied. copied ≡ self.now) }
     {
-        let terms = self.terms();
-        let items = terms.as_slice().to_vec(alloc)?;
-        Ok(Fact::made_of(self.head(), Ids { items }))
+        match self {
+            Fact::Att(term) => Ok(Fact::Att(*term)),
+            Fact::Mess(channel, message) => Ok(Fact::Mess(*channel, *message)),
+            Fact::Ev(event, terms) => {
+                let terms = terms.copy(alloc)?;
+                Ok(Fact::Ev(*event, terms))
+            }
+            Fact::Mev(event, terms) => {
+                let terms = terms.copy(alloc)?;
+                Ok(Fact::Mev(*event, terms))
+            }
+            Fact::Bad(terms) => {
+                let terms = terms.copy(alloc)?;
+                Ok(Fact::Bad(terms))
+            }
+        }
     }
 }
 

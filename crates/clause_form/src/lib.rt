@@ -9,6 +9,7 @@ mod flat;
 mod heads;
 mod keys;
 mod marks;
+mod memo;
 mod normal;
 mod normality;
 mod numbers;

@@ -9,8 +9,10 @@ ghost use Rattle.term_tree.specs.Bank.{tree_at, AreKnown, Names, Grows};
 ghost use Rattle.clause_form.specs.Facts.{fact_of};
 ghost use Rattle.clause_form.specs.Seen.{fact_at, IsFactIn, AreFactsIn, NameTerms, NamesFact, NameFacts, NamesClause};
 ghost use Rattle.clause_form.specs.Numbers.{placed};
+ghost use Rattle.clause_form.specs.Remembered.{AreRemembered};
 
 use crate::facts::{Clause, Fact, Facts, Ids};
+use crate::memo::{Change, PLACES, remember, remembered};
 use crate::numbers::Order;
 use crate::variables::variables_of;
 use std::alloc::{AllocError, Global};
@@ -45,19 +47,30 @@ fn renumbered_variable<B: Bank>(
 }
 
 /// The term with each variable's place for its number: the id itself where nothing changes. The arguments
-/// that are made wait on `stack`. On `Err` the bank may have grown.
+/// that are made wait on `stack`; what was renumbered is looked for among `changes`. On `Err` the bank may have
+/// grown.
 fn renumbered<B: Bank>(
     bank: &mut B,
     order: &Order,
     stack: &mut Vec<Id>,
+    changes: &mut [Option<Change>; PLACES],
     id: Id,
 ) -> Result<Id, AllocError>
-    requires { id.index < length (B.trees bank.old) }
+    requires known { id.index < length (B.trees bank.old) }
+    requires changes { AreRemembered (B.trees bank.old) (placed order.now) changes.old }
     ensures grows { Grows (B.trees bank.old) (B.trees bank.new) }
     ensures names { IfOk result (λ made. Names (B.trees bank.new) made
         (bind (placed order.now) (tree_at (B.trees bank.old) id))) }
     ensures stack { OnOk result (stack.new.items ≡ stack.old.items) }
+    ensures changes { OnOk result
+        (AreRemembered (B.trees bank.new) (placed order.now) changes.new) }
 {
+    if bank.is_ground(id) {
+        return Ok(id);
+    }
+    if let Some(made) = remembered(changes, id) {
+        return Ok(made);
+    }
     match bank.node(id) {
         Node::Var(number) => renumbered_variable(bank, order, id, number),
         Node::App(symbol, parts) => {
@@ -66,7 +79,7 @@ fn renumbered<B: Bank>(
             let mut kept = true;
             'each: for i in 0..count {
                 let part = argument(bank, id, i);
-                let made = renumbered(bank, order, stack, part)?;
+                let made = renumbered(bank, order, stack, changes, part)?;
                 kept = is_kept(kept, part, made);
                 stack.push(made)?;
             }
@@ -76,6 +89,7 @@ fn renumbered<B: Bank>(
             }
             let made = bank.app(symbol, &stack[base..])?;
             stack.truncate(base);
+            remember(changes, id, made);
             Ok(made)
         }
     }
@@ -83,60 +97,73 @@ fn renumbered<B: Bank>(
 
 /// The terms renumbered.
 fn renumbered_terms<B: Bank>(
-    alloc: Global,
     bank: &mut B,
     order: &Order,
     stack: &mut Vec<Id>,
+    changes: &mut [Option<Change>; PLACES],
     terms: &[Id],
 ) -> Result<Ids, AllocError>
-    requires { AreKnown (B.trees bank.old) terms.now }
+    requires known { AreKnown (B.trees bank.old) terms.now }
+    requires changes { AreRemembered (B.trees bank.old) (placed order.now) changes.old }
     ensures grows { Grows (B.trees bank.old) (B.trees bank.new) }
     ensures names { IfOk result (λ made. NameTerms (B.trees bank.new) made
         (map (bind (placed order.now)) (map (tree_at (B.trees bank.old)) terms.now))) }
+    ensures changes { OnOk result
+        (AreRemembered (B.trees bank.new) (placed order.now) changes.new) }
 {
-    let mut items = Vec::with_capacity(alloc, terms.len())?;
+    let mut items = Vec::with_capacity(*stack.allocator(), terms.len())?;
     'each: for term in terms {
-        let next = renumbered(bank, order, stack, *term)?;
+        let next = renumbered(bank, order, stack, changes, *term)?;
         items.push(next)?;
     }
     Ok(Ids { items })
 }
 
-/// The fact renumbered.
+/// The fact renumbered. One of a single term takes no list for it.
 fn renumbered_fact<B: Bank>(
-    alloc: Global,
     bank: &mut B,
     order: &Order,
     stack: &mut Vec<Id>,
+    changes: &mut [Option<Change>; PLACES],
     fact: &Fact,
 ) -> Result<Fact, AllocError>
-    requires { IsFactIn (B.trees bank.old) (fact_of fact.now) }
+    requires known { IsFactIn (B.trees bank.old) (fact_of fact.now) }
+    requires changes { AreRemembered (B.trees bank.old) (placed order.now) changes.old }
     ensures grows { Grows (B.trees bank.old) (B.trees bank.new) }
     ensures names { IfOk result (λ made. NamesFact (B.trees bank.new) (fact_of made)
         (fact_under (placed order.now) (fact_at (B.trees bank.old) (fact_of fact.now)))) }
+    ensures changes { OnOk result
+        (AreRemembered (B.trees bank.new) (placed order.now) changes.new) }
 {
+    if let Fact::Att(term) = fact {
+        let made = renumbered(bank, order, stack, changes, *term)?;
+        return Ok(Fact::Att(made));
+    }
     let terms = fact.terms();
-    let made = renumbered_terms(alloc, bank, order, stack, terms.as_slice())?;
+    let made = renumbered_terms(bank, order, stack, changes, terms.as_slice())?;
     Ok(Fact::made_of(fact.head(), made))
 }
 
 /// The facts renumbered.
 fn renumbered_facts<B: Bank>(
-    alloc: Global,
     bank: &mut B,
     order: &Order,
     stack: &mut Vec<Id>,
+    changes: &mut [Option<Change>; PLACES],
     facts: &[Fact],
 ) -> Result<Facts, AllocError>
-    requires { AreFactsIn (B.trees bank.old) (map fact_of facts.now) }
+    requires known { AreFactsIn (B.trees bank.old) (map fact_of facts.now) }
+    requires changes { AreRemembered (B.trees bank.old) (placed order.now) changes.old }
     ensures grows { Grows (B.trees bank.old) (B.trees bank.new) }
     ensures names { IfOk result (λ made. NameFacts (B.trees bank.new) made
         (map (fact_under (placed order.now)) (map (fact_at (B.trees bank.old))
         (map fact_of facts.now)))) }
+    ensures changes { OnOk result
+        (AreRemembered (B.trees bank.new) (placed order.now) changes.new) }
 {
-    let mut items = Vec::with_capacity(alloc, facts.len())?;
+    let mut items = Vec::with_capacity(*stack.allocator(), facts.len())?;
     'each: for fact in facts {
-        let next = renumbered_fact(alloc, bank, order, stack, fact)?;
+        let next = renumbered_fact(bank, order, stack, changes, fact)?;
         items.push(next)?;
     }
     Ok(Facts { items })
@@ -181,8 +208,9 @@ fn clause_in_order<B: Bank>(
         })) }
 {
     let mut stack = Vec::with_capacity(alloc, 16)?;
-    let hyps = renumbered_facts(alloc, bank, order, &mut stack, hyps)?;
-    let concl = renumbered_fact(alloc, bank, order, &mut stack, concl)?;
+    let mut changes = [None; PLACES];
+    let hyps = renumbered_facts(bank, order, &mut stack, &mut changes, hyps)?;
+    let concl = renumbered_fact(bank, order, &mut stack, &mut changes, concl)?;
     Ok(Clause { hyps, concl })
 }
 

@@ -1,18 +1,17 @@
 -- From raw clauses to the answer of a pair.
-use Rattle.std.proofs.Common.{◌≡◌, ℕ, ◌+◌, ◌<◌, ◌≤◌, Option, Some, None, Result, Ok, Err, IfOk, List, [], ◌∷◌, ◌++◌, length, map, take, get_or, refl, ap, sym, ◌∙◌, subst, append-nil, arith}
-use Rattle.std.specs.Prelude.{filter_map}
+use Rattle.std.proofs.Common.{◌≡◌, ℕ, ◌<◌, Some, Result, Ok, Err, IfOk, List, length, take, get_or, refl, ap, sym, ◌∙◌, subst, arith}
 use Rattle.std.specs.declared.alloc.AllocError.{AllocError}
-use Rattle.std.proofs.lemmas.List.{map-append, map_more, take_all}
-use Rattle.std.proofs.lemmas.List.Elements.{filter_map-append}
+use Rattle.std.proofs.lemmas.List.{map-append}
 use Rattle.spec_trees.specs.Tree.{after}
 use Rattle.spec_terms.specs.Term.{Term, Subst}
 use Rattle.spec_terms.specs.Unifier.{moved, IsMostGeneral}
 use Rattle.spec_calculus.specs.Bounds.{most_symbols}
 use Rattle.spec_clauses.specs.Fact.{Fact, Clause, clause_size, fact_under, clause_under, clause_terms}
 use Rattle.spec_clauses.specs.Variables.{IsBelow}
-use Rattle.spec_clauses.specs.Norm.{norm, norms, IsNormal}
+use Rattle.spec_clauses.specs.Selection.{Selection, select}
+use Rattle.spec_clauses.specs.Norm.{norms, IsNormal}
 use Rattle.spec_clauses.specs.Limits.{IsWithinLimit}
-use Rattle.spec_clauses.specs.Resolvents.{joined, IsRawResolvent, Resolves}
+use Rattle.spec_clauses.specs.Resolvents.{joined, IsRawResolvent}
 use Rattle.spec_clauses.specs.Resolvents as answer
 use Rattle.spec_clauses.proofs.Lists.{all_weaker}
 use Rattle.spec_clauses.proofs.Facts.{fact_under-fact_under}
@@ -20,14 +19,12 @@ use Rattle.spec_clauses.proofs.NormNumbers.{norm-below}
 use Rattle.spec_clauses.proofs.Answers.{no_unifier, large_answer, clauses_answer}
 use Rattle.term_tree.specs.Bank.{Grows}
 use Rattle.term_tree.specs.declared.bank.Id.{Id}
-use Rattle.term_tree.proofs.BankLaws.{Grows_trans, Grows_same, take-grows}
-use Rattle.clause_form.specs.declared.normal.Normal.TheVariants as normal
+use Rattle.term_tree.proofs.BankLaws.{Grows_same, take-grows}
 use Rattle.clause_form.specs.Facts.{fact_of}
-use Rattle.clause_form.specs.Normals.{NamesNorm}
-use Rattle.clause_form.specs.Seen.{fact_at, clause_at, IsClauseIn, AreClausesIn, NamesClause, NameClauses}
+use Rattle.clause_form.specs.Seen.{fact_at, clause_at, IsClauseIn, NamesClause}
 use Rattle.clause_form.specs.Fit.{IsFit}
 use Rattle.clause_form.proofs.Flattening.{AreFactsIn-append}
-use Rattle.clause_form.proofs.Copying.{NameClauses-grow, NamesClause-grows}
+use Rattle.clause_form.proofs.Copying.{NamesClause-grows}
 use Rattle.clause_resolve.specs.declared.apart.Apart.{Apart}
 use Rattle.clause_resolve.specs.declared.resolving.Resolved.{Resolved}
 use Rattle.clause_resolve.specs.declared.resolving.Resolved.TheVariants.{NoUnifier, Large, Clauses}
@@ -37,50 +34,6 @@ use Rattle.clause_resolve.specs.Apart.{IsSelectedAt, IsApart}
 use Rattle.clause_resolve.proofs.Shifting.{placed}
 use Rattle.clause_resolve.specs.Joining.{together, IsFoundOf}
 use Rattle.clause_resolve.specs.Answers.{Gives, IsAnswerOf}
-
--- one clause more
-AreClausesIn-append : (all : List Term) (cs : List (Clause Id)) (c : Clause Id) → AreClausesIn all cs → IsClauseIn all c → AreClausesIn all (cs ++ c ∷ [])
-AreClausesIn-append all [] c known more = (more, tt)
-AreClausesIn-append all (d ∷ cs) c known more = (known.0, AreClausesIn-append all cs c known.1 more)
-
-NameClauses-push : (all : List Term) (cs : List (Clause Id)) (ts : List (Clause Term)) (c : Clause Id) (t : Clause Term) → NameClauses all cs ts → NamesClause all c t → NameClauses all (cs ++ c ∷ []) (ts ++ t ∷ [])
-NameClauses-push all cs ts c t names more = record {
-  known = AreClausesIn-append all cs c names.known more.known;
-  are = map-append (clause_at all) cs (c ∷ []) ∙ λ i. names.are i ++ more.is i ∷ [];
-}
-
--- a clause without a norm adds nothing, and one with a norm adds that
-pub tautology_added : (old now : List Term) (made : List (Clause Id)) (trees : List (Clause Term)) (c : Clause Term) → Grows old now → NameClauses old made trees → norm c ≡ None → NameClauses now made (trees ++ filter_map norm (c ∷ []))
-tautology_added old now made trees c grows names none =
-    let same : trees ≡ trees ++ filter_map norm (c ∷ []) = sym (append-nil trees) ∙ ap (λ o. trees ++ filter_map (λ (x : Option (Clause Term)). x) (o ∷ [])) (sym none) in
-    subst (λ (l : List (Clause Term)). NameClauses now made l) same (NameClauses-grow old now made trees grows names)
-
-norm_named : (now : List Term) (made : List (Clause Id)) (trees : List (Clause Term)) (d : Clause Id) (o : Option (Clause Term)) → NameClauses now made trees → NamesNorm now (normal.Clause d) o → NameClauses now (made ++ d ∷ []) (trees ++ filter_map (λ (x : Option (Clause Term)). x) (o ∷ []))
-norm_named now made trees d None names named = absurd named
-norm_named now made trees d (Some t) names named = NameClauses-push now made trees d t names named
-
-pub norm_added : (old now : List Term) (made new : List (Clause Id)) (trees : List (Clause Term)) (c : Clause Term) (d : Clause Id) → Grows old now → NameClauses old made trees → NamesNorm now (normal.Clause d) (norm c) → new ≡ made ++ d ∷ []
-    → NameClauses now new (trees ++ filter_map norm (c ∷ []))
-norm_added old now made new trees c d grows names named e =
-    subst (λ (l : List (Clause Id)). NameClauses now l (trees ++ filter_map norm (c ∷ []))) (sym e) (norm_named now made trees d (norm c) (NameClauses-grow old now made trees grows names) named)
-
--- how far norms are made
-pub record NormsAreMade (old now : List Term) (parts : List (Clause Id)) (i : ℕ) (made : List (Clause Id)) : Type 0 where
-  pub grows : Grows old now
-  pub names : NameClauses now made (filter_map norm (map (clause_at old) (take i parts)))
-
-pub norms_on : (old now next : List Term) (parts : List (Clause Id)) (i : ℕ) (c : Clause Id) (new : List (Clause Id)) (made : List (Clause Id)) → NormsAreMade old now parts i made → i < length parts → c ≡ get_or parts i c → clause_at now c ≡ clause_at old c → Grows now next
-    → NameClauses next new (filter_map norm (map (clause_at old) (take i parts)) ++ filter_map norm (clause_at now c ∷ [])) → NormsAreMade old next parts (i + 1) new
-norms_on old now next parts i c new made was within is same grows names =
-    let more : map (clause_at old) (take (i + 1) parts) ≡ map (clause_at old) (take i parts) ++ clause_at now c ∷ [] =
-    map_more (clause_at old) parts i c within ∙ ap (λ t. map (clause_at old) (take i parts) ++ t ∷ []) (ap (clause_at old) (sym is) ∙ sym same) in
-    record {
-      grows = Grows_trans old now next was.grows grows;
-      names = subst (λ (l : List (Clause Term)). NameClauses next new l) (sym (ap (filter_map norm) more ∙ filter_map-append norm (map (clause_at old) (take i parts)) (clause_at now c ∷ []))) names;
-    }
-
-pub norms_all : (old now : List Term) (parts : List (Clause Id)) (i : ℕ) (made : List (Clause Id)) → NormsAreMade old now parts i made → length parts ≤ i → NameClauses now made (filter_map norm (map (clause_at old) parts))
-norms_all old now parts i made was past = subst (λ (l : List (Clause Id)). NameClauses now made (filter_map norm (map (clause_at old) l))) (take_all i parts past) was.names
 
 -- a clause that is its own norm within the limit
 pub normal_low : (c : Clause Term) → IsNormal c → IsWithinLimit c → HasLowVariables c
@@ -115,17 +68,16 @@ raw_resolvent all solved unsolved apart s a low mgu = record {
   );
 }
 
+-- what was found of a raw resolvent of the pair is its answer
+pub found_answers : (new : List Term) (solved unsolved raw : Clause Term) (at : Selection) (found : Resolved) → select unsolved.hypotheses ≡ Some at → IsRawResolvent solved unsolved at (Some raw) → IsFoundOf new raw found → IsAnswerOf new solved unsolved found
+found_answers new solved unsolved raw at NoUnifier selected resolvent h = absurd h
+found_answers new solved unsolved raw at Large selected resolvent h = record { at = at; is_selected = selected; gives = large_answer solved unsolved raw at resolvent h }
+found_answers new solved unsolved raw at (Clauses cs) selected resolvent h = (norms raw, h.1, record { at = at; is_selected = selected; gives = clauses_answer solved unsolved raw at resolvent h.0 })
+
 pub answered : (old new : List Term) (solved together_made : Clause Id) (unsolved : Clause Term) (apart : Apart) (s : Subst) (found : Resolved) → together_made ≡ together solved apart.rest → IsApart old unsolved apart → HasLowVariables (clause_at old solved) → meet old solved apart s
     → IsFoundOf new (clause_under s (clause_at old together_made)) found → IsAnswerOf new (clause_at old solved) unsolved found
-answered old new solved together_made unsolved apart s found e a low mgu made = go found (subst (λ (c : Clause Id). IsFoundOf new (clause_under s (clause_at old c)) found) e made) where
-  go : (f : Resolved) → IsFoundOf new (clause_under s (clause_at old (together solved apart.rest))) f → IsAnswerOf new (clause_at old solved) unsolved f
-  go NoUnifier h = absurd h
-  go Large h = record { at = a.at; is_selected = a.is_selected; gives = large_answer (clause_at old solved) unsolved (clause_under s (clause_at old (together solved apart.rest))) a.at (raw_resolvent old solved unsolved apart s a low mgu) h }
-  go (Clauses cs) h = (
-    norms (clause_under s (clause_at old (together solved apart.rest))),
-    h.1,
-    record { at = a.at; is_selected = a.is_selected; gives = clauses_answer (clause_at old solved) unsolved (clause_under s (clause_at old (together solved apart.rest))) a.at (raw_resolvent old solved unsolved apart s a low mgu) h.0 },
-  )
+answered old new solved together_made unsolved apart s found e a low mgu made =
+    found_answers new (clause_at old solved) unsolved (clause_under s (clause_at old (together solved apart.rest))) a.at found a.is_selected (raw_resolvent old solved unsolved apart s a low mgu) (subst (λ (c : Clause Id). IsFoundOf new (clause_under s (clause_at old c)) found) e made)
 
 pub answered_result : (old new : List Term) (solved together_made : Clause Id) (k : Fact Id) (unsolved : Clause Term) (apart : Apart) (s : Subst) (r : Result Resolved AllocError) → k ≡ solved.conclusion → together_made ≡ together solved apart.rest → HasLowVariables (clause_at old solved)
     → IsMguOfFacts (fact_at old k) (fact_at old (fact_of apart.selected)) s → IfOk r (λ found. IsFoundOf new (clause_under s (clause_at old together_made)) found) → IsApart old unsolved apart → IfOk r (λ found. IsAnswerOf new (clause_at old solved) unsolved found)

@@ -5,3 +5,5 @@ pub mod Spending
 pub mod Parting
 pub mod Shifting
 pub mod Answering
+pub mod Removing
+pub mod Swapping

@@ -9,7 +9,7 @@ use Rattle.spec_trees.proofs.Occurrence.{or_true}
 use Rattle.spec_terms.specs.Term.{Sym, Term, has_var}
 use Rattle.spec_terms.specs.Unifier.{moved}
 use Rattle.spec_calculus.specs.Bounds.{most_symbols}
-use Rattle.spec_clauses.specs.Fact.{Fact, Att, Mess, Ev, Mev, Bad, terms_of, clause_terms, fact_under}
+use Rattle.spec_clauses.specs.Fact.{Fact, Att, Mess, Ev, Mev, Bad, terms_of, clause_terms, fact_under, clause_under}
 use Rattle.spec_clauses.specs.Fact as horn
 use Rattle.spec_clauses.specs.Variables.{IsBelow, AreBelow}
 use Rattle.spec_clauses.specs.Selection.{Selection, select, IsFirstOfLargest}
@@ -246,3 +246,12 @@ clause_set_apart old first second third c at fs f k selected hyps concl hyps_are
     clause_apart first second third (clause_at old c) at selected hyps concl (fact_at old (fact_of f)) (take at (map (fact_at first) (map fact_of fs)) ++ drop (at + 1) (map (fact_at first) (map fact_of fs))) place two three selected_named
     (selected_fact old c fs at f (fact_at old (fact_of f)) hyps_are within f_is) hyps_named (ap (λ l. take at l ++ drop (at + 1) l) facts)
     (subst (λ (t : Fact Term). NamesFact third (fact_of concl) (fact_under (moved most_symbols) t)) conclusion concl_named)
+
+-- a clause set apart as a whole
+pub clause_moved : (old now next : List Term) (c : horn.Clause Id) (fs : List declared.Fact) (k : Fact Id) (hyps : List (Fact Id)) (concl : Fact Id) → map fact_of fs ≡ c.hypotheses → k ≡ c.conclusion → IsClauseIn old c → Grows old now → Grows now next
+    → NameFacts now hyps (map (fact_under (moved most_symbols)) (map (fact_at old) (map fact_of fs))) → NamesFact next concl (fact_under (moved most_symbols) (fact_at now k))
+    → NamesClause next record { hypotheses = hyps; conclusion = concl } (clause_under (moved most_symbols) (clause_at old c))
+clause_moved old now next c fs k hyps concl hyps_are concl_is known grows later hyps_named concl_named =
+    let conclusion : fact_under (moved most_symbols) (fact_at now k) ≡ fact_under (moved most_symbols) (fact_at old c.conclusion) = ap (λ f. fact_under (moved most_symbols) (fact_at now f)) concl_is ∙ ap (fact_under (moved most_symbols)) (fact_at-grows old now c.conclusion grows known.conclusion) in
+    clause_named now next hyps concl (map (fact_under (moved most_symbols)) (map (fact_at old) (map fact_of fs))) (clause_under (moved most_symbols) (clause_at old c)) later hyps_named (ap (λ l. map (fact_under (moved most_symbols)) (map (fact_at old) l)) hyps_are)
+    (subst (λ (t : Fact Term). NamesFact next concl t) conclusion concl_named)

@@ -3,11 +3,13 @@ use Rattle.std.specs.Prelude.{◌≡◌, ℕ, Some, option_map, List, map}
 use Rattle.spec_terms.specs.Term.{Term}
 use Rattle.spec_terms.specs.Unifier.{moved}
 use Rattle.spec_calculus.specs.Bounds.{most_symbols}
-use Rattle.spec_clauses.specs.Fact.{fact_under}
+use Rattle.spec_clauses.specs.Fact.{fact_under, clause_under}
 use Rattle.spec_clauses.specs.Fact as horn
 use Rattle.spec_clauses.specs.Selection.{Selection, select}
+use Rattle.term_tree.specs.declared.bank.Id.{Id}
 use Rattle.clause_form.specs.Facts.{fact_of}
 use Rattle.clause_form.specs.Seen.{IsFactIn, IsClauseIn, NamesFact, NamesClause}
+use Rattle.clause_resolve.specs.Low.{HasLowVariables}
 use Rattle.clause_resolve.specs.declared.apart.Apart.{Apart}
 
 -- the hypothesis at this place, from 0, is selected
@@ -25,3 +27,8 @@ pub record IsApart (all : List Term) (unsolved : horn.Clause Term) (apart : Apar
   pub is_selected : select unsolved.hypotheses ≡ Some at
   pub selected : NamesFact all (fact_of apart.selected) (fact_under (moved most_symbols) at.fact)
   pub rest : NamesClause all apart.rest record { hypotheses = map (fact_under (moved most_symbols)) at.others; conclusion = fact_under (moved most_symbols) unsolved.conclusion }
+
+-- it is the solved clause, of low variables, with all of them raised by the limit of size
+pub record IsMoved (all : List Term) (solved : horn.Clause Term) (moved_clause : horn.Clause Id) : Type 0 where
+  pub low : HasLowVariables solved
+  pub names : NamesClause all moved_clause (clause_under (moved most_symbols) solved)

@@ -1,5 +1,6 @@
 -- Two clauses with no variable in common, of which one's conclusion meets a hypothesis of the other.
-use Rattle.std.specs.Prelude.{◌≡◌, true, false, List, ◌++◌}
+use Rattle.std.specs.Prelude.{◌≡◌, ℕ, true, false, List, ◌++◌}
+use Rattle.std.specs.List.{remove}
 use Rattle.spec_terms.specs.Term.{Term}
 use Rattle.spec_clauses.specs.Fact.{Clause}
 use Rattle.spec_clauses.specs.Norm.{norms}
@@ -11,6 +12,10 @@ use Rattle.clause_resolve.specs.declared.resolving.Resolved.TheVariants.{NoUnifi
 -- the hypotheses of both, and the second clause's conclusion
 abbrev pub together : {X : Type 0} → Clause X → Clause X → Clause X
 together solved rest = record { hypotheses = solved.hypotheses ++ rest.hypotheses; conclusion = rest.conclusion }
+
+-- the clause without the hypothesis at this place, from 0
+abbrev pub without : {X : Type 0} → ℕ → Clause X → Clause X
+without at c = record { hypotheses = remove c.hypotheses at; conclusion = c.conclusion }
 
 -- what was found of a raw clause: that it is large, or the norms of its flat parts
 abbrev pub IsFoundOf : List Term → Clause Term → Resolved → Type 0

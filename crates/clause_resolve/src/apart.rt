@@ -4,10 +4,10 @@ ghost use Rattle.std.specs.Prelude.{◌≡◌, ◌<◌, ◌++◌, ◌+◌, lengt
 ghost use Rattle.spec_trees.specs.Tree.{bind};
 ghost use Rattle.spec_terms.specs.Unifier.{moved};
 ghost use Rattle.spec_calculus.specs.Bounds.{most_symbols};
-ghost use Rattle.spec_clauses.specs.Fact.{fact_under};
+ghost use Rattle.spec_clauses.specs.Fact.{fact_under, clause_under};
 ghost use Rattle.term_tree.specs.Bank.{tree_at, Grows};
 ghost use Rattle.clause_form.specs.Facts.{fact_of};
-ghost use Rattle.clause_form.specs.Seen.{fact_at, clause_at, IsClauseIn, NameTerms, NamesFact, NameFacts};
+ghost use Rattle.clause_form.specs.Seen.{fact_at, clause_at, IsClauseIn, NameTerms, NamesFact, NameFacts, NamesClause};
 ghost use Rattle.clause_resolve.specs.Low.{AreLow, IsLowFact, AreLowFacts, HasLowVariables};
 ghost use Rattle.clause_resolve.specs.Apart.{IsSelectedAt, IsApart};
 
@@ -50,6 +50,10 @@ fn shifted_fact<B: Bank>(alloc: Global, bank: &mut B, fact: &Fact) -> Result<Fac
     ensures names { IfOk result (λ made. NamesFact (B.trees bank.new) (fact_of made)
         (fact_under (moved most_symbols) (fact_at (B.trees bank.old) (fact_of fact.now)))) }
 {
+    if let Fact::Att(term) = fact {
+        let made = shifted(alloc, bank, *term, OFFSET)?;
+        return Ok(Fact::Att(made));
+    }
     let terms = fact.terms();
     let made = shifted_terms(alloc, bank, terms.as_slice())?;
     Ok(Fact::made_of(fact.head(), made))
@@ -113,6 +117,24 @@ fn shifted_clause<B: Bank>(
         selected,
         rest: Clause { hyps, concl },
     })
+}
+
+/// A clause with all its variables set apart from those of clauses whose variables are below the limit of size. On `Err`
+/// the bank may have grown.
+pub(crate) fn moved_clause<B: Bank>(
+    alloc: Global,
+    bank: &mut B,
+    clause: &Clause,
+) -> Result<Clause, AllocError>
+    requires known { IsClauseIn (B.trees bank.old) clause.now }
+    requires low { HasLowVariables (clause_at (B.trees bank.old) clause.now) }
+    ensures grows { Grows (B.trees bank.old) (B.trees bank.new) }
+    ensures names { IfOk result (λ made. NamesClause (B.trees bank.new) made
+        (clause_under (moved most_symbols) (clause_at (B.trees bank.old) clause.now))) }
+{
+    let hyps = shifted_facts(alloc, bank, &clause.hyps.items)?;
+    let concl = shifted_fact(alloc, bank, &clause.concl)?;
+    Ok(Clause { hyps, concl })
 }
 
 /// An unsolved clause, whose hypothesis at `at` is selected, set apart from all clauses with variables

@@ -104,6 +104,10 @@ fn applied_fact<B: Bank>(
         (λ stop. StopsAt stop (left.old < fact_size tree)) }
 {
     spend(head_symbols(fact.head()), left)?;
+    if let Fact::Att(term) = fact {
+        let made = applied(bank, binds, *term, left)?;
+        return Ok(Fact::Att(made));
+    }
     let terms = fact.terms();
     let made = applied_terms(alloc, bank, binds, terms.as_slice(), left)?;
     Ok(Fact::made_of(fact.head(), made))

@@ -1,28 +1,30 @@
 //! Resolution of a solved clause with an unsolved one, on its selected hypothesis (Blanchet 2001, section 4;
 //! resolution with free selection, Bachmair and Ganzinger 2001).
 
-ghost use Rattle.std.specs.Prelude.{◌≡◌, List, ◌∷◌, [], ◌++◌, true, false, filter_map, map, IfOk, OnOk, OnErr, MatchResult};
+ghost use Rattle.std.specs.Prelude.{◌≡◌, ◌<◌, true, false, nat_lt, length, IfOk, OnErr, MatchResult};
+ghost use Rattle.std.specs.List.{remove};
 ghost use Rattle.spec_terms.specs.Binding.{resolved};
-ghost use Rattle.spec_clauses.specs.Fact.{Clause as ClauseOf, clause_under};
-ghost use Rattle.spec_clauses.specs.Norm.{norm as norm_of, norms};
+ghost use Rattle.spec_clauses.specs.Fact.{Clause as ClauseOf, clause_size, clause_under};
+ghost use Rattle.spec_clauses.specs.Norm.{norms};
 ghost use Rattle.spec_clauses.specs.Limits.{is_large_raw, IsWithinLimit};
 ghost use Rattle.spec_terms.specs.Term.{Term};
-ghost use Rattle.term_tree.specs.Bank.{Grows};
+ghost use Rattle.term_tree.specs.Bank.{Grows, capped};
 ghost use Rattle.unify_match.specs.Seen.{seen, IsReady};
-ghost use Rattle.clause_form.specs.Seen.{clause_at, IsClauseIn, AreClausesIn, NameClauses};
+ghost use Rattle.clause_form.specs.Seen.{clause_at, IsClauseIn, NameClauses};
 ghost use Rattle.clause_resolve.specs.Stops.{StopsAt};
-ghost use Rattle.clause_resolve.specs.Joining.{together, IsFoundOf};
+ghost use Rattle.clause_resolve.specs.Joining.{together, without, IsFoundOf};
 ghost use Rattle.clause_resolve.specs.Low.{HasLowVariables};
-ghost use Rattle.clause_resolve.specs.Apart.{IsSelectedAt, IsApartIn, IsApart};
+ghost use Rattle.clause_resolve.specs.Apart.{IsSelectedAt, IsApartIn, IsApart, IsMoved};
 ghost use Rattle.clause_resolve.specs.Answers.{IsAnswerOf, LeavesBank};
 
-use crate::apart::{Apart, set_apart};
+use crate::apart::{Apart, moved_clause, set_apart};
 use crate::applying::applied_clause;
 use crate::clash::clash;
 use crate::meeting::unify_facts;
 use crate::parts::some_part_large;
 use crate::stop::Stop;
-use clause_form::{Clause, Clauses, Normal, flatten, norm};
+use clause_form::{Clause, Clauses, Facts, size_of};
+use clause_norms::norms_of;
 use std::alloc::{AllocError, Global};
 use term_tree::Bank;
 use unify_match::Binds;
@@ -36,42 +38,6 @@ pub enum Resolved {
     Large,
     /// The norms of the raw resolvent's flat parts, in order, tautologies left out.
     Clauses(Clauses),
-}
-
-/// Adds the norm of a clause, if it has one. On `Err` the bank may have grown.
-fn add_norm<B: Bank>(
-    alloc: Global,
-    bank: &mut B,
-    part: &Clause,
-    made: &mut Clauses,
-) -> Result<(), AllocError>
-    requires { IsClauseIn (B.trees bank.old) part.now }
-    ensures grows { Grows (B.trees bank.old) (B.trees bank.new) }
-    ensures names { (trees : List (ClauseOf Term)) → NameClauses (B.trees bank.old) made.old trees →
-        OnOk result (NameClauses (B.trees bank.new) made.new
-        (trees ++ filter_map norm_of (clause_at (B.trees bank.old) part.now ∷ []))) }
-{
-    let copied = part.copy(alloc)?;
-    match norm(alloc, bank, copied)? {
-        Normal::Tautology => {}
-        Normal::Clause(normal) => made.items.push(normal)?,
-    }
-    Ok(())
-}
-
-/// The norms of clauses, those left out that have none. On `Err` the bank may have grown.
-fn norms_of<B: Bank>(alloc: Global, bank: &mut B, parts: &[Clause]) -> Result<Clauses, AllocError>
-    requires { AreClausesIn (B.trees bank.old) parts.now }
-    ensures grows { Grows (B.trees bank.old) (B.trees bank.new) }
-    ensures names { IfOk result (λ made. NameClauses (B.trees bank.new) made
-        (filter_map norm_of (map (clause_at (B.trees bank.old)) parts.now))) }
-{
-    let items = Vec::with_capacity(alloc, parts.len())?;
-    let mut made = Clauses { items };
-    'each: for part in parts {
-        add_norm(alloc, bank, part, &mut made)?;
-    }
-    Ok(made)
 }
 
 /// The norms of the flat parts of a raw clause within the limit of size, unless one of the parts is over it. On
@@ -88,8 +54,7 @@ fn resolvents_of<B: Bank>(alloc: Global, bank: &mut B, raw: &Clause) -> Result<C
     if some_part_large(bank, raw) {
         return Err(Stop::Large);
     }
-    let parts = flatten(alloc, bank, raw)?;
-    let made = norms_of(alloc, bank, &parts.items)?;
+    let made = norms_of(alloc, bank, raw)?;
     Ok(made)
 }
 
@@ -187,7 +152,72 @@ pub fn resolve_apart<B: Bank>(
     found_under(alloc, bank, &binds, &clause)
 }
 
-/// The answer of a pair, anew. Where there are no clauses the bank may have grown.
+/// The facts but the one at a place.
+#[tactic(auto, using(crate::proofs::Removing::removed))]
+fn without_fact(alloc: Global, facts: &Facts, at: usize) -> Result<Facts, AllocError>
+    requires { at < length facts.now }
+    ensures { IfOk result (λ made. made ≡ remove facts.now at) }
+{
+    let mut made = facts.copy(alloc)?;
+    let _ = made.items.remove(at);
+    Ok(made)
+}
+
+/// The hypotheses of a clause, and those of another but the one at `at`, with that one's conclusion.
+fn joined_without(
+    alloc: Global,
+    moved: &Clause,
+    unsolved: &Clause,
+    at: usize,
+) -> Result<Clause, AllocError>
+    requires { at < length unsolved.now.hypotheses }
+    ensures { IfOk result (λ made. made ≡ together moved.now (without at unsolved.now)) }
+{
+    let mut hyps = moved.hyps.copy(alloc)?;
+    let mut others = without_fact(alloc, &unsolved.hyps, at)?;
+    hyps.items.append(&mut others.items)?;
+    let concl = unsolved.concl.copy(alloc)?;
+    Ok(Clause { hyps, concl })
+}
+
+/// The answer of a pair whose solved clause was set apart as a whole. Where there are no clauses the bank may have grown.
+fn resolve_moved<B: Bank>(
+    alloc: Global,
+    bank: &mut B,
+    moved: &Clause,
+    unsolved: &Clause,
+    at: usize,
+) -> Result<Resolved, AllocError>
+    requires moved { IsClauseIn (B.trees bank.old) moved.now }
+    requires unsolved { IsClauseIn (B.trees bank.old) unsolved.now }
+    requires unsolved_low { HasLowVariables (clause_at (B.trees bank.old) unsolved.now) }
+    requires selected { IsSelectedAt (clause_at (B.trees bank.old) unsolved.now) at }
+    ensures grows { Grows (B.trees bank.old) (B.trees bank.new) }
+    ensures answer { (solved : ClauseOf Term) → IsMoved (B.trees bank.old) solved moved.now →
+        IfOk result (λ found. IsAnswerOf (B.trees bank.new) solved
+        (clause_at (B.trees bank.old) unsolved.now) found) }
+{
+    let mut binds = Binds::new(alloc)?;
+    let facts = unsolved.hyps.items.as_slice();
+    if !unify_facts(bank, &moved.concl, &facts[at], &mut binds)? {
+        return Ok(Resolved::NoUnifier);
+    }
+    let clause = joined_without(alloc, moved, unsolved, at)?;
+    found_under(alloc, bank, &binds, &clause)
+}
+
+/// Whether the first of two clauses has fewer symbols. Takes no memory.
+fn is_smaller<B: Bank>(bank: &B, first: &Clause, second: &Clause) -> bool
+    requires first { IsClauseIn (B.trees bank.now) first.now }
+    requires second { IsClauseIn (B.trees bank.now) second.now }
+    ensures { result ≡ nat_lt (capped (clause_size (clause_at (B.trees bank.now) first.now)))
+        (capped (clause_size (clause_at (B.trees bank.now) second.now))) }
+{
+    size_of(bank, first) < size_of(bank, second)
+}
+
+/// The answer of a pair, anew: the smaller one of its clauses is set apart. Where there are no clauses the bank may have
+/// grown.
 fn resolvents_grown<B: Bank>(
     alloc: Global,
     bank: &mut B,
@@ -205,6 +235,10 @@ fn resolvents_grown<B: Bank>(
         (clause_at (B.trees bank.old) solved.now)
         (clause_at (B.trees bank.old) unsolved.now) found) }
 {
+    if is_smaller(bank, solved, unsolved) {
+        let moved = moved_clause(alloc, bank, solved)?;
+        return resolve_moved(alloc, bank, &moved, unsolved, at);
+    }
     let apart = set_apart(alloc, bank, unsolved, at)?;
     resolve_apart(alloc, bank, solved, &apart)
 }

@@ -1,21 +1,24 @@
 //! Clauses, and all that stands before the rows of a certificate.
 
-ghost use Rattle.std.specs.Prelude.{◌≡◌};
+ghost use Rattle.std.specs.Prelude.{◌≡◌, map, IfOk};
+ghost use Rattle.clause_form.specs.Facts.{fact_of};
+ghost use Rattle.clause_form.specs.Fit.{clauses_at};
+ghost use Rattle.clause_form.specs.Seen.{fact_at, clause_at, IsFactIn, AreFactsIn, IsClauseIn, AreClausesIn};
 ghost use Rattle.term_reader.specs.Naming.{protocol_in};
 ghost use Rattle.fact_reader.specs.Gives.{same};
 ghost use Rattle.fact_reader.specs.Reads.{Reads};
 ghost use Rattle.spec_node_counts.specs.ReadClauses as reading;
 ghost use Rattle.node_reader.specs.Tables.{table_of};
 ghost use Rattle.numbered_reader.specs.Walks.{walked_of, Walks};
-ghost use Rattle.fact_reader.specs.Seen.{hypothesis_of};
+ghost use Rattle.numbered_reader.specs.Seen.{hypothesis_in};
 
 use crate::facts::{read_conclusion, read_hypothesis};
 use crate::walked::Walked;
-use cert_form::PlainClauses;
-use clause_form::{PlainClause, PlainFact, PlainFacts};
+use clause_form::{Clause, Clauses, Fact, Facts};
 use fact_reader::{CertError, Cursor};
 use limits::MOST_CLAUSES;
 use node_reader::{Table, read_nodes};
+use shared_cert::SharedClauses;
 use term_reader::Names;
 
 /// A hypothesis and what stands behind it: `, ` where another follows, or ` => `.
@@ -24,11 +27,12 @@ fn one_hypothesis(
     table: &Table,
     cursor: &mut Cursor<'_>,
     walked: &mut Walked,
-) -> Result<(PlainFact, bool), CertError>
-    ensures read { Walks hypothesis_of
+) -> Result<(Fact, bool), CertError>
+    ensures read { Walks (hypothesis_in (table_of table.now).terms)
         (reading.one_hypothesis (protocol_in names.now) (table_of table.now))
         walked.old walked.new cursor.old cursor.new result }
     ensures same { cursor.new.bytes.now ≡ cursor.old.bytes.now }
+    ensures known { IfOk result (λ x. IsFactIn (table_of table.now).terms (fact_of x.0)) }
 {
     let found = read_hypothesis(names, table, cursor, walked)?;
     if cursor.front() == b',' {
@@ -57,18 +61,19 @@ fn some_hypotheses(
     table: &Table,
     cursor: &mut Cursor<'_>,
     walked: &mut Walked,
-) -> Result<PlainFacts, CertError>
-    ensures read { Walks same
+) -> Result<Facts, CertError>
+    ensures read { Walks (map (fact_at (table_of table.now).terms))
         (reading.some_hypotheses (protocol_in names.now) (table_of table.now))
         walked.old walked.new cursor.old cursor.new result }
     ensures same { cursor.new.bytes.now ≡ cursor.old.bytes.now }
+    ensures known { IfOk result (AreFactsIn (table_of table.now).terms) }
 {
     let mut items = Vec::new(names.alloc);
     for round in cursor.at..cursor.bytes.len() + 1 {
         let (next, more) = one_hypothesis(names, table, cursor, walked)?;
         items.push(next)?;
         if !more {
-            return Ok(PlainFacts { items });
+            return Ok(Facts { items });
         }
     }
     Err(CertError::Syntax(cursor.at))
@@ -80,16 +85,17 @@ fn hypotheses(
     table: &Table,
     cursor: &mut Cursor<'_>,
     walked: &mut Walked,
-) -> Result<PlainFacts, CertError>
-    ensures read { Walks same
+) -> Result<Facts, CertError>
+    ensures read { Walks (map (fact_at (table_of table.now).terms))
         (reading.read_hypotheses (protocol_in names.now) (table_of table.now))
         walked.old walked.new cursor.old cursor.new result }
     ensures same { cursor.new.bytes.now ≡ cursor.old.bytes.now }
+    ensures known { IfOk result (AreFactsIn (table_of table.now).terms) }
 {
     if cursor.front() == b'=' {
         cursor.pass(b"=> ")?;
         let items = Vec::new(names.alloc);
-        return Ok(PlainFacts { items });
+        return Ok(Facts { items });
     }
     some_hypotheses(names, table, cursor, walked)
 }
@@ -100,15 +106,16 @@ fn clause(
     table: &Table,
     cursor: &mut Cursor<'_>,
     walked: &mut Walked,
-) -> Result<PlainClause, CertError>
-    ensures read { Walks same
+) -> Result<Clause, CertError>
+    ensures read { Walks (clause_at (table_of table.now).terms)
         (reading.read_clause (protocol_in names.now) (table_of table.now))
         walked.old walked.new cursor.old cursor.new result }
     ensures same { cursor.new.bytes.now ≡ cursor.old.bytes.now }
+    ensures known { IfOk result (IsClauseIn (table_of table.now).terms) }
 {
     let hyps = hypotheses(names, table, cursor, walked)?;
     let concl = read_conclusion(names, table, cursor, walked)?;
-    Ok(PlainClause { hyps, concl })
+    Ok(Clause { hyps, concl })
 }
 
 /// `c `, a clause and the end of its line.
@@ -117,11 +124,12 @@ fn clause_line(
     table: &Table,
     cursor: &mut Cursor<'_>,
     walked: &mut Walked,
-) -> Result<PlainClause, CertError>
-    ensures read { Walks same
+) -> Result<Clause, CertError>
+    ensures read { Walks (clause_at (table_of table.now).terms)
         (reading.clause_line (protocol_in names.now) (table_of table.now))
         walked.old walked.new cursor.old cursor.new result }
     ensures same { cursor.new.bytes.now ≡ cursor.old.bytes.now }
+    ensures known { IfOk result (IsClauseIn (table_of table.now).terms) }
 {
     cursor.pass(b"c ")?;
     *walked = walked.at_clause();
@@ -142,16 +150,17 @@ fn clauses(
     table: &Table,
     cursor: &mut Cursor<'_>,
     walked: &mut Walked,
-) -> Result<PlainClauses, CertError>
-    ensures read { Walks same
+) -> Result<Clauses, CertError>
+    ensures read { Walks (clauses_at (table_of table.now).terms)
         (reading.read_clauses (protocol_in names.now) (table_of table.now))
         walked.old walked.new cursor.old cursor.new result }
     ensures same { cursor.new.bytes.now ≡ cursor.old.bytes.now }
+    ensures known { IfOk result (AreClausesIn (table_of table.now).terms) }
 {
     let mut items = Vec::new(names.alloc);
     for round in 0..MOST_CLAUSES {
         if cursor.front() != b'c' {
-            return Ok(PlainClauses { items });
+            return Ok(Clauses { items });
         }
         let next = clause_line(names, table, cursor, walked)?;
         items.push(next)?;
@@ -159,7 +168,7 @@ fn clauses(
     if cursor.front() == b'c' {
         return Err(CertError::Count(cursor.at));
     }
-    Ok(PlainClauses { items })
+    Ok(Clauses { items })
 }
 
 /// Whether rows or the last line begin with the byte.
@@ -181,10 +190,11 @@ fn reached_clauses(
     names: &Names<'_>,
     table: &Table,
     cursor: &mut Cursor<'_>,
-) -> Result<PlainClauses, CertError>
-    ensures read { Reads same (reading.reached_clauses (protocol_in names.now)
-        (table_of table.now)) cursor.old cursor.new result }
+) -> Result<Clauses, CertError>
+    ensures read { let T = table_of table.now in Reads (clauses_at T.terms)
+        (reading.reached_clauses (protocol_in names.now) T) cursor.old cursor.new result }
     ensures same { cursor.new.bytes.now ≡ cursor.old.bytes.now }
+    ensures known { IfOk result (AreClausesIn (table_of table.now).terms) }
 {
     let mut walked = Walked::nothing();
     let found = clauses(names, table, cursor, &mut walked)?;
@@ -196,12 +206,13 @@ fn reached_clauses(
 
 /// The clauses of a certificate by a table that stands there: its first line, its nodes and its clauses, up to its rows; or the
 /// first fault.
-pub fn read_numbered(names: &Names<'_>, cursor: &mut Cursor<'_>) -> Result<PlainClauses, CertError>
+pub fn read_numbered(names: &Names<'_>, cursor: &mut Cursor<'_>) -> Result<SharedClauses, CertError>
     ensures read { Reads same (reading.clauses_read (protocol_in names.now))
         cursor.old cursor.new result }
     ensures same { cursor.new.bytes.now ≡ cursor.old.bytes.now }
 {
     cursor.pass(b"cert 2\n")?;
     let table = read_nodes(names, cursor)?;
-    reached_clauses(names, &table, cursor)
+    let clauses = reached_clauses(names, &table, cursor)?;
+    Ok(SharedClauses::over(table.bank, clauses))
 }

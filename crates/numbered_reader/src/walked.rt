@@ -1,16 +1,14 @@
 //! How far the walk through the clauses has come, and the terms of numbers in clauses.
 
-ghost use Rattle.std.specs.Prelude.{◌≡◌, ◌<◌, ◌≤◌};
-ghost use Rattle.clause_form.specs.Plain.{term_of};
+ghost use Rattle.std.specs.Prelude.{◌≡◌, ◌<◌, ◌≤◌, length, IfOk};
+ghost use Rattle.term_tree.specs.Bank.{tree_at};
 ghost use Rattle.spec_node_counts.specs.Counts as reading;
 ghost use Rattle.node_reader.specs.Tables.{table_of};
 ghost use Rattle.numbered_reader.specs.Walks.{walked_of, Walks};
 
-use clause_form::{Tree, read_term};
 use fact_reader::{CertError, Cursor};
 use limits::{MOST_REPORT_BYTES, MOST_SYMBOLS};
 use node_reader::Table;
-use std::alloc::Global;
 use term_tree::{Bank, Id};
 
 /// The most symbols of all clauses of a certificate that is written by a table: as many as a report has bytes at most.
@@ -101,15 +99,11 @@ fn is_next(table: &Table, walked: Walked, number: usize) -> bool
 
 /// The term of the number that stands there.
 #[tactic(auto, using(crate::proofs::Symbols::symbols))]
-pub fn term(
-    alloc: Global,
-    table: &Table,
-    cursor: &mut Cursor<'_>,
-    walked: &mut Walked,
-) -> Result<Tree, CertError>
-    ensures read { Walks term_of (reading.read_term (table_of table.now)) walked.old walked.new
-        cursor.old cursor.new result }
+pub fn term(table: &Table, cursor: &mut Cursor<'_>, walked: &mut Walked) -> Result<Id, CertError>
+    ensures read { let T = table_of table.now in Walks (tree_at T.terms) (reading.read_term T)
+        walked.old walked.new cursor.old cursor.new result }
     ensures same { cursor.new.bytes.now ≡ cursor.old.bytes.now }
+    ensures known { IfOk result (λ id. id.index < length (table_of table.now).terms) }
 {
     let from = cursor.at;
     let number = cursor.number()? as usize;
@@ -122,5 +116,5 @@ pub fn term(
         return Err(CertError::NodeLarge(from));
     }
     *walked = next;
-    Ok(read_term(alloc, &table.bank, id)?)
+    Ok(id)
 }

@@ -1,6 +1,8 @@
 -- The clauses that stand before each goal, as the bank grows and with a goal behind them.
-use Rattle.std.proofs.Common.{◌≡◌, ◌∙◌, ℕ, suc, ◌-◌, Some, List, [], ◌∷◌, ◌++◌, length, map, get_or, ap, sym, subst, arith}
-use Rattle.std.proofs.lemmas.List.{length-map}
+use Rattle.std.proofs.Common.{◌≡◌, ◌∙◌, ℕ, suc, ◌-◌, Some, Result, List, [], ◌∷◌, ◌++◌, length, map, take, get_or, ap, sym, subst, arith}
+use Rattle.std.specs.Prelude.{OnOk}
+use Rattle.std.proofs.lemmas.List.{length-map, take_all}
+use Rattle.std.proofs.lemmas.Result.{IfOk-weaker}
 use Rattle.spec_calculus.specs.Syntax.{Query, Protocol, SecretNew}
 use Rattle.spec_calculus.specs.Points.{numbered}
 use Rattle.spec_well_formed.specs.Limits.{IsSmallQuery, IsWithinLimits}
@@ -10,6 +12,7 @@ use Rattle.spec_clauses.specs.Norm.{IsNormal}
 use Rattle.spec_clauses.specs.Limits.{IsWithinLimit}
 use Rattle.spec_clauses.specs.Inclusion.{Has}
 use Rattle.spec_clauses.proofs.Inclusion.{Has-append_left}
+use Rattle.spec_saturation.specs.Key as offered
 use Rattle.spec_saturation.specs.Common.{with_goal}
 use Rattle.spec_saturation.proofs.Common.{with_goal_length}
 use Rattle.spec_translation.specs.Translation.{Clauses, IsTranslation, goal_clauses}
@@ -17,12 +20,16 @@ use Rattle.term_tree.specs.Bank.{Grows}
 use Rattle.term_tree.specs.declared.bank.Id.{Id}
 use Rattle.clause_form.specs.Seen.{clause_at, AreClausesIn, NameClauses}
 use Rattle.clause_form.specs.Fit.{AreFit}
+use Rattle.clause_saturate.specs.declared.log.Entry.{Entry}
 use Rattle.clause_saturate.specs.declared.log.Saturated.{Saturated}
 use Rattle.clause_saturate.specs.declared.common.Common.{Common}
-use Rattle.clause_saturate.specs.Logs.{IsLogOf}
+use Rattle.clause_saturate.specs.Logs.{IsLogOf, TellLog}
+use Rattle.clause_saturate.specs.Beating.{clauses_of}
 use Rattle.clause_saturate.specs.Common.{Shared, begun_log, begun_size, log_of, IsCommonOf, IsFreshCommon}
 use Rattle.clause_saturate.proofs.Giving.{number_given, numbered_goal}
 use Rattle.clause_translate.specs.Whole.{IsCommonTo}
+use Rattle.cert_writer.specs.declared.known.KnownRows.{KnownRows}
+use Rattle.cert_writer.specs.Known.{IsKnown}
 use Rattle.query_verify.specs.Settled.{AreCommonTo, AreGoalBehind, shared_of}
 use Rattle.query_verify.proofs.Fitting.{named_fit, known_later, same_later}
 
@@ -77,3 +84,17 @@ goal_behind P old new given all budget q one names =
 -- what is rewound is fresh
 pub rewound : (old new : List Term) (shared : Shared) (common : Common) → new ≡ old → IsCommonOf new shared common → log_of common ≡ begun_log common → begun_size common ≡ length old → IsFreshCommon new shared common
 rewound old new shared common same held fresh size = record { held = held; fresh = fresh; size = size ∙ ap length (sym same) }
+
+-- the clauses of a fresh one's log are known
+pub fresh_known : (all : List Term) (shared : Shared) (common : Common) → ((trees : List Term) (entries : List Entry) (log : List offered.Entry) → TellLog trees entries log → AreClausesIn trees (clauses_of entries)) → IsFreshCommon all shared common
+    → AreClausesIn all (clauses_of (log_of common))
+fresh_known all shared common known begun =
+    let whole : take (begun_size common) all ≡ all = take_all (begun_size common) all (omega (arith, begun.size)) in
+    subst (λ (entries : List Entry). AreClausesIn all (clauses_of entries)) (sym begun.fresh)
+    (known all (begun_log common) begun.held.log (subst (λ (trees : List Term). TellLog trees (begun_log common) begun.held.log) whole begun.held.tell))
+
+-- what is kept of clauses that are known in a bank is right there, if it is as that has grown
+pub kept_back : {X E : Type 0} (old new : List Term) (was is : KnownRows) (result : Result X E) → ((known : KnownRows) → Grows old new → AreClausesIn old known.live → IsKnown new known → IsKnown old known) → Grows old new → IsKnown old was → is.live ≡ was.live
+    → OnOk result (IsKnown new is) → OnOk result (IsKnown old is)
+kept_back old new was is result back grows kept same there =
+    IfOk-weaker result (λ _. IsKnown new is) (λ _. IsKnown old is) (λ _ h. back is grows (subst (λ (cs : List (Clause Id)). AreClausesIn old cs) (sym same) kept.names) h) there

@@ -1,6 +1,6 @@
 //! Queries decided: the translation, the log of its clauses, and what that comes to.
 
-ghost use Rattle.std.specs.Prelude.{◌≡◌, ◌<◌, ◌^◌, IfOk, map};
+ghost use Rattle.std.specs.Prelude.{◌≡◌, ◌<◌, ◌^◌, IfOk, OnOk, map};
 ghost use Rattle.spec_well_formed.specs.Limits.{IsWithinLimits};
 ghost use Rattle.spec_well_formed.specs.Rules.{HasProperRules};
 ghost use Rattle.spec_well_formed.specs.Queries.{HasProperQueries};
@@ -12,13 +12,14 @@ ghost use Rattle.term_tree.specs.Bank.{Grows};
 ghost use Rattle.clause_form.specs.Seen.{clause_at};
 ghost use Rattle.query_derive.specs.GoalRows.{OfQuery};
 ghost use Rattle.clause_saturate.specs.Logs.{IsLogOf, IsClosedLog};
+ghost use Rattle.cert_writer.specs.Known.{IsKnown};
 ghost use Rattle.query_verify.specs.Asked.{CanBeAsked, AreAskedOf, Answers};
 ghost use Rattle.query_verify.specs.Told.{IsAnswer, AnswerQueries};
 
 use crate::answers::{Verdict, Verdicts};
 use crate::question::{Asking, Question};
 use crate::sharing::all_verdicts;
-use cert_writer::{Certified, certify};
+use cert_writer::{Certified, ClosedLog, KnownRows, certify_with, none_known};
 use clause_form::Clause;
 use clause_saturate::{Log, Saturated, entries_tell_logs, read_entry, read_log, saturate};
 use clause_translate::{Translated, translate};
@@ -35,23 +36,26 @@ pub(crate) fn closed<B: Bank>(
     bank: &mut B,
     given: &[Clause],
     log: &Log,
+    known: &mut KnownRows,
 ) -> Result<Verdict, AllocError>
     requires question { CanBeAsked question.now }
     requires given { AreAskedOf question.now (B.trees bank.old) given.now }
     requires log { let all = B.trees bank.old in
         IsClosedLog all (map (clause_at all) given.now) question.now.budget log.now }
+    requires kept { IsKnown (B.trees bank.old) known.old }
     ensures answers { IfOk result (λ answer. Answers question.now answer) }
+    ensures kept { OnOk result (IsKnown (B.trees bank.old) known.new) }
+    ensures live { known.new.live ≡ known.old.live }
     ensures bank { B.trees bank.new ≡ B.trees bank.old }
 {
     entries_tell_logs();
-    match certify(
-        question.alloc,
-        bank,
-        question.protocol,
-        question.query,
+    let asked = ClosedLog {
+        protocol: question.protocol,
+        query: question.query,
         given,
         log,
-    )? {
+    };
+    match certify_with(question.alloc, bank, &asked, known)? {
         Certified::Cert(cert) => Ok(Verdict::Proved(cert)),
         Certified::Unsatisfied(number) => {
             let entries = read_log(question.alloc, bank, log)?;
@@ -76,7 +80,10 @@ fn ended<B: Bank>(
 {
     entries_tell_logs();
     match saturated {
-        Saturated::Closed(log) => closed(question, bank, given, log),
+        Saturated::Closed(log) => {
+            let mut known = none_known(question.alloc);
+            closed(question, bank, given, log, &mut known)
+        }
         Saturated::Spent(log, due) => {
             let entries = read_log(question.alloc, bank, log)?;
             let entry = read_entry(question.alloc, bank, due)?;

@@ -1,6 +1,6 @@
 //! All queries decided by one saturation: up to the goal it is done once, and from there for each query's goal.
 
-ghost use Rattle.std.specs.Prelude.{◌≡◌, ◌<◌, ◌^◌, map, IfOk};
+ghost use Rattle.std.specs.Prelude.{◌≡◌, ◌<◌, ◌^◌, map, IfOk, OnOk};
 ghost use Rattle.spec_well_formed.specs.Limits.{IsWithinLimits};
 ghost use Rattle.spec_well_formed.specs.Rules.{HasProperRules};
 ghost use Rattle.spec_well_formed.specs.Queries.{HasProperQueries};
@@ -9,8 +9,9 @@ ghost use Rattle.pi_tree.specs.Protocols.{protocol_of};
 ghost use Rattle.term_tree.specs.Bank.{Grows};
 ghost use Rattle.clause_form.specs.Seen.{clause_at};
 ghost use Rattle.clause_saturate.specs.Logs.{IsLogOf};
-ghost use Rattle.clause_saturate.specs.Common.{Shared, saturated, begun_log, begun_size, IsCommonOf, IsFreshCommon};
+ghost use Rattle.clause_saturate.specs.Common.{Shared, saturated, begun_log, begun_size, log_of, IsCommonOf, IsFreshCommon};
 ghost use Rattle.clause_translate.specs.Whole.{IsCommonTo};
+ghost use Rattle.cert_writer.specs.Known.{IsKnown};
 ghost use Rattle.query_verify.specs.Asked.{CanBeAsked, AreAskedOf, Answers, protocol_at};
 ghost use Rattle.query_verify.specs.Settled.{shared_of, AreGoalBehind};
 ghost use Rattle.query_verify.specs.Told.{AnswerQueries};
@@ -19,6 +20,7 @@ use crate::answers::{Verdict, Verdicts};
 use crate::deciding::closed;
 use crate::question::{Asking, Question};
 use crate::settled::{Settled, settled_verdicts};
+use cert_writer::{KnownRows, known_rows, known_rows_outlast_growth};
 use clause_form::{Clause, Clauses};
 use clause_saturate::common::log;
 use clause_saturate::{
@@ -33,31 +35,48 @@ use spec_translation::{
 use std::alloc::{AllocError, Global};
 use term_tree::Bank;
 
+/// What the queries share: the common part of their logs, and the rows of its clauses.
+#[derive(Drop)]
+struct Sharing {
+    common: Common,
+    known: KnownRows,
+}
+
 /// The verdict by the log of the given clauses, and its end.
 fn told<B: Bank>(
     question: &Question<'_>,
     bank: &mut B,
     given: &[Clause],
-    log: &Log,
+    sharing: &mut Sharing,
     end: &End,
 ) -> Result<Verdict, AllocError>
     requires question { CanBeAsked question.now }
     requires given { AreAskedOf question.now (B.trees bank.old) given.now }
     requires log { let all = B.trees bank.old in IsLogOf all (map (clause_at all) given.now)
-        question.now.budget (saturated log.now end.now) }
+        question.now.budget (saturated (log_of sharing.old.common) end.now) }
+    requires kept { IsKnown (B.trees bank.old) sharing.old.known }
     ensures answers { IfOk result (λ answer. Answers question.now answer) }
+    ensures kept { OnOk result (IsKnown (B.trees bank.old) sharing.new.known) }
+    ensures live { sharing.new.known.live ≡ sharing.old.known.live }
+    ensures common { sharing.new.common ≡ sharing.old.common }
     ensures bank { B.trees bank.new ≡ B.trees bank.old }
 {
     entries_tell_logs();
     match end {
-        End::Closed => closed(question, bank, given, log),
+        End::Closed => closed(
+            question,
+            bank,
+            given,
+            log(&sharing.common),
+            &mut sharing.known,
+        ),
         End::Spent(due) => {
-            let entries = read_log(question.alloc, bank, log)?;
+            let entries = read_log(question.alloc, bank, log(&sharing.common))?;
             let entry = read_entry(question.alloc, bank, due)?;
             Ok(Verdict::Budget(entries, entry))
         }
         End::Large(solved, unsolved) => {
-            let entries = read_log(question.alloc, bank, log)?;
+            let entries = read_log(question.alloc, bank, log(&sharing.common))?;
             Ok(Verdict::SizePair(entries, *solved, *unsolved))
         }
     }
@@ -79,25 +98,29 @@ fn gone_on<B: Bank>(
     question: &Question<'_>,
     bank: &mut B,
     given: &[Clause],
-    common: &mut Common,
+    sharing: &mut Sharing,
 ) -> Result<Verdict, AllocError>
     ghost shared: { Shared }
     requires question { CanBeAsked question.now }
     requires given { AreAskedOf question.now (B.trees bank.old) given.now }
     requires goal { AreGoalBehind (B.trees bank.old) shared given.now }
     requires budget { shared.budget ≡ question.now.budget }
-    requires common { IsCommonOf (B.trees bank.old) shared common.old }
+    requires common { IsCommonOf (B.trees bank.old) shared sharing.old.common }
+    requires kept { IsKnown (B.trees bank.old) sharing.old.known }
     ensures answers { IfOk result (λ answer. Answers question.now answer) }
+    ensures kept { OnOk result (IsKnown (B.trees bank.old) sharing.new.known) }
+    ensures live { sharing.new.known.live ≡ sharing.old.known.live }
     ensures grows { Grows (B.trees bank.old) (B.trees bank.new) }
-    ensures common { IsCommonOf (B.trees bank.new) shared common.new }
-    ensures begun { begun_log common.new ≡ begun_log common.old }
-    ensures size { begun_size common.new ≡ begun_size common.old }
+    ensures common { IsCommonOf (B.trees bank.new) shared sharing.new.common }
+    ensures begun { begun_log sharing.new.common ≡ begun_log sharing.old.common }
+    ensures size { begun_size sharing.new.common ≡ begun_size sharing.old.common }
 {
     translations_are_normal();
     translations_are_within_the_limit();
+    known_rows_outlast_growth();
     let goal = given[given.len() - 1].copy(question.alloc)?;
-    let end = finish(bank, common, goal)?;
-    let answer = told(question, bank, given, log(common), &end);
+    let end = finish(bank, &mut sharing.common, goal)?;
+    let answer = told(question, bank, given, sharing, &end);
     drop(end);
     answer
 }
@@ -107,21 +130,25 @@ fn finished<B: Bank>(
     question: &Question<'_>,
     bank: &mut B,
     given: &[Clause],
-    common: &mut Common,
+    sharing: &mut Sharing,
 ) -> Result<Verdict, AllocError>
     ghost shared: { Shared }
     requires question { CanBeAsked question.now }
     requires queries { HasProperQueries (protocol_at question.now) }
     requires given { IsCommonTo (protocol_at question.now) (B.trees bank.old) given.now }
     requires shared { shared ≡ shared_of (B.trees bank.old) given.now question.now.budget }
-    requires common { IsCommonOf (B.trees bank.old) shared common.old }
+    requires common { IsCommonOf (B.trees bank.old) shared sharing.old.common }
+    requires kept { IsKnown (B.trees bank.old) sharing.old.known }
     ensures answers { IfOk result (λ answer. Answers question.now answer) }
+    ensures kept { OnOk result (IsKnown (B.trees bank.old) sharing.new.known) }
+    ensures live { sharing.new.known.live ≡ sharing.old.known.live }
     ensures grows { Grows (B.trees bank.old) (B.trees bank.new) }
-    ensures common { IsCommonOf (B.trees bank.new) shared common.new }
-    ensures begun { begun_log common.new ≡ begun_log common.old }
-    ensures size { begun_size common.new ≡ begun_size common.old }
+    ensures common { IsCommonOf (B.trees bank.new) shared sharing.new.common }
+    ensures begun { begun_log sharing.new.common ≡ begun_log sharing.old.common }
+    ensures size { begun_size sharing.new.common ≡ begun_size sharing.old.common }
 {
     commons_serve_each_goal();
+    known_rows_outlast_growth();
     translations_have_one_goal();
     let copied = copies(question.alloc, given)?;
     let all = with_goal(
@@ -131,7 +158,7 @@ fn finished<B: Bank>(
         question.query,
         copied,
     )?;
-    let answer = gone_on(question, bank, &all.items, common);
+    let answer = gone_on(question, bank, &all.items, sharing);
     drop(all);
     answer
 }
@@ -141,20 +168,23 @@ fn decided_by<B: Bank>(
     question: &Question<'_>,
     bank: &mut B,
     given: &[Clause],
-    common: &mut Common,
+    sharing: &mut Sharing,
 ) -> Result<Verdict, AllocError>
     requires question { CanBeAsked question.now }
     requires queries { HasProperQueries (protocol_at question.now) }
     requires given { IsCommonTo (protocol_at question.now) (B.trees bank.old) given.now }
     requires common { IsFreshCommon (B.trees bank.old)
-        (shared_of (B.trees bank.old) given.now question.now.budget) common.old }
+        (shared_of (B.trees bank.old) given.now question.now.budget) sharing.old.common }
+    requires kept { IsKnown (B.trees bank.old) sharing.old.known }
     ensures answers { IfOk result (λ answer. Answers question.now answer) }
+    ensures kept { OnOk result (IsKnown (B.trees bank.old) sharing.new.known) }
+    ensures live { sharing.new.known.live ≡ sharing.old.known.live }
     ensures bank { B.trees bank.new ≡ B.trees bank.old }
     ensures common { IsFreshCommon (B.trees bank.new)
-        (shared_of (B.trees bank.new) given.now question.now.budget) common.new }
+        (shared_of (B.trees bank.new) given.now question.now.budget) sharing.new.common }
 {
-    let answer = finished(question, bank, given, common);
-    rewind(bank, common);
+    let answer = finished(question, bank, given, sharing);
+    rewind(bank, &mut sharing.common);
     answer
 }
 
@@ -163,14 +193,15 @@ fn shared_verdicts<B: Bank>(
     asking: &Asking<'_>,
     bank: &mut B,
     given: &[Clause],
-    common: &mut Common,
+    sharing: &mut Sharing,
 ) -> Result<Verdicts, AllocError>
     requires limits { IsWithinLimits (protocol_of asking.now.protocol.now) }
     requires queries { HasProperQueries (protocol_of asking.now.protocol.now) }
     requires budget { asking.now.budget < 2 ^ 32 }
     requires given { IsCommonTo (protocol_of asking.now.protocol.now) (B.trees bank.old) given.now }
     requires common { IsFreshCommon (B.trees bank.old)
-        (shared_of (B.trees bank.old) given.now asking.now.budget) common.old }
+        (shared_of (B.trees bank.old) given.now asking.now.budget) sharing.old.common }
+    requires kept { IsKnown (B.trees bank.old) sharing.old.known }
     ensures answers { let P = protocol_of asking.now.protocol.now in
         IfOk result (λ answers. AnswerQueries P asking.now.budget P.queries answers) }
     ensures bank { B.trees bank.new ≡ B.trees bank.old }
@@ -183,7 +214,7 @@ fn shared_verdicts<B: Bank>(
             query: index + 1,
             budget: asking.budget,
         };
-        let answer = decided_by(&question, bank, given, common)?;
+        let answer = decided_by(&question, bank, given, sharing)?;
         items.push(answer)?;
     }
     Ok(Verdicts { items })
@@ -205,10 +236,13 @@ fn begun_verdicts<B: Bank>(
 {
     translations_are_normal();
     translations_are_within_the_limit();
+    entries_tell_logs();
     match begin(asking.alloc, bank, given, asking.budget)? {
-        Begun::Ready(mut common) => {
-            let answers = shared_verdicts(asking, bank, given, &mut common);
-            drop(common);
+        Begun::Ready(common) => {
+            let known = known_rows(asking.alloc, log(&common))?;
+            let mut sharing = Sharing { common, known };
+            let answers = shared_verdicts(asking, bank, given, &mut sharing);
+            drop(sharing);
             answers
         }
         Begun::Spent(log, due) => settled_verdicts(asking, bank, &Settled::Spent(log, due)),

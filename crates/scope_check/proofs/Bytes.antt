@@ -13,9 +13,9 @@ use Rattle.spec_protocol_scope.specs.Spells.{texts, IsFaultAt, Spells, Refusal, 
 use Rattle.pi_tree.specs.declared.protocols.Protocol.{Protocol}
 use Rattle.pi_tree.specs.Protocols.{protocol_of}
 use Rattle.scope_check.specs.declared.error.ScopeError.{ScopeError}
-use Rattle.scope_check.specs.declared.stop.Stop.{Stop}
-use Rattle.scope_check.specs.declared.stop.Stop.TheVariants as stop
-use Rattle.scope_check.specs.Answer.{Stops}
+use Rattle.scope_declarations.specs.declared.stop.Stop.{Stop}
+use Rattle.scope_declarations.specs.declared.stop.Stop.TheVariants as stop
+use Rattle.scope_declarations.specs.Answer.{Stops}
 use Rattle.scope_check.specs.Error.{refusal_of, fault_of, placed, IsFault, IsFaultOf, IsError, AnswersScope, IsRefusalOf, GivesProtocol, GivesRefusal}
 
 -- the tokens of some bytes, and what is answered of their sketch

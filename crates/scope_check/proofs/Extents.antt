@@ -18,7 +18,7 @@ use Rattle.pi_tree.specs.declared.destructors.Dtor.{Dtor}
 use Rattle.pi_tree.specs.Rules.{destructor_of}
 use Rattle.pi_tree.proofs.Items.{numbered-index}
 use Rattle.scope_check.specs.Extents.{Counts, CountsExpression, CountsRow, CountsRoot, capped_applications, capped_choices, root_applications, root_choices}
-use Rattle.scope_check.specs.Terms.{capped}
+use Rattle.scope_declarations.specs.Terms.{capped}
 use Rattle.scope_check.specs.declared.expressions.Extent.{Extent}
 
 -- a product whose first factor is over the limit

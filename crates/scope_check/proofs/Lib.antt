@@ -1,16 +1,8 @@
 pub mod Spans
-pub mod Lists
-pub mod Texts
-pub mod Found
-pub mod Numbered
-pub mod Tables
-pub mod Meanings
-pub mod Steps
 pub mod Macros
 pub mod Stopping
 pub mod Rows
 pub mod Extents
 pub mod Restrictions
 pub mod Bytes
-pub mod Few
 pub mod Shortness

@@ -4,8 +4,8 @@ use Rattle.spec_protocol_grammar.specs.Sketch as own
 use Rattle.spec_protocol_scope.specs.Answers.{Answer, ◌>>=◌, TooMany, fault}
 use Rattle.spec_protocol_scope.specs.Names.{Scope}
 use Rattle.spec_protocol_scope.specs.Processes as rules
-use Rattle.scope_check.specs.declared.names.Macro.{Macro}
-use Rattle.scope_check.specs.Names.{macro_of}
+use Rattle.scope_declarations.specs.declared.names.Macro.{Macro}
+use Rattle.scope_declarations.specs.Names.{macro_of}
 use Rattle.pi_parser.specs.Processes.{process_of}
 use Rattle.scope_check.specs.Forms.{macros_of, expansion_at, process_weight, macros_weight}
 

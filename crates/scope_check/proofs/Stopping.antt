@@ -8,10 +8,10 @@ use Rattle.spec_protocol_scope.specs.Declarations.{declare_all}
 use Rattle.spec_protocol_scope.specs.Processes.{main_process}
 use Rattle.spec_protocol_scope.specs.Queries.{queries}
 use Rattle.spec_protocol_scope.specs.Scope.{protocol_of, protocol_with, scope}
-use Rattle.scope_check.specs.Answer.{Stops}
+use Rattle.scope_declarations.specs.Answer.{Stops}
 use Rattle.scope_check.specs.Error.{main_then_queries}
-use Rattle.scope_check.specs.declared.stop.Stop.{Stop}
-use Rattle.scope_check.specs.declared.stop.Stop.TheVariants as stop
+use Rattle.scope_declarations.specs.declared.stop.Stop.{Stop}
+use Rattle.scope_declarations.specs.declared.stop.Stop.TheVariants as stop
 
 pub stops_step : {A B : Type 0} (e : Stop) (a : Answer A) (f : A → Answer B) → Stops e a → Stops e (a >>= f)
 stops_step (stop.Fault code token) a f h = ap (λ x. x >>= f) h

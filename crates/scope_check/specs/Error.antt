@@ -12,9 +12,9 @@ use Rattle.spec_protocol_scope.specs.Spells as spells
 use Rattle.spec_protocol_scope.specs.Spells.{Scoped}
 use Rattle.pi_tree.specs.declared.protocols.Protocol.{Protocol}
 use Rattle.pi_tree.specs.Protocols.{protocol_of}
-use Rattle.scope_check.specs.declared.stop.Stop.{Stop}
-use Rattle.scope_check.specs.declared.stop.Stop.TheVariants as stop
-use Rattle.scope_check.specs.Answer.{code_of}
+use Rattle.scope_declarations.specs.declared.stop.Stop.{Stop}
+use Rattle.scope_declarations.specs.declared.stop.Stop.TheVariants as stop
+use Rattle.scope_declarations.specs.Answer.{code_of}
 use Rattle.scope_check.specs.declared.error.ScopeError.{ScopeError}
 use Rattle.scope_check.specs.declared.error.ScopeError.TheVariants.{Unknown, Twice, Arity, Kind, LooseVariable, TooMany, AmbiguousNew, LongFile, Memory}
 

@@ -7,7 +7,7 @@ use Rattle.spec_calculus.specs.Choices.{applications, row_applications, choice_c
 use Rattle.spec_well_formed.specs.Terms.{rule_count, expression_size, row_expression_size}
 use Rattle.spec_protocol_scope.specs.Names.{signature_with}
 use Rattle.spec_protocol_scope.specs.Names as own
-use Rattle.scope_check.specs.Terms.{capped}
+use Rattle.scope_declarations.specs.Terms.{capped}
 use Rattle.scope_check.specs.declared.expressions.Extent.{Extent}
 use Rattle.scope_check.specs.declared.expressions.Root.{Root}
 use Rattle.scope_check.specs.declared.expressions.Root.TheVariants.{Constructor, Tuple, Destructor}

@@ -4,11 +4,11 @@ use Rattle.spec_protocol_grammar.specs.Sketch.{ProcessSketch, Process, BesideSke
 use Rattle.spec_protocol_scope.specs.Names as names
 use Rattle.spec_protocol_scope.specs.Processes as rules
 use Rattle.pi_parser.specs.Processes.{process_of, unit_of}
-use Rattle.scope_check.specs.Names.{macro_of}
-use Rattle.scope_check.specs.Bound.{bound_of}
+use Rattle.scope_declarations.specs.Names.{macro_of}
+use Rattle.scope_declarations.specs.Bound.{bound_of}
 use Rattle.scope_check.specs.Numbers.{numbers_of}
-use Rattle.scope_check.specs.Scope.{scope_of}
-use Rattle.scope_check.specs.declared.names.Macro.{Macro as RustMacro}
+use Rattle.scope_declarations.specs.Scope.{scope_of}
+use Rattle.scope_declarations.specs.declared.names.Macro.{Macro as RustMacro}
 use Rattle.scope_check.specs.declared.site.Site.{Site}
 use Rattle.scope_check.specs.declared.site.Form.{Form}
 use Rattle.scope_check.specs.declared.site.Form.TheVariants as f

@@ -5,7 +5,7 @@ use Rattle.spec_calculus.specs.Syntax as calculus
 use Rattle.spec_protocol_scope.specs.Processes as own
 use Rattle.pi_tree.specs.declared.syntax.Process.{Process}
 use Rattle.pi_tree.specs.Processes.{process_of}
-use Rattle.scope_check.specs.Within.{most_bound}
+use Rattle.scope_declarations.specs.Within.{most_bound}
 use Rattle.scope_check.specs.declared.numbers.Numbers.{Numbers}
 
 -- the variables of one pattern more may come before the next point

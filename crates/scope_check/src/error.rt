@@ -2,12 +2,12 @@
 
 ghost use Rattle.std.specs.Prelude.{◌≡◌, Some};
 ghost use Rattle.spec_protocol_scope.specs.Spells.{Scoped};
-ghost use Rattle.scope_check.specs.Answer.{code_of};
+ghost use Rattle.scope_declarations.specs.Answer.{code_of};
 ghost use Rattle.scope_check.specs.Error.{refusal_of, fault_of, placed};
 
-use crate::source::Text;
-use crate::stop::{Code, Stop};
-use crate::text::place;
+use scope_declarations::source::Text;
+use scope_declarations::stop::{Code, Stop};
+use scope_declarations::text::place;
 use std::alloc::AllocError;
 use thiserror::Error;
 

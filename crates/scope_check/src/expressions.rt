@@ -3,28 +3,29 @@
 ghost use Rattle.std.specs.Prelude.{◌≡◌, ◌+◌, ◌*◌, Some, IfOk, IsTrue};
 ghost use Rattle.std.specs.Option.{is_some};
 ghost use Rattle.spec_trees.specs.Tree.{trees};
-ghost use Rattle.spec_well_formed.specs.Terms.{row_expression_size};
+ghost use Rattle.spec_well_formed.specs.Terms.{rule_count, row_expression_size};
 ghost use Rattle.spec_protocol_grammar.specs.Sketch.{terms_sketch};
 ghost use Rattle.spec_protocol_scope.specs.Names as naming;
 ghost use Rattle.spec_protocol_scope.specs.Expressions as rules;
 ghost use Rattle.pi_parser.specs.Terms as sketched;
 ghost use Rattle.pi_tree.specs.Expressions.{expression_of};
-ghost use Rattle.scope_check.specs.Answer.{Gives};
-ghost use Rattle.scope_check.specs.Bound.{bound_of};
+ghost use Rattle.scope_declarations.specs.Answer.{Gives};
+ghost use Rattle.scope_declarations.specs.Bound.{bound_of};
+ghost use Rattle.scope_declarations.specs.Names.{names_of};
 ghost use Rattle.scope_check.specs.Extents.{root_of, rules_at, capped_applications, capped_choices, Counts, CountsExpression, CountsRow, CountsRoot};
-ghost use Rattle.scope_check.specs.Scope.{scope_of};
-ghost use Rattle.scope_check.specs.Terms.{capped};
+ghost use Rattle.scope_declarations.specs.Scope.{scope_of};
+ghost use Rattle.scope_declarations.specs.Terms.{capped};
 
-use crate::leaves::{process_leaf, taking};
-use crate::names::{Meaning, look, rule_count};
-use crate::place::Place;
-use crate::scope::Scope;
-use crate::stop::{Code, Stop};
-use crate::terms::count_of;
 use pi_parser::{TermSketch, TermsSketch};
 use pi_tree::{
     Expr, Exprs, MOST_APPLICATIONS, MOST_ARGUMENTS, MOST_CHOICES, MOST_WRITTEN_SYMBOLS, Term, Terms,
 };
+use scope_declarations::leaves::{process_leaf, taking};
+use scope_declarations::names::{Meaning, Names, look};
+use scope_declarations::place::Place;
+use scope_declarations::scope::Scope;
+use scope_declarations::stop::{Code, Stop};
+use scope_declarations::terms::count_of;
 use std::alloc::{AllocError, Global};
 
 /// How much there is of an expression, or of expressions in a row. Of each number one more than its limit stands for
@@ -81,6 +82,19 @@ fn one_symbol() -> Extent
         symbols: 1,
         applications: 0,
         choices: 1,
+    }
+}
+
+/// How many rules the destructor of that number has.
+fn rule_count(names: &Names, number: u32) -> usize
+    ensures { result ≡ rule_count (naming.signature_with (names_of names.now)) number }
+{
+    if number == 0 {
+        return 0;
+    }
+    match names.dtors.items.get(number as usize - 1) {
+        Some(destructor) => destructor.rules.items.len(),
+        None => 0,
     }
 }
 

@@ -15,45 +15,34 @@ ghost use Rattle.pi_parser.specs.Answers.{IsSpelled};
 ghost use Rattle.pi_parser.specs.Files.{file_of};
 ghost use Rattle.pi_tree.specs.Processes.{process_of};
 ghost use Rattle.pi_tree.specs.Protocols.{protocol_of};
-ghost use Rattle.scope_check.specs.Answer.{Gives};
+ghost use Rattle.scope_declarations.specs.Answer.{Gives};
 ghost use Rattle.scope_check.specs.Error.{AnswersScope, main_then_queries, IsRefusalOf, GivesProtocol, GivesRefusal};
-ghost use Rattle.scope_check.specs.Names.{names_of, IsKept};
-ghost use Rattle.scope_check.specs.Text.{texts_of};
+ghost use Rattle.scope_declarations.specs.Names.{names_of, IsKept};
+ghost use Rattle.scope_declarations.specs.Text.{texts_of};
 
 use pi_lexer::{LexError, Tokens, lex};
 use pi_parser::Sketch;
 use pi_tree::{MOST_BYTES, Process, Protocol, Queries};
+use scope_declarations::declarations::declare_all;
+use scope_declarations::names::Names;
+use scope_declarations::scope::Scope;
+use scope_declarations::source::Text;
+use scope_declarations::stop::Stop;
 use spec_protocol_scope::{main_process_points, never_both, one_protocol, one_refusal};
 use std::alloc::{AllocError, Global};
 
-mod bound;
-mod declarations;
 mod error;
 mod expressions;
-mod leaves;
-mod names;
 mod numbers;
 mod patterns;
-mod place;
 mod processes;
 mod queries;
-mod scope;
 mod site;
-mod source;
-mod stop;
-mod terms;
-mod text;
-mod variables;
 
-use crate::declarations::declare_all;
 pub use crate::error::ScopeError;
 use crate::error::error_at;
-use crate::names::Names;
 use crate::processes::main_process;
 use crate::queries::queries;
-use crate::scope::Scope;
-use crate::source::Text;
-use crate::stop::Stop;
 
 /// The main process and the queries of a sketch that declares these names.
 fn main_and_queries(
@@ -82,14 +71,7 @@ fn protocol(alloc: Global, whole: &Text, sketch: &Sketch) -> Result<Protocol, St
 {
     let names = declare_all(alloc, whole, &sketch.declarations)?;
     let (main, queries) = main_and_queries(alloc, whole, &names, sketch)?;
-    Ok(Protocol {
-        frees: names.frees,
-        ctors: names.ctors,
-        dtors: names.dtors,
-        events: names.events,
-        queries,
-        main: Box::into_inner(main),
-    })
+    Ok(names.into_protocol(main, queries))
 }
 
 /// The protocol of a sketch of these tokens, or its first fault with the place of its token.

@@ -1,7 +1,7 @@
 //! The numbers that come next.
 
-ghost use Rattle.scope_check.specs.Props.{scope_props};
-ghost use Rattle.scope_check.specs.Within.{AreWithin};
+ghost use Rattle.scope_declarations.specs.Props.{scope_props};
+ghost use Rattle.scope_declarations.specs.Within.{AreWithin};
 
 /// The numbers that the next point and the next variable get. The points so far are within their limit, and bound no
 /// more variables than there are tokens for each of them, so 32 bits are enough.

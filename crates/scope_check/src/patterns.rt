@@ -6,20 +6,22 @@ ghost use Rattle.spec_protocol_scope.specs.Names as naming;
 ghost use Rattle.spec_protocol_scope.specs.Patterns as rules;
 ghost use Rattle.pi_parser.specs.Patterns as sketched;
 ghost use Rattle.pi_tree.specs.Patterns.{pattern_of};
-ghost use Rattle.scope_check.specs.Answer.{Gives, GivesWith};
-ghost use Rattle.scope_check.specs.Bound.{binding_of, bound_of, FindsBindings};
-ghost use Rattle.scope_check.specs.Within.{most_bound, most_variables};
-ghost use Rattle.scope_check.specs.Scope.{scope_of};
+ghost use Rattle.scope_declarations.specs.Answer.{Gives, GivesWith};
+ghost use Rattle.scope_declarations.specs.Bound.{binding_of, bound_of, FindsBindings};
+ghost use Rattle.scope_declarations.specs.Within.{most_bound, most_variables};
+ghost use Rattle.scope_declarations.specs.Scope.{scope_of};
 
-use crate::bound::{Binding, Bindings, BoundName, bind, bound_by, count_of as count_of_bound};
-use crate::leaves::taking;
-use crate::names::{Meaning, look};
-use crate::place::Place;
-use crate::scope::Scope;
-use crate::stop::{Code, Stop};
-use crate::terms::process_term;
 use pi_parser::{PatternSketch, PatternsSketch};
 use pi_tree::{MOST_ARGUMENTS, Pat, Pats};
+use scope_declarations::bound::{
+    Binding, Bindings, BoundName, bind, bound_by, count_of as count_of_bound,
+};
+use scope_declarations::leaves::taking;
+use scope_declarations::names::{Meaning, look};
+use scope_declarations::place::Place;
+use scope_declarations::scope::Scope;
+use scope_declarations::stop::{Code, Stop};
+use scope_declarations::terms::process_term;
 use std::alloc::Global;
 
 /// The data constructor of so many arguments that the token names.
@@ -86,7 +88,7 @@ fn grouped(token: usize, mut parts: Pats) -> Result<Pat, Stop>
 }
 
 /// How many patterns stand in a row.
-#[tactic(auto, using(crate::proofs::Steps::patterns_seen))]
+#[tactic(auto, using(crate::proofs::Rows::patterns_seen))]
 fn count_of(sketches: &PatternsSketch) -> usize
     ensures { result ≡ rules.count (patterns_sketch sketches.now) }
 {

@@ -9,24 +9,24 @@ ghost use Rattle.pi_parser.specs.Files as files;
 ghost use Rattle.pi_tree.specs.Events.{event_of};
 ghost use Rattle.pi_tree.specs.Processes.{process_of};
 ghost use Rattle.pi_tree.specs.Queries.{query_of};
-ghost use Rattle.scope_check.specs.Answer.{Gives, GivesWith};
+ghost use Rattle.scope_declarations.specs.Answer.{Gives, GivesWith};
 ghost use Rattle.scope_check.specs.Restrictions.{summary};
-ghost use Rattle.scope_check.specs.Scope.{scope_of};
-ghost use Rattle.scope_check.specs.Variables.{FindsVariables};
+ghost use Rattle.scope_declarations.specs.Scope.{scope_of};
+ghost use Rattle.scope_declarations.specs.Variables.{FindsVariables};
 
-use crate::bound::Bound;
-use crate::leaves::Setting;
-use crate::place::Place;
-use crate::scope::Scope;
-use crate::stop::{Code, Stop};
-use crate::terms::{event, process_term};
-use crate::text::text_of;
-use crate::variables::Variables;
 use pi_parser::{AlternativeSketch, AtomSketch, DeclarationSketch, QuerySketch};
 use pi_tree::{
     Alternatives, Atom, Atoms, MOST_ALTERNATIVES, MOST_EVENTS, MOST_QUERIES, MOST_WRITTEN_SYMBOLS,
     Process, Queries, Query,
 };
+use scope_declarations::bound::Bound;
+use scope_declarations::leaves::Setting;
+use scope_declarations::place::Place;
+use scope_declarations::scope::Scope;
+use scope_declarations::stop::{Code, Stop};
+use scope_declarations::terms::{event, process_term};
+use scope_declarations::text::text_of;
+use scope_declarations::variables::Variables;
 use std::alloc::Global;
 
 /// The restrictions of one name that were seen.

@@ -6,20 +6,20 @@ ghost use Rattle.spec_protocol_scope.specs.Names as naming;
 ghost use Rattle.spec_protocol_scope.specs.Processes as rules;
 ghost use Rattle.spec_protocol_grammar.specs.Sketch as own;
 ghost use Rattle.pi_parser.specs.Processes.{process_of, unit_of};
-ghost use Rattle.scope_check.specs.Answer.{Gives, Stops, code_of};
+ghost use Rattle.scope_declarations.specs.Answer.{Gives, Stops, code_of};
 ghost use Rattle.scope_check.specs.Forms.{form_of, site_of, read_at, macros_of, weight_of, used_at, expansion_at, is_point};
-ghost use Rattle.scope_check.specs.Names.{meaning_of};
+ghost use Rattle.scope_declarations.specs.Names.{meaning_of};
 ghost use Rattle.scope_check.specs.Numbers.{HaveRoom, numbers_of};
-ghost use Rattle.scope_check.specs.Scope.{scope_of};
+ghost use Rattle.scope_declarations.specs.Scope.{scope_of};
 
-use crate::names::{Macro, Meaning, look};
 use crate::numbers::Numbers;
-use crate::place::Place;
-use crate::scope::Scope;
-use crate::stop::{Code, Stop};
-use crate::text::text_of;
 use pi_parser::{ProcessSketch, UnitSketch};
 use pi_tree::{MOST_POINTS, MOST_POINTS_ABOVE};
+use scope_declarations::names::{Macro, Meaning, look};
+use scope_declarations::place::Place;
+use scope_declarations::scope::Scope;
+use scope_declarations::stop::{Code, Stop};
+use scope_declarations::text::text_of;
 use std::alloc::Global;
 
 /// Where a process stands, and what is counted when it is met.

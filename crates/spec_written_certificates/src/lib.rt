@@ -1,15 +1,16 @@
 //! A certificate that may stand in a report is spelled by what is written of it, in whichever format, whatever follows. So a
 //! check reads what a verification wrote.
 //!
-//! What is written, and which bytes spell a certificate, are defined below this crate. The function here has an empty body, and
-//! its contract is the law.
+//! What is written, and which bytes spell a certificate, are defined below this crate. The functions here do nothing, and their
+//! contracts are the laws.
 #![tactic(auto)]
 
-ghost use Rattle.std.specs.Prelude.{ℕ, List, [], ◌++◌};
+ghost use Rattle.std.specs.Prelude.{◌≡◌, ℕ, List, [], ◌++◌};
 ghost use Rattle.spec_calculus.specs.Syntax.{Protocol};
 ghost use Rattle.spec_certificates.specs.Certificate.{Certificate};
 ghost use Rattle.spec_certificate_reading.specs.Readable.{IsReadableCertificate};
-ghost use Rattle.spec_node_reading.specs.Readable.{SpellsCertificate};
+ghost use Rattle.spec_node_tables.specs.Large.{FitsInNodes};
+ghost use Rattle.spec_node_reading.specs.Readable.{SpellsNumbered, SpellsPlain, SpellsCertificate};
 ghost use Rattle.cert_form.specs.Writing.{format_for, text_in};
 
 use spec_node_tables::what_fits_in_nodes;
@@ -19,6 +20,22 @@ use spec_node_tables::what_fits_in_nodes;
 pub fn written_certificates_are_spelled()
     ensures { (P : Protocol) (c : Certificate) (format : ℕ) (rest : List ℕ) →
         IsReadableCertificate P c → SpellsCertificate P
+        (text_in (format_for format c.clauses) P c [] ++ rest) c rest }
+{
+    what_fits_in_nodes();
+}
+
+/// A certificate is written by its table where format 2 is wanted and it is not too large for one; and else each term as it
+/// stands.
+pub fn certificates_are_written_in_their_formats()
+    ensures by_table { (P : Protocol) (c : Certificate) (rest : List ℕ) →
+        IsReadableCertificate P c → FitsInNodes c.clauses → SpellsNumbered P
+        (text_in (format_for 2 c.clauses) P c [] ++ rest) c rest }
+    ensures another { (P : Protocol) (c : Certificate) (format : ℕ) (rest : List ℕ) →
+        IsReadableCertificate P c → (format ≡ 2 → ⊥) → SpellsPlain P
+        (text_in (format_for format c.clauses) P c [] ++ rest) c rest }
+    ensures too_large { (P : Protocol) (c : Certificate) (format : ℕ) (rest : List ℕ) →
+        IsReadableCertificate P c → (FitsInNodes c.clauses → ⊥) → SpellsPlain P
         (text_in (format_for format c.clauses) P c [] ++ rest) c rest }
 {
     what_fits_in_nodes();

@@ -8,7 +8,7 @@ ghost use Rattle.pi_tree.specs.Protocols.{protocol_of};
 ghost use Rattle.pi_tree.specs.Accessors.{IsThere};
 ghost use Rattle.pi_tree.specs.declared.accessors.Kind.TheVariants.{Query as OfQueries};
 ghost use Rattle.query_derive.specs.GoalRows.{OfQuery};
-ghost use Rattle.cert_text.specs.Seen.{claim_of};
+ghost use Rattle.cert_text.specs.Seen.{shared_claim_of};
 ghost use Rattle.verifier_cli.specs.Checking.{IsFindingOf, AreFindingsOf, IsCheckOf, MakesClaims};
 ghost use Rattle.verifier_cli.specs.Checking.{ChecksReport};
 ghost use Rattle.verifier_cli.specs.Loaded.{IsLoaded};
@@ -21,8 +21,8 @@ ghost use Rattle.verifier_cli.specs.World.{ComesTo};
 
 use crate::loading::{Unloaded, load_protocol, load_text};
 use crate::outcome::{Finding, Findings, Outcome, Refusal, ReportCode};
-use cert_checker::check_cert;
-use cert_text::{CertError, Claim, Claims, read_report};
+use cert_checker::check_shared;
+use cert_text::{CertError, SharedClaim, SharedClaims, read_shared_report};
 use hv_io::{Files, place};
 use pi_tree::{MOST_REPORT_BYTES, Protocol};
 use spec_node_first_faults::the_first_fault_of_a_report_in_either_format_is_told;
@@ -77,7 +77,7 @@ fn load_claims<F: Files>(
     protocol: &Protocol,
     report: &str,
     files: &mut F,
-) -> Result<Claims, Outcome>
+) -> Result<SharedClaims, Outcome>
     requires { IsLoaded (protocol_of protocol.now) }
     ensures held_stays { (name : List ℕ) → F.held files.new name ≡ F.held files.old name }
     ensures read_faults_rise { (name : List ℕ) →
@@ -86,13 +86,13 @@ fn load_claims<F: Files>(
         length claims ≡ length protocol.now.queries) }
     ensures made { IfOk result (λ claims.
         OfFile (outside F.held F.faults F.loads files.old files.new) report.now most_report_bytes
-        (λ bytes. MakesClaims (protocol_of protocol.now) bytes (map claim_of claims))) }
+        (λ bytes. MakesClaims (protocol_of protocol.now) bytes (map shared_claim_of claims))) }
     ensures unread { IfErr result (λ outcome. IsUnreadReport (protocol_of protocol.now)
         (outside F.held F.faults F.loads files.old files.new) report.now (outcome_of outcome)) }
 {
     match load_text(report, MOST_REPORT_BYTES, files) {
         Err(why) => Err(report_not_loaded(why)),
-        Ok(bytes) => match read_report(alloc, protocol, &bytes) {
+        Ok(bytes) => match read_shared_report(alloc, protocol, &bytes) {
             Ok(claims) => Ok(claims),
             Err(error) => Err(report_not_read(&bytes, error)),
         },
@@ -104,39 +104,49 @@ fn finding(
     alloc: Global,
     protocol: &Protocol,
     query: u32,
-    claim: &Claim,
+    claim: SharedClaim,
 ) -> Result<Finding, AllocError>
     requires loaded { IsLoaded (protocol_of protocol.now) }
     requires there { IsThere (protocol_of protocol.now) OfQueries query }
     ensures { let P = protocol_of protocol.now in IfOk result (λ finding.
-        OfQuery P query (λ q. IsFindingOf P q (claim_of claim.now) finding)) }
+        OfQuery P query (λ q. IsFindingOf P q (shared_claim_of claim) finding)) }
 {
     match claim {
-        Claim::Proved(cert) => Ok(Finding::Ruled(check_cert(alloc, protocol, query, cert)?)),
-        Claim::Bare => Ok(Finding::Missing),
-        Claim::Unknown => Ok(Finding::NotClaimed),
+        SharedClaim::Proved(cert) => {
+            let ruling = check_shared(alloc, protocol, query, cert)?;
+            Ok(Finding::Ruled(ruling))
+        }
+        SharedClaim::Bare => Ok(Finding::Missing),
+        SharedClaim::Unknown => Ok(Finding::NotClaimed),
     }
 }
 
-/// What is found of the claims, one for each query of the protocol.
-fn findings(alloc: Global, protocol: &Protocol, claims: &Claims) -> Result<Findings, AllocError>
+/// What is found of the claims, one for each query of the protocol. Each certificate is let go once it is checked.
+fn findings(
+    alloc: Global,
+    protocol: &Protocol,
+    claims: SharedClaims,
+) -> Result<Findings, AllocError>
     requires loaded { IsLoaded (protocol_of protocol.now) }
-    requires each { length claims.now ≡ length protocol.now.queries }
+    requires each { length claims ≡ length protocol.now.queries }
     ensures { let P = protocol_of protocol.now in IfOk result (λ findings.
-        AreFindingsOf P P.queries (map claim_of claims.now) findings) }
+        AreFindingsOf P P.queries (map shared_claim_of claims) findings) }
 {
     let mut items = Vec::new(alloc);
-    'each: for (index, claim) in claims.items.iter().enumerate() {
-        items.push(finding(alloc, protocol, index as u32 + 1, claim)?)?;
+    let mut number = 0u32;
+    'each: for claim in claims.items {
+        number += 1;
+        let found = finding(alloc, protocol, number, claim)?;
+        items.push(found)?;
     }
     Ok(Findings { items })
 }
 
 /// What checking the claims comes to.
-fn checked(alloc: Global, protocol: &Protocol, claims: &Claims) -> Outcome
+fn checked(alloc: Global, protocol: &Protocol, claims: SharedClaims) -> Outcome
     requires loaded { IsLoaded (protocol_of protocol.now) }
-    requires each { length claims.now ≡ length protocol.now.queries }
-    ensures { IsCheckOf (protocol_of protocol.now) (map claim_of claims.now)
+    requires each { length claims ≡ length protocol.now.queries }
+    ensures { IsCheckOf (protocol_of protocol.now) (map shared_claim_of claims)
         (outcome_of result) }
 {
     match findings(alloc, protocol, claims) {
@@ -165,7 +175,7 @@ fn check_report<F: Files>(
     the_first_fault_of_a_report_in_either_format_is_told();
     match load_claims(alloc, protocol, report, files) {
         Err(outcome) => outcome,
-        Ok(claims) => checked(alloc, protocol, &claims),
+        Ok(claims) => checked(alloc, protocol, claims),
     }
 }
 

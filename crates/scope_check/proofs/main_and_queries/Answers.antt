@@ -1,10 +1,10 @@
 -- The main process has few points.
 use Rattle.std.proofs.Common.{arith}
 use Rattle.std.proofs.lemmas.Grind.{common_steps}
-use Rattle.scope_check.specs.Text.{texts_of}
+use Rattle.scope_declarations.specs.Text.{texts_of}
 use Rattle.pi_parser.specs.Files.{file_of}
 use Rattle.pi_tree.specs.Processes.{process_of}
-use Rattle.scope_check.specs.Names.{names_of}
+use Rattle.scope_declarations.specs.Names.{names_of}
 use Rattle.scope_check.proofs.main_and_queries.Goals as goal
 
 pub queries-requires : goal.queries-requires

@@ -1,27 +1,29 @@
-use Rattle.std.proofs.Common.{◌≡◌, List, sym, ap, subst, rules}
-use Rattle.spec_terms.specs.Term.{Term}
+use Rattle.std.proofs.Common.{◌≡◌, ◌∙◌, List, sym, ap, subst, rules}
 use Rattle.spec_clauses.specs.Fact.{Clause}
-use Rattle.spec_certificates.specs.Certificate.{Certificate}
 use Rattle.term_tree.specs.declared.bank.Id.{Id}
+use Rattle.term_tree.proofs.BankLaws.{Grows_same, Grows_trans}
 use Rattle.pi_tree.specs.Protocols.{protocol_of}
-use Rattle.clause_form.specs.Fit.{AreFit}
-use Rattle.cert_checker.specs.Shaping.{AreShaped}
-use Rattle.cert_checker.proofs.Reaching.{shapes_fit, shapes_rule}
+use Rattle.clause_form.specs.Fit.{clauses_at}
+use Rattle.clause_form.specs.Seen.{AreClausesIn}
+use Rattle.cert_checker.proofs.Standing.{ruled_whole}
 use Rattle.cert_checker.proofs.checking.check_copied.Goals as goal
 
-pub check_shaped-requires-clause-fit : goal.check_shaped-requires-clause-fit
-check_shaped-requires-clause-fit g c =
-    let new = g.B.Bank.trees c.look_at_shapes.new.bank in
-    let n = c.in_ok-arguments.arguments in
-    let seen : c.cert.inside.clauses ≡ c.args.cert.now.clauses = ap (λ (x : Certificate). x.clauses) c.cert.view_is in
-    let told = subst (λ (l : List (Clause Term)). AreShaped n new l c.in_ok-number.field-0) seen c.in_ok-number.ensures.shaped in
-    let same : c.deref.result.now ≡ c.in-All.clauses = search rules in
-    subst (λ (cs : List (Clause Id)). AreFit new cs) (sym same) (shapes_fit c.args.cert.now n new c.in_ok-number.field-0 told c.in-All.clauses c.in-All.is)
+pub check_standing-requires-clause-known : goal.check_standing-requires-clause-known
+check_standing-requires-clause-known g c =
+    let all = g.B.Bank.trees c.copied.new.bank in
+    let same : c.deref.result.now ≡ c.in_ok-clauses.clauses = search rules in
+    subst (λ (cs : List (Clause Id)). AreClausesIn all cs) (sym same) c.in_ok-clauses.ensures.names.known
 
-pub returns-in-Except-clause-ruled : goal.returns-in-Except-clause-ruled
-returns-in-Except-clause-ruled g c = λ q asked.
-    let new = g.B.Bank.trees c.look_at_shapes.new.bank in
-    let n = c.in_ok-arguments.arguments in
-    let seen : c.cert.inside.clauses ≡ c.args.cert.now.clauses = ap (λ (x : Certificate). x.clauses) c.cert.view_is in
-    let told = subst (λ (l : List (Clause Term)). AreShaped n new l c.in_ok-number.field-0) seen c.in_ok-number.ensures.shaped in
-    shapes_rule c.args.cert.now n new c.in_ok-number.field-0 told (protocol_of c.args.protocol.now) q c.in-Except.number c.in-Except.is (c.in_ok-arguments.ensures.count q asked)
+pub returns-clause-ruled : goal.returns-clause-ruled
+returns-clause-ruled g c =
+    let all = g.B.Bank.trees c.copied.new.bank in
+    let same : c.deref.result.now ≡ c.in_ok-clauses.clauses = search rules in
+    ruled_whole (protocol_of c.args.protocol.now) c.args.query c.args.cert.now c.cert.inside.rows c.cert.inside.goals _ c.cert.inside.clauses c.check_standing.result (ap (clauses_at all) same ∙ c.in_ok-clauses.ensures.names.are) c.cert.view_is
+    c.check_standing.ensures.ruled
+
+pub returns-clause-grows : goal.returns-clause-grows
+returns-clause-grows g c =
+    let old = g.B.Bank.trees c.args.bank.now in
+    let all = g.B.Bank.trees c.copied.new.bank in
+    let new = g.B.Bank.trees c.check_standing.new.bank in
+    Grows_trans old all new c.copied.ensures.grows (Grows_same all new c.check_standing.ensures.bank)

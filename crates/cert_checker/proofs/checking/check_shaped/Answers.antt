@@ -1,4 +1,4 @@
-use Rattle.std.proofs.Common.{◌≡◌, ◌∙◌, List, sym, ap, subst, rules, arith}
+use Rattle.std.proofs.Common.{◌≡◌, ◌∙◌, List, IfOk, sym, subst, rules, arith}
 use Rattle.spec_terms.specs.Term.{Term}
 use Rattle.spec_clauses.specs.Fact.{Clause}
 use Rattle.spec_certificates.specs.Certificate.{CoverRowHolds, numbered_from}
@@ -9,6 +9,7 @@ use Rattle.query_derive.specs.GoalRows.{OfQuery}
 use Rattle.clause_translate.specs.Whole.{IsKept}
 use Rattle.clause_translate.specs.declared.whole.Translated.{Translated}
 use Rattle.cert_checker.specs.Answers.{IsShownSo}
+use Rattle.cert_checker.specs.Checked.{cert_in}
 use Rattle.cert_checker.specs.Reached.{HasShapes, IsTranslatedTo}
 use Rattle.cert_checker.specs.Rulings.{ruling_of}
 use Rattle.clause_form.specs.Fit.{AreFit, clauses_at}
@@ -36,14 +37,9 @@ judge-requires-clause-fit g c =
     let back = as_before (g.B.Bank.trees c.args.bank.now) (g.B.Bank.trees c.translate.new.bank) (g.B.Bank.trees c.back.new.self) _ c.translate.ensures.grows c.mark-mark.ensures c.back.ensures in
     subst (λ (all : List Term). AreFit all c.args.checker.now.clauses.now) (sym back) c.requires.fit
 
-pub judge-requires-clause-clauses : goal.judge-requires-clause-clauses
-judge-requires-clause-clauses g c =
-    let back = as_before (g.B.Bank.trees c.args.bank.now) (g.B.Bank.trees c.translate.new.bank) (g.B.Bank.trees c.back.new.self) _ c.translate.ensures.grows c.mark-mark.ensures c.back.ensures in
-    ap (λ all. clauses_at all c.args.checker.now.clauses.now) back ∙ c.requires.clauses
-
 pub returns-in-Large-clause-ruled : goal.returns-in-Large-clause-ruled
 returns-in-Large-clause-ruled g c = λ q asked shaped.
-    large_rules (protocol_of c.args.checker.now.protocol.now) c.args.checker.now.query (g.B.Bank.trees c.translate.new.bank) _ c.in_ok-point.ensures.translates c.in-Large.point c.in-Large.is q asked c.args.checker.now.cert.now shaped
+    large_rules (protocol_of c.args.checker.now.protocol.now) c.args.checker.now.query (g.B.Bank.trees c.translate.new.bank) _ c.in_ok-point.ensures.translates c.in-Large.point c.in-Large.is q asked (cert_in (g.B.Bank.trees c.args.bank.now) c.args.checker.now) shaped
 
 pub returns-in-Large-clause-bank : goal.returns-in-Large-clause-bank
 returns-in-Large-clause-bank g c = subst (λ (found : Translated). IsKept (g.B.Bank.trees c.args.bank.now) (g.B.Bank.trees c.translate.new.bank) found) c.in-Large.is c.in_ok-point.ensures.large
@@ -51,20 +47,22 @@ returns-in-Large-clause-bank g c = subst (λ (found : Translated). IsKept (g.B.B
 pub returns-in_ok-shown-in-Clauses-clause-ruled : goal.returns-in_ok-shown-in-Clauses-clause-ruled
 returns-in_ok-shown-in-Clauses-clause-ruled g c =
     let P = protocol_of c.args.checker.now.protocol.now in
-    let cert = c.args.checker.now.cert.now in
     let number = c.args.checker.now.query in
     let old = g.B.Bank.trees c.args.bank.now in
+    let cert = cert_in old c.args.checker.now in
     let all = g.B.Bank.trees c.translate.new.bank in
     let cs = c.args.checker.now.clauses.now in
     let given = clauses_at all c.in-Clauses.given in
     let listed : c.as_slice-translated.result.now ≡ c.in-Clauses.given = search rules in
-    let seen = clauses_grow old all cs c.translate.ensures.grows c.requires.fit ∙ c.requires.clauses in
+    let seen = clauses_grow old all cs c.translate.ensures.grows c.requires.fit in
+    let back = as_before old all (g.B.Bank.trees c.back.new.self) _ c.translate.ensures.grows c.mark-mark.ensures c.back.ensures in
     let of_given = subst (λ (made : List (Clause Id)). IsShownSo (CoverRowHolds (clauses_at all cs)) (numbered_from 1 (clauses_at all made)) cert.rows 0 c.in_ok-shown-in-Clauses.shown) listed c.in_ok-shown-in-Clauses.ensures in
     let shown = subst (λ (clauses : List (Clause Term)). IsShownSo (CoverRowHolds clauses) (numbered_from 1 given) cert.rows 0 c.in_ok-shown-in-Clauses.shown) seen of_given in
     if_ok_map c.judge.result (λ ruling. OfQuery P number (λ q. IsTranslatedTo P q cert given → IsRuled P q cert (ruling_of ruling)))
     (λ ruling. OfQuery P number (λ q. HasShapes q cert → IsRuled P q cert (ruling_of ruling)))
     (λ ruling ruled q asked shaped. ruled q asked (given_reached P number all _ c.in_ok-point.ensures.translates c.in-Clauses.given c.in-Clauses.is q asked cert shaped))
-    (c.judge.ensures.ruled given shown)
+    (subst (λ (ts : List Term). let it = cert_in ts c.args.checker.now in (made : List (Clause Term)) → IsShownSo (CoverRowHolds it.clauses) (numbered_from 1 made) it.rows 0 c.in_ok-shown-in-Clauses.shown
+    → IfOk c.judge.result (λ ruling. OfQuery P number (λ q. IsTranslatedTo P q it made → IsRuled P q it (ruling_of ruling)))) back c.judge.ensures.ruled given shown)
 
 pub returns-in_ok-shown-in-Clauses-clause-bank : goal.returns-in_ok-shown-in-Clauses-clause-bank
 returns-in_ok-shown-in-Clauses-clause-bank g c = c.judge.ensures.bank ∙ as_before (g.B.Bank.trees c.args.bank.now) (g.B.Bank.trees c.translate.new.bank) (g.B.Bank.trees c.back.new.self) _ c.translate.ensures.grows c.mark-mark.ensures c.back.ensures

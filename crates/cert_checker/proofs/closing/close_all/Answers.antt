@@ -14,13 +14,13 @@ close_one-requires-clause-prints g c = c.requires.prints ∙ ap (λ (all : List 
 
 pub each-preserved : goal.each-preserved
 each-preserved g c =
-    all_go_on (g.B.Bank.trees c.args.bank.now) c.args.checker.now.clauses.now c.args.checker.now.cert.now.rows c.args.from c.each.solved c.each.next c.in-All.left (g.B.Bank.trees c.each.bank) (g.B.Bank.trees c.close_one.new.bank) c.in_ok-left.field-0
+    all_go_on (g.B.Bank.trees c.args.bank.now) c.args.checker.now.clauses.now c.args.checker.now.rows.now c.args.from c.each.solved c.each.next c.in-All.left (g.B.Bank.trees c.each.bank) (g.B.Bank.trees c.close_one.new.bank) c.in_ok-left.field-0
     c.each.invariant (omega arith) c.close_one.ensures.bank c.in-All.is c.in_ok-left.ensures.closed
 
 pub returns-in-Except-clause-closed : goal.returns-in-Except-clause-closed
 returns-in-Except-clause-closed g c =
-    all_fail (g.B.Bank.trees c.args.bank.now) c.args.checker.now.clauses.now c.args.checker.now.cert.now.rows c.args.from c.each.solved c.each.next c.in-Except.ruling (g.B.Bank.trees c.each.bank) c.in_ok-left.field-0
+    all_fail (g.B.Bank.trees c.args.bank.now) c.args.checker.now.clauses.now c.args.checker.now.rows.now c.args.from c.each.solved c.each.next c.in-Except.ruling (g.B.Bank.trees c.each.bank) c.in_ok-left.field-0
     c.each.invariant (omega arith) c.in-Except.is c.in_ok-left.ensures.closed
 
 pub returns-clause-closed : goal.returns-clause-closed
-returns-clause-closed g c = all_end (g.B.Bank.trees c.args.bank.now) c.args.checker.now.clauses.now c.args.checker.now.cert.now.rows c.args.from c.each.solved c.each.next (g.B.Bank.trees c.each.bank) c.each.invariant (omega arith)
+returns-clause-closed g c = all_end (g.B.Bank.trees c.args.bank.now) c.args.checker.now.clauses.now c.args.checker.now.rows.now c.args.from c.each.solved c.each.next (g.B.Bank.trees c.each.bank) c.each.invariant (omega arith)

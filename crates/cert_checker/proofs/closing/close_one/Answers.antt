@@ -12,11 +12,11 @@ is_solved-requires g c = (fit_in (g.B.Bank.trees c.args.bank.now) c.args.checker
 
 pub returns-then-not-is_solved-clause-closed : goal.returns-then-not-is_solved-clause-closed
 returns-then-not-is_solved-clause-closed g c =
-    passed_none (g.B.Bank.trees c.args.bank.now) c.args.checker.now.clauses.now c.args.checker.now.cert.now.rows c.args.from c.args.solved c.index-checker-solved.result c.requires.solved (sym c.is_solved.ensures ∙ c.if-not-is_solved.true)
+    passed_none (g.B.Bank.trees c.args.bank.now) c.args.checker.now.clauses.now c.args.checker.now.rows.now c.args.from c.args.solved c.index-checker-solved.result c.requires.solved (sym c.is_solved.ensures ∙ c.if-not-is_solved.true)
 
 pub returns-clause-closed : goal.returns-clause-closed
 returns-clause-closed g c =
     let all = g.B.Bank.trees c.args.bank.now in
     let cs = c.args.checker.now.clauses.now in
-    subst (λ (ps : List Pair). IfOk c.close_solved.result (λ o. IsClosedSo (clauses_at all cs) ps c.args.checker.now.cert.now.rows c.args.from o))
+    subst (λ (ps : List Pair). IfOk c.close_solved.result (λ o. IsClosedSo (clauses_at all cs) ps c.args.checker.now.rows.now c.args.from o))
     (solved_pairs all cs c.args.solved c.index-checker-solved.result c.requires.solved (sym c.is_solved.ensures ∙ c.if-not-is_solved.false)) c.close_solved.ensures.closed

@@ -45,14 +45,14 @@ are_covered-covered-requires-clause-clauses g c =
 
 pub returns-in-NoUnifier-clause-closed : goal.returns-in-NoUnifier-clause-closed
 returns-in-NoUnifier-clause-closed g c =
-    pair_apart (g.B.Bank.trees c.args.bank.now) c.args.checker.now.clauses.now c.args.checker.now.cert.now.rows c.args.from c.args.pair.solved c.args.pair.unsolved c.index-checker-pair.result c.index-checker-pair-2.result c.requires.solved c.requires.unsolved
+    pair_apart (g.B.Bank.trees c.args.bank.now) c.args.checker.now.clauses.now c.args.checker.now.rows.now c.args.from c.args.pair.solved c.args.pair.unsolved c.index-checker-pair.result c.index-checker-pair-2.result c.requires.solved c.requires.unsolved
     (g.B.Bank.trees c.resolvents.new.bank) c.in_ok-resolvents.field-0 c.in-NoUnifier.is c.in_ok-resolvents.ensures.answer
 
 pub returns-in-Large-clause-closed : goal.returns-in-Large-clause-closed
 returns-in-Large-clause-closed g c =
     let all = g.B.Bank.trees c.args.bank.now in
     let cs = c.args.checker.now.clauses.now in
-    let rows = c.args.checker.now.cert.now.rows in
+    let rows = c.args.checker.now.rows.now in
     subst (λ (o : closed.Closed). IsClosedSo (clauses_at all cs) (pair_at (numbered_at all cs) c.args.pair.solved c.args.pair.unsolved) rows c.args.from o) (sym c.uncovered.ensures)
     (pair_large all cs rows c.args.from c.args.pair.solved c.args.pair.unsolved c.index-checker-pair.result c.index-checker-pair-2.result c.requires.solved c.requires.unsolved
     (g.B.Bank.trees c.resolvents.new.bank) c.in_ok-resolvents.field-0 c.in-Large.is c.in_ok-resolvents.ensures.answer)
@@ -62,7 +62,7 @@ returns-in_ok-shown-in-Clauses-clause-closed g c =
     let all = g.B.Bank.trees c.args.bank.now in
     let new = g.B.Bank.trees c.resolvents.new.bank in
     let cs = c.args.checker.now.clauses.now in
-    let rows = c.args.checker.now.cert.now.rows in
+    let rows = c.args.checker.now.rows.now in
     let same : c.deref.result.now ≡ c.in-Clauses.made = search rules in
     let first = get_or cs c.args.pair.solved c.index-checker-pair.result in
     let second = get_or cs c.args.pair.unsolved c.index-checker-pair-2.result in

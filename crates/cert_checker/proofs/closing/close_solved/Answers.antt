@@ -26,7 +26,7 @@ pub close_met-requires-clause-prints : goal.close_met-requires-clause-prints
 close_met-requires-clause-prints g c = c.requires.prints ∙ ap (λ (all : List Term). map hypothesis_print (clauses_at all c.args.checker.now.clauses.now)) (sym c.each.invariant.same)
 
 pub each-init : goal.each-init
-each-init g c = with_begins (g.B.Bank.trees c.args.bank.now) c.args.checker.now.clauses.now c.args.checker.now.cert.now.rows c.args.from c.args.solved c.args.partners.now.unsolved.now c.requires.unsolved
+each-init g c = with_begins (g.B.Bank.trees c.args.bank.now) c.args.checker.now.clauses.now c.args.checker.now.rows.now c.args.from c.args.solved c.args.partners.now.unsolved.now c.requires.unsolved
 
 pub close_met-requires-clause-unsolved : goal.close_met-requires-clause-unsolved
 close_met-requires-clause-unsolved g c =
@@ -40,14 +40,14 @@ close_met-requires-clause-selected g c =
 
 pub each-preserved : goal.each-preserved
 each-preserved g c =
-    with_goes_on (g.B.Bank.trees c.args.bank.now) c.args.checker.now.clauses.now c.args.checker.now.cert.now.rows c.args.from c.args.solved c.args.partners.now.unsolved.now c.each.one-index c.each.next (g.B.Bank.trees c.each.bank) c.each.invariant
+    with_goes_on (g.B.Bank.trees c.args.bank.now) c.args.checker.now.clauses.now c.args.checker.now.rows.now c.args.from c.args.solved c.args.partners.now.unsolved.now c.each.one-index c.each.next (g.B.Bank.trees c.each.bank) c.each.invariant
     (unsolved_one 0 0) c.each-test.true c.in_ok-left.field-0 c.in_ok-left.ensures.closed c.in-All.left (g.B.Bank.trees c.close_met.new.bank) c.close_met.ensures.bank c.in-All.is
 
 pub returns-in-Except-clause-closed : goal.returns-in-Except-clause-closed
 returns-in-Except-clause-closed g c =
-    with_fails (g.B.Bank.trees c.args.bank.now) c.args.checker.now.clauses.now c.args.checker.now.cert.now.rows c.args.from c.args.solved c.args.partners.now.unsolved.now c.each.one-index c.each.next (g.B.Bank.trees c.each.bank) c.each.invariant
+    with_fails (g.B.Bank.trees c.args.bank.now) c.args.checker.now.clauses.now c.args.checker.now.rows.now c.args.from c.args.solved c.args.partners.now.unsolved.now c.each.one-index c.each.next (g.B.Bank.trees c.each.bank) c.each.invariant
     (unsolved_one 0 0) c.each-test.true c.in_ok-left.field-0 c.in_ok-left.ensures.closed c.in-Except.ruling c.in-Except.is
 
 pub returns-clause-closed : goal.returns-clause-closed
 returns-clause-closed g c =
-    with_ends (g.B.Bank.trees c.args.bank.now) c.args.checker.now.clauses.now c.args.checker.now.cert.now.rows c.args.from c.args.solved c.args.partners.now.unsolved.now c.each.one-index c.each.next (g.B.Bank.trees c.each.bank) c.each.invariant (omega arith)
+    with_ends (g.B.Bank.trees c.args.bank.now) c.args.checker.now.clauses.now c.args.checker.now.rows.now c.args.from c.args.solved c.args.partners.now.unsolved.now c.each.one-index c.each.next (g.B.Bank.trees c.each.bank) c.each.invariant (omega arith)

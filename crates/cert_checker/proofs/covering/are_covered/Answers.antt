@@ -24,7 +24,7 @@ overflow_add-next g c =
 pub each-init : goal.each-init
 each-init g c =
     let all = g.B.Bank.trees c.args.bank.now in
-    walk_begins (CoverRowHolds (clauses_at all c.args.checker.now.clauses.now)) (numbered_from 1 (clauses_at all c.args.clauses.now)) c.args.checker.now.cert.now.rows c.args.from
+    walk_begins (CoverRowHolds (clauses_at all c.args.checker.now.clauses.now)) (numbered_from 1 (clauses_at all c.args.clauses.now)) c.args.checker.now.rows.now c.args.from
 
 pub returns-then-not-branch : goal.returns-then-not-branch
 returns-then-not-branch g c =
@@ -33,7 +33,7 @@ returns-then-not-branch g c =
     let seen = clause_at all c.index-clauses-k.result in
     let ahead = clause_next (clauses_at all cs) c.each.k seen (clause_at_index all cs c.each.k c.index-clauses-k.result c.index-clauses-k.is c.each-test.true) in
     let no : c.in_ok-next_covers.field-0 ≡ false = search rules in
-    walk_fails (CoverRowHolds (clauses_at all c.args.checker.now.clauses.now)) (numbered_from 1 (clauses_at all cs)) c.args.checker.now.cert.now.rows c.args.from
+    walk_fails (CoverRowHolds (clauses_at all c.args.checker.now.clauses.now)) (numbered_from 1 (clauses_at all cs)) c.args.checker.now.rows.now c.args.from
     (drop c.each.k (numbered_from 1 (clauses_at all cs))) (drop (c.each.k + 1) (numbered_from 1 (clauses_at all cs))) c.each.next (with_number (c.each.k + 1) seen) ahead
     (λ x. false≢true (sym no ∙ c.in_ok-next_covers.ensures.covers.1 x)) c.each.invariant
 
@@ -44,7 +44,7 @@ each-preserved g c =
     let seen = clause_at all c.index-clauses-k.result in
     let ahead = clause_next (clauses_at all cs) c.each.k seen (clause_at_index all cs c.each.k c.index-clauses-k.result c.index-clauses-k.is c.each-test.true) in
     let yes : c.in_ok-next_covers.field-0 ≡ true = search rules in
-    walk_goes_on (CoverRowHolds (clauses_at all c.args.checker.now.clauses.now)) (numbered_from 1 (clauses_at all cs)) c.args.checker.now.cert.now.rows c.args.from
+    walk_goes_on (CoverRowHolds (clauses_at all c.args.checker.now.clauses.now)) (numbered_from 1 (clauses_at all cs)) c.args.checker.now.rows.now c.args.from
     (drop c.each.k (numbered_from 1 (clauses_at all cs))) (drop (c.each.k + 1) (numbered_from 1 (clauses_at all cs))) c.each.next (with_number (c.each.k + 1) seen) ahead
     (c.in_ok-next_covers.ensures.covers.0 yes) c.each.invariant
 
@@ -53,5 +53,5 @@ returns g c =
     let all = g.B.Bank.trees c.args.bank.now in
     let cs = c.args.clauses.now in
     let past : length (clauses_at all cs) ≤ c.each.k = omega (arith, c.each-test.false, length-map cs (clause_at all)) in
-    walk_ends (CoverRowHolds (clauses_at all c.args.checker.now.clauses.now)) (numbered_from 1 (clauses_at all cs)) c.args.checker.now.cert.now.rows c.args.from
+    walk_ends (CoverRowHolds (clauses_at all c.args.checker.now.clauses.now)) (numbered_from 1 (clauses_at all cs)) c.args.checker.now.rows.now c.args.from
     (drop c.each.k (numbered_from 1 (clauses_at all cs))) c.each.next (none_ahead 1 (clauses_at all cs) c.each.k past) c.each.invariant

@@ -6,5 +6,5 @@ use Rattle.cert_checker.proofs.covering.are_covered.Given as goal
 
 abbrev pub invariant-each : goal.invariant-each
 invariant-each g l =
-    IsWalked (CoverRowHolds (clauses_at (g.B.Bank.trees l.bank) l.checker.clauses.now)) (numbered_from 1 (clauses_at (g.B.Bank.trees l.bank) l.clauses)) l.checker.cert.now.rows l.from
+    IsWalked (CoverRowHolds (clauses_at (g.B.Bank.trees l.bank) l.checker.clauses.now)) (numbered_from 1 (clauses_at (g.B.Bank.trees l.bank) l.clauses)) l.checker.rows.now l.from
     (drop l.k (numbered_from 1 (clauses_at (g.B.Bank.trees l.bank) l.clauses))) l.next

@@ -13,7 +13,7 @@ pub returns-in-Some-clause-covers : goal.returns-in-Some-clause-covers
 returns-in-Some-clause-covers g c =
     let all = g.B.Bank.trees c.args.bank.now in
     let S = CoverRowHolds (clauses_at all c.args.checker.now.clauses.now) in
-    let rows = c.args.checker.now.cert.now.rows in
+    let rows = c.args.checker.now.rows.now in
     let seen = clause_at all c.args.clause.now in
     let row = c.deref-in-Some.result.now in
     let are : rows ≡ map (λ r. r.items) c.deref.result.now = search rules in

@@ -5,6 +5,7 @@ use Rattle.pi_tree.specs.Protocols.{protocol_of}
 use Rattle.query_derive.specs.GoalRows.{OfQuery}
 use Rattle.query_derive.proofs.Searching.{if_ok_map}
 use Rattle.cert_checker.specs.Answers.{IsShownSo}
+use Rattle.cert_checker.specs.Checked.{cert_in}
 use Rattle.cert_checker.specs.Reached.{IsTranslatedTo, HasCovered}
 use Rattle.cert_checker.specs.Rulings.{ruling_of}
 use Rattle.cert_checker.proofs.Reaching.{covers_reached, covers_rule}
@@ -13,7 +14,7 @@ use Rattle.cert_checker.proofs.judging.judge.Goals as goal
 pub returns-in-All-clause-ruled : goal.returns-in-All-clause-ruled
 returns-in-All-clause-ruled g c = λ given shown.
     let P = protocol_of c.args.checker.now.protocol.now in
-    let cert = c.args.checker.now.cert.now in
+    let cert = cert_in (g.B.Bank.trees c.args.bank.now) c.args.checker.now in
     let number = c.args.checker.now.query in
     let all_shown = subst (λ s. IsShownSo (CoverRowHolds cert.clauses) (numbered_from 1 given) cert.rows 0 s) c.in-All.is shown in
     if_ok_map c.judge_pairs.result (λ ruling. OfQuery P number (λ q. HasCovered P q cert (drop c.in-All.next cert.rows) → IsRuled P q cert (ruling_of ruling)))
@@ -23,6 +24,6 @@ returns-in-All-clause-ruled g c = λ given shown.
 pub returns-in-Except-clause-ruled : goal.returns-in-Except-clause-ruled
 returns-in-Except-clause-ruled g c = λ given shown q asked reached.
     let P = protocol_of c.args.checker.now.protocol.now in
-    let cert = c.args.checker.now.cert.now in
+    let cert = cert_in (g.B.Bank.trees c.args.bank.now) c.args.checker.now in
     let number = c.in-Except.number in
     covers_rule P q cert given number (subst (λ s. IsShownSo (CoverRowHolds cert.clauses) (numbered_from 1 given) cert.rows 0 s) c.in-Except.is shown) reached

@@ -1,10 +1,11 @@
-use Rattle.std.proofs.Common.{◌∙◌, List, drop, ap, sym, subst}
+use Rattle.std.proofs.Common.{List, IfOk, drop, refl, sym, subst}
 use Rattle.spec_terms.specs.Term.{Term}
 use Rattle.pi_tree.specs.Protocols.{protocol_of}
 use Rattle.query_derive.specs.GoalRows.{OfQuery}
 use Rattle.query_derive.proofs.Searching.{if_ok_map}
 use Rattle.spec_certificates.specs.Ruling.{IsRuled}
-use Rattle.clause_form.specs.Fit.{AreFit, clauses_at}
+use Rattle.clause_form.specs.Fit.{AreFit}
+use Rattle.cert_checker.specs.Checked.{cert_in}
 use Rattle.cert_checker.specs.Reached.{HasCovered, HasClosed}
 use Rattle.cert_checker.specs.Rulings.{ruling_of}
 use Rattle.cert_checker.proofs.Reaching.{pairs_reached, pairs_rule}
@@ -13,25 +14,23 @@ use Rattle.cert_checker.proofs.judging.judge_pairs.Goals as goal
 pub judge_goals-requires-clause-fit : goal.judge_goals-requires-clause-fit
 judge_goals-requires-clause-fit g c = subst (λ (all : List Term). AreFit all c.args.checker.now.clauses.now) (sym c.are_closed.ensures.bank) c.requires.fit
 
-pub judge_goals-requires-clause-clauses : goal.judge_goals-requires-clause-clauses
-judge_goals-requires-clause-clauses g c = ap (λ all. clauses_at all c.args.checker.now.clauses.now) c.are_closed.ensures.bank ∙ c.requires.clauses
-
 pub returns-in-All-clause-ruled : goal.returns-in-All-clause-ruled
 returns-in-All-clause-ruled g c =
     let P = protocol_of c.args.checker.now.protocol.now in
-    let cert = c.args.checker.now.cert.now in
     let all = g.B.Bank.trees c.args.bank.now in
+    let cert = cert_in all c.args.checker.now in
     if_ok_map c.judge_goals.result (λ ruling. OfQuery P c.args.checker.now.query (λ q. HasClosed P q cert (drop c.in-All.next cert.rows) → IsRuled P q cert (ruling_of ruling)))
     (λ ruling. OfQuery P c.args.checker.now.query (λ q. HasCovered P q cert (drop c.args.row cert.rows) → IsRuled P q cert (ruling_of ruling)))
-    (λ ruling ruled q asked reached. ruled q asked (pairs_reached P q cert all c.args.checker.now.clauses.now c.requires.clauses c.args.row c.in-All.next _ c.in-All.is c.in_ok-next.ensures.closed reached))
-    c.judge_goals.ensures
+    (λ ruling ruled q asked reached. ruled q asked (pairs_reached P q cert all c.args.checker.now.clauses.now refl c.args.row c.in-All.next _ c.in-All.is c.in_ok-next.ensures.closed reached))
+    (subst (λ (ts : List Term). let it = cert_in ts c.args.checker.now in IfOk c.judge_goals.result (λ ruling. OfQuery P c.args.checker.now.query (λ q. HasClosed P q it (drop c.in-All.next it.rows) → IsRuled P q it (ruling_of ruling))))
+    c.are_closed.ensures.bank c.judge_goals.ensures)
 
 pub returns-in-Except-clause-ruled : goal.returns-in-Except-clause-ruled
 returns-in-Except-clause-ruled g c = λ q asked reached.
     let P = protocol_of c.args.checker.now.protocol.now in
-    let cert = c.args.checker.now.cert.now in
     let all = g.B.Bank.trees c.args.bank.now in
-    pairs_rule P q cert all c.args.checker.now.clauses.now c.requires.clauses c.args.row c.in-Except.ruling _ c.in-Except.is c.in_ok-next.ensures.closed reached
+    let cert = cert_in all c.args.checker.now in
+    pairs_rule P q cert all c.args.checker.now.clauses.now refl c.args.row c.in-Except.ruling _ c.in-Except.is c.in_ok-next.ensures.closed reached
 
 pub returns-in-All-clause-bank : goal.returns-in-All-clause-bank
 returns-in-All-clause-bank g c = c.are_closed.ensures.bank

@@ -36,7 +36,7 @@ returns-then-not-branch g c = λ q asked.
     let P = protocol_of c.args.checker.now.protocol.now in
     let all = g.B.Bank.trees c.args.bank.now in
     let cs = c.args.checker.now.clauses.now in
-    let rows = c.args.checker.now.cert.now.goals in
+    let rows = c.args.checker.now.goals.now in
     let seen = clause_at all c.clause-item.result in
     let ahead = clause_next (clauses_at all cs) c.each.k seen (clause_at_index all cs c.each.k c.clause-item.result c.clause-item.is c.each-test.true) in
     let passes : due (with_number (c.each.k + 1) seen) ≡ true = sym c.is_solved_goal.ensures ∙ c.if-is_solved_goal.true in
@@ -50,7 +50,7 @@ each-preserved g c = λ q asked.
     let P = protocol_of c.args.checker.now.protocol.now in
     let all = g.B.Bank.trees c.args.bank.now in
     let cs = c.args.checker.now.clauses.now in
-    let rows = c.args.checker.now.cert.now.goals in
+    let rows = c.args.checker.now.goals.now in
     let seen = clause_at all c.clause-item.result in
     let whole = bad_ones (numbered_at all cs) in
     let behind = bad_ones (drop (c.each.k + 1) (numbered_at all cs)) in
@@ -73,5 +73,5 @@ returns g c = λ q asked.
     let all = g.B.Bank.trees c.args.bank.now in
     let cs = c.args.checker.now.clauses.now in
     let past : length (clauses_at all cs) ≤ c.each.k = omega (arith, c.each-test.false, length-map cs (clause_at all)) in
-    walk_ends (GoalHolds P q) (bad_ones (numbered_at all cs)) c.args.checker.now.cert.now.goals 0 (bad_ones (drop c.each.k (numbered_at all cs))) c.each.next
+    walk_ends (GoalHolds P q) (bad_ones (numbered_at all cs)) c.args.checker.now.goals.now 0 (bad_ones (drop c.each.k (numbered_at all cs))) c.each.next
     (ap (filter due) (none_ahead 1 (clauses_at all cs) c.each.k past)) (c.each.invariant q asked)

@@ -10,5 +10,5 @@ use Rattle.cert_checker.proofs.satisfying.are_satisfied.Given as goal
 
 abbrev pub invariant-each : goal.invariant-each
 invariant-each g l = (q : Query) → numbered (protocol_of l.checker.protocol.now).queries l.checker.query ≡ Some q
-    → IsWalked (GoalHolds (protocol_of l.checker.protocol.now) q) (bad_ones (numbered_at (g.B.Bank.trees l.bank) l.checker.clauses.now)) l.checker.cert.now.goals 0
+    → IsWalked (GoalHolds (protocol_of l.checker.protocol.now) q) (bad_ones (numbered_at (g.B.Bank.trees l.bank) l.checker.clauses.now)) l.checker.goals.now 0
     (bad_ones (drop l.k (numbered_at (g.B.Bank.trees l.bank) l.checker.clauses.now))) l.next

@@ -14,7 +14,7 @@ pub returns-in-Some-clause-satisfies : goal.returns-in-Some-clause-satisfies
 returns-in-Some-clause-satisfies g c =
     let P = protocol_of c.args.checker.now.protocol.now in
     let number = c.args.checker.now.query in
-    let rows = c.args.checker.now.cert.now.goals in
+    let rows = c.args.checker.now.goals.now in
     let seen = clause_at (g.B.Bank.trees c.args.bank.now) c.args.clause.now in
     let row = c.deref-in-Some.result.now in
     let are : rows ≡ map (λ r. r.items) c.deref.result.now = search rules in

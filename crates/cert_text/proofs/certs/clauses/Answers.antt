@@ -11,7 +11,7 @@ returns-in_err-next-clause-read c =
 
 pub loop-round-preserved : goal.loop-round-preserved
 loop-round-preserved c = record {
-  read = lines_on _ _ _ _ _ _ _ _ _ _ _ _ c.in_ok-next.next c.in_ok-push.ensures.items c.loop-round.invariant.read c.loop-round-test.true c.front.ensures.is c.if-front-ne99.false c.in_ok-next.ensures.read;
+  read = lines_on _ _ _ _ _ _ _ _ _ _ _ _ c.in_ok-next.next c.in_ok-push.ensures.ok c.loop-round.invariant.read c.loop-round-test.true c.front.ensures.is c.if-front-ne99.false c.in_ok-next.ensures.read;
   same = c.in_ok-next.ensures.same ∙ c.loop-round.invariant.same;
 }
 

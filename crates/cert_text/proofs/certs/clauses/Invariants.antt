@@ -10,6 +10,6 @@ use Rattle.cert_text.proofs.certs.clauses.Given as goal
 abbrev pub invariant-loop-round : goal.invariant-loop-round
 invariant-loop-round l = record {
   read : AreRead 99 (clause_line (protocol_of l.names.protocol.now)) (lines_from 99 (clause_line (protocol_of l.names.protocol.now)) l.most [] (left_of l.fn.cursor) l.fn.cursor.at)
-      (l.most - l.round) (left_of l.cursor) l.cursor.at l.items.items;
+      (l.most - l.round) (left_of l.cursor) l.cursor.at l.found;
   same : l.cursor.bytes.now ≡ l.fn.cursor.bytes.now;
 }

@@ -10,4 +10,4 @@ returns-clause-rows g c =
     let live = clauses_at all c.args.writer.now.live.now in
     let given = clauses_at all c.args.given.now in
     let none = ap (map (λ (row : Vec ℕ Global). row.items)) c.new.ensures.items in
-    all_rows live given c.cover_all.new.rows c.cover_pairs.new.rows (subst (λ (rows : List (List ℕ)). AddsRows live given rows c.cover_all.new.rows) none c.in_ok-cover_all.ensures) c.in_ok-cover_pairs.ensures.rows
+    all_rows live given c.cover_all.new.rows c.cover_closed.new.rows (subst (λ (rows : List (List ℕ)). AddsRows live given rows c.cover_all.new.rows) none c.in_ok-cover_all.ensures) c.in_ok-cover_closed.ensures.rows

@@ -6,8 +6,8 @@ use Rattle.clause_form.proofs.Norming.{numbered_named}
 use Rattle.term_tree.proofs.BankLaws.{Grows_trans}
 use Rattle.clause_form.proofs.renumbering.clause_in_order.Goals as goal
 
-pub renumbered_fact-requires : goal.renumbered_fact-requires
-renumbered_fact-requires g c = IsFactIn-grows (g.B.Bank.trees c.args.bank.now) (g.B.Bank.trees c.renumbered_facts.new.bank) (fact_of c.args.concl.now) c.renumbered_facts.ensures.grows c.requires.concl
+pub renumbered_fact-requires-clause-known : goal.renumbered_fact-requires-clause-known
+renumbered_fact-requires-clause-known g c = IsFactIn-grows (g.B.Bank.trees c.args.bank.now) (g.B.Bank.trees c.renumbered_facts.new.bank) (fact_of c.args.concl.now) c.renumbered_facts.ensures.grows c.requires.concl
 
 pub returns-clause-names : goal.returns-clause-names
 returns-clause-names g c =

@@ -1,6 +1,10 @@
 use Rattle.clause_form.specs.Numbers.{placed}
+use Rattle.clause_form.specs.Remembered.{AreRemembered}
 use Rattle.clause_form.proofs.Renumber.{AreRenumbered}
 use Rattle.clause_form.proofs.renumbering.renumbered_facts.Given as goal
 
 abbrev pub invariant-each : goal.invariant-each
-invariant-each g l = AreRenumbered (g.B.Bank.trees l.fn.bank) (g.B.Bank.trees l.bank) (placed l.order) l.facts l.fact-index l.items.items
+invariant-each g l = record {
+  done : AreRenumbered (g.B.Bank.trees l.fn.bank) (g.B.Bank.trees l.bank) (placed l.order) l.facts l.fact-index l.items.items;
+  changes : AreRemembered (g.B.Bank.trees l.bank) (placed l.order) l.changes;
+}

@@ -2,11 +2,37 @@ use Rattle.std.proofs.Common.{sym, subst, IfOk}
 use Rattle.spec_terms.specs.Term.{Term}
 use Rattle.spec_clauses.specs.Fact.{Clause}
 use Rattle.clause_form.specs.Seen.{clause_at}
+use Rattle.clause_resolve.specs.Apart.{IsSelectedAt}
 use Rattle.clause_resolve.specs.Low.{HasLowVariables}
 use Rattle.clause_resolve.specs.Answers.{IsAnswerOf}
 use Rattle.clause_resolve.proofs.Answering.{IsClauseIn-later, clause_at-later}
 use Rattle.term_tree.proofs.BankLaws.{Grows_trans}
 use Rattle.clause_resolve.proofs.resolving.resolvents_grown.Goals as goal
+
+pub resolve_moved-requires-clause-moved : goal.resolve_moved-requires-clause-moved
+resolve_moved-requires-clause-moved g c = c.in_ok-moved.ensures.names.known
+
+pub resolve_moved-requires-clause-unsolved : goal.resolve_moved-requires-clause-unsolved
+resolve_moved-requires-clause-unsolved g c = IsClauseIn-later (g.B.Bank.trees c.args.bank.now) (g.B.Bank.trees c.moved_clause.new.bank) c.args.unsolved.now c.moved_clause.ensures.grows c.requires.unsolved
+
+pub resolve_moved-requires-clause-unsolved_low : goal.resolve_moved-requires-clause-unsolved_low
+resolve_moved-requires-clause-unsolved_low g c =
+    subst (λ (k : Clause Term). HasLowVariables k) (sym (clause_at-later (g.B.Bank.trees c.args.bank.now) (g.B.Bank.trees c.moved_clause.new.bank) c.args.unsolved.now c.moved_clause.ensures.grows c.requires.unsolved)) c.requires.unsolved_low
+
+pub resolve_moved-requires-clause-selected : goal.resolve_moved-requires-clause-selected
+resolve_moved-requires-clause-selected g c =
+    subst (λ (k : Clause Term). IsSelectedAt k c.args.at) (sym (clause_at-later (g.B.Bank.trees c.args.bank.now) (g.B.Bank.trees c.moved_clause.new.bank) c.args.unsolved.now c.moved_clause.ensures.grows c.requires.unsolved)) c.requires.selected
+
+pub returns-then-is_smaller-clause-answer : goal.returns-then-is_smaller-clause-answer
+returns-then-is_smaller-clause-answer g c =
+    let old = g.B.Bank.trees c.args.bank.now in
+    let now = g.B.Bank.trees c.moved_clause.new.bank in
+    let new = g.B.Bank.trees c.resolve_moved.new.bank in
+    let solved = clause_at old c.args.solved.now in
+    subst (λ (k : Clause Term). IfOk c.resolve_moved.result (λ found. IsAnswerOf new solved k found)) (clause_at-later old now c.args.unsolved.now c.moved_clause.ensures.grows c.requires.unsolved) (c.resolve_moved.ensures.answer solved record { low = c.requires.solved_low; names = c.in_ok-moved.ensures.names })
+
+pub returns-then-is_smaller-clause-grows : goal.returns-then-is_smaller-clause-grows
+returns-then-is_smaller-clause-grows g c = Grows_trans (g.B.Bank.trees c.args.bank.now) (g.B.Bank.trees c.moved_clause.new.bank) (g.B.Bank.trees c.resolve_moved.new.bank) c.moved_clause.ensures.grows c.resolve_moved.ensures.grows
 
 pub resolve_apart-requires-clause-solved : goal.resolve_apart-requires-clause-solved
 resolve_apart-requires-clause-solved g c = IsClauseIn-later (g.B.Bank.trees c.args.bank.now) (g.B.Bank.trees c.set_apart.new.bank) c.args.solved.now c.set_apart.ensures.grows c.requires.solved

@@ -1,15 +1,22 @@
 use Rattle.std.proofs.Common.{◌∙◌}
-use Rattle.clause_form.specs.Plain.{term_of}
+use Rattle.term_tree.specs.Bank.{tree_at}
+use Rattle.node_reader.specs.Tables.{table_of}
 use Rattle.numbered_reader.proofs.Loops.{viewed_on, viewed_end, row_out}
+use Rattle.numbered_reader.proofs.Known.{known_on}
 use Rattle.numbered_reader.proofs.events.terms.Goals as goal
 
 pub returns-then-not-more-clause-read : goal.returns-then-not-more-clause-read
-returns-then-not-more-clause-read c = viewed_end term_of _ _ _ _ _ _ _ _ _ _ _ c.in_ok-next.next _ _ c.in_ok-push.ensures.items c.if-not-more.true c.loop-round.invariant.read c.loop-round-test.true c.in_ok-next.ensures.read
+returns-then-not-more-clause-read c =
+    viewed_end (tree_at (table_of c.args.table.now).terms) _ _ _ _ _ _ _ _ _ _ _ c.in_ok-next.next _ _ c.in_ok-push.ensures.items c.if-not-more.true c.loop-round.invariant.read c.loop-round-test.true c.in_ok-next.ensures.read
+
+pub returns-then-not-more-clause-known : goal.returns-then-not-more-clause-known
+returns-then-not-more-clause-known c = known_on _ _ _ c.in_ok-next.next c.in_ok-push.ensures.items c.loop-round.invariant.known c.in_ok-next.ensures.known
 
 pub loop-round-preserved : goal.loop-round-preserved
 loop-round-preserved c = record {
-  read = viewed_on term_of _ _ _ _ _ _ _ _ _ _ _ c.in_ok-next.next _ _ c.in_ok-push.ensures.items c.if-not-more.false c.loop-round.invariant.read c.loop-round-test.true c.in_ok-next.ensures.read;
+  read = viewed_on (tree_at (table_of c.args.table.now).terms) _ _ _ _ _ _ _ _ _ _ _ c.in_ok-next.next _ _ c.in_ok-push.ensures.items c.if-not-more.false c.loop-round.invariant.read c.loop-round-test.true c.in_ok-next.ensures.read;
   same = c.in_ok-next.ensures.same ∙ c.loop-round.invariant.same;
+  known = known_on _ _ _ c.in_ok-next.next c.in_ok-push.ensures.items c.loop-round.invariant.known c.in_ok-next.ensures.known;
 }
 
 pub returns-clause-read : goal.returns-clause-read

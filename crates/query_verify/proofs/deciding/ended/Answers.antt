@@ -19,3 +19,6 @@ returns-in_ok-entries-in-Large-clause-answers g c =
     let budget = c.args.question.now.budget in
     pair_answer (protocol_at c.args.question.now) c.args.question.now.query budget all c.args.given.now c.in-Large.log c.in-Large.solved c.in-Large.unsolved c.in_ok-entries-in-Large.entries c.requires.given
     (subst (λ (s : Saturated). IsLogOf all (map (clause_at all) c.args.given.now) budget s) c.in-Large.is c.requires.log) c.in_ok-entries-in-Large.ensures
+
+pub closed-requires-clause-kept : goal.closed-requires-clause-kept
+closed-requires-clause-kept g c = c.none_known-known.ensures.known (g.B.Bank.trees c.args.bank.now)

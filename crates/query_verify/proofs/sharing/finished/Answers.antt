@@ -5,7 +5,7 @@ use Rattle.clause_saturate.specs.Common.{Shared}
 use Rattle.clause_translate.specs.Whole.{TranslatesTo}
 use Rattle.query_verify.specs.Asked.{protocol_at}
 use Rattle.query_verify.specs.Settled.{AreGoalBehind, shared_of}
-use Rattle.query_verify.proofs.Commons.{goal_behind}
+use Rattle.query_verify.proofs.Commons.{goal_behind, kept_back}
 use Rattle.query_verify.proofs.sharing.finished.Goals as goal
 
 pub gone_on-answer-requires : goal.gone_on-answer-requires
@@ -28,8 +28,19 @@ gone_on-answer-requires g c = λ κs h. (
           subst (λ (cs : List (Clause Id)). TranslatesTo P number mid cs) (sym same) t,
           (
             subst (λ (cs : List (Clause Id)). AreGoalBehind mid g.shared cs) (sym same) shared,
-            (ap (λ s. s.budget) c.requires.1.1.1.1.0, c.commons_serve_each_goal.ensures.grown old mid g.shared c.args.common.now c.in_ok-all.ensures.grows c.requires.1.1.1.1.1),
+            (
+              ap (λ s. s.budget) c.requires.1.1.1.1.0,
+              (
+                c.commons_serve_each_goal.ensures.grown old mid g.shared c.args.sharing.now.common c.in_ok-all.ensures.grows c.requires.1.1.1.1.1.0,
+                c.known_rows_outlast_growth.ensures.grown old mid c.args.sharing.now.known c.in_ok-all.ensures.grows c.requires.1.1.1.1.1.1,
+              ),
+            ),
           ),
         ),
       ),
     ))
+
+pub returns-clause-kept : goal.returns-clause-kept
+returns-clause-kept g c =
+    kept_back (g.B.Bank.trees c.args.bank.now) (g.B.Bank.trees c.with_goal.new.bank) c.args.sharing.now.known c.gone_on-answer.new.sharing.known c.gone_on-answer.result (c.known_rows_outlast_growth.ensures.back _ _)
+    c.in_ok-all.ensures.grows c.requires.1.1.1.1.1.1 c.gone_on-answer.ensures.live c.gone_on-answer.ensures.kept

@@ -1,15 +1,14 @@
-use Rattle.std.proofs.Common.{◌-◌, List, length, map, sym, subst, arith}
+use Rattle.std.proofs.Common.{◌-◌, length, sym, subst, arith}
 use Rattle.spec_clauses.specs.Fact.{Clause}
 use Rattle.spec_saturation.specs.Common.{with_goal}
 use Rattle.term_tree.specs.declared.bank.Id.{Id}
 use Rattle.clause_form.specs.Seen.{clause_at}
 use Rattle.clause_form.specs.Fit.{IsFit}
 use Rattle.clause_form.proofs.Fit.{clause_fit_at}
-use Rattle.clause_saturate.specs.declared.log.Entry.{Entry}
 use Rattle.clause_saturate.specs.Logs.{IsLogOf}
 use Rattle.clause_saturate.specs.Common.{saturated, log_of}
 use Rattle.query_verify.specs.Asked.{protocol_at}
-use Rattle.query_verify.proofs.Commons.{goal_some, finished_log}
+use Rattle.query_verify.proofs.Commons.{goal_some, finished_log, kept_back}
 use Rattle.query_verify.proofs.Fitting.{small_query, named_fit, translates_later}
 use Rattle.query_verify.proofs.sharing.gone_on.Goals as goal
 
@@ -23,7 +22,7 @@ finish-requires g c = λ κs h. (
     let fit = named_fit all given t.list t.names (λ d has. c.translations_are_normal.ensures.normal P t.query t.list d t.translates has)
     (λ d has. c.translations_are_within_the_limit.ensures.all P t.query t.list d limits (small_query P c.args.question.now.query t.query limits t.is) t.translates has) in
     let some = goal_some all g.shared given c.requires.1.1.1.0 in
-    (h, (c.requires.1.1.1.1.1, subst (λ (d : Clause Id). IsFit all d) (sym c.in_ok-goal.ensures) (clause_fit_at all given (length given - 1) c.index-given-given.result c.index-given-given.is fit (omega (arith, some))))))
+    (h, (c.requires.1.1.1.1.1.0, subst (λ (d : Clause Id). IsFit all d) (sym c.in_ok-goal.ensures) (clause_fit_at all given (length given - 1) c.index-given-given.result c.index-given-given.is fit (omega (arith, some))))))
 
 pub told-answer-requires-clause-given : goal.told-answer-requires-clause-given
 told-answer-requires-clause-given g c =
@@ -35,6 +34,14 @@ told-answer-requires-clause-log g c =
     let new = g.B.Bank.trees c.finish.new.bank in
     let given = c.args.given.now in
     let end = saturated (log_of c.finish.new.common) c.in_ok-end.end in
-    subst (λ (log : List Entry). IsLogOf new (map (clause_at new) given) c.args.question.now.budget (saturated log c.in_ok-end.end)) (sym c.log.ensures)
-    (finished_log old new g.shared given c.index-given-given.result c.args.question.now.budget end c.requires.1.1.1.0 c.index-given-given.is c.requires.1.1.1.1.0 c.requires.1.1.0.names.known c.finish.ensures.grows
-    (subst (λ (d : Clause Id). IsLogOf new (with_goal g.shared.clauses (clause_at old d)) g.shared.budget end) c.in_ok-goal.ensures c.in_ok-end.ensures.log))
+    finished_log old new g.shared given c.index-given-given.result c.args.question.now.budget end c.requires.1.1.1.0 c.index-given-given.is c.requires.1.1.1.1.0 c.requires.1.1.0.names.known c.finish.ensures.grows
+    (subst (λ (d : Clause Id). IsLogOf new (with_goal g.shared.clauses (clause_at old d)) g.shared.budget end) c.in_ok-goal.ensures c.in_ok-end.ensures.log)
+
+pub told-answer-requires-clause-kept : goal.told-answer-requires-clause-kept
+told-answer-requires-clause-kept g c =
+    c.known_rows_outlast_growth.ensures.grown (g.B.Bank.trees c.args.bank.now) (g.B.Bank.trees c.finish.new.bank) c.args.sharing.now.known c.finish.ensures.grows c.requires.1.1.1.1.1.1
+
+pub returns-clause-kept : goal.returns-clause-kept
+returns-clause-kept g c =
+    kept_back (g.B.Bank.trees c.args.bank.now) (g.B.Bank.trees c.finish.new.bank) c.args.sharing.now.known c.told-answer.new.sharing.known c.told-answer.result (c.known_rows_outlast_growth.ensures.back _ _)
+    c.finish.ensures.grows c.requires.1.1.1.1.1.1 c.told-answer.ensures.live c.told-answer.ensures.kept

@@ -1,6 +1,7 @@
 use Rattle.std.proofs.Common.{◌∙◌, ◌<◌, ◌≤◌, length, sym, subst, arith}
 use Rattle.pi_tree.specs.Protocols.{protocol_of}
 use Rattle.clause_translate.specs.Whole.{IsCommonTo}
+use Rattle.cert_writer.specs.Known.{IsKnown}
 use Rattle.query_verify.proofs.Each.{one_more, all_answered}
 use Rattle.query_verify.proofs.sharing.shared_verdicts.Goals as goal
 
@@ -9,6 +10,9 @@ decided_by-requires-clause-given g c = subst (λ trees. IsCommonTo (protocol_of 
 
 pub decided_by-requires-clause-common : goal.decided_by-requires-clause-common
 decided_by-requires-clause-common g c = c.each.invariant.common
+
+pub decided_by-requires-clause-kept : goal.decided_by-requires-clause-kept
+decided_by-requires-clause-kept g c = c.each.invariant.kept
 
 pub returns-in_err-answer-clause-bank : goal.returns-in_err-answer-clause-bank
 returns-in_err-answer-clause-bank g c = c.decided_by.ensures.bank ∙ c.each.invariant.bank
@@ -23,6 +27,7 @@ each-preserved g c =
     record {
       bank = c.decided_by.ensures.bank ∙ c.each.invariant.bank;
       common = c.decided_by.ensures.common;
+      kept = subst (λ trees. IsKnown trees c.decided_by.new.sharing.known) (sym c.decided_by.ensures.bank) c.in_ok-answer.ensures.kept;
       answered = one_more P c.args.asking.now.budget P.queries c.each.index c.each.items.items c.push.new.self.items c.in_ok-answer.answer within c.in_ok-push.ensures.items c.each.invariant.answered c.in_ok-answer.ensures.answers;
     }
 

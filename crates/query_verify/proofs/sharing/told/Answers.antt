@@ -1,8 +1,9 @@
-use Rattle.std.proofs.Common.{map, subst}
+use Rattle.std.proofs.Common.{◌∙◌, map, ap, subst}
 use Rattle.clause_form.specs.Seen.{clause_at}
 use Rattle.clause_saturate.specs.declared.common.End.{End}
 use Rattle.clause_saturate.specs.Logs.{IsLogOf}
-use Rattle.clause_saturate.specs.Common.{saturated}
+use Rattle.clause_saturate.specs.Plain.{plain_entry}
+use Rattle.clause_saturate.specs.Common.{saturated, log_of}
 use Rattle.query_verify.specs.Asked.{protocol_at}
 use Rattle.query_verify.proofs.Answering.{spent_answer, pair_answer}
 use Rattle.query_verify.proofs.sharing.told.Goals as goal
@@ -11,12 +12,14 @@ pub returns-in_ok-entry-in-Spent-clause-answers : goal.returns-in_ok-entry-in-Sp
 returns-in_ok-entry-in-Spent-clause-answers g c =
     let all = g.B.Bank.trees c.args.bank.now in
     let budget = c.args.question.now.budget in
-    spent_answer (protocol_at c.args.question.now) c.args.question.now.query budget all c.args.given.now c.args.log.now c.in-Spent.due c.in_ok-entries-in-Spent.entries c.in_ok-entry-in-Spent.entry c.requires.given
-    (subst (λ (end : End). IsLogOf all (map (clause_at all) c.args.given.now) budget (saturated c.args.log.now end)) c.in-Spent.is c.requires.log) c.in_ok-entries-in-Spent.ensures c.in_ok-entry-in-Spent.ensures
+    let log = log_of c.args.sharing.now.common in
+    spent_answer (protocol_at c.args.question.now) c.args.question.now.query budget all c.args.given.now log c.in-Spent.due c.in_ok-entries-in-Spent.entries c.in_ok-entry-in-Spent.entry c.requires.given
+    (subst (λ (end : End). IsLogOf all (map (clause_at all) c.args.given.now) budget (saturated log end)) c.in-Spent.is c.requires.log) (c.in_ok-entries-in-Spent.ensures ∙ ap (map (plain_entry all)) c.log-in-Spent.ensures) c.in_ok-entry-in-Spent.ensures
 
 pub returns-in_ok-entries-in-Large-clause-answers : goal.returns-in_ok-entries-in-Large-clause-answers
 returns-in_ok-entries-in-Large-clause-answers g c =
     let all = g.B.Bank.trees c.args.bank.now in
     let budget = c.args.question.now.budget in
-    pair_answer (protocol_at c.args.question.now) c.args.question.now.query budget all c.args.given.now c.args.log.now c.in-Large.solved c.in-Large.unsolved c.in_ok-entries-in-Large.entries c.requires.given
-    (subst (λ (end : End). IsLogOf all (map (clause_at all) c.args.given.now) budget (saturated c.args.log.now end)) c.in-Large.is c.requires.log) c.in_ok-entries-in-Large.ensures
+    let log = log_of c.args.sharing.now.common in
+    pair_answer (protocol_at c.args.question.now) c.args.question.now.query budget all c.args.given.now log c.in-Large.solved c.in-Large.unsolved c.in_ok-entries-in-Large.entries c.requires.given
+    (subst (λ (end : End). IsLogOf all (map (clause_at all) c.args.given.now) budget (saturated log end)) c.in-Large.is c.requires.log) (c.in_ok-entries-in-Large.ensures ∙ ap (map (plain_entry all)) c.log-in-Large.ensures)

@@ -1,10 +1,11 @@
 -- A root over its parts, and one more part.
-use Rattle.scope_check.specs.Bound.{bound_of}
+use Rattle.scope_declarations.specs.Bound.{bound_of}
 use Rattle.scope_check.specs.Extents.{root_of, rules_at}
-use Rattle.scope_check.specs.Scope.{scope_of}
+use Rattle.scope_declarations.specs.Scope.{scope_of}
 use Rattle.pi_tree.specs.Expressions.{expression_of}
 use Rattle.scope_check.proofs.Extents.{rooted_counted, row_counted_more}
-use Rattle.scope_check.proofs.Rows.{one_part_more, seen}
+use Rattle.scope_declarations.proofs.Rows.{seen}
+use Rattle.scope_check.proofs.Rows.{one_part_more}
 use Rattle.scope_check.proofs.expressions.+part.Goals as goal
 
 pub part-returns-in_ok-whole-in-Named-clause-counted : goal.part-returns-in_ok-whole-in-Named-clause-counted

@@ -4,10 +4,10 @@ use Rattle.spec_protocol_grammar.specs.Sketch.{terms_sketch}
 use Rattle.spec_protocol_scope.specs.Expressions as rules
 use Rattle.pi_parser.specs.Terms as sketched
 use Rattle.pi_tree.specs.Expressions.{expression_of}
-use Rattle.scope_check.specs.Bound.{bound_of}
+use Rattle.scope_declarations.specs.Bound.{bound_of}
 use Rattle.scope_check.specs.Extents.{rules_at, CountsRow}
-use Rattle.scope_check.specs.Scope.{scope_of}
-use Rattle.scope_check.proofs.Steps.{joined}
+use Rattle.scope_declarations.specs.Scope.{scope_of}
+use Rattle.scope_declarations.proofs.Steps.{joined}
 use Rattle.scope_check.proofs.expressions.+part.Given as goal
 
 abbrev pub invariant-parts-loop-sketch : goal.invariant-parts-loop-sketch

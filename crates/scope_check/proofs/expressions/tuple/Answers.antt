@@ -1,6 +1,6 @@
 -- A tuple within its limits.
 use Rattle.scope_check.specs.Extents.{root_of, rules_at}
-use Rattle.scope_check.specs.Scope.{scope_of}
+use Rattle.scope_declarations.specs.Scope.{scope_of}
 use Rattle.scope_check.specs.declared.expressions.Root.TheVariants.{Tuple}
 use Rattle.scope_check.proofs.Extents.{rooted_counted}
 use Rattle.scope_check.proofs.expressions.tuple.Goals as goal

@@ -1,8 +1,8 @@
 -- One more pattern is read.
 use Rattle.std.proofs.Common.{map, arith}
 use Rattle.std.proofs.lemmas.Grind.{common_steps}
-use Rattle.scope_check.specs.Bound.{binding_of, bound_of}
-use Rattle.scope_check.specs.Scope.{scope_of}
+use Rattle.scope_declarations.specs.Bound.{binding_of, bound_of}
+use Rattle.scope_declarations.specs.Scope.{scope_of}
 use Rattle.scope_check.proofs.Rows.{one_pattern_more}
 use Rattle.scope_check.proofs.patterns.+pattern.Goals as goal
 

@@ -4,9 +4,9 @@ use Rattle.spec_protocol_grammar.specs.Sketch.{patterns_sketch}
 use Rattle.spec_protocol_scope.specs.Patterns as rules
 use Rattle.pi_parser.specs.Patterns as sketched
 use Rattle.pi_tree.specs.Patterns.{pattern_of}
-use Rattle.scope_check.specs.Bound.{binding_of, bound_of, FindsBindings}
-use Rattle.scope_check.specs.Scope.{scope_of}
-use Rattle.scope_check.proofs.Steps.{collected}
+use Rattle.scope_declarations.specs.Bound.{binding_of, bound_of, FindsBindings}
+use Rattle.scope_declarations.specs.Scope.{scope_of}
+use Rattle.scope_declarations.proofs.Steps.{collected}
 use Rattle.scope_check.proofs.patterns.+pattern.Given as goal
 
 abbrev pub invariant-patterns-loop-sketch : goal.invariant-patterns-loop-sketch

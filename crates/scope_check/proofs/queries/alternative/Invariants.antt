@@ -3,9 +3,9 @@ use Rattle.std.proofs.Common.{◌≡◌, ◌∷◌, map, drop}
 use Rattle.spec_protocol_scope.specs.Queries as rules
 use Rattle.pi_parser.specs.Terms.{atom_of}
 use Rattle.pi_tree.specs.Events.{event_of}
-use Rattle.scope_check.specs.Scope.{scope_of}
-use Rattle.scope_check.specs.Variables.{FindsVariables}
-use Rattle.scope_check.proofs.Steps.{collected}
+use Rattle.scope_declarations.specs.Scope.{scope_of}
+use Rattle.scope_declarations.specs.Variables.{FindsVariables}
+use Rattle.scope_declarations.proofs.Steps.{collected}
 use Rattle.scope_check.proofs.queries.alternative.Given as goal
 
 abbrev pub invariant-loop-atom : goal.invariant-loop-atom

@@ -2,9 +2,9 @@
 use Rattle.std.proofs.Common.{◌≡◌, map, drop}
 use Rattle.spec_protocol_scope.specs.Queries as rules
 use Rattle.pi_parser.specs.Files.{alternative_of}
-use Rattle.scope_check.specs.Scope.{scope_of}
-use Rattle.scope_check.specs.Variables.{FindsVariables}
-use Rattle.scope_check.proofs.Steps.{collected}
+use Rattle.scope_declarations.specs.Scope.{scope_of}
+use Rattle.scope_declarations.specs.Variables.{FindsVariables}
+use Rattle.scope_declarations.proofs.Steps.{collected}
 use Rattle.scope_check.proofs.queries.alternatives.Given as goal
 
 abbrev pub invariant-loop-sketch : goal.invariant-loop-sketch

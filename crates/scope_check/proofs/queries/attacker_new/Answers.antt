@@ -2,7 +2,7 @@
 use Rattle.std.proofs.Common.{[], refl}
 use Rattle.spec_calculus.specs.Points.{nodes}
 use Rattle.pi_tree.specs.Processes.{process_of}
-use Rattle.scope_check.specs.Text.{texts_of}
+use Rattle.scope_declarations.specs.Text.{texts_of}
 use Rattle.scope_check.specs.declared.queries.Seen.TheVariants.{Nowhere, Once, Often}
 use Rattle.scope_check.proofs.Restrictions.{decided}
 use Rattle.scope_check.proofs.queries.attacker_new.Goals as goal

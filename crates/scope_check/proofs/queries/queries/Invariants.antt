@@ -4,8 +4,8 @@ use Rattle.spec_protocol_scope.specs.Queries as rules
 use Rattle.pi_parser.specs.Files.{declaration_of}
 use Rattle.pi_tree.specs.Processes.{process_of}
 use Rattle.pi_tree.specs.Queries.{query_of}
-use Rattle.scope_check.specs.Scope.{scope_of}
-use Rattle.scope_check.proofs.Steps.{joined}
+use Rattle.scope_declarations.specs.Scope.{scope_of}
+use Rattle.scope_declarations.proofs.Steps.{joined}
 use Rattle.scope_check.proofs.queries.queries.Given as goal
 
 abbrev pub invariant-loop-declaration : goal.invariant-loop-declaration

@@ -1,5 +1,5 @@
 -- A macro use that is right.
-use Rattle.scope_check.specs.Scope.{scope_of}
+use Rattle.scope_declarations.specs.Scope.{scope_of}
 use Rattle.scope_check.proofs.Macros.{crowded_use}
 use Rattle.scope_check.proofs.site.crowded.Goals as goal
 

@@ -1,6 +1,6 @@
 -- what is left stands for the same
 use Rattle.std.proofs.Common.{◌≡◌, ◌≤◌}
-use Rattle.scope_check.specs.Scope.{scope_of}
+use Rattle.scope_declarations.specs.Scope.{scope_of}
 use Rattle.scope_check.specs.Numbers.{numbers_of}
 use Rattle.scope_check.specs.Forms.{form_of, site_of, read_at, reading_of, used_at, weight_of}
 use Rattle.scope_check.proofs.site.open_form.Given as goal

@@ -1,6 +1,6 @@
 -- none of the later macros is named so
 use Rattle.std.proofs.Common.{◌≡◌, ◌≤◌, length, take}
-use Rattle.scope_check.specs.Scope.{scope_of}
+use Rattle.scope_declarations.specs.Scope.{scope_of}
 use Rattle.scope_check.specs.Forms.{macros_of}
 use Rattle.scope_check.proofs.site.used_macro.Given as goal
 

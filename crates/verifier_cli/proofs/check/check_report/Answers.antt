@@ -1,6 +1,6 @@
 use Rattle.std.proofs.Common.{inl, map}
 use Rattle.pi_tree.specs.Protocols.{protocol_of}
-use Rattle.cert_text.specs.Seen.{claim_of}
+use Rattle.cert_text.specs.Seen.{shared_claim_of}
 use Rattle.verifier_cli.specs.Checking.{ChecksReport, MakesClaims}
 use Rattle.verifier_cli.specs.ReportReading.{IsNoReport}
 use Rattle.verifier_cli.specs.SeenOutcome.{outcome_of}
@@ -31,5 +31,5 @@ returns-in-Ok-clause-checked g c =
       one = λ bytes claims others. c.reports_are_one.ensures P bytes claims others c.requires.names;
     } in
     let outcome = outcome_of c.checked.result in
-    let claims = map claim_of c.in-Ok.claims in
+    let claims = map shared_claim_of c.in-Ok.claims in
     inl (of_file _ _ _ (λ bytes. MakesClaims P bytes claims) (λ bytes. ChecksReport P bytes outcome) (λ bytes made. claims_check P laws bytes claims outcome c.checked.ensures made) c.in-Ok.ensures.made)

@@ -5,7 +5,7 @@ use Rattle.spec_calculus.specs.Bounds.{most_report_bytes}
 use Rattle.pi_tree.specs.Protocols.{protocol_of}
 use Rattle.spec_node_reading.specs.Reports.{SpellsReport, reports_of_both}
 use Rattle.fact_reader.specs.Errors.{refusal_of}
-use Rattle.cert_text.specs.Seen.{claim_of}
+use Rattle.cert_text.specs.Seen.{shared_claim_of}
 use Rattle.cert_text.specs.Refused.{IsFirstOf}
 use Rattle.verifier_cli.specs.Checking.{MakesClaims}
 use Rattle.verifier_cli.specs.Outcome.{Outcome}
@@ -16,16 +16,16 @@ use Rattle.verifier_cli.proofs.Checking.{fault_unread}
 use Rattle.verifier_cli.proofs.Files.{no_report, of_all}
 use Rattle.verifier_cli.proofs.check.load_claims.Goals as goal
 
-pub returns-in-Ok-read_report-clause-each : goal.returns-in-Ok-read_report-clause-each
-returns-in-Ok-read_report-clause-each g c = sym (length-map c.in-Ok-read_report.claims claim_of) ∙ c.in-Ok-read_report.ensures.spelled.all
+pub returns-in-Ok-read_shared_report-clause-each : goal.returns-in-Ok-read_shared_report-clause-each
+returns-in-Ok-read_shared_report-clause-each g c = sym (length-map c.in-Ok-read_shared_report.claims shared_claim_of) ∙ c.in-Ok-read_shared_report.ensures.spelled.all
 
-pub returns-in-Ok-read_report-clause-made : goal.returns-in-Ok-read_report-clause-made
-returns-in-Ok-read_report-clause-made g c =
+pub returns-in-Ok-read_shared_report-clause-made : goal.returns-in-Ok-read_shared_report-clause-made
+returns-in-Ok-read_shared_report-clause-made g c =
     let P = protocol_of c.args.protocol.now in
-    let claims = map claim_of c.in-Ok-read_report.claims in
+    let claims = map shared_claim_of c.in-Ok-read_shared_report.claims in
     let same = ap (λ (bytes : List ℕ). length bytes) c.deref.ensures.value in
     let fits : length c.in-Ok.bytes.items ≤ most_report_bytes = omega (arith, c.in-Ok.ensures.within, c.deref.ensures.len, same) in
-    of_all _ _ _ (λ bytes. MakesClaims P bytes claims) c.in-Ok.bytes.items (fits, subst (λ (bytes : List ℕ). SpellsReport P bytes claims) c.deref.ensures.value c.in-Ok-read_report.ensures.spelled) c.in-Ok.ensures.loaded
+    of_all _ _ _ (λ bytes. MakesClaims P bytes claims) c.in-Ok.bytes.items (fits, subst (λ (bytes : List ℕ). SpellsReport P bytes claims) c.deref.ensures.value c.in-Ok-read_shared_report.ensures.spelled) c.in-Ok.ensures.loaded
 
 pub returns-in-Err-clause-unread : goal.returns-in-Err-clause-unread
 returns-in-Err-clause-unread g c =
@@ -37,11 +37,11 @@ pub returns-clause-unread : goal.returns-clause-unread
 returns-clause-unread g c =
     let P = protocol_of c.args.protocol.now in
     let bytes = c.in-Ok.bytes.items in
-    let error = c.in-Err-read_report.error in
+    let error = c.in-Err-read_shared_report.error in
     let files = outside g.F.Files.held g.F.Files.faults g.F.Files.loads c.args.files.now c.load_text.new.files in
     let same = ap (λ (all : List ℕ). length all) c.deref.ensures.value in
     let fits : length bytes ≤ most_report_bytes = omega (arith, c.in-Ok.ensures.within, c.deref.ensures.len, same) in
-    let fault : IsFirstOf (reports_of_both P) bytes 0 (refusal_of error) = subst (λ (all : List ℕ). IsFirstOf (reports_of_both P) all 0 (refusal_of error)) c.deref.ensures.value (c.in-Err-read_report.ensures.refused c.requires.names) in
-    let is : outcome_of c.report_not_read.result ≡ report_not_read bytes error = c.report_not_read.ensures ∙ ap (λ (all : List ℕ). report_not_read all error) c.deref-in-Err-read_report.ensures.value in
+    let fault : IsFirstOf (reports_of_both P) bytes 0 (refusal_of error) = subst (λ (all : List ℕ). IsFirstOf (reports_of_both P) all 0 (refusal_of error)) c.deref.ensures.value (c.in-Err-read_shared_report.ensures.refused c.requires.names) in
+    let is : outcome_of c.report_not_read.result ≡ report_not_read bytes error = c.report_not_read.ensures ∙ ap (λ (all : List ℕ). report_not_read all error) c.deref-in-Err-read_shared_report.ensures.value in
     subst (λ (outcome : Outcome). IsUnreadReport P files c.args.report.now outcome) (sym is)
     (inl (of_all _ _ _ (λ all. IsNoReport P all (report_not_read bytes error)) bytes (fault_unread P bytes error fits fault) c.in-Ok.ensures.loaded))

@@ -1,0 +1,85 @@
+use Rattle.std.proofs.Common.{◌≡◌, ◌∙◌, ℕ, List, map, take, length, option_map, ap, sym, subst, arith}
+use Rattle.spec_terms.specs.Term.{Term}
+use Rattle.spec_clauses.specs.Inclusion.{Has}
+use Rattle.spec_certificates.specs.Certificate.{Numbered, numbered_from, pairs_of}
+use Rattle.spec_verdicts.proofs.Building.{take_past}
+use Rattle.clause_form.specs.Seen.{clause_at}
+use Rattle.clause_form.specs.Fit.{IsFit, clauses_at}
+use Rattle.clause_form.proofs.Fit.{clause_fit_at}
+use Rattle.fact_fingerprint.specs.Seen.{fingerprint_seen}
+use Rattle.spec_fingerprints.specs.Fingerprints.{hypothesis_print}
+use Rattle.cert_writer.specs.Ready.{IsReady}
+use Rattle.cert_writer.specs.Adding.{AddsPairs, pairs_if_solved, MustClose}
+use Rattle.cert_writer.proofs.Items.{item_at, item_has, numbers_past}
+use Rattle.cert_writer.proofs.Adding.{all_next}
+use Rattle.cert_writer.proofs.KeptRows.{put_adds, put_short}
+use Rattle.cert_writer.proofs.all_pairs.cover_pairs.Goals as goal
+
+pub conclusion_fingerprint-requires : goal.conclusion_fingerprint-requires
+conclusion_fingerprint-requires g c =
+    subst (λ (all : List Term). IsFit all c.clause-item.result) (sym c.each.invariant.bank)
+    (clause_fit_at (g.B.Bank.trees c.args.bank.now) c.args.writer.now.live.now c.each.place c.clause-item.result c.clause-item.is c.requires.ready.fit c.each-test.true)
+
+pub cover_one-requires-clause-ready : goal.cover_one-requires-clause-ready
+cover_one-requires-clause-ready g c = subst (λ (all : List Term). IsReady all c.args.writer.now) (sym c.each.invariant.bank) c.requires.ready
+
+pub cover_one-requires-clause-fit : goal.cover_one-requires-clause-fit
+cover_one-requires-clause-fit g c =
+    subst (λ (all : List Term). IsFit all c.clause-item.result) (sym c.each.invariant.bank)
+    (clause_fit_at (g.B.Bank.trees c.args.bank.now) c.args.writer.now.live.now c.each.place c.clause-item.result c.clause-item.is c.requires.ready.fit c.each-test.true)
+
+pub cover_one-requires-clause-live : goal.cover_one-requires-clause-live
+cover_one-requires-clause-live g c =
+    subst (λ (all : List Term). Has (clauses_at all c.args.writer.now.live.now) (clause_at all c.clause-item.result)) (sym c.each.invariant.bank)
+    (item_has (g.B.Bank.trees c.args.bank.now) c.args.writer.now.live.now c.each.place c.clause-item.result c.clause-item.is c.each-test.true)
+
+pub cover_one-requires-clause-told : goal.cover_one-requires-clause-told
+cover_one-requires-clause-told g c =
+    let same : map (option_map fingerprint_seen) c.deref.result.now ≡ map hypothesis_print (clauses_at (g.B.Bank.trees c.args.bank.now) c.args.writer.now.live.now) = ap (map (option_map fingerprint_seen)) c.deref.ensures.value ∙ c.in_ok-prints.ensures in
+    record {
+      conclusion = c.conclusion_fingerprint.ensures;
+      hypotheses = same ∙ ap (λ (all : List Term). map hypothesis_print (clauses_at all c.args.writer.now.live.now)) (sym c.each.invariant.bank);
+    }
+
+pub cover_one-requires-clause-places : goal.cover_one-requires-clause-places
+cover_one-requires-clause-places g c =
+    let most = put_short (g.B.Bank.trees c.args.bank.now) c.args.known.now c.args.writer.now.live.now c.requires.begin c.each.place c.in_ok-from.from c.each.rows c.put_known.new.rows c.in_ok-from.ensures in
+    omega (arith, most)
+
+pub cover_one-requires-clause-closed : goal.cover_one-requires-clause-closed
+cover_one-requires-clause-closed g c = subst (λ (all : List Term). MustClose (clauses_at all c.args.writer.now.live.now)) (sym c.each.invariant.bank) c.requires.closed
+
+pub each-preserved : goal.each-preserved
+each-preserved g c =
+    let all = g.B.Bank.trees c.args.bank.now in
+    let live = c.args.writer.now.live.now in
+    let clause = c.clause-item.result in
+    let old = c.each.rows in
+    let put = c.put_known.new.rows in
+    let new = c.cover_one.new.rows in
+    let each = numbered_from 1 (clauses_at all live) in
+    let at = item_at all live c.each.place clause c.clause-item.is c.each-test.true in
+    let front = put_adds all c.args.known.now live c.requires.begin c.requires.known c.each.place c.in_ok-from.from (clause_at all clause) old put at c.in_ok-from.ensures in
+    let adds = subst (λ (all : List Term). (i : ℕ) (first : List (List ℕ)) → AddsPairs (clauses_at all live) (pairs_if_solved i (clause_at all clause) (take c.in_ok-from.from (numbered_from 1 (clauses_at all live)))) first put
+    → AddsPairs (clauses_at all live) (pairs_if_solved i (clause_at all clause) (take (length live) (numbered_from 1 (clauses_at all live)))) first new) c.each.invariant.bank c.in_ok-cover_one.ensures.rows in
+    let pairs = λ (i : ℕ). subst (λ (ns : List Numbered). AddsPairs (clauses_at all live) (pairs_if_solved i (clause_at all clause) ns) old new) (take_past each (length live) (numbers_past all live (length live) (omega arith))) (adds i old (front i)) in
+    record {
+      bank = c.cover_one.ensures.bank ∙ c.each.invariant.bank;
+      rows = all_next (clauses_at all live) each (clauses_at all live) c.each.place (clause_at all clause) c.args.rows.now old new at c.each.invariant.rows pairs;
+    }
+
+pub returns-clause-rows : goal.returns-clause-rows
+returns-clause-rows g c =
+    let all = g.B.Bank.trees c.args.bank.now in
+    let clauses = clauses_at all c.args.writer.now.live.now in
+    subst (λ (ns : List Numbered). AddsPairs clauses (pairs_of ns (numbered_from 1 clauses)) c.args.rows.now c.each.rows)
+    (take_past (numbered_from 1 clauses) c.each.place (numbers_past all c.args.writer.now.live.now c.each.place c.each-test.false)) c.each.invariant.rows
+
+pub returns-clause-bank : goal.returns-clause-bank
+returns-clause-bank g c = c.each.invariant.bank
+
+pub returns-in_err-from-clause-bank : goal.returns-in_err-from-clause-bank
+returns-in_err-from-clause-bank g c = c.each.invariant.bank
+
+pub returns-in_err-cover_one-clause-bank : goal.returns-in_err-cover_one-clause-bank
+returns-in_err-cover_one-clause-bank g c = c.cover_one.ensures.bank ∙ c.each.invariant.bank

@@ -1,0 +1,9 @@
+use Rattle.std.proofs.Common.{List, sym, subst}
+use Rattle.term_tree.specs.declared.bank.Id.{Id}
+use Rattle.spec_clauses.specs.Fact.{Clause}
+use Rattle.clause_form.specs.Seen.{AreClausesIn}
+use Rattle.cert_writer.proofs.KeptRows.{none_kept, live_known}
+use Rattle.cert_writer.proofs.known.known_rows.Goals as goal
+
+pub returns : goal.returns
+returns c = λ all names. none_kept all _ (subst (λ (cs : List (Clause Id)). AreClausesIn all cs) (sym c.in_ok-live.ensures) (live_known all c.args.log.now names)) c.new.ensures.items

@@ -1,0 +1,97 @@
+//! Rows that are kept for further queries.
+
+ghost use Rattle.std.specs.Prelude.{◌≡◌, ◌++◌, List, true, length, IfOk, OnOk};
+ghost use Rattle.std.specs.List.{AllByRecursion};
+ghost use Rattle.spec_terms.specs.Term.{Term};
+ghost use Rattle.clause_form.specs.Seen.{AreClausesIn};
+ghost use Rattle.clause_saturate.specs.Beating.{clauses_of};
+ghost use Rattle.cert_writer.specs.Known.{BeginsWithin, IsKnown, PutsKnown};
+
+use crate::living::live_of;
+use cert_form::Rows;
+use clause_form::Clauses;
+use clause_saturate::Log;
+use std::alloc::{AllocError, Global};
+
+/// The live clauses of a log before any goal, and for each of the first so many of them the rows of what it gives with all of
+/// them. They stand in the certificate of each query whose clauses begin with these.
+#[derive(Drop)]
+pub struct KnownRows {
+    pub live: Clauses,
+    pub rows: Vec<Rows>,
+}
+
+/// The live clauses of a log before any goal, without rows yet.
+pub fn known_rows(alloc: Global, log: &Log) -> Result<KnownRows, AllocError>
+    ensures { IfOk result (λ known. (all : List Term) →
+        AreClausesIn all (clauses_of log.now) → IsKnown all known) }
+{
+    let live = live_of(alloc, log)?;
+    Ok(KnownRows {
+        live,
+        rows: Vec::new(alloc),
+    })
+}
+
+/// No clauses.
+pub fn none_known(alloc: Global) -> KnownRows
+    ensures known { (all : List Term) → IsKnown all result }
+    ensures none { length result.live ≡ 0 }
+{
+    KnownRows {
+        live: Clauses {
+            items: Vec::new(alloc),
+        },
+        rows: Vec::new(alloc),
+    }
+}
+
+/// Whether a row begins with a number that is at most this one.
+fn begins_within(row: &[u32], count: usize) -> bool
+    ensures { result ≡ true → BeginsWithin count row.now }
+{
+    match row.first() {
+        None => false,
+        Some(number) => *number as usize <= count,
+    }
+}
+
+/// Whether each row begins with a number that is at most this one.
+pub(crate) fn all_begin_within(rows: &Rows, count: usize) -> bool
+    ensures { result ≡ true → AllByRecursion (BeginsWithin count) rows.now }
+{
+    'each: for row in &rows.items {
+        if !begins_within(row, count) {
+            return false;
+        }
+    }
+    true
+}
+
+/// Puts copies of rows behind others.
+fn put_rows(alloc: Global, kept: &Rows, rows: &mut Rows) -> Result<(), AllocError>
+    ensures { OnOk result (rows.new ≡ rows.old ++ kept.now) }
+{
+    'each: for row in &kept.items {
+        let copied = Vec::from_slice(alloc, row)?;
+        rows.items.push(copied)?;
+    }
+    Ok(())
+}
+
+/// Puts the kept rows of the clause at a place, from 0, behind others, if there are any, and tells with how many clauses
+/// these are.
+pub(crate) fn put_known(
+    alloc: Global,
+    known: &KnownRows,
+    place: usize,
+    rows: &mut Rows,
+) -> Result<usize, AllocError>
+    ensures { IfOk result (λ count. PutsKnown known.now place count rows.old rows.new) }
+{
+    if place >= known.rows.len() {
+        return Ok(0);
+    }
+    put_rows(alloc, &known.rows[place], rows)?;
+    Ok(known.live.items.len())
+}

@@ -1,0 +1,71 @@
+use Rattle.std.proofs.Common.{◌≡◌, ap, sym, subst, List, length, map, arith, rules}
+use Rattle.std.proofs.lemmas.Bool.{MatchBool-at_true, MatchBool-at_false}
+use Rattle.std.proofs.lemmas.List.{length-map}
+use Rattle.spec_clauses.specs.Fact.{Fact, Clause}
+use Rattle.term_tree.specs.declared.bank.Id.{Id}
+use Rattle.term_tree.proofs.BankLaws.{Grows_refl}
+use Rattle.clause_form.specs.Facts.{fact_of}
+use Rattle.clause_form.specs.Seen.{AreFactsIn, IsClauseIn}
+use Rattle.clause_form.proofs.Walks.{fact_known_at}
+use Rattle.clause_resolve.proofs.Shifting.{selected_within}
+use Rattle.clause_resolve.proofs.Spending.{standing}
+use Rattle.clause_resolve.proofs.Swapping.{together_without_known, moved_result, moved_unanswered}
+use Rattle.clause_resolve.proofs.resolving.resolve_moved.Goals as goal
+
+pub bounds-facts-at : goal.bounds-facts-at
+bounds-facts-at g c =
+    let hyps_are : map fact_of c.as_slice-facts.result.now ≡ c.args.unsolved.now.hypotheses = search rules in
+    selected_within (g.B.Bank.trees c.args.bank.now) c.args.unsolved.now c.as_slice-facts.result.now c.args.at hyps_are c.requires.selected
+
+pub offset_bounds-facts-at : goal.offset_bounds-facts-at
+offset_bounds-facts-at g c =
+    let hyps_are : map fact_of c.as_slice-facts.result.now ≡ c.args.unsolved.now.hypotheses = search rules in
+    let within = selected_within (g.B.Bank.trees c.args.bank.now) c.args.unsolved.now c.as_slice-facts.result.now c.args.at hyps_are c.requires.selected in
+    omega (arith, c.as_slice-facts.type_inv)
+
+pub unify_facts-requires-clause-right : goal.unify_facts-requires-clause-right
+unify_facts-requires-clause-right g c =
+    let all = g.B.Bank.trees c.args.bank.now in
+    let hyps_are : map fact_of c.as_slice-facts.result.now ≡ c.args.unsolved.now.hypotheses = search rules in
+    fact_known_at all c.as_slice-facts.result.now c.args.at c.index-facts-at.result c.index-facts-at.is (subst (λ (l : List (Fact Id)). AreFactsIn all l) (sym hyps_are) c.requires.unsolved.hypotheses)
+    (selected_within all c.args.unsolved.now c.as_slice-facts.result.now c.args.at hyps_are c.requires.selected)
+
+pub unify_facts-requires-clause-ready : goal.unify_facts-requires-clause-ready
+unify_facts-requires-clause-ready g c = c.in_ok-binds.ensures.ready (g.B.Bank.trees c.args.bank.now)
+
+pub joined_without-requires : goal.joined_without-requires
+joined_without-requires g c =
+    let hyps_are : map fact_of c.as_slice-facts.result.now ≡ c.args.unsolved.now.hypotheses = search rules in
+    omega (arith, selected_within (g.B.Bank.trees c.args.bank.now) c.args.unsolved.now c.as_slice-facts.result.now c.args.at hyps_are c.requires.selected, ap (λ l. length l) hyps_are, length-map c.as_slice-facts.result.now fact_of)
+
+pub found_under-requires-clause-known : goal.found_under-requires-clause-known
+found_under-requires-clause-known g c =
+    let all = g.B.Bank.trees c.args.bank.now in
+    subst (λ (k : Clause Id). IsClauseIn all k) (sym c.in_ok-clause.ensures) (together_without_known all c.args.moved.now c.args.unsolved.now c.args.at c.requires.moved c.requires.unsolved)
+
+pub returns-clause-answer : goal.returns-clause-answer
+returns-clause-answer g c = λ solved is_moved.
+    let all = g.B.Bank.trees c.args.bank.now in
+    let hyps_are : map fact_of c.as_slice-facts.result.now ≡ c.args.unsolved.now.hypotheses = search rules in
+    moved_result all (g.B.Bank.trees c.found_under.new.bank) solved c.args.moved.now c.args.unsolved.now c.in_ok-clause.clause c.args.at _ c.as_slice-facts.result.now c.index-facts-at.result (standing all c.unify_facts.new.binds.pairs) c.found_under.result
+    (ap (λ (k : Clause Id). k.conclusion) c.moved.view_is) hyps_are (selected_within all c.args.unsolved.now c.as_slice-facts.result.now c.args.at hyps_are c.requires.selected) c.index-facts-at.is c.in_ok-clause.ensures c.requires.unsolved_low c.requires.selected
+    (MatchBool-at_true _ _ c.if-not-branch.false c.in_ok-unify_facts.ensures.outcome) c.found_under.ensures.found is_moved
+
+pub returns-then-not-branch-clause-answer : goal.returns-then-not-branch-clause-answer
+returns-then-not-branch-clause-answer g c = λ solved is_moved.
+    let all = g.B.Bank.trees c.args.bank.now in
+    let hyps_are : map fact_of c.as_slice-facts.result.now ≡ c.args.unsolved.now.hypotheses = search rules in
+    moved_unanswered all solved c.args.moved.now c.args.unsolved.now c.args.at _ c.as_slice-facts.result.now c.index-facts-at.result (ap (λ (k : Clause Id). k.conclusion) c.moved.view_is) hyps_are
+    (selected_within all c.args.unsolved.now c.as_slice-facts.result.now c.args.at hyps_are c.requires.selected) c.index-facts-at.is c.requires.unsolved_low c.requires.selected (MatchBool-at_false _ _ c.if-not-branch.true c.in_ok-unify_facts.ensures.outcome) is_moved
+
+pub returns-in_err-binds-clause-grows : goal.returns-in_err-binds-clause-grows
+returns-in_err-binds-clause-grows g c = Grows_refl (g.B.Bank.trees c.args.bank.now)
+
+pub returns-in_err-unify_facts-clause-grows : goal.returns-in_err-unify_facts-clause-grows
+returns-in_err-unify_facts-clause-grows g c = Grows_refl (g.B.Bank.trees c.args.bank.now)
+
+pub returns-then-not-branch-clause-grows : goal.returns-then-not-branch-clause-grows
+returns-then-not-branch-clause-grows g c = Grows_refl (g.B.Bank.trees c.args.bank.now)
+
+pub returns-in_err-clause-clause-grows : goal.returns-in_err-clause-clause-grows
+returns-in_err-clause-clause-grows g c = Grows_refl (g.B.Bank.trees c.args.bank.now)

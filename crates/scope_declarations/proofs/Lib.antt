@@ -1,0 +1,10 @@
+pub mod Spans
+pub mod Lists
+pub mod Texts
+pub mod Found
+pub mod Numbered
+pub mod Tables
+pub mod Meanings
+pub mod Steps
+pub mod Rows
+pub mod Few

@@ -1,0 +1,16 @@
+-- There are no more names than their limit.
+use Rattle.std.proofs.Common.{arith}
+use Rattle.std.proofs.lemmas.Grind.{common_steps}
+use Rattle.scope_declarations.proofs.names.count_of.Goals as goal
+
+pub overflow_add-result-2 : goal.overflow_add-result-2
+overflow_add-result-2 c = grind (arith, common_steps)
+
+pub overflow_add-result-3 : goal.overflow_add-result-3
+overflow_add-result-3 c = grind (arith, common_steps)
+
+pub overflow_add-result-4 : goal.overflow_add-result-4
+overflow_add-result-4 c = grind (arith, common_steps)
+
+pub returns : goal.returns
+returns c = grind (arith, common_steps)
