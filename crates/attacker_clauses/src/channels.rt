@@ -14,7 +14,7 @@ use term_tree::{Bank, Id};
 
 /// That a message is sent on a channel, and that the attacker has the channel.
 fn heard_facts(alloc: Global, channel: Id, message: Id) -> Result<Facts, AllocError>
-    ensures { IfOk result (λ facts. facts ≡ Mess channel message ∷ Att channel ∷ []) }
+    ensures { IfOk result (λ facts. facts ≡ Mess 0 channel message ∷ Att 0 channel ∷ []) }
 {
     let mut facts = Facts::new(alloc);
     facts.push(Fact::Mess(channel, message))?;
@@ -24,7 +24,7 @@ fn heard_facts(alloc: Global, channel: Id, message: Id) -> Result<Facts, AllocEr
 
 /// That the attacker has a channel and a message.
 fn sent_facts(alloc: Global, channel: Id, message: Id) -> Result<Facts, AllocError>
-    ensures { IfOk result (λ facts. facts ≡ Att channel ∷ Att message ∷ []) }
+    ensures { IfOk result (λ facts. facts ≡ Att 0 channel ∷ Att 0 message ∷ []) }
 {
     let mut facts = Facts::new(alloc);
     facts.push(Fact::Att(channel))?;
@@ -44,7 +44,7 @@ fn add_heard<B: Bank>(
     requires message { Names (B.trees bank.old) message (Leaf 1) }
     ensures grows { Grows (B.trees bank.old) (B.trees bank.new) }
     ensures adds { OnOk result (Adds (B.trees bank.old) list.old (B.trees bank.new) list.new
-        (message_heard ∷ [])) }
+        (message_heard 0 ∷ [])) }
 {
     let hyps = heard_facts(alloc, channel, message)?;
     let raw = Clause {
@@ -66,7 +66,7 @@ fn add_sent<B: Bank>(
     requires message { Names (B.trees bank.old) message (Leaf 1) }
     ensures grows { Grows (B.trees bank.old) (B.trees bank.new) }
     ensures adds { OnOk result (Adds (B.trees bank.old) list.old (B.trees bank.new) list.new
-        (message_sent ∷ [])) }
+        (message_sent 0 ∷ [])) }
 {
     let hyps = sent_facts(alloc, channel, message)?;
     let raw = Clause {
@@ -84,7 +84,7 @@ pub(crate) fn add_channels<B: Bank>(
 ) -> Result<(), AllocError>
     ensures grows { Grows (B.trees bank.old) (B.trees bank.new) }
     ensures adds { OnOk result (Adds (B.trees bank.old) list.old (B.trees bank.new) list.new
-        (message_heard ∷ message_sent ∷ [])) }
+        (message_heard 0 ∷ message_sent 0 ∷ [])) }
 {
     let channel = bank.var(0)?;
     let message = bank.var(1)?;

@@ -47,7 +47,7 @@ fn add_constructor<B: Bank>(
 ) -> Result<(), AllocError>
     ensures grows { Grows (B.trees bank.old) (B.trees bank.new) }
     ensures adds { OnOk result (Adds (B.trees bank.old) list.old (B.trees bank.new) list.new
-        (filter_map constructor_applied ((number, declared_of declared.now) ∷ []))) }
+        (filter_map (constructor_applied 0) ((number, declared_of declared.now) ∷ []))) }
 {
     if !is_applied(declared) {
         return Ok(());
@@ -68,7 +68,7 @@ pub(crate) fn add_constructors<B: Bank>(
     requires { length ctors.now < 2 ^ 32 }
     ensures grows { Grows (B.trees bank.old) (B.trees bank.new) }
     ensures adds { OnOk result (Adds (B.trees bank.old) list.old (B.trees bank.new) list.new
-        (filter_map constructor_applied (enumerate_from 1 ctors.now))) }
+        (filter_map (constructor_applied 0) (enumerate_from 1 ctors.now))) }
 {
     for (index, declared) in ctors.items.iter().enumerate() {
         add_constructor(alloc, bank, index as u32 + 1, declared, list)?;

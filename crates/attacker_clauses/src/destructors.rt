@@ -27,7 +27,7 @@ fn add_rule<B: Bank>(
     requires { CanBeRenamed (rule_of rule.now) }
     ensures grows { Grows (B.trees bank.old) (B.trees bank.new) }
     ensures adds { OnOk result (Adds (B.trees bank.old) list.old (B.trees bank.new) list.new
-        (rule_applied (protocol_of protocol.now) (rule_of rule.now) ∷ [])) }
+        (rule_applied (protocol_of protocol.now) 0 (rule_of rule.now) ∷ [])) }
 {
     let (left, right) = rename_rule(alloc, bank, protocol, rule, 0)?;
     add_known(alloc, bank, &left.items, right, list)
@@ -44,7 +44,7 @@ fn add_rules<B: Bank>(
     requires { AllByRecursion CanBeRenamed rules.now }
     ensures grows { Grows (B.trees bank.old) (B.trees bank.new) }
     ensures adds { OnOk result (Adds (B.trees bank.old) list.old (B.trees bank.new) list.new
-        (map (rule_applied (protocol_of protocol.now)) rules.now)) }
+        (map (rule_applied (protocol_of protocol.now) 0) rules.now)) }
 {
     for rule in &rules.items {
         add_rule(alloc, bank, protocol, rule, list)?;
@@ -62,7 +62,7 @@ pub(crate) fn add_destructors<B: Bank>(
     requires { AllByRecursion CanAllBeRenamed (protocol_of protocol.now).destructors }
     ensures grows { Grows (B.trees bank.old) (B.trees bank.new) }
     ensures adds { OnOk result (Adds (B.trees bank.old) list.old (B.trees bank.new) list.new
-        (flat_map (λ destructor. map (rule_applied (protocol_of protocol.now)) destructor.rules)
+        (flat_map (λ destructor. map (rule_applied (protocol_of protocol.now) 0) destructor.rules)
         (protocol_of protocol.now).destructors)) }
 {
     for destructor in &protocol.dtors.items {

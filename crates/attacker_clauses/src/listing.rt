@@ -47,7 +47,7 @@ pub(crate) fn add_raw<B: Bank>(
 
 /// That the attacker has each of these terms.
 fn known_facts(alloc: Global, terms: &[Id]) -> Result<Facts, AllocError>
-    ensures { IfOk result (λ facts. facts ≡ map Att terms.now) }
+    ensures { IfOk result (λ facts. facts ≡ map (Att 0) terms.now) }
 {
     let mut facts = Facts::new(alloc);
     for term in terms {
@@ -69,9 +69,10 @@ pub(crate) fn add_known<B: Bank>(
     ensures grows { Grows (B.trees bank.old) (B.trees bank.new) }
     ensures adds { OnOk result (Adds (B.trees bank.old) list.old (B.trees bank.new) list.new
         (record {
-          hypotheses = map Att (map (tree_at (B.trees bank.old)) terms.now);
+          hypotheses = map (Att 0) (map (tree_at (B.trees bank.old)) terms.now);
+          diffs = [];
           conclusion =
-              Att (tree_at (B.trees bank.old) last);
+              Att 0 (tree_at (B.trees bank.old) last);
         } ∷ [])) }
 {
     let hyps = known_facts(alloc, terms)?;

@@ -3,7 +3,7 @@ use Rattle.std.proofs.Common.{◌≡◌, ◌∙◌, List, [], ◌∷◌, length,
 use Rattle.std.proofs.lemmas.List.{length-map}
 use Rattle.spec_calculus.specs.Syntax.{Variable, Query, Secret, SecretNew, Correspondence, Protocol}
 use Rattle.spec_terms.specs.Term.{Term}
-use Rattle.spec_clauses.specs.Fact.{Fact, Att, Mess, Ev, Mev, Bad, Clause, map_fact}
+use Rattle.spec_clauses.specs.Fact.{Fact, Att, Mess, Tab, Ev, Mev, Bad, Clause, map_fact}
 use Rattle.spec_clauses.specs.Inclusion.{here, Has}
 use Rattle.spec_translation.specs.Goal.{goal_raw, query_leaf, event_variables}
 use Rattle.spec_translation.specs.Translation.{goal_clauses}
@@ -16,15 +16,16 @@ use Rattle.cert_checker.specs.Arguments.{arguments_of}
 
 -- they depend on no terms
 pub mapped_arguments : {X Y : Type 0} (v : X → Y) (f : Fact X) → arguments_of (map_fact v f) ≡ arguments_of f
-mapped_arguments v (Att t) = refl
-mapped_arguments v (Mess t u) = refl
+mapped_arguments v (Att k t) = refl
+mapped_arguments v (Mess k t u) = refl
+mapped_arguments v (Tab n ts) = refl
 mapped_arguments v (Ev e ts) = refl
 mapped_arguments v (Mev e ts) = refl
 mapped_arguments v (Bad ts) = length-map ts v
 
 raw_arguments : (P : Protocol) (q : Query) → arguments_of (goal_raw P q).conclusion ≡ bad_arguments q
-raw_arguments P (Secret message) = refl
-raw_arguments P (SecretNew point) = refl
+raw_arguments P (Secret message phase) = refl
+raw_arguments P (SecretNew point phase) = refl
 raw_arguments P (Correspondence left alternatives) = length-map (event_variables left) (λ i. query_leaf (Variable i))
 
 pub goal_arguments : (P : Protocol) (q : Query) (goal : Clause Term) → goal_clauses P q ≡ goal ∷ [] → arguments_of goal.conclusion ≡ bad_arguments q

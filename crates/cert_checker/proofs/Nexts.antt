@@ -27,8 +27,8 @@ never_told Q never = (λ e. absurd (false≢true e), λ x. absurd (never x))
 
 -- an empty row shows nothing
 pub no_goal_row : (P : Protocol) (q : Query) (c : Clause Term) → GoalHolds P q [] c → ⊥
-no_goal_row P (Secret message) c h = h
-no_goal_row P (SecretNew point) c h = h
+no_goal_row P (Secret message phase) c h = h
+no_goal_row P (SecretNew point phase) c h = h
 no_goal_row P (Correspondence left alternatives) c h = h
 
 pub no_cover_row : (clauses : List (Clause Term)) (c : Clause Term) → CoverRowHolds clauses [] c → ⊥

@@ -42,7 +42,7 @@ same_items [] = refl
 same_items (x ∷ xs) = ap (λ l. x ∷ l) (same_items xs)
 
 abbrev pub clause_of : List (Fact Term) → Fact Term → Clause Term
-clause_of hyps concl = record { hypotheses = hyps; conclusion = concl }
+clause_of hyps concl = record { hypotheses = hyps; diffs = []; conclusion = concl }
 
 module _ (kept_of : List Term → List Term) (all_one : Protocol → List Term → One) (P : Protocol) where
   abbrev pub one : List Term → One
@@ -82,7 +82,7 @@ module _ (kept_of : List Term → List Term) (all_one : Protocol → List Term �
 
   -- Facts, by what is written before, between and behind their terms.
 
-  pub mess_written : (f : Fact Term) (t u : Term) (k m l : List Term) (a b c d e g : List ℕ) → f ≡ Mess t u → Appends (λ rest. codes "mess(" ++ rest) a b → Writes kept_of one (t ∷ []) (λ o. o t) k m b c → Appends (λ rest. codes "," ++ rest) c d → Writes kept_of one (u ∷ []) (λ o. o u) m l d e → Appends (λ rest. codes ")" ++ rest) e g
+  pub mess_written : (f : Fact Term) (t u : Term) (k m l : List Term) (a b c d e g : List ℕ) → f ≡ Mess 0 t u → Appends (λ rest. codes "mess(" ++ rest) a b → Writes kept_of one (t ∷ []) (λ o. o t) k m b c → Appends (λ rest. codes "," ++ rest) c d → Writes kept_of one (u ∷ []) (λ o. o u) m l d e → Appends (λ rest. codes ")" ++ rest) e g
       → Writes kept_of one (terms_of f) (λ o. fact_over o P f) k l a g
   mess_written f t u k m l a b c d e g is opening first comma second closing = subst (λ h. Writes kept_of one (terms_of h) (λ o. fact_over o P h) k l a g) (sym is)
       (between kept_of one (λ rest. codes "mess(" ++ rest) (t ∷ u ∷ []) (λ o rest. o t (codes "," ++ o u rest)) (λ rest. codes ")" ++ rest) k l a b e g opening

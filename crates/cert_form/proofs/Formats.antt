@@ -5,7 +5,7 @@ use Rattle.std.specs.Fmt.{decimal}
 use Rattle.std.proofs.lemmas.List.{append-nil}
 use Rattle.spec_calculus.specs.Syntax.{Protocol}
 use Rattle.spec_terms.specs.Term.{Term}
-use Rattle.spec_clauses.specs.Fact.{Fact, Att, Mess, Ev, Mev, Bad, Clause, map_fact, map_clause}
+use Rattle.spec_clauses.specs.Fact.{Fact, Att, Mess, Tab, Ev, Mev, Bad, Clause, map_fact, map_clause}
 use Rattle.spec_certificates.specs.Certificate.{Certificate}
 use Rattle.spec_certificate_text.specs.Words.{event_word}
 use Rattle.spec_certificate_text.specs.Text.{term_text, clause_text, clause_lines, row_lines, certificate_text}
@@ -71,8 +71,9 @@ module _ (number : Term → ℕ) (P : Protocol) where
   event_mapped e (t ∷ ts) k = ap (λ r. event_word P e ++ (40 ∷ r)) (terms_mapped (t ∷ ts) (41 ∷ k))
 
   fact_mapped : (f : Fact Term) (k : List ℕ) → fact_over numbered P f k ≡ fact_over number_text P (map_fact number f) k
-  fact_mapped (Att t) k = refl
-  fact_mapped (Mess t u) k = refl
+  fact_mapped (Att phase t) k = refl
+  fact_mapped (Mess phase t u) k = refl
+  fact_mapped (Tab n ts) k = ap (λ r. codes "tab(" ++ r) (terms_mapped ts (41 ∷ k))
   fact_mapped (Ev e ts) k = ap (λ r. codes "ev(" ++ r) (event_mapped e ts (41 ∷ k))
   fact_mapped (Mev e ts) k = ap (λ r. codes "mev(" ++ r) (event_mapped e ts (41 ∷ k))
   fact_mapped (Bad ts) k = ap (λ r. codes "bad(" ++ r) (terms_mapped ts (41 ∷ k))

@@ -17,8 +17,6 @@ use crate::shared_claims::{SharedClaim, SharedClaims, read_shared_report};
 use cert_form::Cert;
 use fact_reader::CertError;
 use pi_tree::Protocol;
-use spec_node_first_faults::the_first_fault_of_a_report_in_either_format_is_told;
-use spec_node_reading::{texts_are_read, what_is_read_is_spelled};
 use std::alloc::{AllocError, Global};
 use std::marker::Model;
 
@@ -73,16 +71,6 @@ fn spelled_claims(alloc: Global, claims: SharedClaims) -> Result<Claims, AllocEr
     Ok(Claims { items })
 }
 
-/// The claims of all bytes, one for each query of the protocol.
-fn report_claims(alloc: Global, protocol: &Protocol, bytes: &[u8]) -> Result<Claims, CertError>
-    requires { HasFewNames (protocol_of protocol.now) }
-    ensures { GivesClaims result (read_report_in_both (protocol_of protocol.now) bytes.now) }
-{
-    let shared = read_shared_report(alloc, protocol, bytes)?;
-    let claims = spelled_claims(alloc, shared)?;
-    Ok(claims)
-}
-
 /// The claims of a report, one for each query of the protocol; or the first fault.
 pub fn read_report(alloc: Global, protocol: &Protocol, bytes: &[u8]) -> Result<Claims, CertError>
     requires { HasFewNames (protocol_of protocol.now) }
@@ -103,8 +91,7 @@ pub fn read_report(alloc: Global, protocol: &Protocol, bytes: &[u8]) -> Result<C
         HasNames P → IsFirstFault (reports_of_both P) bytes.now 0 place code →
         GivesRefusal place code result }
 {
-    what_is_read_is_spelled();
-    texts_are_read();
-    the_first_fault_of_a_report_in_either_format_is_told();
-    report_claims(alloc, protocol, bytes)
+    let shared = read_shared_report(alloc, protocol, bytes)?;
+    let claims = spelled_claims(alloc, shared)?;
+    Ok(claims)
 }

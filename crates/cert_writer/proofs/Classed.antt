@@ -33,7 +33,7 @@ use Rattle.cert_writer.proofs.Items.{fit_normal}
 use Rattle.cert_writer.proofs.Prints.{no_row}
 
 abbrev no_clause : Clause Id
-no_clause = record { hypotheses = []; conclusion = Bad [] }
+no_clause = record { hypotheses = []; diffs = []; conclusion = Bad [] }
 
 -- what stands at a place of a list with an item more
 at_push : {X : Type 0} (xs : List X) (y : X) (n : ℕ) (x : X) → slice_get (xs ++ y ∷ []) n ≡ Some x → (slice_get xs n ≡ Some x) ⊎ ((n ≡ length xs) × (y ≡ x))

@@ -68,7 +68,7 @@ module _ (clauses : List (Clause Term)) where
       earlier (k ∷ others) holds (inl less) = first.first (k ∷ others) (held other more k others c (omega (arith, less, within)) holds) (inl less)
       earlier (k ∷ others) holds (inr both) = let same = both.0 in first.first (k ∷ others) (held other more k others c (omega (arith, same, within)) holds) (inr both)
 
-  covers_held : (more other cs : List (Clause Term)) (rows : List (List ℕ)) → AllByRecursion (BeginsWithin (length clauses)) rows → AreFirstCovers (clauses ++ more) cs rows → AreFirstCovers (clauses ++ other) cs rows
+  pub covers_held : (more other cs : List (Clause Term)) (rows : List (List ℕ)) → AllByRecursion (BeginsWithin (length clauses)) rows → AreFirstCovers (clauses ++ more) cs rows → AreFirstCovers (clauses ++ other) cs rows
   covers_held more other [] [] within first = tt
   covers_held more other [] (row ∷ rows) within first = absurd first
   covers_held more other (c ∷ cs) [] within first = absurd first
@@ -86,7 +86,7 @@ module _ (clauses : List (Clause Term)) where
       }
 
 module _ (live front : List (Clause Term)) (begin : take (length front) live ≡ front) where
-  whole : live ≡ front ++ drop (length front) live
+  pub whole : live ≡ front ++ drop (length front) live
   whole = sym (take-append-drop (length front) live) ∙ ap (λ (cs : List (Clause Term)). cs ++ drop (length front) live) begin
 
   numbers : take (length front) (numbered_from 1 live) ≡ numbered_from 1 front
@@ -165,8 +165,9 @@ module _ (all : List Term) (known : KnownRows) (live : List (Clause Id)) (begin 
   put_short place count before after (inr (all_of, put)) = let short = front_short in omega (arith, all_of, short)
 
   -- the rows of one more clause
-  pub kept_more : IsKnown all known → (c : Clause Term) (rows : List (List ℕ)) (new : KnownRows) → slice_get (clauses_at all live) (length known.rows.items) ≡ Some c → length known.rows.items < length known.live → AreRowsWith (clauses_at all known.live) c rows → new.live ≡ known.live → new.rows.items ≡ known.rows.items ++ rows ∷ [] → IsKnown all new
-  kept_more is c rows new at less are same next =
+  pub kept_more : IsKnown all known → (c : Clause Term) (rows : List (List ℕ)) (new : KnownRows) → slice_get (clauses_at all live) (length known.rows.items) ≡ Some c → length known.rows.items < length known.live → AreRowsWith (clauses_at all known.live) c rows → new.live ≡ known.live → new.rows.items ≡ known.rows.items ++ rows ∷ [] → new.given ≡ known.given → new.covers ≡ known.covers
+      → IsKnown all new
+  kept_more is c rows new at less are same next as_given as_covers =
       let front = clauses_at all known.live in
       let long : length front ≡ length known.live = length-map known.live (clause_at all) in
       let more : length new.rows.items ≡ length known.rows.items + 1 = ap length next ∙ length-append known.rows.items (rows ∷ []) in
@@ -180,6 +181,11 @@ module _ (all : List Term) (known : KnownRows) (live : List (Clause Id)) (begin 
         few = omega (arith, more, few, less);
         rows = λ k d rs e f. subst (λ (cs : List (Clause Id)). AreRowsWith (clauses_at all cs) d rs) (sym same)
             (each k rs (subst (λ (xs : List (List (List ℕ))). slice_get xs k ≡ Some rs) next f) d (subst (λ (cs : List (Clause Id)). slice_get (clauses_at all cs) k ≡ Some d) same e));
+        given = subst (λ (cs : List (Clause Id)). AreClausesIn all cs) (sym as_given) is.given;
+        fewer = let fewer = is.fewer in let many : length new.given ≡ length known.given = ap length as_given in let kept_rows : length new.covers ≡ length known.covers = ap length as_covers in omega (arith, fewer, many, kept_rows);
+        covers = λ others. subst (λ (rs : List (List ℕ)). AreFirstCovers (clauses_at all new.live ++ others) (take (length rs) (clauses_at all new.given)) rs) (sym as_covers)
+            (subst (λ (cs : List (Clause Id)). AreFirstCovers (clauses_at all cs ++ others) (take (length known.covers) (clauses_at all new.given)) known.covers) (sym same)
+            (subst (λ (cs : List (Clause Id)). AreFirstCovers (clauses_at all known.live ++ others) (take (length known.covers) (clauses_at all cs)) known.covers) (sym as_given) (is.covers others)));
       }
 
 -- one row more begins so
@@ -196,11 +202,15 @@ live_known all (e ∷ es) known = go (is_unbeaten e.by) (live_known all es known
     go false rest = rest
 
 -- no rows are kept yet
-pub none_kept : (all : List Term) (known : KnownRows) → AreClausesIn all known.live → known.rows.items ≡ [] → IsKnown all known
-none_kept all known names none = record {
+pub none_kept : (all : List Term) (known : KnownRows) → AreClausesIn all known.live → AreClausesIn all known.given → known.rows.items ≡ [] → known.covers ≡ [] → IsKnown all known
+none_kept all known names given none no_covers = record {
   names = names;
   few = let zero_rows : length known.rows.items ≡ 0 = ap length none in omega (arith, zero_rows);
   rows = λ k c rows at there. absurd (nothing k rows (subst (λ (xs : List (List (List ℕ))). slice_get xs k ≡ Some rows) none there));
+  given = given;
+  fewer = let no_rows : length known.covers ≡ 0 = ap length no_covers in omega (arith, no_rows);
+  covers = λ more. subst (λ (rs : List (List ℕ)). AreFirstCovers (clauses_at all known.live ++ more) (take (length rs) (clauses_at all known.given)) rs) (sym no_covers)
+      (subst (λ (cs : List (Clause Term)). AreFirstCovers (clauses_at all known.live ++ more) cs []) (sym (take_none (clauses_at all known.given))) tt);
 } where
   nothing : (k : ℕ) (rows : List (List ℕ)) → slice_get [] k ≡ Some rows → ⊥
   nothing k rows e = cc
@@ -224,14 +234,22 @@ known_grows a b known grows is =
       names = AreClausesIn-grows a b known.live grows is.names;
       few = is.few;
       rows = λ k c rows at there. subst (λ (cs : List (Clause Term)). AreRowsWith cs c rows) (sym same) (is.rows k c rows (subst (λ (cs : List (Clause Term)). slice_get cs k ≡ Some c) same at) there);
+      given = AreClausesIn-grows a b known.given grows is.given;
+      fewer = is.fewer;
+      covers = λ more. subst (λ (cs : List (Clause Term)). AreFirstCovers (cs ++ more) (take (length known.covers) (clauses_at b known.given)) known.covers) (sym same)
+          (subst (λ (cs : List (Clause Term)). AreFirstCovers (clauses_at a known.live ++ more) (take (length known.covers) cs) known.covers) (sym (clauses_at-grow a b known.given grows is.given)) (is.covers more));
     }
 
 -- and is there in the bank as it was, if its clauses were known
-pub known_back : (a b : List Term) (known : KnownRows) → Grows a b → AreClausesIn a known.live → IsKnown b known → IsKnown a known
-known_back a b known grows names is =
+pub known_back : (a b : List Term) (known : KnownRows) → Grows a b → AreClausesIn a known.live → AreClausesIn a known.given → IsKnown b known → IsKnown a known
+known_back a b known grows names given is =
     let same = clauses_at-grow a b known.live grows names in
     record {
       names = names;
       few = is.few;
       rows = λ k c rows at there. subst (λ (cs : List (Clause Term)). AreRowsWith cs c rows) same (is.rows k c rows (subst (λ (cs : List (Clause Term)). slice_get cs k ≡ Some c) (sym same) at) there);
+      given = given;
+      fewer = is.fewer;
+      covers = λ more. subst (λ (cs : List (Clause Term)). AreFirstCovers (cs ++ more) (take (length known.covers) (clauses_at a known.given)) known.covers) same
+          (subst (λ (cs : List (Clause Term)). AreFirstCovers (clauses_at b known.live ++ more) (take (length known.covers) cs) known.covers) (clauses_at-grow a b known.given grows given) (is.covers more));
     }

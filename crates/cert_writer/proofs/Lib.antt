@@ -9,4 +9,6 @@ pub mod Fits
 pub mod Prints
 pub mod Classed
 pub mod KeptRows
+pub mod KeptCovers
 pub mod SameLists
+pub mod Unsolved

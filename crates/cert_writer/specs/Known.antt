@@ -3,6 +3,7 @@ use Rattle.std.specs.Prelude.{◌≡◌, ◌⊎◌, ℕ, ◌≤◌, Some, List, 
 use Rattle.spec_terms.specs.Term.{Term}
 use Rattle.spec_clauses.specs.Fact.{Clause}
 use Rattle.spec_certificates.specs.Certificate.{numbered_from}
+use Rattle.spec_verdicts.specs.FirstRows.{AreFirstCovers}
 use Rattle.term_tree.specs.declared.bank.Id.{Id}
 use Rattle.clause_form.specs.Seen.{AreClausesIn}
 use Rattle.clause_form.specs.Fit.{clauses_at}
@@ -18,11 +19,15 @@ BeginsWithin n (k ∷ positions) = k ≤ n
 abbrev pub AreRowsWith : List (Clause Term) → Clause Term → List (List ℕ) → Type 0
 AreRowsWith clauses c rows = (i : ℕ) (more : List (Clause Term)) (before : List (List ℕ)) → AddsPairs (clauses ++ more) (pairs_if_solved i c (numbered_from 1 clauses)) before (before ++ rows)
 
--- The clauses are known, and each of the first so many has its rows with all of them.
+-- The clauses are known, and each of the first so many live ones has its rows with all of them, and each of the first so many given
+-- ones its first row in each list that begins with the live ones.
 pub record IsKnown (all : List Term) (known : KnownRows) : Type 0 where
   pub names : AreClausesIn all known.live
   pub few : length known.rows.items ≤ length known.live
   pub rows : (k : ℕ) (c : Clause Term) (rows : List (List ℕ)) → slice_get (clauses_at all known.live) k ≡ Some c → slice_get known.rows.items k ≡ Some rows → AreRowsWith (clauses_at all known.live) c rows
+  pub given : AreClausesIn all known.given
+  pub fewer : length known.covers ≤ length known.given
+  pub covers : (more : List (Clause Term)) → AreFirstCovers (clauses_at all known.live ++ more) (take (length known.covers) (clauses_at all known.given)) known.covers
 
 -- the clauses begin with the others
 abbrev pub BeginWith : List Term → List (Clause Id) → List (Clause Id) → Type 0

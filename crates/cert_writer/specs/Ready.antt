@@ -1,5 +1,5 @@
 -- What is there before a certificate is written.
-use Rattle.std.specs.Prelude.{◌≡◌, ◌<◌, ◌^◌, List, length, map, option_map}
+use Rattle.std.specs.Prelude.{◌≡◌, ◌<◌, ◌^◌, List, length, map}
 use Rattle.spec_terms.specs.Term.{Term}
 use Rattle.spec_clauses.specs.Fact.{Clause}
 use Rattle.spec_fingerprints.specs.Fingerprints as print
@@ -9,6 +9,7 @@ use Rattle.fact_fingerprint.specs.Seen.{fingerprint_seen}
 use Rattle.cert_writer.specs.declared.closing.Solving.{Solving}
 use Rattle.cert_writer.specs.declared.writer.Writer.{Writer}
 use Rattle.cert_writer.specs.Classed.{AreClassed}
+use Rattle.cert_writer.specs.Unsolved.{AreUnsolved}
 
 -- the fingerprint of a clause's conclusion
 abbrev pub conclusion_print : Clause Term → print.Fingerprint
@@ -22,7 +23,7 @@ pub record IsReady (all : List Term) (writer : Writer) : Type 0 where
   pub prints : map fingerprint_seen writer.prints.now ≡ map conclusion_print (clauses_at all writer.live.now)
   pub classes : AreClassed (map fingerprint_seen writer.prints.now) writer.classes.now
 
--- the fingerprints are those of the solved clause's conclusion and of the live clauses' selected hypotheses
+-- the fingerprint is that of the solved clause's conclusion, and the unsolved ones are those among the live clauses
 pub record AreTold (all : List Term) (writer : Writer) (solving : Solving) : Type 0 where
   pub conclusion : fingerprint_seen solving.print ≡ print.fingerprint_of (clause_at all solving.clause.now).conclusion
-  pub hypotheses : map (option_map fingerprint_seen) solving.prints.now ≡ map print.hypothesis_print (clauses_at all writer.live.now)
+  pub unsolved : AreUnsolved all writer.live.now solving.unsolved

@@ -16,12 +16,13 @@ ghost use Rattle.clause_form.specs.Fit.{AreFit, clauses_at};
 ghost use Rattle.clause_saturate.specs.Logs.{IsClosedLog};
 ghost use Rattle.cert_writer.specs.Ready.{IsReady};
 ghost use Rattle.cert_writer.specs.Adding.{MustClose, AreRowsOf};
-ghost use Rattle.cert_writer.specs.Known.{IsKnown};
+ghost use Rattle.cert_writer.specs.Known.{IsKnown, BeginWith};
 ghost use Rattle.cert_writer.specs.Certifying.{IsWritten, IsVerdictOf, IsAcceptedIfCert, HoldsIfCert};
 
 use crate::all_pairs::cover_closed;
 use crate::certified::Certified;
-use crate::covering::{conclusion_classes, conclusion_prints, cover_all};
+use crate::covering::{conclusion_classes, conclusion_prints};
+use crate::given::{begin_with_known, cover_given, keep_covers};
 use crate::known::{KnownRows, none_known};
 use crate::living::{live_of, plain_of};
 use crate::satisfying::{Goals, goal_rows};
@@ -33,6 +34,38 @@ use pi_tree::Protocol;
 use spec_verdicts::proved_queries_hold;
 use std::alloc::{AllocError, Global};
 use term_tree::Bank;
+
+/// The first rows of the given clauses, and then of what all pairs of live clauses give, where these clauses begin with those
+/// whose rows are kept. The bank is as before.
+fn rows_with<B: Bank>(
+    bank: &mut B,
+    writer: &Writer<'_>,
+    given: &[Clause],
+    known: &mut KnownRows,
+) -> Result<Rows, AllocError>
+    requires ready { IsReady (B.trees bank.old) writer.now }
+    requires given { AreFit (B.trees bank.old) given.now }
+    requires covered { let all = B.trees bank.old in (c : ClauseOf Term) →
+        Has (clauses_at all given.now) c → MustBeCovered (clauses_at all writer.now.live.now) c }
+    requires closed { MustClose (clauses_at (B.trees bank.old) writer.now.live.now) }
+    requires known { IsKnown (B.trees bank.old) known.old }
+    requires begin { BeginWith (B.trees bank.old) writer.now.live.now known.old.live }
+    requires begin_given { BeginWith (B.trees bank.old) given.now known.old.given }
+    ensures rows { let all = B.trees bank.old in IfOk result (λ rows.
+        AreRowsOf (clauses_at all writer.now.live.now) (clauses_at all given.now) rows) }
+    ensures known { OnOk result (IsKnown (B.trees bank.old) known.new) }
+    ensures live { known.new.live ≡ known.old.live }
+    ensures given { known.new.given ≡ known.old.given }
+    ensures bank { B.trees bank.new ≡ B.trees bank.old }
+{
+    let mut rows = Rows {
+        items: Vec::new(writer.alloc),
+    };
+    keep_covers(bank, writer, given, known)?;
+    cover_given(bank, writer, given, known, &mut rows)?;
+    cover_closed(bank, writer, known, &mut rows)?;
+    Ok(rows)
+}
 
 /// The first rows of the given clauses, and then of what all pairs of live clauses give. The bank is as before.
 fn rows_of<B: Bank>(
@@ -51,14 +84,14 @@ fn rows_of<B: Bank>(
         AreRowsOf (clauses_at all writer.now.live.now) (clauses_at all given.now) rows) }
     ensures known { OnOk result (IsKnown (B.trees bank.old) known.new) }
     ensures live { known.new.live ≡ known.old.live }
+    ensures given { known.new.given ≡ known.old.given }
     ensures bank { B.trees bank.new ≡ B.trees bank.old }
 {
-    let mut rows = Rows {
-        items: Vec::new(writer.alloc),
-    };
-    cover_all(bank, writer, given, &mut rows)?;
-    cover_closed(bank, writer, known, &mut rows)?;
-    Ok(rows)
+    if !begin_with_known(bank, writer, given, known) {
+        let mut none = none_known(writer.alloc);
+        return rows_with(bank, writer, given, &mut none);
+    }
+    rows_with(bank, writer, given, known)
 }
 
 /// The certificate of the live clauses, with these goal rows. The bank is as before.
@@ -79,6 +112,7 @@ fn cert_of<B: Bank>(
         IsWritten (clauses_at all writer.now.live.now) (clauses_at all given.now) goals cert) }
     ensures known { OnOk result (IsKnown (B.trees bank.old) known.new) }
     ensures live { known.new.live ≡ known.old.live }
+    ensures given { known.new.given ≡ known.old.given }
     ensures bank { B.trees bank.new ≡ B.trees bank.old }
 {
     let rows = rows_of(bank, writer, given, known)?;
@@ -106,9 +140,9 @@ pub struct ClosedLog<'a> {
 ///
 /// The time is that of the search of rows, which is hard; see `multiset_subsume`.
 ///
-/// The rows of clauses that are live before any goal are taken from those that are kept, and kept for further queries.
+/// The rows of clauses that are given or live before any goal are taken from those that are kept, and kept for further queries.
 ///
-/// `Err` is want of memory. The bank is as before.
+/// `Err` is want of memory: the bank is as before, and what is kept is not for further queries.
 pub fn certify_with<B: Bank>(
     alloc: Global,
     bank: &mut B,
@@ -138,6 +172,7 @@ pub fn certify_with<B: Bank>(
         OfQuery P closed.now.query (λ q. HoldsIfCert P q certified)) }
     ensures kept { OnOk result (IsKnown (B.trees bank.old) known.new) }
     ensures live { known.new.live ≡ known.old.live }
+    ensures given { known.new.given ≡ known.old.given }
     ensures bank { B.trees bank.new ≡ B.trees bank.old }
 {
     let live = live_of(alloc, closed.log)?;

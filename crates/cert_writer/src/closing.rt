@@ -84,13 +84,21 @@ fn cover_pair<B: Bank>(
     }
 }
 
-/// A solved clause with the fingerprint of its conclusion, and the fingerprints of the selected hypotheses of the live clauses. It is
-/// resolved with those that stand from a place on and before another, from 0.
+/// The fingerprints of the selected hypotheses of the live clauses, and the places, from 0, of those that have one: of the
+/// unsolved ones.
+#[derive(Clone, Copy)]
+pub(crate) struct Unsolved<'a> {
+    pub prints: &'a [Option<Fingerprint>],
+    pub places: &'a [usize],
+}
+
+/// A solved clause with the fingerprint of its conclusion. It is resolved with the unsolved ones that stand from a place on and
+/// before another, from 0.
 #[derive(Clone, Copy)]
 pub(crate) struct Solving<'a> {
     pub clause: &'a Clause,
     pub print: Fingerprint,
-    pub prints: &'a [Option<Fingerprint>],
+    pub unsolved: Unsolved<'a>,
     pub from: usize,
     pub to: usize,
 }
@@ -120,10 +128,46 @@ fn cover_met<B: Bank>(
         rows.old rows.new) }
     ensures bank { B.trees bank.new ≡ B.trees bank.old }
 {
-    if !may_resolve(&solving.print, &solving.prints[place]) {
+    if !may_resolve(&solving.print, &solving.unsolved.prints[place]) {
         return Ok(());
     }
     cover_pair(bank, writer, solving.clause, &writer.live[place], rows)
+}
+
+/// The same, if the place is one of those that the clause is resolved with. The bank is as before.
+fn cover_place<B: Bank>(
+    bank: &mut B,
+    writer: &Writer<'_>,
+    solving: &Solving<'_>,
+    place: usize,
+    rows: &mut Rows,
+) -> Result<(), AllocError>
+    requires ready { IsReady (B.trees bank.old) writer.now }
+    requires solved_fit { IsFit (B.trees bank.old) solving.now.clause.now }
+    requires place { place < length writer.now.live.now }
+    requires solved_live { let all = B.trees bank.old in
+        Has (clauses_at all writer.now.live.now) (clause_at all solving.now.clause.now) }
+    requires is_solved { is_solved_list
+        (clause_at (B.trees bank.old) solving.now.clause.now).hypotheses ≡ true }
+    requires closed { MustClose (clauses_at (B.trees bank.old) writer.now.live.now) }
+    requires told { AreTold (B.trees bank.old) writer.now solving.now }
+    ensures met { let all = B.trees bank.old in OnOk result (solving.now.from ≤ place →
+        place < solving.now.to → (c : ClauseOf Id) →
+        slice_get writer.now.live.now place ≡ Some c → (i j : ℕ) →
+        AddsPairs (clauses_at all writer.now.live.now)
+        (pairs_of_two i (clause_at all solving.now.clause.now) j (clause_at all c))
+        rows.old rows.new) }
+    ensures passed { OnOk result ((solving.now.from ≤ place → place < solving.now.to → ⊥) →
+        rows.new ≡ rows.old) }
+    ensures bank { B.trees bank.new ≡ B.trees bank.old }
+{
+    if place < solving.from {
+        return Ok(());
+    }
+    if solving.to <= place {
+        return Ok(());
+    }
+    cover_met(bank, writer, solving, place, rows)
 }
 
 /// Adds the rows of what a solved clause gives with each unsolved one of its places. The bank is as before.
@@ -151,8 +195,8 @@ fn cover_solved<B: Bank>(
         first rows.new) }
     ensures bank { B.trees bank.new ≡ B.trees bank.old }
 {
-    'each: for place in solving.from..solving.to {
-        cover_met(bank, writer, solving, place, rows)?;
+    'each: for place in solving.unsolved.places {
+        cover_place(bank, writer, solving, *place, rows)?;
     }
     Ok(())
 }

@@ -14,22 +14,29 @@ use clause_saturate::Log;
 use std::alloc::{AllocError, Global};
 
 /// The live clauses of a log before any goal, and for each of the first so many of them the rows of what it gives with all of
-/// them. They stand in the certificate of each query whose clauses begin with these.
+/// them; and clauses that are given before any goal, with the first rows that show that the live ones cover the first so many of
+/// these. They stand in the certificate of each query whose clauses begin with these.
 #[derive(Drop)]
 pub struct KnownRows {
     pub live: Clauses,
     pub rows: Vec<Rows>,
+    pub given: Clauses,
+    pub covers: Rows,
 }
 
-/// The live clauses of a log before any goal, without rows yet.
-pub fn known_rows(alloc: Global, log: &Log) -> Result<KnownRows, AllocError>
-    ensures { IfOk result (λ known. (all : List Term) →
+/// The clauses that are given before any goal, and the live clauses of their log, without rows yet.
+pub fn known_rows(alloc: Global, given: Clauses, log: &Log) -> Result<KnownRows, AllocError>
+    ensures { IfOk result (λ known. (all : List Term) → AreClausesIn all given →
         AreClausesIn all (clauses_of log.now) → IsKnown all known) }
 {
     let live = live_of(alloc, log)?;
     Ok(KnownRows {
         live,
         rows: Vec::new(alloc),
+        given,
+        covers: Rows {
+            items: Vec::new(alloc),
+        },
     })
 }
 
@@ -37,12 +44,19 @@ pub fn known_rows(alloc: Global, log: &Log) -> Result<KnownRows, AllocError>
 pub fn none_known(alloc: Global) -> KnownRows
     ensures known { (all : List Term) → IsKnown all result }
     ensures none { length result.live ≡ 0 }
+    ensures none_given { length result.given ≡ 0 }
 {
     KnownRows {
         live: Clauses {
             items: Vec::new(alloc),
         },
         rows: Vec::new(alloc),
+        given: Clauses {
+            items: Vec::new(alloc),
+        },
+        covers: Rows {
+            items: Vec::new(alloc),
+        },
     }
 }
 
@@ -69,7 +83,7 @@ pub(crate) fn all_begin_within(rows: &Rows, count: usize) -> bool
 }
 
 /// Puts copies of rows behind others.
-fn put_rows(alloc: Global, kept: &Rows, rows: &mut Rows) -> Result<(), AllocError>
+pub(crate) fn put_rows(alloc: Global, kept: &Rows, rows: &mut Rows) -> Result<(), AllocError>
     ensures { OnOk result (rows.new ≡ rows.old ++ kept.now) }
 {
     'each: for row in &kept.items {

@@ -14,6 +14,7 @@ mod certified;
 mod certifying;
 mod closing;
 mod covering;
+mod given;
 pub mod known;
 mod living;
 mod satisfying;
@@ -29,5 +30,6 @@ pub fn known_rows_outlast_growth()
     ensures grown { (old new : List Term) (known : KeptRows) → Grows old new → IsKnown old known →
         IsKnown new known }
     ensures back { (old new : List Term) (known : KeptRows) → Grows old new →
-        AreClausesIn old known.live → IsKnown new known → IsKnown old known }
+        AreClausesIn old known.live → AreClausesIn old known.given → IsKnown new known →
+        IsKnown old known }
 {}

@@ -2,7 +2,7 @@
 use Rattle.std.proofs.Common.{◌≡◌, ℕ, ◌+◌, ◌<◌, List, [], ◌∷◌, ◌++◌, length, map, take, get_or, refl, ap, sym, ◌∙◌, subst}
 use Rattle.std.proofs.lemmas.List.{map-append, map_more}
 use Rattle.spec_terms.specs.Term.{Term}
-use Rattle.spec_clauses.specs.Fact.{Fact, Att, Mess, Ev, Mev, Bad, Clause}
+use Rattle.spec_clauses.specs.Fact.{Fact, Att, Mess, Tab, Ev, Mev, Bad, Clause}
 use Rattle.term_tree.specs.Bank.{tree_at, Names, Grows}
 use Rattle.term_tree.specs.declared.bank.Id.{Id}
 use Rattle.term_tree.proofs.BankLaws.{Grows_trans, AreKnown-grows, AreKnown-append, trees_at-grow}
@@ -19,15 +19,17 @@ pub NameTerms-grows : (a b : List Term) (ids : List Id) (ts : List Term) → Gro
 NameTerms-grows a b ids ts grows names = record { known = AreKnown-grows a b ids grows names.known; are = trees_at-grow a b ids grows names.known ∙ names.are }
 
 pub fact_at-grows : (a b : List Term) (f : Fact Id) → Grows a b → IsFactIn a f → fact_at b f ≡ fact_at a f
-fact_at-grows a b (Att t) grows known = let e = trees_at-grow a b (t ∷ []) grows known in cc
-fact_at-grows a b (Mess t u) grows known = let e = trees_at-grow a b (t ∷ u ∷ []) grows known in cc
+fact_at-grows a b (Att k t) grows known = let e = trees_at-grow a b (t ∷ []) grows known in cc
+fact_at-grows a b (Mess k t u) grows known = let e = trees_at-grow a b (t ∷ u ∷ []) grows known in cc
+fact_at-grows a b (Tab n ts) grows known = ap (Tab n) (trees_at-grow a b ts grows known)
 fact_at-grows a b (Ev k ts) grows known = ap (Ev k) (trees_at-grow a b ts grows known)
 fact_at-grows a b (Mev k ts) grows known = ap (Mev k) (trees_at-grow a b ts grows known)
 fact_at-grows a b (Bad ts) grows known = ap Bad (trees_at-grow a b ts grows known)
 
 pub IsFactIn-grows : (a b : List Term) (f : Fact Id) → Grows a b → IsFactIn a f → IsFactIn b f
-IsFactIn-grows a b (Att t) grows known = AreKnown-grows a b (t ∷ []) grows known
-IsFactIn-grows a b (Mess t u) grows known = AreKnown-grows a b (t ∷ u ∷ []) grows known
+IsFactIn-grows a b (Att k t) grows known = AreKnown-grows a b (t ∷ []) grows known
+IsFactIn-grows a b (Mess k t u) grows known = AreKnown-grows a b (t ∷ u ∷ []) grows known
+IsFactIn-grows a b (Tab n ts) grows known = AreKnown-grows a b ts grows known
 IsFactIn-grows a b (Ev k ts) grows known = AreKnown-grows a b ts grows known
 IsFactIn-grows a b (Mev k ts) grows known = AreKnown-grows a b ts grows known
 IsFactIn-grows a b (Bad ts) grows known = AreKnown-grows a b ts grows known
@@ -110,10 +112,10 @@ facts_copied_on old now next fs new plain i p f was within is grows names e =
           (NameFacts-push next (map fact_of fs) (map plain_fact_of (take i plain)) (fact_of f) (plain_fact_of p) (NameFacts-grows now next (map fact_of fs) (map plain_fact_of (take i plain)) grows was.names) names));
     }
 
-pub clause_named : (now next : List Term) (hyps : List (Fact Id)) (concl : Fact Id) (facts : List (Fact Term)) (plain : Clause Term) → Grows now next → NameFacts now hyps facts → facts ≡ plain.hypotheses → NamesFact next concl plain.conclusion
-    → NamesClause next record { hypotheses = hyps; conclusion = concl } plain
-clause_named now next hyps concl facts plain grows hyps_named are concl_named =
+pub clause_named : (now next : List Term) (hyps : List (Fact Id)) (concl : Fact Id) (facts : List (Fact Term)) (plain : Clause Term) → Grows now next → NameFacts now hyps facts → facts ≡ plain.hypotheses → NamesFact next concl plain.conclusion → plain.diffs ≡ []
+    → NamesClause next record { hypotheses = hyps; diffs = []; conclusion = concl } plain
+clause_named now next hyps concl facts plain grows hyps_named are concl_named none =
     let later = NameFacts-grows now next hyps facts grows hyps_named in
-    let hyps_are : clause_at next record { hypotheses = hyps; conclusion = concl } ≡ with_hypotheses plain.hypotheses (fact_at next concl) = ap (λ l. with_hypotheses l (fact_at next concl)) (later.are ∙ are) in
-    let concl_is : with_hypotheses plain.hypotheses (fact_at next concl) ≡ plain = ap (with_hypotheses plain.hypotheses) concl_named.is in
+    let hyps_are : clause_at next record { hypotheses = hyps; diffs = []; conclusion = concl } ≡ with_hypotheses plain.hypotheses (fact_at next concl) = ap (λ l. with_hypotheses l (fact_at next concl)) (later.are ∙ are) in
+    let concl_is : with_hypotheses plain.hypotheses (fact_at next concl) ≡ plain = λ i. record { hypotheses = plain.hypotheses; diffs = sym none i; conclusion = concl_named.is i } in
     record { known = record { hypotheses = later.known; conclusion = concl_named.known }; is = hyps_are ∙ concl_is }

@@ -5,11 +5,12 @@ use Rattle.std.proofs.lemmas.List.{take_more}
 use Rattle.std.proofs.lemmas.List.Folds.{flat_map-map}
 use Rattle.spec_trees.specs.Tree.{node, trees}
 use Rattle.spec_terms.specs.Term.{Sym, Term}
-use Rattle.spec_clauses.specs.Variables.{leaves, row_leaves, times}
+use Rattle.spec_clauses.specs.Variables.{leaves, row_leaves}
 use Rattle.spec_clauses.specs.Norm.{distinct, place_of}
 use Rattle.term_tree.specs.Bank.{tree_at}
 use Rattle.term_tree.specs.declared.bank.Id.{Id}
 use Rattle.spec_clauses.proofs.Equality.{tests_same}
+use Rattle.spec_clauses.specs.FirstPhase.{times}
 use Rattle.clause_form.proofs.Lists.{flat_map_all}
 
 abbrev pub leaves_at : List Term → Id → List ℕ

@@ -22,20 +22,20 @@ AreFactsIn-append all (f ∷ fs) gs known more = (known.0, AreFactsIn-append all
 
 -- `att` of the parts of a term that an id names
 abbrev pub parts_at : List Term → Id → List (Fact Term)
-parts_at all id = flat (Att (tree_at all id))
+parts_at all id = flat (Att 0 (tree_at all id))
 
-row_flat : (all : List Term) (ids : List Id) → map Att (row_parts (trees (map (tree_at all) ids))) ≡ flat_map (parts_at all) ids
+row_flat : (all : List Term) (ids : List Id) → map (Att 0) (row_parts (trees (map (tree_at all) ids))) ≡ flat_map (parts_at all) ids
 row_flat all [] = refl
-row_flat all (id ∷ ids) = map-append Att (parts (tree_at all id)) (row_parts (trees (map (tree_at all) ids))) ∙ ap (λ l. parts_at all id ++ l) (row_flat all ids)
+row_flat all (id ∷ ids) = map-append (Att 0) (parts (tree_at all id)) (row_parts (trees (map (tree_at all) ids))) ∙ ap (λ l. parts_at all id ++ l) (row_flat all ids)
 
 pub data_flat : (all : List Term) (id : Id) (f : Sym) (ids : List Id) → tree_at all id ≡ node f (map (tree_at all) ids) → is_data f ≡ true → parts_at all id ≡ flat_map (parts_at all) ids
-data_flat all id f ids is parted = ap (λ t. flat (Att t)) is ∙ (ap (λ b. map Att (cond b (row_parts (trees (map (tree_at all) ids))) (node f (map (tree_at all) ids) ∷ []))) parted ∙ row_flat all ids)
+data_flat all id f ids is parted = ap (λ t. flat (Att 0 t)) is ∙ (ap (λ b. map (Att 0) (cond b (row_parts (trees (map (tree_at all) ids))) (node f (map (tree_at all) ids) ∷ []))) parted ∙ row_flat all ids)
 
-pub other_flat : (all : List Term) (id : Id) (f : Sym) (ids : List Id) → tree_at all id ≡ node f (map (tree_at all) ids) → is_data f ≡ false → parts_at all id ≡ Att (tree_at all id) ∷ []
-other_flat all id f ids is other = ap (λ t. flat (Att t)) is ∙ (ap (λ b. map Att (cond b (row_parts (trees (map (tree_at all) ids))) (node f (map (tree_at all) ids) ∷ []))) other ∙ ap (λ t. Att t ∷ []) (sym is))
+pub other_flat : (all : List Term) (id : Id) (f : Sym) (ids : List Id) → tree_at all id ≡ node f (map (tree_at all) ids) → is_data f ≡ false → parts_at all id ≡ Att 0 (tree_at all id) ∷ []
+other_flat all id f ids is other = ap (λ t. flat (Att 0 t)) is ∙ (ap (λ b. map (Att 0) (cond b (row_parts (trees (map (tree_at all) ids))) (node f (map (tree_at all) ids) ∷ []))) other ∙ ap (λ t. Att 0 t ∷ []) (sym is))
 
-pub variable_flat : (all : List Term) (id : Id) (x : ℕ) → tree_at all id ≡ Leaf x → parts_at all id ≡ Att (tree_at all id) ∷ []
-variable_flat all id x is = ap (λ t. flat (Att t)) is ∙ ap (λ t. Att t ∷ []) (sym is)
+pub variable_flat : (all : List Term) (id : Id) (x : ℕ) → tree_at all id ≡ Leaf x → parts_at all id ≡ Att 0 (tree_at all id) ∷ []
+variable_flat all id x is = ap (λ t. flat (Att 0 t)) is ∙ ap (λ t. Att 0 t ∷ []) (sym is)
 
 -- one more fact after those that are there
 pub pushed : (all : List Term) (old new : List (Fact Id)) (f : Fact Id) → new ≡ old ++ f ∷ [] → map (fact_at all) new ≡ map (fact_at all) old ++ fact_at all f ∷ []
@@ -68,9 +68,9 @@ all_flat all fs facts made i seen known are past = record {
       ∙ (sym (flat_map-map (λ f. flat (fact_at all f)) fact_of fs) ∙ (sym (flat_map-map flat (fact_at all) (map fact_of fs)) ∙ ap (λ l. flat_map flat (map (fact_at all) l)) seen)));
 }
 
--- a clause for each conclusion
+-- a clause for each conclusion, without constraints
 abbrev pub with_hypotheses : {X : Type 0} → List (Fact X) → Fact X → Clause X
-with_hypotheses hyps f = record { hypotheses = hyps; conclusion = f }
+with_hypotheses hyps f = record { hypotheses = hyps; diffs = []; conclusion = f }
 
 pub concluding_all : (hyps concls : List (Fact Id)) (yielded items : List declared.Fact) → map (λ x. x) yielded ≡ items → map fact_of items ≡ concls → map (λ f. with_hypotheses hyps (fact_of f)) yielded ≡ map (with_hypotheses hyps) concls
 concluding_all hyps concls yielded items same seen = sym (map-map (with_hypotheses hyps) fact_of yielded) ∙ ap (map (with_hypotheses hyps)) (ap (map fact_of) (sym (map-id yielded) ∙ same) ∙ seen)
@@ -84,15 +84,15 @@ concluding_at all hyps [] = refl
 concluding_at all hyps (f ∷ fs) = ap (λ l. with_hypotheses (map (fact_at all) hyps) (fact_at all f) ∷ l) (concluding_at all hyps fs)
 
 -- so they name the flat parts
-parts_named : (all : List Term) (c : Clause Id) (hyps concls : List (Fact Id)) (parts : List (Clause Id)) → NameFacts all hyps (flat_map flat (map (fact_at all) c.hypotheses)) → NameFacts all concls (flat (fact_at all c.conclusion))
-    → parts ≡ map (with_hypotheses hyps) concls → NameClauses all parts (flat_parts (clause_at all c))
-parts_named all c hyps concls parts hyps_named concls_named e = record {
+parts_named : (all : List Term) (hypotheses : List (Fact Id)) (conclusion : Fact Id) (hyps concls : List (Fact Id)) (made : List (Clause Id)) → NameFacts all hyps (flat_map flat (map (fact_at all) hypotheses)) → NameFacts all concls (flat (fact_at all conclusion))
+    → made ≡ map (with_hypotheses hyps) concls → NameClauses all made (flat_parts (clause_at all (with_hypotheses hypotheses conclusion)))
+parts_named all hypotheses conclusion hyps concls made hyps_named concls_named e = record {
   known = subst (λ (l : List (Clause Id)). AreClausesIn all l) (sym e) (concluding_known all hyps concls hyps_named.known concls_named.known);
-  are = ap (map (clause_at all)) e ∙ (concluding_at all hyps concls ∙ (ap (λ l. map (with_hypotheses l) (map (fact_at all) concls)) hyps_named.are ∙ ap (map (with_hypotheses (flat_map flat (map (fact_at all) c.hypotheses)))) concls_named.are));
+  are = ap (map (clause_at all)) e ∙ (concluding_at all hyps concls ∙ (ap (λ l. map (with_hypotheses l) (map (fact_at all) concls)) hyps_named.are ∙ ap (map (with_hypotheses (flat_map flat (map (fact_at all) hypotheses)))) concls_named.are));
 }
 
 pub flattened : (all : List Term) (c : Clause Id) (hypotheses : List (Fact Id)) (conclusion : Fact Id) (hyps concls : List (Fact Id)) (r : Result (List (Clause Id)) AllocError) → with_hypotheses hypotheses conclusion ≡ c
     → NameFacts all hyps (flat_map flat (map (fact_at all) hypotheses)) → NameFacts all concls (flat (fact_at all conclusion)) → IfOk r (λ made. made ≡ map (with_hypotheses hyps) concls)
     → IfOk r (λ parts. NameClauses all parts (flat_parts (clause_at all c)))
-flattened all c hypotheses conclusion hyps concls (Ok parts) is hyps_named concls_named e = subst (λ (d : Clause Id). NameClauses all parts (flat_parts (clause_at all d))) is (parts_named all (with_hypotheses hypotheses conclusion) hyps concls parts hyps_named concls_named e)
+flattened all c hypotheses conclusion hyps concls (Ok made) is hyps_named concls_named e = subst (λ (d : Clause Id). NameClauses all made (flat_parts (clause_at all d))) is (parts_named all hypotheses conclusion hyps concls made hyps_named concls_named e)
 flattened all c hypotheses conclusion hyps concls (Err failed) is hyps_named concls_named e = tt

@@ -1,6 +1,7 @@
 pub mod Walks
 pub mod Lists
 pub mod Flattening
+pub mod First
 pub mod Copying
 pub mod Fit
 pub mod Comparing

@@ -17,18 +17,19 @@ terms_under all s f = terms_of-map (bind s) (fact_at all f) ∙ ap (map (bind s)
 -- where the ids name what is made of each term of a fact, the fact with the same head names what is made of the fact
 pub made_names : (old now : List Term) (h : Term → Term) (f : Fact Id) (ids : List Id) → NameTerms now ids (map h (map (tree_at old) (terms_of f)))
     → NamesFact now (made_of (head_of f) ids) (map_fact h (fact_at old f))
-made_names old now h (fact.Att t) [] names = absurd (let e = names.are in cc)
-made_names old now h (fact.Att t) (a ∷ []) names =
+made_names old now h (fact.Att k t) [] names = absurd (let e = names.are in cc)
+made_names old now h (fact.Att k t) (a ∷ []) names =
     let e : tree_at now a ≡ h (tree_at old t) = (let are = names.are in cc) in
-    record { known = names.known; is = ap fact.Att e }
-made_names old now h (fact.Att t) (a ∷ b ∷ ids) names = absurd (let e = names.are in cc)
-made_names old now h (fact.Mess t u) [] names = absurd (let e = names.are in cc)
-made_names old now h (fact.Mess t u) (a ∷ []) names = absurd (let e = names.are in cc)
-made_names old now h (fact.Mess t u) (a ∷ b ∷ []) names =
+    record { known = names.known; is = ap (fact.Att k) e }
+made_names old now h (fact.Att k t) (a ∷ b ∷ ids) names = absurd (let e = names.are in cc)
+made_names old now h (fact.Mess k t u) [] names = absurd (let e = names.are in cc)
+made_names old now h (fact.Mess k t u) (a ∷ []) names = absurd (let e = names.are in cc)
+made_names old now h (fact.Mess k t u) (a ∷ b ∷ []) names =
     let e : tree_at now a ≡ h (tree_at old t) = (let are = names.are in cc) in
-    let k : tree_at now b ≡ h (tree_at old u) = (let are = names.are in cc) in
-    record { known = names.known; is = λ i. fact.Mess (e i) (k i) }
-made_names old now h (fact.Mess t u) (a ∷ b ∷ c ∷ ids) names = absurd (let e = names.are in cc)
+    let l : tree_at now b ≡ h (tree_at old u) = (let are = names.are in cc) in
+    record { known = names.known; is = λ i. fact.Mess k (e i) (l i) }
+made_names old now h (fact.Mess k t u) (a ∷ b ∷ c ∷ ids) names = absurd (let e = names.are in cc)
+made_names old now h (fact.Tab n ts) ids names = record { known = names.known; is = ap (fact.Tab n) names.are }
 made_names old now h (fact.Ev e ts) ids names = record { known = names.known; is = ap (fact.Ev e) names.are }
 made_names old now h (fact.Mev e ts) ids names = record { known = names.known; is = ap (fact.Mev e) names.are }
 made_names old now h (fact.Bad ts) ids names = record { known = names.known; is = ap fact.Bad names.are }

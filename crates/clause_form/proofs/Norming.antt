@@ -7,11 +7,13 @@ use Rattle.std.proofs.lemmas.Simd.{map-map}
 use Rattle.spec_trees.specs.Tree.{Leaf, Node}
 use Rattle.spec_terms.specs.Term.{Term}
 use Rattle.spec_terms.proofs.Replace.{eqb_self}
-use Rattle.spec_clauses.specs.Fact.{Fact, Att, Mess, Ev, Mev, Bad, Clause, same_fact, is_among, is_variable_known, fact_under}
+use Rattle.spec_clauses.specs.Fact.{Fact, Att, Mess, Tab, Ev, Mev, Bad, Clause, same_fact, is_among, is_variable_known, phase_of, fact_under}
 use Rattle.spec_clauses.specs.Variables.{fact_variables, clause_variables}
 use Rattle.spec_clauses.specs.Selection.{is_solved}
-use Rattle.spec_clauses.specs.Norm.{distinct, is_lonely, generalized, numbered_anew, norm}
+use Rattle.spec_clauses.specs.Norm.{distinct, numbered_anew, norm}
 use Rattle.spec_clauses.proofs.Equality.{same_fact-decides}
+use Rattle.spec_clauses.proofs.FirstPhase.{counted}
+use Rattle.spec_clauses.specs.FirstPhase.{IsInFirstPhase, occurs_once, without_useless, strengthened}
 use Rattle.term_tree.specs.Bank.{Grows}
 use Rattle.term_tree.specs.declared.bank.Id.{Id}
 use Rattle.clause_form.specs.declared.facts.Fact as declared
@@ -23,6 +25,7 @@ use Rattle.clause_form.specs.Seen.{fact_at, clause_at, IsFactIn, AreFactsIn, Nam
 use Rattle.clause_form.proofs.Flattening.{AreFactsIn-append, with_hypotheses}
 use Rattle.clause_form.proofs.Counting.{distinct_on, filter-append}
 use Rattle.clause_form.proofs.Copying.{fact_at-grows, clause_named}
+use Rattle.clause_form.proofs.First.{AreFirst, first_fact, first_facts, first_of_distinct}
 
 -- what a fact over ids is over the trees
 abbrev pub seen_at : List Term → declared.Fact → Fact Term
@@ -61,19 +64,19 @@ repeats_done all fs i kept known was past = record {
 }
 
 -- a fact that isn't lonely goes to the end
-lonely_at : (all : List Term) (numbers : List ℕ) (kept : List (Fact Id)) (f : Fact Id) (b : Bool) → is_lonely numbers (fact_at all f) ≡ b
-    → map (fact_at all) (kept ++ cond b [] (f ∷ [])) ≡ map (fact_at all) kept ++ filter (λ h. not (is_lonely numbers h)) (fact_at all f ∷ [])
+lonely_at : (all : List Term) (numbers : List ℕ) (kept : List (Fact Id)) (f : Fact Id) (b : Bool) → occurs_once numbers (fact_at all f) ≡ b
+    → map (fact_at all) (kept ++ cond b [] (f ∷ [])) ≡ map (fact_at all) kept ++ filter (λ h. not (occurs_once numbers h)) (fact_at all f ∷ [])
 lonely_at all numbers kept f true e = map-append (fact_at all) kept [] ∙ ap (λ b. map (fact_at all) kept ++ cond (not b) (fact_at all f ∷ []) []) (sym e)
 lonely_at all numbers kept f false e = map-append (fact_at all) kept (f ∷ []) ∙ ap (λ b. map (fact_at all) kept ++ cond (not b) (fact_at all f ∷ []) []) (sym e)
 
-pub lonely_on : (all : List Term) (numbers : List ℕ) (fs : List declared.Fact) (i : ℕ) (f : declared.Fact) (kept new : List (Fact Id)) → map (fact_at all) kept ≡ filter (λ h. not (is_lonely numbers h)) (map (seen_at all) (take i fs)) → i < length fs → f ≡ get_or fs i f
-    → new ≡ kept ++ cond (is_lonely numbers (seen_at all f)) [] (fact_of f ∷ []) → map (fact_at all) new ≡ filter (λ h. not (is_lonely numbers h)) (map (seen_at all) (take (i + 1) fs))
+pub lonely_on : (all : List Term) (numbers : List ℕ) (fs : List declared.Fact) (i : ℕ) (f : declared.Fact) (kept new : List (Fact Id)) → map (fact_at all) kept ≡ filter (λ h. not (occurs_once numbers h)) (map (seen_at all) (take i fs)) → i < length fs → f ≡ get_or fs i f
+    → new ≡ kept ++ cond (occurs_once numbers (seen_at all f)) [] (fact_of f ∷ []) → map (fact_at all) new ≡ filter (λ h. not (occurs_once numbers h)) (map (seen_at all) (take (i + 1) fs))
 lonely_on all numbers fs i f kept new was within is e =
     let more : map (seen_at all) (take (i + 1) fs) ≡ map (seen_at all) (take i fs) ++ seen_at all f ∷ [] = map_more (seen_at all) fs i f within ∙ ap (λ x. map (seen_at all) (take i fs) ++ seen_at all x ∷ []) (sym is) in
     ap (map (fact_at all)) e
-    ∙ (lonely_at all numbers kept (fact_of f) (is_lonely numbers (seen_at all f)) refl
-    ∙ (ap (λ l. l ++ filter (λ h. not (is_lonely numbers h)) (seen_at all f ∷ [])) was
-    ∙ (sym (filter-append (λ h. not (is_lonely numbers h)) (map (seen_at all) (take i fs)) (seen_at all f ∷ [])) ∙ ap (filter (λ h. not (is_lonely numbers h))) (sym more))))
+    ∙ (lonely_at all numbers kept (fact_of f) (occurs_once numbers (seen_at all f)) refl
+    ∙ (ap (λ l. l ++ filter (λ h. not (occurs_once numbers h)) (seen_at all f ∷ [])) was
+    ∙ (sym (filter-append (λ h. not (occurs_once numbers h)) (map (seen_at all) (take i fs)) (seen_at all f ∷ [])) ∙ ap (filter (λ h. not (occurs_once numbers h))) (sym more))))
 
 few_known : (all : List Term) (kept : List (Fact Id)) (f : Fact Id) (b : Bool) → AreFactsIn all kept → IsFactIn all f → AreFactsIn all (kept ++ cond b [] (f ∷ []))
 few_known all kept f true known fact = AreFactsIn-append all kept [] known tt
@@ -82,28 +85,29 @@ few_known all kept f false known fact = AreFactsIn-append all kept (f ∷ []) kn
 pub lonely_known : (all : List Term) (kept new : List (Fact Id)) (f : Fact Id) (b : Bool) → AreFactsIn all kept → IsFactIn all f → new ≡ kept ++ cond b [] (f ∷ []) → AreFactsIn all new
 lonely_known all kept new f b known fact e = subst (λ (l : List (Fact Id)). AreFactsIn all l) (sym e) (few_known all kept f b known fact)
 
-pub lonely_done : (all : List Term) (numbers : List ℕ) (fs : List declared.Fact) (i : ℕ) (kept : List (Fact Id)) → AreFactsIn all kept → map (fact_at all) kept ≡ filter (λ h. not (is_lonely numbers h)) (map (seen_at all) (take i fs)) → length fs ≤ i
-    → NameFacts all kept (filter (λ h. not (is_lonely numbers h)) (map (fact_at all) (map fact_of fs)))
+pub lonely_done : (all : List Term) (numbers : List ℕ) (fs : List declared.Fact) (i : ℕ) (kept : List (Fact Id)) → AreFactsIn all kept → map (fact_at all) kept ≡ filter (λ h. not (occurs_once numbers h)) (map (seen_at all) (take i fs)) → length fs ≤ i
+    → NameFacts all kept (filter (λ h. not (occurs_once numbers h)) (map (fact_at all) (map fact_of fs)))
 lonely_done all numbers fs i kept known was past = record {
   known = known;
-  are = was ∙ ap (filter (λ h. not (is_lonely numbers h))) (ap (map (seen_at all)) (take_all i fs past) ∙ sym (map-map (fact_at all) fact_of fs));
+  are = was ∙ ap (filter (λ h. not (occurs_once numbers h))) (ap (map (seen_at all)) (take_all i fs past) ∙ sym (map-map (fact_at all) fact_of fs));
 }
 
--- a solved clause that concludes `att` of a variable, numbered
-general_variable : (hs : List (Fact Term)) (f : Fact Term) (b : Bool) → is_solved hs ≡ b → (b && is_variable_known f) ≡ true → numbered_anew (generalized (with_hypotheses hs f)) ≡ numbered_anew (with_hypotheses [] f)
-general_variable hs (Att (Leaf x)) true solved e = ap (λ b. numbered_anew (cond (b && true) (with_hypotheses [] (Att (Leaf 0))) (with_hypotheses hs (Att (Leaf x))))) solved ∙ ap (λ b. with_hypotheses [] (Att (Leaf (cond b 0 1)))) (sym (eqb_self x))
-general_variable hs (Att (Node g ts)) true solved e = cc
-general_variable hs (Mess t u) true solved e = cc
-general_variable hs (Ev k ts) true solved e = cc
-general_variable hs (Mev k ts) true solved e = cc
-general_variable hs (Bad ts) true solved e = cc
-general_variable hs f false solved e = cc
+-- a solved clause of the first phase that concludes `att` of a variable, numbered
+general_variable : (hs : List (Fact Term)) (f : Fact Term) (b : Bool) → phase_of f ≡ 0 → is_solved hs ≡ b → (b && is_variable_known f) ≡ true → numbered_anew (strengthened (with_hypotheses hs f)) ≡ numbered_anew (with_hypotheses [] f)
+general_variable hs (Att k (Leaf x)) true first solved e = ap (λ b. numbered_anew (cond (b && true) (with_hypotheses [] (Att 0 (Leaf 0))) (with_hypotheses hs (Att k (Leaf x))))) solved ∙ ap (λ b. with_hypotheses [] (Att 0 (Leaf (cond b 0 1)))) (sym (eqb_self x)) ∙ ap (λ j. with_hypotheses [] (Att j (Leaf (cond (nat_eq x x) 0 1)))) (sym first)
+general_variable hs (Att k (Node g ts)) true first solved e = cc
+general_variable hs (Mess k t u) true first solved e = cc
+general_variable hs (Tab n ts) true first solved e = cc
+general_variable hs (Ev k ts) true first solved e = cc
+general_variable hs (Mev k ts) true first solved e = cc
+general_variable hs (Bad ts) true first solved e = cc
+general_variable hs f false first solved e = cc
 
-pub general_then : (hs : List (Fact Term)) (f : Fact Term) → (is_solved hs && is_variable_known f) ≡ true → numbered_anew (generalized (with_hypotheses hs f)) ≡ numbered_anew (with_hypotheses [] f)
-general_then hs f e = general_variable hs f (is_solved hs) refl e
+pub general_then : (hs : List (Fact Term)) (f : Fact Term) → phase_of f ≡ 0 → (is_solved hs && is_variable_known f) ≡ true → numbered_anew (strengthened (with_hypotheses hs f)) ≡ numbered_anew (with_hypotheses [] f)
+general_then hs f first e = general_variable hs f (is_solved hs) first refl e
 
-pub general_else : (hs : List (Fact Term)) (f : Fact Term) → (is_solved hs && is_variable_known f) ≡ false → numbered_anew (generalized (with_hypotheses hs f)) ≡ numbered_anew (with_hypotheses hs f)
-general_else hs f e = ap (λ b. numbered_anew (cond b (with_hypotheses [] (Att (Leaf 0))) (with_hypotheses hs f))) e
+pub general_else : (hs : List (Fact Term)) (f : Fact Term) → (is_solved hs && is_variable_known f) ≡ false → numbered_anew (strengthened (with_hypotheses hs f)) ≡ numbered_anew (with_hypotheses hs f)
+general_else hs f e = ap (λ b. numbered_anew (cond b (with_hypotheses [] (Att 0 (Leaf 0))) (with_hypotheses hs f))) e
 
 pub named_as : (all : List Term) (r : Result (Clause Id) AllocError) (t u : Clause Term) → t ≡ u → IfOk r (λ made. NamesClause all made t) → IfOk r (λ made. NamesClause all made u)
 named_as all r t u e names = subst (λ (v : Clause Term). IfOk r (λ made. NamesClause all made v)) e names
@@ -111,27 +115,45 @@ named_as all r t u e names = subst (λ (v : Clause Term). IfOk r (λ made. Names
 -- hypotheses and conclusion renumbered by the order of their variables
 pub numbered_named : (old now next : List Term) (hyps : List (Fact Id)) (concl : Fact Id) (o p : List ℕ) (made : List (Fact Id)) (last : Fact Id) → IsFactIn old concl → Grows old now → Grows now next
     → o ≡ distinct nat_eq (clause_variables (clause_at old (with_hypotheses hyps concl))) → p ≡ distinct nat_eq (clause_variables (clause_at old (with_hypotheses hyps concl)))
-    → NameFacts now made (map (fact_under (placed o)) (map (fact_at old) hyps)) → NamesFact next last (fact_under (placed p) (fact_at now concl)) → NamesClause next record { hypotheses = made; conclusion = last } (numbered_anew (clause_at old (with_hypotheses hyps concl)))
+    → NameFacts now made (map (fact_under (placed o)) (map (fact_at old) hyps)) → NamesFact next last (fact_under (placed p) (fact_at now concl)) → NamesClause next record { hypotheses = made; diffs = []; conclusion = last } (numbered_anew (clause_at old (with_hypotheses hyps concl)))
 numbered_named old now next hyps concl o p made last known grows later first second hyps_named concl_named =
     let plain = numbered_anew (clause_at old (with_hypotheses hyps concl)) in
     let concl_is : fact_under (placed p) (fact_at now concl) ≡ plain.conclusion = ap (λ q. fact_under (placed q) (fact_at now concl)) second ∙ ap (fact_under (placed (distinct nat_eq (clause_variables (clause_at old (with_hypotheses hyps concl)))))) (fact_at-grows old now concl grows known) in
     clause_named now next made last (map (fact_under (placed o)) (map (fact_at old) hyps)) plain later hyps_named (ap (λ q. map (fact_under (placed q)) (map (fact_at old) hyps)) first)
-    (subst (λ (t : Fact Term). NamesFact next last t) concl_is concl_named)
+    (subst (λ (t : Fact Term). NamesFact next last t) concl_is concl_named) refl
 
--- what is left names the norm
-pub norm_named : (old next : List Term) (hyps : List (Fact Id)) (concl : Fact Id) (kept few k m n fewer : List (Fact Id)) (numbers taken : List ℕ) (among : Bool) (made : Clause Id)
-    → NameFacts old kept (distinct same_fact (map (fact_at old) hyps)) → k ≡ kept → m ≡ kept → n ≡ kept → fewer ≡ few
-    → among ≡ is_among (map (fact_at old) k) (fact_at old concl) → among ≡ false → numbers ≡ flat_map fact_variables (fact_at old concl ∷ map (fact_at old) m) → taken ≡ numbers
-    → NameFacts old few (filter (λ h. not (is_lonely taken h)) (map (fact_at old) n)) → NamesClause next made (numbered_anew (generalized (with_hypotheses (map (fact_at old) fewer) (fact_at old concl))))
-    → NamesNorm next (variants.Clause made) (norm (with_hypotheses (map (fact_at old) hyps) (fact_at old concl)))
-norm_named old next hyps concl kept few k m n fewer numbers taken among made kept_named k_is m_is n_is fewer_is among_is absent numbers_are taken_is few_named names =
+-- the clause is of the first phase, since what is kept of it is
+first_clause_of : (old : List Term) (hyps kept : List (Fact Id)) (facts : List declared.Fact) (concl : declared.Fact) → NameFacts old kept (distinct same_fact (map (fact_at old) hyps)) → map fact_of facts ≡ kept
+    → IsInFirstPhase (with_hypotheses (map (fact_at old) hyps) (seen_at old concl))
+first_clause_of old hyps kept facts concl named is = record {
+  first = (first_fact old concl, first_of_distinct (map (fact_at old) hyps) (subst AreFirst (ap (map (fact_at old)) is ∙ named.are) (first_facts old facts)));
+  no_diffs = refl;
+}
+
+-- where the conclusion is among the hypotheses there is no norm,
+pub no_norm : (old next : List Term) (hyps : List (Fact Id)) (concl : declared.Fact) (kept : List (Fact Id)) (facts : List declared.Fact) (among : Bool) → NameFacts old kept (distinct same_fact (map (fact_at old) hyps)) → map fact_of facts ≡ kept
+    → among ≡ is_among (map (fact_at old) (map fact_of facts)) (seen_at old concl) → among ≡ true → NamesNorm next variants.Tautology (norm (with_hypotheses (map (fact_at old) hyps) (seen_at old concl)))
+no_norm old next hyps concl kept facts among named is among_is there =
     let D = distinct same_fact (map (fact_at old) hyps) in
-    let C = fact_at old concl in
+    let C = seen_at old concl in
+    let tautology : is_among D C ≡ true = ap (λ l. is_among l C) (sym (ap (map (fact_at old)) is ∙ named.are)) ∙ (sym among_is ∙ there) in
+    counted (with_hypotheses (map (fact_at old) hyps) C) (first_clause_of old hyps kept facts concl named is)
+    ∙ ap (λ b. cond b None (Some (numbered_anew (strengthened (without_useless (with_hypotheses D C)))))) tautology
+
+-- else what is left names the norm.
+pub norm_named : (old next : List Term) (hyps : List (Fact Id)) (concl : declared.Fact) (kept few fewer : List (Fact Id)) (facts : List declared.Fact) (among : Bool) (made : Clause Id)
+    → NameFacts old kept (distinct same_fact (map (fact_at old) hyps)) → map fact_of facts ≡ kept → fewer ≡ few
+    → among ≡ is_among (map (fact_at old) (map fact_of facts)) (seen_at old concl) → among ≡ false
+    → NameFacts old few (filter (λ h. not (occurs_once (flat_map fact_variables (seen_at old concl ∷ map (fact_at old) kept)) h)) (map (fact_at old) kept)) → NamesClause next made (numbered_anew (strengthened (with_hypotheses (map (fact_at old) fewer) (seen_at old concl))))
+    → NamesNorm next (variants.Clause made) (norm (with_hypotheses (map (fact_at old) hyps) (seen_at old concl)))
+norm_named old next hyps concl kept few fewer facts among made kept_named is fewer_is among_is absent few_named names =
+    let D = distinct same_fact (map (fact_at old) hyps) in
+    let C = seen_at old concl in
     let V = flat_map fact_variables (C ∷ D) in
-    let tautology : is_among D C ≡ false = ap (λ l. is_among l C) (sym (ap (map (fact_at old)) k_is ∙ kept_named.are)) ∙ (sym among_is ∙ absent) in
-    let variables : taken ≡ V = taken_is ∙ (numbers_are ∙ ap (λ l. flat_map fact_variables (C ∷ l)) (ap (map (fact_at old)) m_is ∙ kept_named.are)) in
-    let few_are : map (fact_at old) fewer ≡ filter (λ h. not (is_lonely V h)) D =
-    ap (map (fact_at old)) fewer_is ∙ (few_named.are ∙ (ap (λ v. filter (λ h. not (is_lonely v h)) (map (fact_at old) n)) variables ∙ ap (filter (λ h. not (is_lonely V h))) (ap (map (fact_at old)) n_is ∙ kept_named.are))) in
-    let is : norm (with_hypotheses (map (fact_at old) hyps) C) ≡ Some (numbered_anew (generalized (with_hypotheses (map (fact_at old) fewer) C))) =
-    ap (λ b. cond b None (Some (numbered_anew (generalized (with_hypotheses (filter (λ h. not (is_lonely V h)) D) C))))) tautology ∙ ap (λ l. Some (numbered_anew (generalized (with_hypotheses l C)))) (sym few_are) in
-    subst (λ (o : Option (Clause Term)). NamesNorm next (variants.Clause made) o) (sym is) names
+    let tautology : is_among D C ≡ false = ap (λ l. is_among l C) (sym (ap (map (fact_at old)) is ∙ kept_named.are)) ∙ (sym among_is ∙ absent) in
+    let few_are : map (fact_at old) fewer ≡ filter (λ h. not (occurs_once V h)) D =
+    ap (map (fact_at old)) fewer_is ∙ (few_named.are ∙ ap (λ l. filter (λ h. not (occurs_once (flat_map fact_variables (C ∷ l)) h)) l) kept_named.are) in
+    let made_is : norm (with_hypotheses (map (fact_at old) hyps) C) ≡ Some (numbered_anew (strengthened (with_hypotheses (map (fact_at old) fewer) C))) =
+    counted (with_hypotheses (map (fact_at old) hyps) C) (first_clause_of old hyps kept facts concl kept_named is)
+    ∙ (ap (λ b. cond b None (Some (numbered_anew (strengthened (with_hypotheses (filter (λ h. not (occurs_once V h)) D) C))))) tautology ∙ ap (λ l. Some (numbered_anew (strengthened (with_hypotheses l C)))) (sym few_are)) in
+    subst (λ (o : Option (Clause Term)). NamesNorm next (variants.Clause made) o) (sym made_is) names

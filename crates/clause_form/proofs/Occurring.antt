@@ -5,7 +5,8 @@ use Rattle.std.proofs.lemmas.List.{length-set, length-replicate, get_or-replicat
 use Rattle.std.proofs.lemmas.Grind.{get_or-set_at}
 use Rattle.spec_terms.specs.Term.{Term}
 use Rattle.spec_clauses.specs.Fact.{Clause}
-use Rattle.spec_clauses.specs.Variables.{fact_variables, clause_variables, times}
+use Rattle.spec_clauses.specs.Variables.{fact_variables, clause_variables}
+use Rattle.spec_clauses.specs.FirstPhase.{times}
 use Rattle.clause_form.specs.Occurrences.{counted_one, counted, TellsTimes}
 use Rattle.clause_form.proofs.Lists.{flat_map_more, flat_map_all}
 

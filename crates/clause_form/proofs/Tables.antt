@@ -7,7 +7,7 @@ use Rattle.std.specs.declared.hash.BuildHasherDefault.{BuildHasherDefault}
 use Rattle.std.specs.declared.hash.FoldHasher.{FoldHasher}
 use Rattle.std.proofs.lemmas.List.{take_more}
 use Rattle.std.proofs.lemmas.Bool.{false≢true}
-use Rattle.spec_clauses.specs.Variables.{times}
+use Rattle.spec_clauses.specs.FirstPhase.{times}
 use Rattle.spec_clauses.specs.Norm.{distinct, place_of}
 use Rattle.unify_match.proofs.Tables.{eqb_flip}
 use Rattle.clause_form.specs.Tables.{count_of}

@@ -5,7 +5,8 @@ use Rattle.spec_clauses.specs.Fact.{Fact, Clause, is_among}
 use Rattle.clause_form.specs.declared.facts.Fact as declared
 use Rattle.clause_form.specs.Facts.{fact_of}
 use Rattle.clause_form.specs.Seen.{fact_at, AreFactsIn}
-use Rattle.spec_clauses.specs.Variables.{fact_variables, clause_variables, times}
+use Rattle.spec_clauses.specs.Variables.{fact_variables, clause_variables}
+use Rattle.spec_clauses.specs.FirstPhase.{times}
 use Rattle.clause_form.specs.Normality.{are_different, number_after, numbers_after}
 use Rattle.std.proofs.lemmas.List.{take_rest}
 use Rattle.std.proofs.lemmas.Simd.{map-map}

@@ -1,19 +1,23 @@
 -- What the tests of a clause that is its own norm tell: each of them, that a rule leaves the clause as it is.
-use Rattle.std.proofs.Common.{◌≡◌, ◌↔◌, ℕ, zero, suc, ◌+◌, ◌<◌, ◌≤◌, Bool, true, false, not, ◌&&◌, ◌||◌, cond, nat_eq, nat_lt, None, Some, is_some, List, [], ◌∷◌, length, filter, refl, ap, sym, ◌∙◌, subst, eqb-true, eq-eqb, ne_eqb, ltb-true, ltb-false, lt-ltb, le-ltb, arith}
+use Rattle.std.proofs.Common.{◌≡◌, ◌↔◌, ℕ, zero, suc, ◌+◌, ◌<◌, ◌≤◌, Bool, true, false, not, ◌&&◌, ◌||◌, cond, nat_eq, nat_lt, None, Some, is_some, List, [], ◌∷◌, length, filter, map, flat_map, refl, ap, sym, ◌∙◌, subst, eqb-true, eq-eqb, ne_eqb, ltb-true, ltb-false, lt-ltb, le-ltb, arith}
 use Rattle.std.specs.List.{AllByRecursion, IsDistinct, list_any, list_all, range_with_len}
 use Rattle.spec_trees.specs.Tree.{Leaf}
 use Rattle.spec_trees.proofs.Equality.{and_true}
 use Rattle.spec_trees.proofs.Occurrence.{or_false}
 use Rattle.spec_terms.specs.Term.{Term}
-use Rattle.spec_clauses.specs.Fact.{Fact, Clause, same_fact, is_among}
+use Rattle.spec_clauses.specs.Diff.{Diff, diff_under, diff_variables, numbered_diff, same_diff}
+use Rattle.spec_clauses.specs.Fact.{Fact, Clause, same_fact, is_among, fact_under, clause_under}
 use Rattle.spec_clauses.specs.Variables.{clause_variables}
-use Rattle.spec_clauses.specs.Norm.{distinct, place_of, numbering, without_repeats, is_lonely, without_lonely, numbered_anew, IsNormal}
+use Rattle.spec_clauses.specs.Norm.{distinct, place_of, numbering, without_repeats, numbered_anew, IsNormal}
 use Rattle.spec_clauses.proofs.Lists.{all_weaker}
 use Rattle.spec_clauses.proofs.Facts.{clause_under-agree, clause_under-Leaf}
 use Rattle.spec_clauses.proofs.Renaming.{clause_variables-renamed, variables_distinct-renamed}
 use Rattle.spec_clauses.proofs.Distinct.{all-filter_passes, filter-all, distinct-distinct, distinct-fixed, nat_eq-decides, stand_all, stands_distinct, at_places, places_of_distinct}
 use Rattle.spec_clauses.proofs.Norm.{names_of, back_of}
 use Rattle.spec_clauses.proofs.NormKeeps.{own_norm}
+use Rattle.spec_clauses.proofs.FirstPhase.{counted_rules}
+use Rattle.spec_clauses.specs.FirstPhase.{IsInFirstPhase, occurs_once, without_useless}
+use Rattle.clause_form.proofs.Flattening.{with_hypotheses}
 use Rattle.clause_form.specs.Normality.{are_different, number_after, numbers_after, KeepsItsFacts, KeepsItsVariables}
 
 of_not : (b : Bool) → not b ≡ true → b ≡ false
@@ -41,7 +45,7 @@ distinct_different (f ∷ fs) d = ap (λ b. not b && are_different fs) (none_amo
 
 pub repeats_told : (c : Clause Term) → (are_different c.hypotheses ≡ true) ↔ (without_repeats c ≡ c)
 repeats_told c = (
-  λ e. λ i. record { hypotheses = distinct-fixed same_fact c.hypotheses (different_distinct c.hypotheses e) i; conclusion = c.conclusion },
+  λ e. λ i. record { hypotheses = distinct-fixed same_fact c.hypotheses (different_distinct c.hypotheses e) i; diffs = c.diffs; conclusion = c.conclusion },
   λ e. distinct_different c.hypotheses (subst (λ (hs : List (Fact Term)). IsDistinct same_fact hs) (ap (λ (d : Clause Term). d.hypotheses) e) (distinct-distinct same_fact c.hypotheses)),
 )
 
@@ -58,15 +62,15 @@ pass_all p [] a = refl
 pass_all p (x ∷ xs) a = ap (λ b. b && list_all p xs) a.0 ∙ pass_all p xs a.1
 
 abbrev unlonely : Clause Term → Fact Term → Bool
-unlonely c h = not (is_lonely (clause_variables c) h)
+unlonely c h = not (occurs_once (clause_variables c) h)
 
-pub lonely_told : (c : Clause Term) → (list_all (λ h. not (is_lonely (clause_variables c) h)) c.hypotheses ≡ true) ↔ (without_lonely c ≡ c)
+pub lonely_told : (c : Clause Term) → (list_all (λ h. not (occurs_once (clause_variables c) h)) c.hypotheses ≡ true) ↔ (without_useless c ≡ c)
 lonely_told c = (
-  λ e. λ i. record { hypotheses = filter-all (unlonely c) c.hypotheses (all_pass (unlonely c) c.hypotheses e) i; conclusion = c.conclusion },
+  λ e. λ i. record { hypotheses = filter-all (unlonely c) c.hypotheses (all_pass (unlonely c) c.hypotheses e) i; diffs = c.diffs; conclusion = c.conclusion },
   λ e. pass_all (unlonely c) c.hypotheses (subst (λ (hs : List (Fact Term)). AllByRecursion (λ h. unlonely c h ≡ true) hs) (ap (λ (d : Clause Term). d.hypotheses) e) (all-filter_passes (unlonely c) c.hypotheses)),
 )
 
-pub lonely_are : (c : Clause Term) (b : Bool) → b ≡ list_all (λ h. not (is_lonely (clause_variables c) h)) c.hypotheses → (b ≡ true) ↔ (without_lonely c ≡ c)
+pub lonely_are : (c : Clause Term) (b : Bool) → b ≡ list_all (λ h. not (occurs_once (clause_variables c) h)) c.hypotheses → (b ≡ true) ↔ (without_useless c ≡ c)
 lonely_are c b e = (λ f. (lonely_told c).0 (sym e ∙ f), λ k. e ∙ (lonely_told c).1 k)
 
 -- Variables are numbered: those that occur, each once in order, are 0, 1 and so on.
@@ -209,37 +213,45 @@ place_range n (suc m) x e = go (nat_eq x n) refl (λ l. place_range (n + 1) m x 
 place_here : (m x : ℕ) → list_any (nat_eq x) (range_with_len 0 m) ≡ true → place_of x (range_with_len 0 m) ≡ x
 place_here m x e = omega (arith, place_range 0 m x e)
 
-range_numbered : (c : Clause Term) (m : ℕ) → distinct nat_eq (clause_variables c) ≡ range_with_len 0 m → numbered_anew c ≡ c
-range_numbered c m e =
+-- where there are no constraints, only the facts count
+without_diffs : (c : Clause Term) → c.diffs ≡ [] → clause_under (numbering (clause_variables c)) c ≡ c → numbered_anew c ≡ c
+without_diffs c none e =
+    let facts : with_hypotheses (map (fact_under (numbering (clause_variables c))) c.hypotheses) (fact_under (numbering (clause_variables c)) c.conclusion) ≡ with_hypotheses c.hypotheses c.conclusion = ap (λ (d : Clause Term). with_hypotheses d.hypotheses d.conclusion) e in
+    (λ i. record { hypotheses = (facts i).hypotheses; diffs = distinct same_diff (map numbered_diff (map (diff_under (numbering (clause_variables c))) (none i))); conclusion = (facts i).conclusion })
+    ∙ λ i. record { hypotheses = c.hypotheses; diffs = sym none i; conclusion = c.conclusion }
+
+range_numbered : (c : Clause Term) (m : ℕ) → c.diffs ≡ [] → distinct nat_eq (clause_variables c) ≡ range_with_len 0 m → numbered_anew c ≡ c
+range_numbered c m none e =
     let vs = clause_variables c in
     let own = all_weaker (λ x. list_any (nat_eq x) vs ≡ true) (λ x. numbering vs x ≡ Leaf x)
     (λ x stands. ap Leaf (ap (place_of x) e ∙ place_here m x (ap (list_any (nat_eq x)) (sym e) ∙ (stands_distinct nat_eq nat_eq-decides x vs ∙ stands)))) vs (stand_all vs) in
-    clause_under-agree (numbering vs) Leaf c own ∙ clause_under-Leaf c
+    let constraints = subst (λ (ds : List Diff). AllByRecursion (λ x. numbering vs x ≡ Leaf x) (flat_map diff_variables ds)) (sym none) tt in
+    without_diffs c none (clause_under-agree (numbering vs) Leaf c own constraints ∙ clause_under-Leaf c)
 
-pub numbers_told : (c : Clause Term) → (is_some (numbers_after (Some 0) (clause_variables c)) ≡ true) ↔ (numbered_anew c ≡ c)
-numbers_told c = (
-  λ e. let range = told_range 0 (clause_variables c) e in range_numbered c range.0 (sym (filter_true (distinct nat_eq (clause_variables c))) ∙ range.1),
+numbers_told : (c : Clause Term) → c.diffs ≡ [] → (is_some (numbers_after (Some 0) (clause_variables c)) ≡ true) ↔ (numbered_anew c ≡ c)
+numbers_told c none = (
+  λ e. let range = told_range 0 (clause_variables c) e in range_numbered c range.0 none (sym (filter_true (distinct nat_eq (clause_variables c))) ∙ range.1),
   λ e. let range = numbered_range c e in range_told 0 range.0 (clause_variables c) (filter_true (distinct nat_eq (clause_variables c)) ∙ range.1),
 )
 
-pub numbers_are : (c : Clause Term) (b : Bool) → b ≡ is_some (numbers_after (Some 0) (clause_variables c)) → (b ≡ true) ↔ (numbered_anew c ≡ c)
-numbers_are c b e = (λ f. (numbers_told c).0 (sym e ∙ f), λ k. e ∙ (numbers_told c).1 k)
+pub numbers_are : (c : Clause Term) (b : Bool) → c.diffs ≡ [] → b ≡ is_some (numbers_after (Some 0) (clause_variables c)) → (b ≡ true) ↔ (numbered_anew c ≡ c)
+numbers_are c b none e = (λ f. (numbers_told c none).0 (sym e ∙ f), λ k. e ∙ (numbers_told c none).1 k)
 
 -- All rules together.
-pub normal_told : (c : Clause Term) → (KeepsItsFacts c × KeepsItsVariables c) ↔ IsNormal c
-normal_told c = (
+pub normal_told : (c : Clause Term) → IsInFirstPhase c → (KeepsItsFacts c × KeepsItsVariables c) ↔ IsNormal c
+normal_told c first = (
   λ k. record {
     flat = k.0.flat;
-    own = (own_norm c).1 record { no_repeats = k.0.no_repeats; no_tautology = k.0.no_tautology; none_lonely = k.1.none_lonely; general = k.1.general; numbers = k.1.numbers };
+    own = (counted_rules c first).1 record { no_repeats = k.0.no_repeats; no_tautology = k.0.no_tautology; none_useless = k.1.none_useless; general = k.1.general; numbers = k.1.numbers };
   },
-  λ n. let k = (own_norm c).0 n.own in (
+  λ n. let k = (counted_rules c first).0 n.own in (
     record { flat = n.flat; no_repeats = k.no_repeats; no_tautology = k.no_tautology },
-    record { none_lonely = k.none_lonely; general = k.general; numbers = k.numbers },
+    record { none_useless = k.none_useless; general = k.general; numbers = k.numbers },
   ),
 )
 
-pub normal_then : (c : Clause Term) (b : Bool) → KeepsItsFacts c → (b ≡ true) ↔ KeepsItsVariables c → (b ≡ true) ↔ IsNormal c
-normal_then c b facts told = (λ e. (normal_told c).0 (facts, told.0 e), λ n. told.1 ((normal_told c).1 n).1)
+pub normal_then : (c : Clause Term) (b : Bool) → IsInFirstPhase c → KeepsItsFacts c → (b ≡ true) ↔ KeepsItsVariables c → (b ≡ true) ↔ IsNormal c
+normal_then c b first facts told = (λ e. (normal_told c first).0 (facts, told.0 e), λ n. told.1 ((normal_told c first).1 n).1)
 
 pub normal_else : (c : Clause Term) (b : Bool) → (b ≡ true) ↔ KeepsItsFacts c → b ≡ false → (b ≡ true) ↔ IsNormal c
-normal_else c b told e = (λ k. let clash : true ≡ false = sym k ∙ e in cc, λ n. told.1 ((normal_told c).1 n).0)
+normal_else c b told e = (λ k. let clash : true ≡ false = sym k ∙ e in cc, λ n. let k = (own_norm c).0 n.own in told.1 record { flat = n.flat; no_repeats = k.no_repeats; no_tautology = k.no_tautology })

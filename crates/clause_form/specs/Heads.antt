@@ -8,8 +8,8 @@ use Rattle.clause_form.specs.declared.heads.Parts.{Parts}
 use Rattle.clause_form.specs.declared.heads.Parts.TheVariants.{One, Two, All}
 
 abbrev pub head_seen : Head → horn.Head
-head_seen Att = horn.Att
-head_seen Mess = horn.Mess
+head_seen Att = horn.Att 0
+head_seen Mess = horn.Mess 0
 head_seen (Ev e) = horn.Ev e
 head_seen (Mev e) = horn.Mev e
 head_seen Bad = horn.Bad

@@ -1,10 +1,10 @@
--- A number that facts which are the same share: of the numbers of their predicate, their event, their symbols and their
+-- A number that facts which are the same share: of the numbers of their predicate, its phase, their event or table, their symbols and their
 -- variables, in order.
 use Rattle.std.specs.Prelude.{ℕ, ◌+◌, ◌*◌, ◌%◌, ◌^◌, List, [], ◌∷◌, ◌++◌, flat_map}
 use Rattle.spec_trees.specs.Tree.{Trees, Leaf, Node, none, more}
 use Rattle.spec_terms.specs.Term.{Sym, Ctor, Data, Tuple, Free, Point, Attacker, Term}
 use Rattle.spec_clauses.specs.Fact.{Fact, terms_of}
-use Rattle.spec_clauses.specs.Head.{Head, Att, Mess, Ev, Mev, Bad, head_of}
+use Rattle.spec_clauses.specs.Head.{Head, Att, Mess, Tab, Ev, Mev, Bad, head_of}
 
 -- the number of a symbol; those of variables are 7, 15, 23 and so on
 abbrev pub symbol_number : Sym → ℕ
@@ -27,8 +27,9 @@ abbrev mutual
 
 -- the number of a head
 abbrev pub head_number : Head → ℕ
-head_number Att = 0
-head_number Mess = 1
+head_number (Att k) = 8 * k
+head_number (Mess k) = 8 * k + 1
+head_number (Tab n) = 8 * n + 5
 head_number (Ev e) = 8 * e + 2
 head_number (Mev e) = 8 * e + 3
 head_number Bad = 4

@@ -1,6 +1,6 @@
 -- Tables of how often variables occur, as far as never, once and more often differ: place x is for the variable x.
 use Rattle.std.specs.Prelude.{◌≡◌, ℕ, ◌+◌, ◌<◌, min, cond, nat_lt, length, List, [], ◌∷◌, slice_index, slice_set}
-use Rattle.spec_clauses.specs.Variables.{times}
+use Rattle.spec_clauses.specs.FirstPhase.{times}
 
 -- a table with one occurrence more, and with those of a list
 abbrev pub counted_one : List ℕ → ℕ → List ℕ

@@ -24,7 +24,7 @@ impl Model for Ids {
     ghost view = { λ a. a.items.items };
 }
 
-/// A fact. Events are numbered from 1.
+/// A fact, of phase 0. Events are numbered from 1.
 #[derive(Debug, Drop)]
 pub enum Fact {
     /// The attacker has the term.
@@ -60,7 +60,7 @@ impl Model for Facts {
     ghost view = { λ a. map fact_of a.items.items };
 }
 
-/// A clause: where the hypotheses hold, so does the conclusion.
+/// A clause without constraints: where the hypotheses hold, so does the conclusion.
 #[derive(Debug, Drop)]
 pub struct Clause {
     pub hyps: Facts,
@@ -68,6 +68,7 @@ pub struct Clause {
 }
 
 impl Model for Clause {
+    ghost use Rattle.std.specs.Prelude.{[]};
     ghost use Rattle.spec_clauses.specs.Fact as horn;
     ghost use Rattle.term_tree.specs.declared.bank.Id.{Id};
     ghost use Rattle.clause_form.specs.Codes.{coded_id, coded_clause};
@@ -78,7 +79,7 @@ impl Model for Clause {
 
     ghost use Rattle.clause_form.specs.Facts.{fact_of};
 
-    ghost view = { λ c. record { hypotheses = c.hyps; conclusion = fact_of c.concl } };
+    ghost view = { λ c. record { hypotheses = c.hyps; diffs = []; conclusion = fact_of c.concl } };
 }
 
 /// Clauses in order.

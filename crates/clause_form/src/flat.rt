@@ -1,6 +1,6 @@
 //! The flat parts of clauses (Blanchet 2016, section 3.3.1).
 
-ghost use Rattle.std.specs.Prelude.{◌≡◌, ◌<◌, ◌++◌, length, map, flat_map, IfOk, OnOk};
+ghost use Rattle.std.specs.Prelude.{◌≡◌, ◌<◌, [], ◌++◌, length, map, flat_map, IfOk, OnOk};
 ghost use Rattle.spec_trees.specs.Tree.{Leaf};
 ghost use Rattle.spec_clauses.specs.Fact.{Att};
 ghost use Rattle.spec_clauses.specs.Flat.{is_data, flat, flat_parts};
@@ -28,7 +28,7 @@ fn add_parts<B: Bank>(bank: &B, id: Id, facts: &mut Facts) -> Result<(), AllocEr
     requires facts { AreFactsIn (B.trees bank.now) facts.old }
     ensures known { AreFactsIn (B.trees bank.now) facts.new }
     ensures parts { OnOk result (map (fact_at (B.trees bank.now)) facts.new ≡
-        map (fact_at (B.trees bank.now)) facts.old ++ flat (Att (tree_at (B.trees bank.now) id))) }
+        map (fact_at (B.trees bank.now)) facts.old ++ flat (Att 0 (tree_at (B.trees bank.now) id))) }
 {
     match bank.node(id) {
         Node::Var(_) => {
@@ -99,6 +99,7 @@ fn flat_of_all<B: Bank>(alloc: Global, bank: &B, facts: &Facts) -> Result<Facts,
 fn concluded(alloc: Global, hyps: &Facts, concl: Fact) -> Result<Clause, AllocError>
     ensures { IfOk result (λ made. made ≡ record {
       hypotheses = hyps.now;
+      diffs = [];
       conclusion = fact_of concl;
     }) }
 {
@@ -109,7 +110,7 @@ fn concluded(alloc: Global, hyps: &Facts, concl: Fact) -> Result<Clause, AllocEr
 /// The clauses with these hypotheses, one for each conclusion, in order.
 fn concluding(alloc: Global, hyps: &Facts, concls: Facts) -> Result<Clauses, AllocError>
     ensures { IfOk result (λ made. made ≡ map
-        (λ concl. record { hypotheses = hyps.now; conclusion = concl }) concls) }
+        (λ concl. record { hypotheses = hyps.now; diffs = []; conclusion = concl }) concls) }
 {
     let mut items = Vec::with_capacity(alloc, concls.items.len())?;
     for concl in concls.items {

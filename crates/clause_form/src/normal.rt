@@ -6,7 +6,8 @@ ghost use Rattle.std.specs.List.{list_all};
 ghost use Rattle.spec_clauses.specs.Fact.{is_variable_known as is_variable_known_fact};
 ghost use Rattle.spec_clauses.specs.Selection.{is_solved};
 ghost use Rattle.spec_clauses.specs.Variables.{fact_variables};
-ghost use Rattle.spec_clauses.specs.Norm.{norm as norm_of, is_lonely as is_lonely_fact, generalized, numbered_anew};
+ghost use Rattle.spec_clauses.specs.Norm.{norm as norm_of, numbered_anew};
+ghost use Rattle.spec_clauses.specs.FirstPhase.{occurs_once as is_lonely_fact, strengthened};
 ghost use Rattle.term_tree.specs.Bank.{Grows};
 ghost use Rattle.clause_form.specs.Facts.{fact_of};
 ghost use Rattle.clause_form.specs.Seen.{fact_at, clause_at, IsFactIn, AreFactsIn, IsClauseIn, NameFacts, NamesClause};
@@ -158,9 +159,10 @@ fn generalized_clause<B: Bank>(
     requires hyps { AreFactsIn (B.trees bank.old) (map fact_of hyps.now) }
     ensures grows { Grows (B.trees bank.old) (B.trees bank.new) }
     ensures names { IfOk result (λ made. NamesClause (B.trees bank.new) made
-        (numbered_anew (generalized record {
+        (numbered_anew (strengthened record {
           hypotheses = map (fact_at (B.trees bank.old))
               (map fact_of hyps.now);
+          diffs = [];
           conclusion = fact_at (B.trees bank.old) (fact_of concl.now);
         }))) }
 {
@@ -183,6 +185,7 @@ fn norm_grown<B: Bank>(
     ensures names { IfOk result (λ normal. NamesNorm (B.trees bank.new) normal
         (norm_of record {
           hypotheses = map (fact_at (B.trees bank.old)) hyps;
+          diffs = [];
           conclusion = fact_at
               (B.trees bank.old) (fact_of concl.now);
         })) }

@@ -4,8 +4,9 @@ ghost use Rattle.std.specs.Prelude.{◌≡◌, ◌↔◌, ◌+◌, ◌-◌, ◌^
 ghost use Rattle.std.specs.List.{count_by, list_all};
 ghost use Rattle.spec_clauses.specs.Fact.{is_variable_known as is_variable_known_fact};
 ghost use Rattle.spec_clauses.specs.Flat.{is_flat as is_flat_fact, is_flat_clause as is_flat_clause_of};
-ghost use Rattle.spec_clauses.specs.Norm.{without_repeats, is_tautology as is_tautology_of, is_lonely as is_lonely_fact, without_lonely, generalized, everything_known, numbered_anew, IsNormal};
-ghost use Rattle.spec_clauses.specs.Variables.{leaves, fact_variables, clause_variables, times};
+ghost use Rattle.spec_clauses.specs.Norm.{without_repeats, is_tautology as is_tautology_of, everything_known, numbered_anew, IsNormal};
+ghost use Rattle.spec_clauses.specs.Variables.{leaves, fact_variables, clause_variables};
+ghost use Rattle.spec_clauses.specs.FirstPhase.{IsInFirstPhase, occurs_once as is_lonely_fact, without_useless, strengthened, times};
 ghost use Rattle.term_tree.specs.Bank.{tree_at, AreKnown};
 ghost use Rattle.clause_form.specs.Facts.{fact_of};
 ghost use Rattle.clause_form.specs.Seen.{fact_at, clause_at, IsFactIn, AreFactsIn, IsClauseIn};
@@ -59,10 +60,11 @@ fn are_flat<B: Bank>(bank: &B, facts: &[Fact]) -> bool
     true
 }
 
-/// Whether a clause is flat.
+/// Whether a clause is flat. Clauses over ids are of the first phase.
 fn is_flat_clause<B: Bank>(bank: &B, clause: &Clause) -> bool
     requires { IsClauseIn (B.trees bank.now) clause.now }
-    ensures { result ≡ is_flat_clause_of (clause_at (B.trees bank.now) clause.now) }
+    ensures flat { result ≡ is_flat_clause_of (clause_at (B.trees bank.now) clause.now) }
+    ensures first { result ≡ true → IsInFirstPhase (clause_at (B.trees bank.now) clause.now) }
 {
     is_flat(bank, &clause.concl) && are_flat(bank, &clause.hyps.items)
 }
@@ -245,7 +247,7 @@ fn variables_known<B: Bank>(bank: &B, facts: &[Fact]) -> usize
 /// Whether no hypothesis says only that the attacker has something. The variables are counted first.
 fn has_none_lonely_counted<B: Bank>(bank: &B, clause: &Clause) -> bool
     requires { IsClauseIn (B.trees bank.now) clause.now }
-    ensures { (result ≡ true) ↔ (without_lonely (clause_at (B.trees bank.now) clause.now) ≡
+    ensures { (result ≡ true) ↔ (without_useless (clause_at (B.trees bank.now) clause.now) ≡
         clause_at (B.trees bank.now) clause.now) }
 {
     let mut table = [0u8; PLACED];
@@ -256,7 +258,7 @@ fn has_none_lonely_counted<B: Bank>(bank: &B, clause: &Clause) -> bool
 /// Whether no hypothesis says only that the attacker has something.
 fn has_none_lonely<B: Bank>(bank: &B, clause: &Clause) -> bool
     requires { IsClauseIn (B.trees bank.now) clause.now }
-    ensures { (result ≡ true) ↔ (without_lonely (clause_at (B.trees bank.now) clause.now) ≡
+    ensures { (result ≡ true) ↔ (without_useless (clause_at (B.trees bank.now) clause.now) ≡
         clause_at (B.trees bank.now) clause.now) }
 {
     if variables_known(bank, &clause.hyps.items) >= COUNTED {
@@ -269,7 +271,7 @@ fn has_none_lonely<B: Bank>(bank: &B, clause: &Clause) -> bool
 fn is_first_variable_known<B: Bank>(bank: &B, fact: &Fact) -> bool
     requires { IsFactIn (B.trees bank.now) (fact_of fact.now) }
     ensures { (result ≡ true) ↔ (fact_at (B.trees bank.now) (fact_of fact.now) ≡
-        everything_known.conclusion) }
+        (everything_known 0).conclusion) }
 {
     match fact {
         Fact::Att(term) => match bank.node(*term) {
@@ -283,7 +285,7 @@ fn is_first_variable_known<B: Bank>(bank: &B, fact: &Fact) -> bool
 /// Whether the clause says in the shortest form that the attacker has everything.
 fn is_everything_known<B: Bank>(bank: &B, clause: &Clause) -> bool
     requires { IsClauseIn (B.trees bank.now) clause.now }
-    ensures { (result ≡ true) ↔ (clause_at (B.trees bank.now) clause.now ≡ everything_known) }
+    ensures { (result ≡ true) ↔ (clause_at (B.trees bank.now) clause.now ≡ everything_known 0) }
 {
     clause.hyps.items.is_empty() && is_first_variable_known(bank, &clause.concl)
 }
@@ -291,7 +293,7 @@ fn is_everything_known<B: Bank>(bank: &B, clause: &Clause) -> bool
 /// Whether the clause doesn't say that the attacker has everything, or says it in the shortest form.
 fn is_own_general<B: Bank>(bank: &B, clause: &Clause) -> bool
     requires { IsClauseIn (B.trees bank.now) clause.now }
-    ensures { (result ≡ true) ↔ (generalized (clause_at (B.trees bank.now) clause.now) ≡
+    ensures { (result ≡ true) ↔ (strengthened (clause_at (B.trees bank.now) clause.now) ≡
         clause_at (B.trees bank.now) clause.now) }
 {
     !is_general(bank, &clause.concl, &clause.hyps.items) || is_everything_known(bank, clause)
@@ -378,7 +380,8 @@ fn is_numbered<B: Bank>(bank: &B, clause: &Clause) -> bool
 /// Whether the clause is flat, and says more than its hypotheses, none of which stands twice.
 fn keeps_its_facts<B: Bank>(bank: &B, clause: &Clause) -> bool
     requires { IsClauseIn (B.trees bank.now) clause.now }
-    ensures { (result ≡ true) ↔ KeepsItsFacts (clause_at (B.trees bank.now) clause.now) }
+    ensures keeps { (result ≡ true) ↔ KeepsItsFacts (clause_at (B.trees bank.now) clause.now) }
+    ensures first { result ≡ true → IsInFirstPhase (clause_at (B.trees bank.now) clause.now) }
 {
     is_flat_clause(bank, clause) && has_no_repeats(bank, clause) && !is_tautology(bank, clause)
 }

@@ -2,7 +2,7 @@
 
 ghost use Rattle.std.specs.Prelude.{◌≡◌, ◌≤◌, ◌++◌, [], ◌∷◌, nat_eq, cond, IfOk, OnOk};
 ghost use Rattle.std.specs.HashMap.{get};
-ghost use Rattle.spec_clauses.specs.Variables.{times};
+ghost use Rattle.spec_clauses.specs.FirstPhase.{times};
 ghost use Rattle.spec_clauses.specs.Norm.{distinct, place_of};
 ghost use Rattle.clause_form.specs.Tables.{FindsPlaces, HasPlaces, count_of, CountsTimes};
 

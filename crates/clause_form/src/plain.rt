@@ -79,6 +79,7 @@ pub struct PlainClause {
 }
 
 impl Model for PlainClause {
+    ghost use Rattle.std.specs.Prelude.{[]};
     ghost use Rattle.spec_terms.specs.Term.{Term, coded_term};
     ghost use Rattle.spec_clauses.specs.Fact as horn;
     ghost use Rattle.clause_form.specs.Codes.{coded_clause};
@@ -89,5 +90,5 @@ impl Model for PlainClause {
 
     ghost use Rattle.clause_form.specs.PlainFacts.{plain_fact_of};
 
-    ghost view = { λ c. record { hypotheses = c.hyps; conclusion = plain_fact_of c.concl } };
+    ghost view = { λ c. record { hypotheses = c.hyps; diffs = []; conclusion = plain_fact_of c.concl } };
 }

@@ -1,6 +1,6 @@
 //! Facts and clauses with their variables renumbered.
 
-ghost use Rattle.std.specs.Prelude.{◌≡◌, ◌↔◌, ◌<◌, true, IsTrue, ◌∷◌, nat_eq, length, map, flat_map, IfOk, OnOk};
+ghost use Rattle.std.specs.Prelude.{◌≡◌, ◌↔◌, ◌<◌, true, IsTrue, [], ◌∷◌, nat_eq, length, map, flat_map, IfOk, OnOk};
 ghost use Rattle.spec_trees.specs.Tree.{Leaf, bind};
 ghost use Rattle.spec_clauses.specs.Fact.{fact_under};
 ghost use Rattle.spec_clauses.specs.Variables.{fact_variables};
@@ -204,6 +204,7 @@ fn clause_in_order<B: Bank>(
     ensures names { IfOk result (λ made. NamesClause (B.trees bank.new) made
         (numbered_anew record {
           hypotheses = map (fact_at (B.trees bank.old)) (map fact_of hyps.now);
+          diffs = [];
           conclusion = fact_at (B.trees bank.old) (fact_of concl.now);
         })) }
 {
@@ -227,6 +228,7 @@ pub(crate) fn numbered_clause<B: Bank>(
     ensures names { IfOk result (λ made. NamesClause (B.trees bank.new) made
         (numbered_anew record {
           hypotheses = map (fact_at (B.trees bank.old)) (map fact_of hyps.now);
+          diffs = [];
           conclusion = fact_at (B.trees bank.old) (fact_of concl.now);
         })) }
 {

@@ -1,13 +1,13 @@
 -- From raw clauses to the answer of a pair.
-use Rattle.std.proofs.Common.{◌≡◌, ℕ, ◌<◌, Some, Result, Ok, Err, IfOk, List, length, take, get_or, refl, ap, sym, ◌∙◌, subst, arith}
+use Rattle.std.proofs.Common.{◌≡◌, ℕ, ◌<◌, Some, Result, Ok, Err, IfOk, List, ◌++◌, length, take, get_or, refl, ap, sym, ◌∙◌, subst, arith}
 use Rattle.std.specs.declared.alloc.AllocError.{AllocError}
 use Rattle.std.proofs.lemmas.List.{map-append}
 use Rattle.spec_trees.specs.Tree.{after}
 use Rattle.spec_terms.specs.Term.{Term, Subst}
 use Rattle.spec_terms.specs.Unifier.{moved, IsMostGeneral}
 use Rattle.spec_calculus.specs.Bounds.{most_symbols}
-use Rattle.spec_clauses.specs.Fact.{Fact, Clause, clause_size, fact_under, clause_under, clause_terms}
-use Rattle.spec_clauses.specs.Variables.{IsBelow}
+use Rattle.spec_clauses.specs.Fact.{Fact, Clause, clause_size, fact_under, clause_under}
+use Rattle.spec_clauses.specs.Variables.{IsBelow, all_terms}
 use Rattle.spec_clauses.specs.Selection.{Selection, select}
 use Rattle.spec_clauses.specs.Norm.{norms, IsNormal}
 use Rattle.spec_clauses.specs.Limits.{IsWithinLimit}
@@ -37,7 +37,7 @@ use Rattle.clause_resolve.specs.Answers.{Gives, IsAnswerOf}
 
 -- a clause that is its own norm within the limit
 pub normal_low : (c : Clause Term) → IsNormal c → IsWithinLimit c → HasLowVariables c
-normal_low c own small = all_weaker (IsBelow (clause_size c)) (IsBelow most_symbols) (λ t below. all_weaker (λ x. x < clause_size c) (λ x. x < most_symbols) (λ x h. omega arith) _ below) (clause_terms c) (norm-below c c own.own)
+normal_low c own small = all_weaker (IsBelow (clause_size c)) (IsBelow most_symbols) (λ t below. all_weaker (λ x. x < clause_size c) (λ x. x < most_symbols) (λ x h. omega arith) _ below) (all_terms c) (norm-below c c own.own)
 
 -- and so one that is fit
 pub fit_low : (all : List Term) (c : Clause Id) → IsFit all c → HasLowVariables (clause_at all c)
@@ -49,7 +49,7 @@ together_known all solved rest first second = record { hypotheses = AreFactsIn-a
 
 together_is : (all : List Term) (solved : Clause Id) (unsolved : Clause Term) (apart : Apart) (a : IsApart all unsolved apart) → clause_at all (together solved apart.rest) ≡ joined most_symbols (clause_at all solved) unsolved a.at
 together_is all solved unsolved apart a =
-    let split : clause_at all (together solved apart.rest) ≡ together (clause_at all solved) (clause_at all apart.rest) = ap (λ l. record { hypotheses = l; conclusion = fact_at all apart.rest.conclusion }) (map-append (fact_at all) solved.hypotheses apart.rest.hypotheses) in
+    let split : clause_at all (together solved apart.rest) ≡ together (clause_at all solved) (clause_at all apart.rest) = ap (λ l. record { hypotheses = l; diffs = solved.diffs ++ apart.rest.diffs; conclusion = fact_at all apart.rest.conclusion }) (map-append (fact_at all) solved.hypotheses apart.rest.hypotheses) in
     split ∙ ap (together (clause_at all solved)) a.rest.is
 
 -- the facts that are unified are those of the pair

@@ -4,7 +4,7 @@ use Rattle.std.specs.List.{list_any}
 use Rattle.std.proofs.lemmas.List.Folds.{list_any-append, flat_map-map}
 use Rattle.spec_terms.specs.Term.{Sym, Term}
 use Rattle.spec_trees.specs.Tree.{node}
-use Rattle.spec_clauses.specs.Fact.{Fact, total, fact_size}
+use Rattle.spec_clauses.specs.Fact.{Fact, total, fact_size, clause_size}
 use Rattle.spec_clauses.specs.Flat.{is_data, flat}
 use Rattle.spec_clauses.specs.Limits.{is_large_clause}
 use Rattle.term_tree.specs.Bank.{tree_at, capped}
@@ -47,7 +47,9 @@ facts_flat all fs = sym (flat_map-map (λ f. flat (fact_at all f)) fact_of fs) �
 -- a flat part for each conclusion, over the limit where it is with the hypotheses
 pub parts_over : (hypotheses concls : List (Fact Term)) → list_any is_large_clause (map (with_hypotheses hypotheses) concls) ≡ some_over (total fact_size hypotheses) concls
 parts_over hypotheses [] = refl
-parts_over hypotheses (f ∷ fs) = ap (λ b. is_over (fact_size f + total fact_size hypotheses) || b) (parts_over hypotheses fs)
+parts_over hypotheses (f ∷ fs) = λ i. is_over (whole i) || parts_over hypotheses fs i where
+  whole : clause_size (with_hypotheses hypotheses f) ≡ fact_size f + total fact_size hypotheses
+  whole = omega arith
 
 -- one of the arguments is over the limit, or none is
 pub some_over_found : (all : List Term) (id : Id) (f : Sym) (ids : List Id) (i n : ℕ) → tree_at all id ≡ node f (map (tree_at all) ids) → is_data f ≡ true → i < length ids → some_over n (flat_map (parts_at all) ids) ≡ some_over n (flat_map (parts_at all) (drop i ids))

@@ -9,9 +9,10 @@ use Rattle.spec_trees.proofs.Occurrence.{or_true}
 use Rattle.spec_terms.specs.Term.{Sym, Term, has_var}
 use Rattle.spec_terms.specs.Unifier.{moved}
 use Rattle.spec_calculus.specs.Bounds.{most_symbols}
-use Rattle.spec_clauses.specs.Fact.{Fact, Att, Mess, Ev, Mev, Bad, terms_of, clause_terms, fact_under, clause_under}
+use Rattle.spec_clauses.specs.Fact.{Fact, Att, Mess, Tab, Ev, Mev, Bad, terms_of, clause_terms, fact_under, clause_under}
 use Rattle.spec_clauses.specs.Fact as horn
-use Rattle.spec_clauses.specs.Variables.{IsBelow, AreBelow}
+use Rattle.spec_clauses.specs.Diff.{diff_under}
+use Rattle.spec_clauses.specs.Variables.{IsBelow, AreBelow, constrained_variables}
 use Rattle.spec_clauses.specs.Selection.{Selection, select, IsFirstOfLargest}
 use Rattle.spec_clauses.proofs.Lists.{all_first, all_second}
 use Rattle.spec_clauses.proofs.Selection.{select-first_of_largest}
@@ -105,8 +106,9 @@ lows all [] known below = tt
 lows all (id ∷ ids) known below = (record { known = known.0; below = below.0 }, lows all ids known.1 below.1)
 
 fact_lows : (all : List Term) (f : Fact Id) → IsFactIn all f → AreBelow most_symbols (terms_of (fact_at all f)) → IsLowFact all f
-fact_lows all (Att t) known below = lows all (t ∷ []) known below
-fact_lows all (Mess t u) known below = lows all (t ∷ u ∷ []) known below
+fact_lows all (Att k t) known below = lows all (t ∷ []) known below
+fact_lows all (Mess k t u) known below = lows all (t ∷ u ∷ []) known below
+fact_lows all (Tab n ts) known below = lows all ts known below
 fact_lows all (Ev e ts) known below = lows all ts known below
 fact_lows all (Mev e ts) known below = lows all ts known below
 fact_lows all (Bad ts) known below = lows all ts known below
@@ -118,11 +120,14 @@ facts_lows all (f ∷ fs) known below = (
   facts_lows all fs known.1 (all_second (IsBelow most_symbols) (terms_of (fact_at all f)) (flat_map terms_of (map (fact_at all) fs)) below),
 )
 
+terms_low : (all : List Term) (c : horn.Clause Id) → HasLowVariables (clause_at all c) → AreBelow most_symbols (clause_terms (clause_at all c))
+terms_low all c low = all_first (IsBelow most_symbols) (clause_terms (clause_at all c)) (map Leaf (constrained_variables (clause_at all c))) low
+
 pub conclusion_low : (all : List Term) (c : horn.Clause Id) → IsClauseIn all c → HasLowVariables (clause_at all c) → IsLowFact all c.conclusion
-conclusion_low all c known low = fact_lows all c.conclusion known.conclusion (all_first (IsBelow most_symbols) (terms_of (fact_at all c.conclusion)) (flat_map terms_of (map (fact_at all) c.hypotheses)) low)
+conclusion_low all c known low = fact_lows all c.conclusion known.conclusion (all_first (IsBelow most_symbols) (terms_of (fact_at all c.conclusion)) (flat_map terms_of (map (fact_at all) c.hypotheses)) (terms_low all c low))
 
 pub hypotheses_low : (all : List Term) (c : horn.Clause Id) → IsClauseIn all c → HasLowVariables (clause_at all c) → AreLowFacts all c.hypotheses
-hypotheses_low all c known low = facts_lows all c.hypotheses known.hypotheses (all_second (IsBelow most_symbols) (terms_of (fact_at all c.conclusion)) (flat_map terms_of (map (fact_at all) c.hypotheses)) low)
+hypotheses_low all c known low = facts_lows all c.hypotheses known.hypotheses (all_second (IsBelow most_symbols) (terms_of (fact_at all c.conclusion)) (flat_map terms_of (map (fact_at all) c.hypotheses)) (terms_low all c low))
 
 -- facts one after the other
 pub facts_after : (now next : List Term) (fs gs : List (Fact Id)) (ts us : List (Fact Term)) → Grows now next → NameFacts now fs ts → NameFacts next gs us → NameFacts next (fs ++ gs) (ts ++ us)
@@ -189,10 +194,10 @@ placed c at e = go (select c.hypotheses) refl e where
   go (Some s) is some = let same : s.index ≡ at = cc in placed_first c at s is (select-first_of_largest c.hypotheses s is) same
 
 -- the clause is set apart
-pub clause_apart : (first second third : List Term) (c : horn.Clause Term) (at : ℕ) (selected : declared.Fact) (hyps : List (Fact Id)) (concl : declared.Fact) (fact : Fact Term) (trees : List (Fact Term)) → IsSelectedAt c at → Grows first second → Grows second third
+pub clause_apart : (first second third : List Term) (c : horn.Clause Term) (at : ℕ) (selected : declared.Fact) (hyps : List (Fact Id)) (concl : declared.Fact) (fact : Fact Term) (trees : List (Fact Term)) → IsSelectedAt c at → c.diffs ≡ [] → Grows first second → Grows second third
     → NamesFact first (fact_of selected) (fact_under (moved most_symbols) fact) → fact ≡ get_or c.hypotheses at fact → NameFacts second hyps (map (fact_under (moved most_symbols)) trees) → trees ≡ take at c.hypotheses ++ drop (at + 1) c.hypotheses
-    → NamesFact third (fact_of concl) (fact_under (moved most_symbols) c.conclusion) → IsApart third c record { selected = selected; rest = record { hypotheses = hyps; conclusion = fact_of concl } }
-clause_apart first second third c at selected hyps concl fact trees place one two fact_named fact_is hyps_named trees_are concl_named =
+    → NamesFact third (fact_of concl) (fact_under (moved most_symbols) c.conclusion) → IsApart third c record { selected = selected; rest = record { hypotheses = hyps; diffs = []; conclusion = fact_of concl } }
+clause_apart first second third c at selected hyps concl fact trees place no_diffs one two fact_named fact_is hyps_named trees_are concl_named =
     let p = placed c at place in
     let later = NamesFact-grows first third (fact_of selected) (fact_under (moved most_symbols) fact) (Grows_trans first second third one two) fact_named in
     let same : fact ≡ p.selection.fact = fact_is ∙ p.fact fact in
@@ -201,8 +206,8 @@ clause_apart first second third c at selected hyps concl fact trees place one tw
       at = p.selection;
       is_selected = p.is_selected;
       selected = subst (λ (f : Fact Term). NamesFact third (fact_of selected) (fact_under (moved most_symbols) f)) same later;
-      rest = subst (λ (l : List (Fact Term)). NamesClause third record { hypotheses = hyps; conclusion = fact_of concl } record { hypotheses = map (fact_under (moved most_symbols)) l; conclusion = fact_under (moved most_symbols) c.conclusion }) others
-          (clause_named second third hyps (fact_of concl) (map (fact_under (moved most_symbols)) trees) record { hypotheses = map (fact_under (moved most_symbols)) trees; conclusion = fact_under (moved most_symbols) c.conclusion } two hyps_named refl concl_named);
+      rest = subst (λ (l : List (Fact Term)). NamesClause third record { hypotheses = hyps; diffs = []; conclusion = fact_of concl } record { hypotheses = map (fact_under (moved most_symbols)) l; diffs = map (diff_under (moved most_symbols)) c.diffs; conclusion = fact_under (moved most_symbols) c.conclusion }) others
+          (clause_named second third hyps (fact_of concl) (map (fact_under (moved most_symbols)) trees) record { hypotheses = map (fact_under (moved most_symbols)) trees; diffs = map (diff_under (moved most_symbols)) c.diffs; conclusion = fact_under (moved most_symbols) c.conclusion } two hyps_named refl concl_named (ap (map (diff_under (moved most_symbols))) no_diffs));
     }
 
 -- and stays so
@@ -211,7 +216,7 @@ apart_grows old new unsolved apart grows was = record {
   at = was.at;
   is_selected = was.is_selected;
   selected = NamesFact-grows old new (fact_of apart.selected) (fact_under (moved most_symbols) was.at.fact) grows was.selected;
-  rest = NamesClause-grows old new apart.rest record { hypotheses = map (fact_under (moved most_symbols)) was.at.others; conclusion = fact_under (moved most_symbols) unsolved.conclusion } grows was.rest;
+  rest = NamesClause-grows old new apart.rest record { hypotheses = map (fact_under (moved most_symbols)) was.at.others; diffs = map (diff_under (moved most_symbols)) unsolved.diffs; conclusion = fact_under (moved most_symbols) unsolved.conclusion } grows was.rest;
 }
 
 pub apart_known : (all : List Term) (unsolved : horn.Clause Term) (apart : Apart) → IsApart all unsolved apart → IsApartIn all apart
@@ -235,23 +240,23 @@ selected_fact all c fs at f d is within e =
     ∙ (sym (got_map (λ x. fact_at all x) (map fact_of fs) at (fact_of (get_or fs at f)) d (omega (arith, length-map fs fact_of)) ∙ ap (fact_at all) (got_map fact_of fs at f (fact_of (get_or fs at f)) within)) ∙ ap (λ l. get_or (map (fact_at all) l) at d) is)
 
 -- the clause is set apart, step by step: the selected hypothesis, the others, and the conclusion
-pub clause_set_apart : (old first second third : List Term) (c : horn.Clause Id) (at : ℕ) (fs : List declared.Fact) (f : declared.Fact) (k : Fact Id) (selected : declared.Fact) (hyps : List (Fact Id)) (concl : declared.Fact) → map fact_of fs ≡ c.hypotheses → k ≡ c.conclusion
+pub clause_set_apart : (old first second third : List Term) (c : horn.Clause Id) (at : ℕ) (fs : List declared.Fact) (f : declared.Fact) (k : Fact Id) (selected : declared.Fact) (hyps : List (Fact Id)) (concl : declared.Fact) → map fact_of fs ≡ c.hypotheses → k ≡ c.conclusion → c.diffs ≡ []
     → IsClauseIn old c → IsSelectedAt (clause_at old c) at → f ≡ get_or fs at f → Grows old first → Grows first second → Grows second third → NamesFact first (fact_of selected) (fact_under (moved most_symbols) (fact_at old (fact_of f)))
     → NameFacts second hyps (map (fact_under (moved most_symbols)) (take at (map (fact_at first) (map fact_of fs)) ++ drop (at + 1) (map (fact_at first) (map fact_of fs)))) → NamesFact third (fact_of concl) (fact_under (moved most_symbols) (fact_at second k))
-    → IsApart third (clause_at old c) record { selected = selected; rest = record { hypotheses = hyps; conclusion = fact_of concl } }
-clause_set_apart old first second third c at fs f k selected hyps concl hyps_are concl_is known place f_is one two three selected_named hyps_named concl_named =
+    → IsApart third (clause_at old c) record { selected = selected; rest = record { hypotheses = hyps; diffs = []; conclusion = fact_of concl } }
+clause_set_apart old first second third c at fs f k selected hyps concl hyps_are concl_is no_diffs known place f_is one two three selected_named hyps_named concl_named =
     let within = selected_within old c fs at hyps_are place in
     let facts : map (fact_at first) (map fact_of fs) ≡ map (fact_at old) c.hypotheses = ap (map (fact_at first)) hyps_are ∙ facts_at-grow old first c.hypotheses one known.hypotheses in
     let conclusion : fact_at second k ≡ fact_at old c.conclusion = ap (fact_at second) concl_is ∙ fact_at-grows old second c.conclusion (Grows_trans old first second one two) known.conclusion in
-    clause_apart first second third (clause_at old c) at selected hyps concl (fact_at old (fact_of f)) (take at (map (fact_at first) (map fact_of fs)) ++ drop (at + 1) (map (fact_at first) (map fact_of fs))) place two three selected_named
+    clause_apart first second third (clause_at old c) at selected hyps concl (fact_at old (fact_of f)) (take at (map (fact_at first) (map fact_of fs)) ++ drop (at + 1) (map (fact_at first) (map fact_of fs))) place no_diffs two three selected_named
     (selected_fact old c fs at f (fact_at old (fact_of f)) hyps_are within f_is) hyps_named (ap (λ l. take at l ++ drop (at + 1) l) facts)
     (subst (λ (t : Fact Term). NamesFact third (fact_of concl) (fact_under (moved most_symbols) t)) conclusion concl_named)
 
 -- a clause set apart as a whole
-pub clause_moved : (old now next : List Term) (c : horn.Clause Id) (fs : List declared.Fact) (k : Fact Id) (hyps : List (Fact Id)) (concl : Fact Id) → map fact_of fs ≡ c.hypotheses → k ≡ c.conclusion → IsClauseIn old c → Grows old now → Grows now next
+pub clause_moved : (old now next : List Term) (c : horn.Clause Id) (fs : List declared.Fact) (k : Fact Id) (hyps : List (Fact Id)) (concl : Fact Id) → map fact_of fs ≡ c.hypotheses → k ≡ c.conclusion → c.diffs ≡ [] → IsClauseIn old c → Grows old now → Grows now next
     → NameFacts now hyps (map (fact_under (moved most_symbols)) (map (fact_at old) (map fact_of fs))) → NamesFact next concl (fact_under (moved most_symbols) (fact_at now k))
-    → NamesClause next record { hypotheses = hyps; conclusion = concl } (clause_under (moved most_symbols) (clause_at old c))
-clause_moved old now next c fs k hyps concl hyps_are concl_is known grows later hyps_named concl_named =
+    → NamesClause next record { hypotheses = hyps; diffs = []; conclusion = concl } (clause_under (moved most_symbols) (clause_at old c))
+clause_moved old now next c fs k hyps concl hyps_are concl_is no_diffs known grows later hyps_named concl_named =
     let conclusion : fact_under (moved most_symbols) (fact_at now k) ≡ fact_under (moved most_symbols) (fact_at old c.conclusion) = ap (λ f. fact_under (moved most_symbols) (fact_at now f)) concl_is ∙ ap (fact_under (moved most_symbols)) (fact_at-grows old now c.conclusion grows known.conclusion) in
     clause_named now next hyps concl (map (fact_under (moved most_symbols)) (map (fact_at old) (map fact_of fs))) (clause_under (moved most_symbols) (clause_at old c)) later hyps_named (ap (λ l. map (fact_under (moved most_symbols)) (map (fact_at old) l)) hyps_are)
-    (subst (λ (t : Fact Term). NamesFact next concl t) conclusion concl_named)
+    (subst (λ (t : Fact Term). NamesFact next concl t) conclusion concl_named) (ap (map (diff_under (moved most_symbols))) no_diffs)

@@ -1,11 +1,12 @@
 -- Terms and facts of a bank under a substitution, and what is left of the limit of size.
-use Rattle.std.proofs.Common.{◌≡◌, ℕ, zero, suc, ◌+◌, ◌<◌, ◌≤◌, List, [], ◌∷◌, ◌++◌, length, map, take, get_or, ap, sym, ◌∙◌, subst, arith}
+use Rattle.std.proofs.Common.{◌≡◌, ℕ, zero, suc, ◌+◌, ◌<◌, ◌≤◌, List, [], ◌∷◌, ◌++◌, length, map, take, get_or, refl, ap, sym, ◌∙◌, subst, arith}
 use Rattle.std.proofs.lemmas.List.{take_all}
 use Rattle.std.proofs.lemmas.Simd.{map-map}
 use Rattle.spec_trees.specs.Tree.{bind, size}
 use Rattle.spec_terms.specs.Term.{Term, Subst}
 use Rattle.spec_terms.specs.Binding.{resolved}
 use Rattle.spec_calculus.specs.Bounds.{most_symbols}
+use Rattle.spec_clauses.specs.Diff.{diff_under, diff_size}
 use Rattle.spec_clauses.specs.Fact.{Fact, Clause, terms_of, total, fact_size, clause_size, fact_under, clause_under}
 use Rattle.spec_clauses.specs.Head.{head_of, made_of, head_size}
 use Rattle.spec_clauses.specs.Limits.{IsWithinLimit}
@@ -133,17 +134,17 @@ pub head_short : (old : List Term) (s : Subst) (f : Fact Id) (first : ℕ) → f
 head_short old s f first short = let e = size_under old s f in omega (arith, short, e)
 
 -- hypotheses after a conclusion
-module _ (old now : List Term) (pairs : List Bound) (c : Clause Id) (left : ℕ) (ready : IsReady old pairs) (grows : Grows old now) (known : IsClauseIn old c) where
+module _ (old now : List Term) (pairs : List Bound) (c : Clause Id) (left : ℕ) (ready : IsReady old pairs) (grows : Grows old now) (known : IsClauseIn old c) (none : c.diffs ≡ []) where
   hypotheses_stand : map (fact_under (standing now pairs)) (map (fact_at now) c.hypotheses) ≡ map (fact_under (standing old pairs)) (map (fact_at old) c.hypotheses)
   hypotheses_stand = λ i. map (fact_under (stands old now pairs grows ready i)) (facts_at-grow old now c.hypotheses grows known.hypotheses i)
 
   pub clause_applied : (next : List Term) (hyps : List (Fact Id)) (concl : Fact Id) (then : ℕ) → Grows now next → NamesFact now concl (fact_under (standing old pairs) (fact_at old c.conclusion)) × (left + fact_size (fact_under (standing old pairs) (fact_at old c.conclusion)) ≡ most_symbols)
       → NameFacts next hyps (map (fact_under (standing now pairs)) (map (fact_at now) c.hypotheses)) × (then + total fact_size (map (fact_under (standing now pairs)) (map (fact_at now) c.hypotheses)) ≡ left)
-      → NamesClause next record { hypotheses = hyps; conclusion = concl } (clause_under (standing old pairs) (clause_at old c)) × IsWithinLimit (clause_under (standing old pairs) (clause_at old c))
+      → NamesClause next record { hypotheses = hyps; diffs = []; conclusion = concl } (clause_under (standing old pairs) (clause_at old c)) × IsWithinLimit (clause_under (standing old pairs) (clause_at old c))
   clause_applied next hyps concl then further one two = (
     clause_named next next hyps concl (map (fact_under (standing now pairs)) (map (fact_at now) c.hypotheses)) (clause_under (standing old pairs) (clause_at old c)) (Grows_refl next) two.0 hypotheses_stand
-        (NamesFact-grows now next concl (fact_under (standing old pairs) (fact_at old c.conclusion)) further one.0),
-    omega (arith, one.1, two.1, ap (total fact_size) hypotheses_stand),
+        (NamesFact-grows now next concl (fact_under (standing old pairs) (fact_at old c.conclusion)) further one.0) (ap (map (diff_under (standing old pairs))) none),
+    omega (arith, one.1, two.1, ap (total fact_size) hypotheses_stand, ap (λ ds. total diff_size (map (diff_under (standing old pairs)) ds)) none),
   )
 
   pub clause_short : left + fact_size (fact_under (standing old pairs) (fact_at old c.conclusion)) ≡ most_symbols → left < total fact_size (map (fact_under (standing now pairs)) (map (fact_at now) c.hypotheses)) → most_symbols < clause_size (clause_under (standing old pairs) (clause_at old c))
@@ -153,12 +154,12 @@ module _ (old now : List Term) (pairs : List Bound) (c : Clause Id) (left : ℕ)
 pub clause_applied_as : (old now next : List Term) (pairs : List Bound) (h : List (Fact Id)) (k : Fact Id) (c : Clause Id) (left then : ℕ) (hyps : List (Fact Id)) (concl : Fact Id) → with_hypotheses h k ≡ c → IsReady old pairs → Grows old now → IsClauseIn old c → Grows now next
     → NamesFact now concl (fact_under (standing old pairs) (fact_at old k)) × (left + fact_size (fact_under (standing old pairs) (fact_at old k)) ≡ most_symbols)
     → NameFacts next hyps (map (fact_under (standing now pairs)) (map (fact_at now) h)) × (then + total fact_size (map (fact_under (standing now pairs)) (map (fact_at now) h)) ≡ left)
-    → NamesClause next record { hypotheses = hyps; conclusion = concl } (clause_under (standing old pairs) (clause_at old c)) × IsWithinLimit (clause_under (standing old pairs) (clause_at old c))
+    → NamesClause next record { hypotheses = hyps; diffs = []; conclusion = concl } (clause_under (standing old pairs) (clause_at old c)) × IsWithinLimit (clause_under (standing old pairs) (clause_at old c))
 clause_applied_as old now next pairs h k c left then hyps concl is ready grows known further one two =
-    subst (λ (d : Clause Id). NamesClause next record { hypotheses = hyps; conclusion = concl } (clause_under (standing old pairs) (clause_at old d)) × IsWithinLimit (clause_under (standing old pairs) (clause_at old d))) is
-    (clause_applied old now pairs (with_hypotheses h k) left ready grows (subst (λ (d : Clause Id). IsClauseIn old d) (sym is) known) next hyps concl then further one two)
+    subst (λ (d : Clause Id). NamesClause next record { hypotheses = hyps; diffs = []; conclusion = concl } (clause_under (standing old pairs) (clause_at old d)) × IsWithinLimit (clause_under (standing old pairs) (clause_at old d))) is
+    (clause_applied old now pairs (with_hypotheses h k) left ready grows (subst (λ (d : Clause Id). IsClauseIn old d) (sym is) known) refl next hyps concl then further one two)
 
 pub clause_short_as : (old now : List Term) (pairs : List Bound) (h : List (Fact Id)) (k : Fact Id) (c : Clause Id) (left : ℕ) → with_hypotheses h k ≡ c → IsReady old pairs → Grows old now → IsClauseIn old c → left + fact_size (fact_under (standing old pairs) (fact_at old k)) ≡ most_symbols
     → left < total fact_size (map (fact_under (standing now pairs)) (map (fact_at now) h)) → most_symbols < clause_size (clause_under (standing old pairs) (clause_at old c))
 clause_short_as old now pairs h k c left is ready grows known spent short =
-    subst (λ (d : Clause Id). most_symbols < clause_size (clause_under (standing old pairs) (clause_at old d))) is (clause_short old now pairs (with_hypotheses h k) left ready grows (subst (λ (d : Clause Id). IsClauseIn old d) (sym is) known) spent short)
+    subst (λ (d : Clause Id). most_symbols < clause_size (clause_under (standing old pairs) (clause_at old d))) is (clause_short old now pairs (with_hypotheses h k) left ready grows (subst (λ (d : Clause Id). IsClauseIn old d) (sym is) known) refl spent short)

@@ -10,8 +10,9 @@ use Rattle.spec_trees.proofs.Substitution.{bind-bind, bind-same}
 use Rattle.spec_terms.specs.Term.{Term, Subst}
 use Rattle.spec_terms.specs.Unifier.{moved}
 use Rattle.spec_calculus.specs.Bounds.{most_symbols}
+use Rattle.spec_clauses.specs.Diff.{diff_under}
 use Rattle.spec_clauses.specs.Fact.{Fact, Clause, terms_of, facts_of, clause_terms, fact_under, clause_under}
-use Rattle.spec_clauses.specs.Variables.{IsBelow, AreBelow}
+use Rattle.spec_clauses.specs.Variables.{IsBelow, AreBelow, all_terms, constrained_variables}
 use Rattle.spec_clauses.specs.Selection.{Selection, select}
 use Rattle.spec_clauses.specs.Resolvents.{joined, IsRawResolvent}
 use Rattle.spec_clauses.specs.Resolvents as answer
@@ -70,10 +71,10 @@ swap-twice n x = go (nat_lt x n) refl where
   go false e = beyond (nat_lt (x - n) n) (ltb-false x n e) refl
 
 -- it raises what is low, and takes what was raised back
-swap-clause : (n : ℕ) (c : Clause Term) → AreBelow n (clause_terms c) → clause_under (swap n) c ≡ clause_under (moved n) c
+swap-clause : (n : ℕ) (c : Clause Term) → AreBelow n (all_terms c) → clause_under (swap n) c ≡ clause_under (moved n) c
 swap-clause n c below = mix-clause n (moved n) (mix n Leaf (moved (n + n))) c below
 
-swap-moved : (n : ℕ) (c : Clause Term) → AreBelow n (clause_terms c) → clause_under (swap n) (clause_under (moved n) c) ≡ c
+swap-moved : (n : ℕ) (c : Clause Term) → AreBelow n (all_terms c) → clause_under (swap n) (clause_under (moved n) c) ≡ c
 swap-moved n c below =
     clause_under-clause_under (swap n) (moved n) c
     ∙ (ap (λ s. clause_under s c) (mix-high n (moved n) (mix n Leaf (moved (n + n))))
@@ -84,7 +85,7 @@ record AreTraded (n : ℕ) (f : Fact Term) : Type 0 where
   there : fact_under (swap n) f ≡ fact_under (moved n) f
   back : fact_under (swap n) (fact_under (moved n) f) ≡ f
 
-traded : (n : ℕ) (c : Clause Term) → AreBelow n (clause_terms c) → AreTraded n c.conclusion
+traded : (n : ℕ) (c : Clause Term) → AreBelow n (all_terms c) → AreTraded n c.conclusion
 traded n c below = record { there = ap (λ (d : Clause Term). d.conclusion) (swap-clause n c below); back = ap (λ (d : Clause Term). d.conclusion) (swap-moved n c below) }
 
 -- a unifier of the pair with one fact raised, and of the pair with the other raised
@@ -106,34 +107,37 @@ swapped_mgu n f g s one other mgu = record {
 
 -- the selected hypothesis and the others, as a clause of low variables
 abbrev chosen : Selection → Clause Term
-chosen at = record { hypotheses = at.others; conclusion = at.fact }
+chosen at = record { hypotheses = at.others; diffs = []; conclusion = at.fact }
 
 abbrev AreLowTerms : ℕ → Fact Term → Type 0
 AreLowTerms n f = AllByRecursion (IsBelow n) (terms_of f)
 
-chosen_low : (n : ℕ) (c : Clause Term) (at : Selection) → select c.hypotheses ≡ Some at → AreBelow n (clause_terms c) → AreBelow n (clause_terms (chosen at))
+chosen_low : (n : ℕ) (c : Clause Term) (at : Selection) → select c.hypotheses ≡ Some at → AreBelow n (all_terms c) → AreBelow n (all_terms (chosen at))
 chosen_low n c at selected below =
     let first = select-first_of_largest c.hypotheses at selected in
-    let facts = all-from_flat_map (IsBelow n) terms_of (facts_of c) below in
+    let facts = all-from_flat_map (IsBelow n) terms_of (facts_of c) (all_first (IsBelow n) (clause_terms c) (map Leaf (constrained_variables c)) below) in
     let split : AllByRecursion (AreLowTerms n) (first.earlier ++ at.fact ∷ first.later) = subst (λ (l : List (Fact Term)). AllByRecursion (AreLowTerms n) l) first.hypotheses facts.1 in
     let before = all_first (AreLowTerms n) first.earlier (at.fact ∷ first.later) split in
     let behind = all_second (AreLowTerms n) first.earlier (at.fact ∷ first.later) split in
     let others = all_append (AreLowTerms n) first.earlier first.later before behind.1 in
-    all-flat_map (IsBelow n) terms_of (at.fact ∷ at.others) (behind.0, subst (λ (l : List (Fact Term)). AllByRecursion (AreLowTerms n) l) (sym first.others) others)
+    all_append (IsBelow n) (clause_terms (chosen at)) [] (all-flat_map (IsBelow n) terms_of (at.fact ∷ at.others) (behind.0, subst (λ (l : List (Fact Term)). AllByRecursion (AreLowTerms n) l) (sym first.others) others)) tt
 
 -- what the unifier makes of the raised solved clause with the others and the conclusion is the raw resolvent
-swapped_raw : (n : ℕ) (solved unsolved : Clause Term) (at : Selection) (s : Subst) → AreBelow n (clause_terms solved) → AreBelow n (clause_terms unsolved) → AreBelow n (clause_terms (chosen at))
-    → clause_under s (together (clause_under (moved n) solved) record { hypotheses = at.others; conclusion = unsolved.conclusion }) ≡ clause_under (after s (swap n)) (joined n solved unsolved at)
+swapped_raw : (n : ℕ) (solved unsolved : Clause Term) (at : Selection) (s : Subst) → AreBelow n (all_terms solved) → AreBelow n (all_terms unsolved) → AreBelow n (all_terms (chosen at))
+    → clause_under s (together (clause_under (moved n) solved) record { hypotheses = at.others; diffs = unsolved.diffs; conclusion = unsolved.conclusion }) ≡ clause_under (after s (swap n)) (joined n solved unsolved at)
 swapped_raw n solved unsolved at s low unsolved_low chosen_is_low =
     let raised : map (fact_under (swap n)) solved.hypotheses ≡ map (fact_under (moved n)) solved.hypotheses = ap (λ (d : Clause Term). d.hypotheses) (swap-clause n solved low) in
     let others : map (fact_under (swap n)) (map (fact_under (moved n)) at.others) ≡ at.others = ap (λ (d : Clause Term). d.hypotheses) (swap-moved n (chosen at) chosen_is_low) in
     let conclusion : fact_under (swap n) (fact_under (moved n) unsolved.conclusion) ≡ unsolved.conclusion = ap (λ (d : Clause Term). d.conclusion) (swap-moved n unsolved unsolved_low) in
     let hypotheses = map-append (fact_under (swap n)) solved.hypotheses (map (fact_under (moved n)) at.others) ∙ (λ i. raised i ++ others i) in
-    let traded_clause : clause_under (swap n) (joined n solved unsolved at) ≡ together (clause_under (moved n) solved) record { hypotheses = at.others; conclusion = unsolved.conclusion } = λ i. record { hypotheses = hypotheses i; conclusion = conclusion i } in
+    let raised_diffs : map (diff_under (swap n)) solved.diffs ≡ map (diff_under (moved n)) solved.diffs = ap (λ (d : Clause Term). d.diffs) (swap-clause n solved low) in
+    let other_diffs : map (diff_under (swap n)) (map (diff_under (moved n)) unsolved.diffs) ≡ unsolved.diffs = ap (λ (d : Clause Term). d.diffs) (swap-moved n unsolved unsolved_low) in
+    let diffs = map-append (diff_under (swap n)) solved.diffs (map (diff_under (moved n)) unsolved.diffs) ∙ (λ i. raised_diffs i ++ other_diffs i) in
+    let traded_clause : clause_under (swap n) (joined n solved unsolved at) ≡ together (clause_under (moved n) solved) record { hypotheses = at.others; diffs = unsolved.diffs; conclusion = unsolved.conclusion } = λ i. record { hypotheses = hypotheses i; diffs = diffs i; conclusion = conclusion i } in
     sym (ap (clause_under s) traded_clause) ∙ clause_under-clause_under s (swap n) (joined n solved unsolved at)
 
-swapped_resolvent : (n : ℕ) (solved unsolved : Clause Term) (at : Selection) (s : Subst) → AreBelow n (clause_terms solved) → AreBelow n (clause_terms unsolved) → select unsolved.hypotheses ≡ Some at → IsMguOfFacts (fact_under (moved n) solved.conclusion) at.fact s
-    → IsRawResolvent solved unsolved at (Some (clause_under s (together (clause_under (moved n) solved) record { hypotheses = at.others; conclusion = unsolved.conclusion })))
+swapped_resolvent : (n : ℕ) (solved unsolved : Clause Term) (at : Selection) (s : Subst) → AreBelow n (all_terms solved) → AreBelow n (all_terms unsolved) → select unsolved.hypotheses ≡ Some at → IsMguOfFacts (fact_under (moved n) solved.conclusion) at.fact s
+    → IsRawResolvent solved unsolved at (Some (clause_under s (together (clause_under (moved n) solved) record { hypotheses = at.others; diffs = unsolved.diffs; conclusion = unsolved.conclusion })))
 swapped_resolvent n solved unsolved at s low unsolved_low selected mgu =
     let chosen_is_low = chosen_low n unsolved at selected unsolved_low in record {
       offset = n;
@@ -142,12 +146,12 @@ swapped_resolvent n solved unsolved at s low unsolved_low selected mgu =
     }
 
 -- In a bank: the clause without its selected hypothesis,
-without_at : (all : List Term) (unsolved : Clause Id) (at : ℕ) (p : IsPlaced (clause_at all unsolved) at) → clause_at all (without at unsolved) ≡ record { hypotheses = p.selection.others; conclusion = (clause_at all unsolved).conclusion }
+without_at : (all : List Term) (unsolved : Clause Id) (at : ℕ) (p : IsPlaced (clause_at all unsolved) at) → clause_at all (without at unsolved) ≡ record { hypotheses = p.selection.others; diffs = unsolved.diffs; conclusion = (clause_at all unsolved).conclusion }
 without_at all unsolved at p =
     let next : suc at ≡ at + 1 = omega arith in
     let hyps = map (fact_at all) unsolved.hypotheses in
     let parts : map (fact_at all) (remove unsolved.hypotheses at) ≡ take at hyps ++ drop (at + 1) hyps = map_remove (fact_at all) unsolved.hypotheses at ∙ ap (λ n. take at hyps ++ drop n hyps) next in
-    ap (λ l. record { hypotheses = l; conclusion = fact_at all unsolved.conclusion }) (parts ∙ p.others)
+    ap (λ l. record { hypotheses = l; diffs = unsolved.diffs; conclusion = fact_at all unsolved.conclusion }) (parts ∙ p.others)
 
 -- whose ids are known,
 known_take : (all : List Term) (n : ℕ) (fs : List (Fact Id)) → AreFactsIn all fs → AreFactsIn all (take n fs)
@@ -169,10 +173,10 @@ together_without_known all moved_clause unsolved at first second =
 
 -- the raised solved clause with it,
 moved_together : (all : List Term) (solved : Clause Term) (moved_clause unsolved : Clause Id) (at : ℕ) (p : IsPlaced (clause_at all unsolved) at) → IsMoved all solved moved_clause
-    → clause_at all (together moved_clause (without at unsolved)) ≡ together (clause_under (moved most_symbols) solved) record { hypotheses = p.selection.others; conclusion = (clause_at all unsolved).conclusion }
+    → clause_at all (together moved_clause (without at unsolved)) ≡ together (clause_under (moved most_symbols) solved) record { hypotheses = p.selection.others; diffs = unsolved.diffs; conclusion = (clause_at all unsolved).conclusion }
 moved_together all solved moved_clause unsolved at p m =
     let split : clause_at all (together moved_clause (without at unsolved)) ≡ together (clause_at all moved_clause) (clause_at all (without at unsolved)) =
-    ap (λ l. record { hypotheses = l; conclusion = fact_at all unsolved.conclusion }) (map-append (fact_at all) moved_clause.hypotheses (remove unsolved.hypotheses at)) in
+    ap (λ l. record { hypotheses = l; diffs = moved_clause.diffs ++ unsolved.diffs; conclusion = fact_at all unsolved.conclusion }) (map-append (fact_at all) moved_clause.hypotheses (remove unsolved.hypotheses at)) in
     split ∙ (λ i. together (m.names.is i) (without_at all unsolved at p i))
 
 -- and so the pair's answer: what was found,
@@ -186,7 +190,7 @@ moved_result all new solved moved_clause unsolved made at k facts f s (Ok answer
     let fact : fact_at all (fact_of f) ≡ p.selection.fact = selected_fact all unsolved facts at f p.selection.fact hyps_are within f_is ∙ p.fact p.selection.fact in
     let mgu_is : IsMguOfFacts (fact_under (moved most_symbols) solved.conclusion) p.selection.fact s = subst (λ (h : Fact Term). IsMguOfFacts (fact_under (moved most_symbols) solved.conclusion) h s) fact (subst (λ (h : Fact Term). IsMguOfFacts h (fact_at all (fact_of f)) s) concl mgu) in
     let whole = ap (clause_at all) e ∙ moved_together all solved moved_clause unsolved at p m in
-    found_answers new solved (clause_at all unsolved) (clause_under s (together (clause_under (moved most_symbols) solved) record { hypotheses = p.selection.others; conclusion = (clause_at all unsolved).conclusion })) p.selection answer_found p.is_selected
+    found_answers new solved (clause_at all unsolved) (clause_under s (together (clause_under (moved most_symbols) solved) record { hypotheses = p.selection.others; diffs = unsolved.diffs; conclusion = (clause_at all unsolved).conclusion })) p.selection answer_found p.is_selected
     (swapped_resolvent most_symbols solved (clause_at all unsolved) p.selection s m.low low p.is_selected mgu_is) (subst (λ (c : Clause Term). IsFoundOf new (clause_under s c) answer_found) whole found)
 
 -- or that nothing unifies them.

@@ -3,6 +3,7 @@ use Rattle.std.specs.Prelude.{◌≡◌, ℕ, Some, option_map, List, map}
 use Rattle.spec_terms.specs.Term.{Term}
 use Rattle.spec_terms.specs.Unifier.{moved}
 use Rattle.spec_calculus.specs.Bounds.{most_symbols}
+use Rattle.spec_clauses.specs.Diff.{diff_under}
 use Rattle.spec_clauses.specs.Fact.{fact_under, clause_under}
 use Rattle.spec_clauses.specs.Fact as horn
 use Rattle.spec_clauses.specs.Selection.{Selection, select}
@@ -26,7 +27,7 @@ pub record IsApart (all : List Term) (unsolved : horn.Clause Term) (apart : Apar
   pub at : Selection
   pub is_selected : select unsolved.hypotheses ≡ Some at
   pub selected : NamesFact all (fact_of apart.selected) (fact_under (moved most_symbols) at.fact)
-  pub rest : NamesClause all apart.rest record { hypotheses = map (fact_under (moved most_symbols)) at.others; conclusion = fact_under (moved most_symbols) unsolved.conclusion }
+  pub rest : NamesClause all apart.rest record { hypotheses = map (fact_under (moved most_symbols)) at.others; diffs = map (diff_under (moved most_symbols)) unsolved.diffs; conclusion = fact_under (moved most_symbols) unsolved.conclusion }
 
 -- it is the solved clause, of low variables, with all of them raised by the limit of size
 pub record IsMoved (all : List Term) (solved : horn.Clause Term) (moved_clause : horn.Clause Id) : Type 0 where

@@ -9,13 +9,13 @@ use Rattle.clause_form.specs.Seen.{NameClauses}
 use Rattle.clause_resolve.specs.declared.resolving.Resolved.{Resolved}
 use Rattle.clause_resolve.specs.declared.resolving.Resolved.TheVariants.{NoUnifier, Large, Clauses}
 
--- the hypotheses of both, and the second clause's conclusion
+-- the hypotheses and the constraints of both, and the second clause's conclusion
 abbrev pub together : {X : Type 0} → Clause X → Clause X → Clause X
-together solved rest = record { hypotheses = solved.hypotheses ++ rest.hypotheses; conclusion = rest.conclusion }
+together solved rest = record { hypotheses = solved.hypotheses ++ rest.hypotheses; diffs = solved.diffs ++ rest.diffs; conclusion = rest.conclusion }
 
 -- the clause without the hypothesis at this place, from 0
 abbrev pub without : {X : Type 0} → ℕ → Clause X → Clause X
-without at c = record { hypotheses = remove c.hypotheses at; conclusion = c.conclusion }
+without at c = record { hypotheses = remove c.hypotheses at; diffs = c.diffs; conclusion = c.conclusion }
 
 -- what was found of a raw clause: that it is large, or the norms of its flat parts
 abbrev pub IsFoundOf : List Term → Clause Term → Resolved → Type 0

@@ -2,14 +2,14 @@
 use Rattle.std.specs.Prelude.{◌<◌, List, [], ◌∷◌, length}
 use Rattle.spec_terms.specs.Term.{Term}
 use Rattle.spec_calculus.specs.Bounds.{most_symbols}
-use Rattle.spec_clauses.specs.Fact.{Fact, Clause, terms_of, clause_terms}
-use Rattle.spec_clauses.specs.Variables.{IsBelow, AreBelow}
+use Rattle.spec_clauses.specs.Fact.{Fact, Clause, terms_of}
+use Rattle.spec_clauses.specs.Variables.{IsBelow, AreBelow, all_terms}
 use Rattle.term_tree.specs.Bank.{tree_at}
 use Rattle.term_tree.specs.declared.bank.Id.{Id}
 
--- the clause's variables are below the limit of size, as those of its own norm within the limit
+-- the clause's variables, those of its constraints too, are below the limit of size, as those of its own norm within the limit
 abbrev pub HasLowVariables : Clause Term → Type 0
-HasLowVariables c = AreBelow most_symbols (clause_terms c)
+HasLowVariables c = AreBelow most_symbols (all_terms c)
 
 -- the id names a tree whose variables are below the limit
 pub record IsLow (all : List Term) (id : Id) : Type 0 where

@@ -24,7 +24,7 @@ fn add_symbols(symbols: u64, more: u64) -> u64
 /// The size of `att` of a term.
 fn size_of_att<B: Bank>(bank: &B, id: Id) -> u64
     requires { id.index < length (B.trees bank.now) }
-    ensures { result ≡ capped (fact_size (Att (tree_at (B.trees bank.now) id))) }
+    ensures { result ≡ capped (fact_size (Att 0 (tree_at (B.trees bank.now) id))) }
 {
     add_symbols(1, bank.size(id))
 }
@@ -32,7 +32,7 @@ fn size_of_att<B: Bank>(bank: &B, id: Id) -> u64
 /// The size of all flat facts that `att` of a term stands for.
 fn flat_size_of_att<B: Bank>(bank: &B, id: Id) -> u64
     requires { id.index < length (B.trees bank.now) }
-    ensures { result ≡ capped (total fact_size (flat (Att (tree_at (B.trees bank.now) id)))) }
+    ensures { result ≡ capped (total fact_size (flat (Att 0 (tree_at (B.trees bank.now) id)))) }
 {
     match bank.node(id) {
         Node::Var(_) => size_of_att(bank, id),
@@ -86,7 +86,7 @@ fn is_over_limit(symbols: u64) -> bool
 fn some_part_over<B: Bank>(bank: &B, id: Id, symbols: u64) -> bool
     requires { id.index < length (B.trees bank.now) }
     ensures { (n : ℕ) → symbols ≡ capped n → result ≡ some_over n
-        (flat (Att (tree_at (B.trees bank.now) id))) }
+        (flat (Att 0 (tree_at (B.trees bank.now) id))) }
 {
     match bank.node(id) {
         Node::Var(_) => is_over_limit(add_symbols(size_of_att(bank, id), symbols)),

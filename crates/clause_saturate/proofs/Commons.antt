@@ -42,7 +42,7 @@ take_whole xs n size = ap (λ k. take k xs) size ∙ take_all xs
 
 -- a clause to stand for the goal, whatever that is
 abbrev pub some_goal : Clause Term
-some_goal = record { hypotheses = []; conclusion = Bad [] }
+some_goal = record { hypotheses = []; diffs = []; conclusion = Bad [] }
 
 some_goal_normal : IsNormal some_goal
 some_goal_normal = record { flat = refl; own = refl }

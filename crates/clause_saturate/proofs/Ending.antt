@@ -7,8 +7,9 @@ use Rattle.std.proofs.lemmas.Option.{slice_get-map}
 use Rattle.spec_trees.specs.Tree.{bind}
 use Rattle.spec_terms.specs.Term.{Term, is_ground}
 use Rattle.spec_terms.proofs.Ground.{ground-bind}
-use Rattle.spec_clauses.specs.Fact.{Fact, Att, Mess, Ev, Mev, Bad, Clause, terms_of, map_fact}
+use Rattle.spec_clauses.specs.Fact.{Fact, Clause, terms_of, map_fact}
 use Rattle.spec_clauses.specs.Subsumption.{Subsumes}
+use Rattle.spec_clauses.proofs.Parts.{terms_of-map}
 use Rattle.term_tree.specs.Bank.{tree_at, Grows, AreShared}
 use Rattle.term_tree.specs.declared.bank.Id.{Id}
 use Rattle.term_tree.proofs.BankLaws.{tree_at-grows, AreKnown-at}
@@ -16,16 +17,9 @@ use Rattle.clause_form.specs.Seen.{fact_at, clause_at, IsFactIn, IsClauseIn}
 use Rattle.clause_saturate.specs.Ends.{last_term, if_closed, closed_end_of}
 
 -- the last term of a fact with f of each term
-terms_seen : {X Y : Type 0} (f : X → Y) (h : Fact X) → terms_of (map_fact f h) ≡ map f (terms_of h)
-terms_seen f (Att t) = refl
-terms_seen f (Mess t u) = refl
-terms_seen f (Ev e ts) = refl
-terms_seen f (Mev e ts) = refl
-terms_seen f (Bad ts) = refl
-
 last_seen : {X Y : Type 0} (f : X → Y) (h : Fact X) → last_term (map_fact f h) ≡ option_map f (last_term h)
 last_seen f h =
-    ap (λ ts. slice_get ts (length ts - 1)) (terms_seen f h)
+    ap (λ ts. slice_get ts (length ts - 1)) (terms_of-map f h)
     ∙ (ap (λ n. slice_get (map f (terms_of h)) (n - 1)) (length-map (terms_of h) f) ∙ slice_get-map f (terms_of h) (length (terms_of h) - 1))
 
 -- the id names a tree

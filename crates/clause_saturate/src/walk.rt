@@ -15,8 +15,7 @@ use std::alloc::{AllocError, Global};
 /// others; the features of each entry's clause, in order, the fingerprint of the fact on which it is resolved, and that of
 /// its conclusion; the numbers of the live ones whose conclusions don't end with a closed term; the chains by which those
 /// that end with one are found; and the numbers of solved entries and of the others by the classes of these facts, in which
-/// some may be live no more.
-#[derive(Drop)]
+/// some may be live no more. Its `drop` is written out, so that it is one call wherever this is let go.
 pub(crate) struct Live {
     pub solved: Vec<usize>,
     pub unsolved: Vec<usize>,
@@ -52,6 +51,22 @@ pub(crate) struct Walk {
     pub items: Vec<Entry>,
     pub live: Live,
     pub budget: u64,
+}
+
+impl Drop for Live {
+    fn drop(self) {
+        let Live {
+            solved: _,
+            unsolved: _,
+            features: _,
+            prints: _,
+            unclosed: _,
+            chains: _,
+            conclusions: _,
+            solved_classes: _,
+            unsolved_classes: _,
+        } = self;
+    }
 }
 
 impl Live {

@@ -1,9 +1,9 @@
 -- Well-scoped protocols have linear patterns.
 use Rattle.std.proofs.Common.{ℕ, ◌+◌, List, [], ◌∷◌, ◌++◌}
-use Rattle.spec_calculus.specs.Syntax.{Name, Made, Process, Nil, Output, Input, Parallel, Replication, New, Let, Event, Protocol}
+use Rattle.spec_calculus.specs.Syntax.{Name, Made, Process, Nil, Output, Input, Parallel, Replication, New, Let, Event, Phase, Insert, Get, Protocol}
 use Rattle.spec_calculus.specs.Points.{point_after}
 use Rattle.spec_well_formed.specs.Signature.{Signature, signature_of}
-use Rattle.spec_well_formed.specs.Terms.{bound_by}
+use Rattle.spec_well_formed.specs.Terms.{bound_by, bound_by_row}
 use Rattle.spec_well_formed.specs.Processes.{HasLinearPatterns, IsProcessBelow}
 use Rattle.spec_well_formed.specs.WellFormed.{IsWellScoped}
 
@@ -17,6 +17,10 @@ linear signature bound point (New word next) below = linear signature (Made poin
 linear signature bound point (Let pattern expression next otherwise) below =
     (below.0.linear, linear signature (bound_by pattern ++ bound) (point + 1) next below.2, linear signature bound (point_after (point + 1) next) otherwise below.3)
 linear signature bound point (Event performed next) below = linear signature bound (point + 1) next below.1
+linear signature bound point (Phase number next) below = linear signature bound (point + 1) next below
+linear signature bound point (Insert table arguments next) below = linear signature bound (point + 1) next below.2
+linear signature bound point (Get table patterns condition next otherwise) below =
+    (below.1.linear, linear signature (bound_by_row patterns ++ bound) (point + 1) next below.3, linear signature bound (point_after (point + 1) next) otherwise below.4)
 
 -- no pattern of a protocol that is well scoped binds a variable twice
 pub linear_patterns : (P : Protocol) → IsWellScoped P → HasLinearPatterns P.main

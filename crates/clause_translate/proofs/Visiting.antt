@@ -1,7 +1,7 @@
 -- How the visits of each form of process end, by how those below it do.
 use Rattle.std.proofs.Common.{◌≡◌, ◌≤◌, ℕ, suc, ◌+◌, Bool, true, false, Result, Option, Some, None, List, [], ◌∷◌, ◌++◌, length, map, refl, ap, sym, subst, ◌∙◌}
 use Rattle.std.specs.Prelude.{IfOk}
-use Rattle.spec_calculus.specs.Syntax.{Process, Nil, Output, Input, Parallel, Replication, New, Let, Event, EventTerm, Pattern, Expression, Ruled, Protocol}
+use Rattle.spec_calculus.specs.Syntax.{Process, Nil, Output, Input, Parallel, Replication, New, Let, Event, Phase, Insert, Get, EventTerm, Pattern, Expression, Ruled, Protocol}
 use Rattle.spec_calculus.specs.Syntax as calculus
 use Rattle.spec_calculus.specs.Points.{point_after}
 use Rattle.spec_trees.specs.Leaves.{leaves}
@@ -17,6 +17,7 @@ use Rattle.spec_translation.specs.Visit.{Visit, visit_terms, is_large_visit, aft
 use Rattle.spec_translation.specs.Course as course
 use Rattle.spec_translation.specs.Course.{Outcome, Done, TooLarge, Course, Finished, Unless, preceded}
 use Rattle.spec_translation.specs.Choice.{EachGoesOn, AllGoOn}
+use Rattle.spec_translation.specs.Otherwise.{otherwise_visit}
 use Rattle.spec_translation.specs.Visited.{some_large, EachThen, Received, Chosen, Visited}
 use Rattle.process_visits.specs.declared.listing.Listing.{Listing}
 use Rattle.process_visits.specs.declared.place.Place.{Place}
@@ -73,6 +74,9 @@ none_left P process point v left e = subst (λ n. Visited P process point v n (T
   go (New word next) = refl
   go (Let pattern expression next otherwise) = refl
   go (Event performed next) = refl
+  go (Phase number next) = refl
+  go (Insert table arguments next) = refl
+  go (Get table patterns condition next otherwise) = refl
 
 -- one is counted
 counted : (P : Protocol) (process : Process) (point : ℕ) (v : Visit) (new : List Term) (before low after : Listing) (large : Option ℕ) → low.clauses ≡ before.clauses → low.keeps ≡ before.keeps → before.left ≡ suc low.left
@@ -185,7 +189,7 @@ module _ (P : Protocol) (v : Visit) (pattern : Pattern) (expression : Expression
   evaluates = are_large_in P v.scope (compared pattern ++ leaves expression)
 
   abbrev last : Course
-  last left out = Visited P otherwise (point_after (point + 1) next) v left out
+  last left out = Visited P otherwise (point_after (point + 1) next) (otherwise_visit P v pattern expression) left out
 
   abbrev each : List (Option Visit) → Course
   each outs left out = EachThen (λ w. Visited P next (point + 1) w) outs last left out
@@ -208,15 +212,15 @@ module _ (P : Protocol) (v : Visit) (pattern : Pattern) (expression : Expression
         chosen before.left (TooLarge q) h.outs e (all_go h.outs h.go) (unless_small (some_large h.outs) point (each h.outs) before.left (TooLarge q) h.small
         (each_large (λ w. Visited P next (point + 1) w) h.outs last before.left q h.ends))
 
-    pub let_ends : {E : Type 0} (r : Result (Option ℕ) E) (to : Place) (w : Visit) (mid new : List Term) (before midway after : Listing) → IsAt P (point_after (point + 1) next) to → w ≡ v → Grows mid new → EndsEach P v pattern rs next (point + 1) mid before midway None
+    pub let_ends : {E : Type 0} (r : Result (Option ℕ) E) (to : Place) (w : Visit) (mid new : List Term) (before midway after : Listing) → IsAt P (point_after (point + 1) next) to → w ≡ otherwise_visit P v pattern expression → Grows mid new → EndsEach P v pattern rs next (point + 1) mid before midway None
         → IfOk r (λ large. Ends (protocol_at to) (Once otherwise to.point w) new midway after large) → IfOk r (λ large. Ends P (Uncounted (Let pattern expression next otherwise) point v) new before after large)
     let_ends r to w mid new before midway after at same grows first h =
         let done = first.ends in
         if_ok r (λ large. Ends (protocol_at to) (Once otherwise to.point w) new midway after large) (λ large. Ends P (Uncounted (Let pattern expression next otherwise) point v) new before after large)
-        (λ large k. ends_behind P (Once otherwise (point_after (point + 1) next) v) (Uncounted (Let pattern expression next otherwise) point v) mid new before midway after done.more large grows done.lists
+        (λ large k. ends_behind P (Once otherwise (point_after (point + 1) next) (otherwise_visit P v pattern expression)) (Uncounted (Let pattern expression next otherwise) point v) mid new before midway after done.more large grows done.lists
         (λ out run. chosen before.left (preceded done.more out) first.outs e (all_go first.outs first.go) (unless_small (some_large first.outs) point (each first.outs) before.left (preceded done.more out) first.small
         (each_join (λ x. Visited P next (point + 1) x) first.outs last before.left midway.left done.more out done.runs run)))
-        (moved P (point_after (point + 1) next) v to w otherwise new midway after large at same k)) h
+        (moved P (point_after (point + 1) next) (otherwise_visit P v pattern expression) to w otherwise new midway after large at same k)) h
 
 -- nothing
 pub nil_ends : (P : Protocol) (point : ℕ) (v : Visit) (all : List Term) (listing : Listing) → Ends P (Uncounted Nil point v) all listing listing None

@@ -14,10 +14,10 @@ use Rattle.unify_match.proofs.Trails.{undone}
 use Rattle.clause_form.specs.declared.facts.Fact.{Fact}
 use Rattle.clause_form.specs.Facts.{fact_of}
 use Rattle.clause_form.specs.Seen.{fact_at, IsFactIn, AreFactsIn}
-use Rattle.spec_placements.specs.Placing.{NoFactMatch}
+use Rattle.spec_placements.specs.Placing.{linked_variables, NoFactMatch}
 use Rattle.spec_placements.proofs.Linked.{linked_next}
 use Rattle.spec_placements.proofs.Standing.{holds_one, one_holds, row_long}
-use Rattle.fact_placing.specs.Boards.{facts_at, IsAsBefore, IsPut, CannotPut, HoldsOn, HoldsNotOn, AreLinkedOn}
+use Rattle.fact_placing.specs.Boards.{facts_at, in_first, ending_at, IsAsBefore, IsPut, CannotPut, HoldsOn, HoldsNotOn, AreLinkedOn}
 
 some_same : {X : Type 0} {x y : X} → Some x ≡ Some y → x ≡ y
 some_same e = cc
@@ -97,16 +97,16 @@ module _ (all : List Term) (hyps : List (horn.Fact Id)) (loose : List ℕ) where
       let H = facts_at all hyps in (
         λ held.
             let first : HoldsOn all hyps loose old taken_old (fact ∷ rest) (p ∷ map pred more) = subst (λ ps. HoldsOn all hyps loose old taken_old (fact ∷ rest) ps) rows (subst (λ fs. HoldsOn all hyps loose old taken_old fs (map pred row)) facts_are held) in
-            subst (λ flags. HoldsOn all hyps loose new flags rest (map pred more)) (sym put.flags) (one_holds H taken_old loose (seen all old) (seen all new) (fact_at all fact) put.there p put.stands put.matched (facts_at all rest) (map pred more) first),
+            subst (λ flags. HoldsOn all hyps loose new flags rest (map pred more)) (sym put.flags) (one_holds H taken_old (ending_at loose) (seen all old) (seen all new) (fact_at all fact) put.there p put.stands put.matched (facts_at all rest) (map pred more) first),
         λ held.
             let more_held : HoldsOn all hyps loose new (set taken_old p true) rest (map pred more) = subst (λ flags. HoldsOn all hyps loose new flags rest (map pred more)) put.flags held in
-            let first : HoldsOn all hyps loose old taken_old (fact ∷ rest) (p ∷ map pred more) = holds_one H taken_old loose (seen all old) (seen all new) (fact_at all fact) put.there p put.stands put.matched (facts_at all rest) (map pred more) put.free more_held in
+            let first : HoldsOn all hyps loose old taken_old (fact ∷ rest) (p ∷ map pred more) = holds_one H taken_old (ending_at loose) (seen all old) (seen all new) (fact_at all fact) put.there p put.stands put.matched (facts_at all rest) (map pred more) put.free more_held in
             subst (λ ps. HoldsOn all hyps loose old taken_old facts ps) (sym rows) (subst (λ fs. HoldsOn all hyps loose old taken_old fs (p ∷ map pred more)) (sym facts_are) first),
       )
 
   pub linked_on : (old new : List Bound) (taken_old taken_new : List Bool) (facts rest : List (horn.Fact Id)) (fact : horn.Fact Id) (p : ℕ) → facts ≡ fact ∷ rest → IsPut all hyps old new taken_old taken_new fact p → AreLinkedOn all loose old facts → AreLinkedOn all loose new rest
   linked_on old new taken_old taken_new facts rest fact p facts_are put linked =
-      linked_next (seen all old) (seen all new) loose (facts_at all (fact ∷ rest)) (facts_at all rest) (fact_at all fact) put.there here put.matched (subst (λ fs. AreLinkedOn all loose old fs) facts_are linked)
+      linked_next (seen all old) (seen all new) (linked_variables (map in_first loose) []) (facts_at all (fact ∷ rest)) (facts_at all rest) (fact_at all fact) put.there here put.matched (subst (λ fs. AreLinkedOn all loose old fs) facts_are linked)
 
   -- positions of a row that counts from 1
   pub positions_back : (inner : List ℕ) → map pred (map suc inner) ≡ inner
@@ -132,7 +132,7 @@ module _ (all : List Term) (hyps : List (horn.Fact Id)) (loose : List ℕ) where
 
   -- as many positions as facts
   pub too_long : (pairs : List Bound) (taken : List Bool) (facts : List (horn.Fact Id)) (row : List ℕ) → (length facts ≡ length row → ⊥) → HoldsNotOn all hyps loose pairs taken facts row
-  too_long pairs taken facts row differ inner same held = differ (sym (ap length same ∙ (length-of_map inner ∙ (row_long (facts_at all hyps) taken loose (seen all pairs) (facts_at all facts) inner held ∙ length-facts facts)))) where
+  too_long pairs taken facts row differ inner same held = differ (sym (ap length same ∙ (length-of_map inner ∙ (row_long (facts_at all hyps) taken (ending_at loose) (seen all pairs) (facts_at all facts) inner held ∙ length-facts facts)))) where
     length-of_map : (inner : List ℕ) → length (map suc inner) ≡ length inner
     length-of_map [] = refl
     length-of_map (p ∷ inner) = ap suc (length-of_map inner)

@@ -1,18 +1,30 @@
 -- What contracts see of hypotheses over ids that are placed on positions of a clause, which count from 0 here.
-use Rattle.std.specs.Prelude.{◌≡◌, ◌↔◌, ◌⊎◌, ℕ, suc, ◌^◌, ◌<◌, pred, Bool, true, false, get_or, set, slice_get, replicate, insert, Some, List, [], ◌∷◌, length, map}
+use Rattle.std.specs.Prelude.{◌≡◌, ◌↔◌, ◌⊎◌, ℕ, suc, ◌^◌, ◌<◌, pred, Bool, true, false, get_or, set, slice_get, replicate, insert, Some, List, [], ◌∷◌, length, map, flat_map}
 use Rattle.spec_terms.specs.Term.{Term, Subst}
-use Rattle.spec_terms.specs.Binding.{Binding, Agrees}
+use Rattle.spec_terms.specs.Binding.{Binding, bound_to, Agrees}
 use Rattle.spec_clauses.specs.Fact as horn
 use Rattle.spec_clauses.specs.Fact.{fact_under}
 use Rattle.term_tree.specs.declared.bank.Id.{Id}
 use Rattle.unify_match.specs.declared.bound.Bound.{Bound}
 use Rattle.unify_match.specs.Seen.{seen, AreBindings}
 use Rattle.clause_form.specs.Seen.{fact_at, AreFactsIn}
-use Rattle.spec_placements.specs.Placing.{FactMatched, NoFactMatch, CanPlace, CanStand, HoldsFrom, IsFirstFrom, AreLinked}
+use Rattle.spec_placements.specs.LooseParts.{flat_of}
+use Rattle.spec_placements.specs.Placing.{Loose, Ending, linked_variables, FactMatched, NoFactMatch, CanPlace, CanStand, HoldsFrom, IsFirstFrom, AreLinked}
 
 -- the facts that facts over ids name
 abbrev pub facts_at : List Term → List (horn.Fact Id) → List (horn.Fact Term)
 facts_at all fs = map (fact_at all) fs
+
+-- Hypotheses `att` of a variable are of the first phase, and told by their variables; there are no constraints.
+abbrev pub in_first : ℕ → Loose
+in_first x = record { phase = 0; variable = x }
+
+abbrev pub ending_at : List ℕ → Ending
+ending_at loose = record { loose = map in_first loose; diffs = []; kept_in = [] }
+
+-- the flat facts that `att` of the variables stands for, where they are bound
+abbrev pub loose_parts : List Binding → List ℕ → List (horn.Fact Term)
+loose_parts bs loose = flat_map (λ x. flat_of 0 (bound_to bs x)) loose
 
 -- the hypotheses on whose positions facts are placed: each id names a tree, and positions are numbers of 32 bits
 pub record IsBoard (all : List Term) (hyps : List (horn.Fact Id)) : Type 0 where
@@ -37,7 +49,7 @@ pub record IsBegun (all : List Term) (hyps : List (horn.Fact Id)) (general speci
 
 -- the conclusions are matched by these bindings, and nothing is placed: what the facts are asked of then
 abbrev pub HoldsFirst : List Term → List (horn.Fact Id) → List ℕ → List Binding → List (horn.Fact Id) → List ℕ → Type 0
-HoldsFirst all hyps loose bs facts row = HoldsFrom bs (replicate (length (facts_at all hyps)) false) (facts_at all hyps) (facts_at all facts) loose row
+HoldsFirst all hyps loose bs facts row = HoldsFrom bs (replicate (length (facts_at all hyps)) false) (facts_at all hyps) (facts_at all facts) (ending_at loose) row
 
 -- The conclusions are matched, and the row, whose positions count from 1, holds the facts.
 pub record HoldsWith (all : List Term) (hyps : List (horn.Fact Id)) (loose : List ℕ) (facts : List (horn.Fact Id)) (general special : horn.Fact Id) (row : List ℕ) : Type 0 where
@@ -71,20 +83,20 @@ CannotPut all hyps pairs taken fact p = (s : Subst) → Agrees s (seen all pairs
 
 -- the facts, and the loose variables' parts, can be placed; a row holds them; it is the first; a fact can stand at p
 abbrev pub CanPlaceOn : List Term → List (horn.Fact Id) → List ℕ → List Bound → List Bool → List (horn.Fact Id) → Type 0
-CanPlaceOn all hyps loose pairs taken facts = CanPlace (seen all pairs) taken (facts_at all hyps) (facts_at all facts) loose
+CanPlaceOn all hyps loose pairs taken facts = CanPlace (seen all pairs) taken (facts_at all hyps) (facts_at all facts) (ending_at loose)
 
 abbrev pub HoldsOn : List Term → List (horn.Fact Id) → List ℕ → List Bound → List Bool → List (horn.Fact Id) → List ℕ → Type 0
-HoldsOn all hyps loose pairs taken facts row = HoldsFrom (seen all pairs) taken (facts_at all hyps) (facts_at all facts) loose row
+HoldsOn all hyps loose pairs taken facts row = HoldsFrom (seen all pairs) taken (facts_at all hyps) (facts_at all facts) (ending_at loose) row
 
 abbrev pub IsFirstOn : List Term → List (horn.Fact Id) → List ℕ → List Bound → List Bool → List (horn.Fact Id) → List ℕ → Type 0
-IsFirstOn all hyps loose pairs taken facts row = IsFirstFrom (seen all pairs) taken (facts_at all hyps) (facts_at all facts) loose row
+IsFirstOn all hyps loose pairs taken facts row = IsFirstFrom (seen all pairs) taken (facts_at all hyps) (facts_at all facts) (ending_at loose) row
 
 abbrev pub CanStandOn : List Term → List (horn.Fact Id) → List ℕ → List Bound → List Bool → horn.Fact Id → List (horn.Fact Id) → ℕ → Type 0
-CanStandOn all hyps loose pairs taken fact rest p = CanStand (seen all pairs) taken (facts_at all hyps) (fact_at all fact) (facts_at all rest) loose p
+CanStandOn all hyps loose pairs taken fact rest p = CanStand (seen all pairs) taken (facts_at all hyps) (fact_at all fact) (facts_at all rest) (ending_at loose) p
 
 -- each loose variable is bound or stands in one of the facts
 abbrev pub AreLinkedOn : List Term → List ℕ → List Bound → List (horn.Fact Id) → Type 0
-AreLinkedOn all loose pairs facts = AreLinked (seen all pairs) loose (facts_at all facts)
+AreLinkedOn all loose pairs facts = AreLinked (seen all pairs) (linked_variables (map in_first loose) []) (facts_at all facts)
 
 -- The facts are placed at the positions of a row, which count from 1: the row holds them exactly where nothing more
 -- holds with what is placed now.
@@ -134,13 +146,13 @@ pub record IsFirstWith (all : List Term) (hyps : List (horn.Fact Id)) (loose : L
   pub matched : FactMatched [] bindings (fact_at all general) (fact_at all special)
   pub inner : List ℕ
   pub positions : row ≡ map suc inner
-  pub first : IsFirstFrom bindings (replicate (length (facts_at all hyps)) false) (facts_at all hyps) (facts_at all facts) loose inner
+  pub first : IsFirstFrom bindings (replicate (length (facts_at all hyps)) false) (facts_at all hyps) (facts_at all facts) (ending_at loose) inner
 
 -- The conclusions are matched, and the facts can't be placed.
 pub record CannotPlaceWith (all : List Term) (hyps : List (horn.Fact Id)) (loose : List ℕ) (facts : List (horn.Fact Id)) (general special : horn.Fact Id) : Type 0 where
   pub bindings : List Binding
   pub matched : FactMatched [] bindings (fact_at all general) (fact_at all special)
-  pub never : CanPlace bindings (replicate (length (facts_at all hyps)) false) (facts_at all hyps) (facts_at all facts) loose → ⊥
+  pub never : CanPlace bindings (replicate (length (facts_at all hyps)) false) (facts_at all hyps) (facts_at all facts) (ending_at loose) → ⊥
 
 -- the conclusions don't match, or the facts can't be placed
 abbrev pub NowhereWith : List Term → List (horn.Fact Id) → List ℕ → List (horn.Fact Id) → horn.Fact Id → horn.Fact Id → Type 0

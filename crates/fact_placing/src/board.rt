@@ -1,12 +1,12 @@
 //! What is placed where: the hypotheses of the special clause, and those of the general one, firm and loose.
 
-ghost use Rattle.std.specs.Prelude.{◌≡◌, ◌++◌, [], ◌∷◌, cond, map, IfOk, OnOk};
+ghost use Rattle.std.specs.Prelude.{◌≡◌, ◌++◌, [], ◌∷◌, cond, map, option_map, IfOk, OnOk};
 ghost use Rattle.spec_clauses.specs.Fact.{is_variable_known as is_variable_known_fact};
 ghost use Rattle.spec_clauses.specs.Subsumption.{firm};
 ghost use Rattle.spec_placements.specs.Placing.{known_variable as known_variable_of, loose_variables};
 ghost use Rattle.clause_form.specs.Facts.{fact_of};
 ghost use Rattle.clause_form.specs.Seen.{fact_at, IsFactIn, AreFactsIn, NameFacts};
-ghost use Rattle.fact_placing.specs.Boards.{facts_at};
+ghost use Rattle.fact_placing.specs.Boards.{facts_at, in_first};
 
 use clause_form::{Fact, is_variable_known};
 use std::alloc::{AllocError, Global};
@@ -64,7 +64,8 @@ pub fn firm_of<'a, B: Bank>(
 /// The variable of which the fact is `att`.
 fn known_variable<B: Bank>(bank: &B, fact: &Fact) -> Option<u32>
     requires { IsFactIn (B.trees bank.now) (fact_of fact.now) }
-    ensures { result ≡ known_variable_of (fact_at (B.trees bank.now) (fact_of fact.now)) }
+    ensures { option_map in_first result ≡
+        known_variable_of (fact_at (B.trees bank.now) (fact_of fact.now)) }
 {
     match fact {
         Fact::Att(term) => match bank.node(*term) {
@@ -75,18 +76,30 @@ fn known_variable<B: Bank>(bank: &B, fact: &Fact) -> Option<u32>
     }
 }
 
+/// Adds the variable of which a hypothesis is `att`, if it is.
+fn add_loose<B: Bank>(bank: &B, hyp: &Fact, found: &mut Vec<u32>) -> Result<(), AllocError>
+    requires { IsFactIn (B.trees bank.now) (fact_of hyp.now) }
+    ensures { OnOk result (map in_first found.new.items ≡ map in_first found.old.items ++
+        loose_variables (fact_at (B.trees bank.now) (fact_of hyp.now) ∷ [])) }
+{
+    match known_variable(bank, hyp) {
+        Some(variable) => {
+            found.push(variable)?;
+            Ok(())
+        }
+        None => Ok(()),
+    }
+}
+
 /// The variables of which there is an `att` among the hypotheses, in order.
 pub fn loose_of<B: Bank>(alloc: Global, bank: &B, hyps: &[Fact]) -> Result<Vec<u32>, AllocError>
     requires { AreFactsIn (B.trees bank.now) (map fact_of hyps.now) }
-    ensures { IfOk result (λ found. found.items ≡ loose_variables
+    ensures { IfOk result (λ found. map in_first found.items ≡ loose_variables
         (facts_at (B.trees bank.now) (map fact_of hyps.now))) }
 {
     let mut found = Vec::new(alloc);
     for hyp in hyps {
-        match known_variable(bank, hyp) {
-            Some(variable) => found.push(variable)?,
-            None => {}
-        }
+        add_loose(bank, hyp, &mut found)?;
     }
     Ok(found)
 }

@@ -1,11 +1,11 @@
 -- The lanes of a clause: what is counted, and that it fits 16 bits.
-use Rattle.std.proofs.Common.{◌≡◌, ℕ, ◌+◌, ◌^◌, ◌<◌, ◌≤◌, List, length, map, take, ap, sym, ◌∙◌, arith}
+use Rattle.std.proofs.Common.{◌≡◌, ℕ, ◌+◌, ◌^◌, ◌<◌, ◌≤◌, List, [], ◌∷◌, length, map, take, refl, ap, sym, ◌∙◌, arith}
 use Rattle.spec_terms.specs.Term.{Term}
 use Rattle.spec_clauses.specs.Fact.{Clause, total, fact_size, clause_size}
 use Rattle.spec_clauses.specs.Fact as horn
 use Rattle.spec_clauses.specs.Limits.{IsWithinLimit}
 use Rattle.spec_clauses.specs.Subsumption.{firm}
-use Rattle.spec_features.specs.Features.{fact_symbols, firm_weight}
+use Rattle.spec_features.specs.Features.{one_if, number_of, fact_symbols, firm_weight}
 use Rattle.spec_features.specs.Features as features
 use Rattle.spec_features.proofs.Growing.{total-firm}
 use Rattle.spec_features.proofs.Fitting.{firm_size, one_size, fact_symbols_size}
@@ -16,7 +16,7 @@ use Rattle.clause_form.specs.Seen.{fact_at, clause_at}
 use Rattle.clause_form.proofs.Lists.{total_all, total-map}
 use Rattle.feature_index.specs.declared.clause_features.Lane.{Lane}
 use Rattle.feature_index.specs.declared.clause_features.Lane.TheVariants.{Att, Mess, Ev, Mev, Symbols}
-use Rattle.feature_index.specs.Lanes.{told, weight}
+use Rattle.feature_index.specs.Lanes.{told, weight, sum_of}
 
 -- what a fact of a bank adds to a lane as a hypothesis
 abbrev pub weight_at : List Term → Lane → Fact → ℕ
@@ -30,12 +30,32 @@ all_weighed all lane fs i sum past was =
     let plain : told (0 + total (weight_at all lane) (take i fs)) ≡ told (total (weight_at all lane) (take i fs)) = omega arith in
     was ∙ plain ∙ ap told (whole ∙ (sym seen ∙ sym (total-firm (weight lane) (map (fact_at all) (map fact_of fs)))))
 
+messages_size : (f : horn.Fact Term) → one_if features.Mess f + one_if features.Tab f ≤ fact_size f
+messages_size (horn.Att k t) = omega arith
+messages_size (horn.Mess k t u) = omega arith
+messages_size (horn.Tab n ts) = omega arith
+messages_size (horn.Ev e ts) = omega arith
+messages_size (horn.Mev e ts) = omega arith
+messages_size (horn.Bad ts) = omega arith
+
 weight_size : (lane : Lane) (f : horn.Fact Term) → weight lane f ≤ fact_size f
 weight_size Att f = one_size features.Att f
-weight_size Mess f = one_size features.Mess f
+weight_size Mess f = messages_size f
 weight_size Ev f = one_size features.Ev f
 weight_size Mev f = one_size features.Mev f
 weight_size Symbols f = fact_symbols_size f
+
+-- what hypotheses add to a lane is the lane
+both_numbers : (hs : List (horn.Fact Term)) → total (weight Mess) hs ≡ number_of features.Mess hs + number_of features.Tab hs
+both_numbers [] = refl
+both_numbers (h ∷ hs) = omega (arith, both_numbers hs)
+
+pub summed : (lane : Lane) (hs : List (horn.Fact Term)) → total (weight lane) hs ≡ sum_of lane hs
+summed Att hs = refl
+summed Mess hs = both_numbers hs
+summed Ev hs = refl
+summed Mev hs = refl
+summed Symbols hs = refl
 
 -- the number that is told is the lane, and fits
 pub record IsLane (n lane : ℕ) : Type 0 where

@@ -7,7 +7,7 @@ ghost use Rattle.spec_clauses.specs.Subsumption.{firm};
 ghost use Rattle.spec_features.specs.Features.{predicate_of, predicate_number, fact_symbols, firm_weight, features_of};
 ghost use Rattle.clause_form.specs.Facts.{fact_of};
 ghost use Rattle.clause_form.specs.Seen.{fact_at, clause_at, IsFactIn, AreFactsIn, IsClauseIn};
-ghost use Rattle.feature_index.specs.Lanes.{told, weight};
+ghost use Rattle.feature_index.specs.Lanes.{told, weight, sum_of};
 
 use crate::counts::symbols_of_fact;
 use crate::lanes::Features;
@@ -63,8 +63,7 @@ fn weigh_all<B: Bank>(bank: &B, hyps: &[Fact], lane: Lane) -> u64
 fn lane_of<B: Bank>(bank: &B, clause: &Clause, lane: Lane) -> u16
     requires known { IsClauseIn (B.trees bank.now) clause.now }
     requires small { IsWithinLimit (clause_at (B.trees bank.now) clause.now) }
-    ensures { result ≡ total (weight lane)
-        (firm (clause_at (B.trees bank.now) clause.now).hypotheses) }
+    ensures { result ≡ sum_of lane (firm (clause_at (B.trees bank.now) clause.now).hypotheses) }
 {
     weigh_all(bank, &clause.hyps.items, lane) as u16
 }
@@ -106,7 +105,7 @@ pub fn features<B: Bank>(bank: &B, clause: &Clause) -> Features
             lane_of(bank, clause, Lane::Symbols),
             concluded(bank, clause),
             number,
-            3 - number,
+            4 - number,
         ],
     }
 }

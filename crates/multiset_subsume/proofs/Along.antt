@@ -3,10 +3,11 @@ use Rattle.std.proofs.Common.{◌≡◌, ◌↔◌, ◌∙◌, inl, inr, ℕ, pr
 use Rattle.std.specs.declared.alloc.AllocError.{AllocError}
 use Rattle.std.proofs.lemmas.Bool.{false≢true}
 use Rattle.std.proofs.lemmas.List.{length-map}
+use Rattle.std.proofs.lemmas.List.Folds.{flat_map-map}
 use Rattle.spec_terms.specs.Term.{Term}
-use Rattle.spec_terms.specs.Binding.{Binding}
+use Rattle.spec_terms.specs.Binding.{Binding, bound_to}
 use Rattle.spec_clauses.specs.Fact as horn
-use Rattle.spec_clauses.specs.Fact.{Att, Mess, Ev, Mev, Bad, Clause, total, fact_size, clause_size}
+use Rattle.spec_clauses.specs.Fact.{Att, Mess, Tab, Ev, Mev, Bad, Clause, total, fact_size, clause_size}
 use Rattle.spec_clauses.specs.Norm.{IsNormal}
 use Rattle.spec_clauses.specs.Limits.{IsWithinLimit}
 use Rattle.spec_clauses.specs.Inclusion.{IsWithin}
@@ -17,13 +18,13 @@ use Rattle.unify_match.specs.declared.bound.Bound.{Bound}
 use Rattle.unify_match.specs.Seen.{seen}
 use Rattle.clause_form.specs.Seen.{fact_at, clause_at, IsClauseIn, NameFacts}
 use Rattle.spec_placements.specs.Takes.{left}
-use Rattle.spec_placements.specs.Placing.{FactMatched, HoldsFrom, AreLinked, loose_variables}
-use Rattle.spec_placements.specs.LooseParts.{bound_parts, Removes, HasNoRoom}
+use Rattle.spec_placements.specs.Placing.{Ending, ending_of, FactMatched, HoldsFrom, AreLinked, loose_variables, linked_variables}
+use Rattle.spec_placements.specs.LooseParts.{flat_of, bound_parts, Removes, HasNoRoom}
 use Rattle.spec_placements.proofs.Holding.{inner_row, holds_from, from_holds}
-use Rattle.spec_placements.proofs.Linked.{rules_link, linked_first}
+use Rattle.spec_placements.proofs.Linked.{rules_link, linked_first, linked_loose}
 use Rattle.spec_placements.proofs.Removing.{removed_within, loose_placed, loose_unplaced}
 use Rattle.spec_placements.proofs.Standing.{holds_nothing, row_placed}
-use Rattle.fact_placing.specs.Boards.{facts_at, IsBoard, IsPlacing, IsBegun, ArePut, HoldsOn, AreLinkedOn, HoldsNotOn, HoldsByOn, HoldsFirst, HoldsWith, FailsWith}
+use Rattle.fact_placing.specs.Boards.{facts_at, in_first, ending_at, loose_parts, IsBoard, IsPlacing, IsBegun, ArePut, CanPlaceOn, HoldsOn, AreLinkedOn, HoldsNotOn, HoldsByOn, HoldsFirst, HoldsWith, FailsWith}
 use Rattle.fact_placing.proofs.Putting.{positions_back}
 
 -- what removal of the parts tells of the flags that it began with
@@ -31,24 +32,39 @@ pub may_stand : (hs parts : List (horn.Fact Term)) (taken before now : List Bool
 may_stand hs parts taken before now true e told = subst (λ (flags : List Bool). IsWithin parts (left flags hs)) e (removed_within hs before now parts told)
 may_stand hs parts taken before now false e told = subst (λ (flags : List Bool). HasNoRoom hs flags parts) e told
 
+-- the parts of loose hypotheses of the first phase are those of their variables
+pub parts_in_first : (bs : List Binding) (loose : List ℕ) → bound_parts bs (map in_first loose) ≡ loose_parts bs loose
+parts_in_first bs loose = flat_map-map (λ l. flat_of l.phase (bound_to bs l.variable)) in_first loose
+
+-- with no fact left all is placed where they stand, and nothing is where they don't
+pub loose_stand : (all : List Term) (hyps : List (horn.Fact Id)) (loose : List ℕ) (pairs : List Bound) (taken : List Bool) → IsPlacing all hyps pairs taken → AreLinkedOn all loose pairs [] → IsWithin (loose_parts (seen all pairs) loose) (left taken (facts_at all hyps)) → CanPlaceOn all hyps loose pairs taken []
+loose_stand all hyps loose pairs taken placing linked within =
+    loose_placed (seen all pairs) taken (facts_at all hyps) (ending_at loose) placing.bindings.once (linked_loose (seen all pairs) (map in_first loose) [] [] linked)
+    (subst (λ (ys : List (horn.Fact Term)). IsWithin ys (left taken (facts_at all hyps))) (sym (parts_in_first (seen all pairs) loose)) within) tt
+
+pub loose_nowhere : (all : List Term) (hyps : List (horn.Fact Id)) (loose : List ℕ) (pairs : List Bound) (taken : List Bool) (facts : List (horn.Fact Id)) → HasNoRoom (facts_at all hyps) taken (loose_parts (seen all pairs) loose) → CanPlaceOn all hyps loose pairs taken facts → ⊥
+loose_nowhere all hyps loose pairs taken facts none =
+    loose_unplaced (seen all pairs) taken (facts_at all hyps) (facts_at all facts) (ending_at loose) (subst (λ (ys : List (horn.Fact Term)). HasNoRoom (facts_at all hyps) taken ys) (sym (parts_in_first (seen all pairs) loose)) none)
+
 -- all facts are put along the row: it holds where the loose parts stand
 pub held_along : (all : List Term) (hyps : List (horn.Fact Id)) (loose : List ℕ) (start now : List Bound) (taken_start taken_now : List Bool) (facts : List (horn.Fact Id)) (row : List ℕ) (r : Result Bool AllocError)
     → IsPlacing all hyps now taken_now → AreLinkedOn all loose start facts → ArePut all hyps loose start now taken_start taken_now facts row
-    → IfOk r (λ yes. MatchBool yes (IsWithin (bound_parts (seen all now) loose) (left taken_now (facts_at all hyps))) (HasNoRoom (facts_at all hyps) taken_now (bound_parts (seen all now) loose)))
+    → IfOk r (λ yes. MatchBool yes (IsWithin (loose_parts (seen all now) loose) (left taken_now (facts_at all hyps))) (HasNoRoom (facts_at all hyps) taken_now (loose_parts (seen all now) loose)))
     → IfOk r (λ yes. MatchBool yes (HoldsByOn all hyps loose start taken_start facts row) (HoldsNotOn all hyps loose start taken_start facts row))
 held_along all hyps loose start now taken_start taken_now facts row (Ok true) placing linked put stand =
-    let can = loose_placed (seen all now) taken_now (facts_at all hyps) loose placing.bindings.once (put.linked linked) stand in
-    (map pred row, sym put.positions, put.holds.1 (holds_nothing (facts_at all hyps) taken_now loose (seen all now) can))
+    let can = loose_stand all hyps loose now taken_now placing (put.linked linked) stand in
+    (map pred row, sym put.positions, put.holds.1 (holds_nothing (facts_at all hyps) taken_now (ending_at loose) (seen all now) can))
 held_along all hyps loose start now taken_start taken_now facts row (Ok false) placing linked put none = λ inner same held.
     let back : map pred row ≡ inner = ap (map pred) same ∙ positions_back all hyps loose inner in
     let there = put.holds.0 (subst (λ (ps : List ℕ). HoldsOn all hyps loose start taken_start facts ps) (sym back) held) in
-    loose_unplaced (seen all now) taken_now (facts_at all hyps) [] loose none (row_placed (facts_at all hyps) taken_now loose (seen all now) [] [] placing.flags there)
+    loose_nowhere all hyps loose now taken_now [] none (row_placed (facts_at all hyps) taken_now (ending_at loose) (seen all now) [] [] placing.flags there)
 held_along all hyps loose start now taken_start taken_now facts row (Err e) placing linked put stand = tt
 
 -- a clause within the limit of size has few hypotheses
 fact_counts : (f : horn.Fact Term) → 1 ≤ fact_size f
-fact_counts (Att t) = omega arith
-fact_counts (Mess t u) = omega arith
+fact_counts (Att k t) = omega arith
+fact_counts (Mess k t u) = omega arith
+fact_counts (Tab n ts) = omega arith
 fact_counts (Ev e ts) = omega arith
 fact_counts (Mev e ts) = omega arith
 fact_counts (Bad ts) = omega arith
@@ -75,36 +91,41 @@ held_with all hyps loose facts general special pairs taken row (Ok true) begun (
   matched = begun.matched;
   inner = inner;
   positions = same;
-  holds = subst (λ (flags : List Bool). HoldsFrom (seen all pairs) flags (facts_at all hyps) (facts_at all facts) loose inner) begun.free held;
+  holds = subst (λ (flags : List Bool). HoldsFrom (seen all pairs) flags (facts_at all hyps) (facts_at all facts) (ending_at loose) inner) begun.free held;
 }
 held_with all hyps loose facts general special pairs taken row (Ok false) begun none = inr (record {
   bindings = seen all pairs;
   matched = begun.matched;
-  never = λ inner same held. none inner same (subst (λ (flags : List Bool). HoldsFrom (seen all pairs) flags (facts_at all hyps) (facts_at all facts) loose inner) (sym begun.free) held);
+  never = λ inner same held. none inner same (subst (λ (flags : List Bool). HoldsFrom (seen all pairs) flags (facts_at all hyps) (facts_at all facts) (ending_at loose) inner) (sym begun.free) held);
 })
 held_with all hyps loose facts general special pairs taken row (Err e) begun told = tt
 
--- the loose variables and firm hypotheses of a normal clause
-pub linked_with : (all : List Term) (general g : Clause Id) (special : horn.Fact Id) (facts found second : List (horn.Fact Id)) (loose variables : List ℕ) → g ≡ general → IsNormal (clause_at all general)
-    → NameFacts all found (firm (facts_at all g.hypotheses)) → facts ≡ found → variables ≡ loose_variables (facts_at all second) → second ≡ g.hypotheses → loose ≡ variables
-    → (bs : List Binding) → FactMatched [] bs (fact_at all g.conclusion) (fact_at all special) → AreLinked bs loose (facts_at all facts)
-linked_with all general g special facts found second loose variables g_is normal named facts_are variables_are second_is loose_are bs matched =
+-- the loose variables and firm hypotheses of a normal clause without constraints
+pub linked_with : (all : List Term) (general g : Clause Id) (special : horn.Fact Id) (facts found second : List (horn.Fact Id)) (loose variables : List ℕ) → g ≡ general → g.diffs ≡ [] → IsNormal (clause_at all general)
+    → NameFacts all found (firm (facts_at all g.hypotheses)) → facts ≡ found → map in_first variables ≡ loose_variables (facts_at all second) → second ≡ g.hypotheses → loose ≡ variables
+    → (bs : List Binding) → FactMatched [] bs (fact_at all g.conclusion) (fact_at all special) → AreLinked bs (linked_variables (map in_first loose) []) (facts_at all facts)
+linked_with all general g special facts found second loose variables g_is none normal named facts_are variables_are second_is loose_are bs matched =
     let own : IsNormal (clause_at all g) = subst (λ (c : Clause Id). IsNormal (clause_at all c)) (sym g_is) normal in
     let linked = linked_first bs (clause_at all g) (fact_at all special) (rules_link (clause_at all g) ((own_norm (clause_at all g)).0 own.own)) matched in
-    let loose_is : loose ≡ loose_variables (facts_at all g.hypotheses) = loose_are ∙ (variables_are ∙ ap (λ (fs : List (horn.Fact Id)). loose_variables (facts_at all fs)) second_is) in
+    let loose_is : map in_first loose ≡ loose_variables (facts_at all g.hypotheses) = ap (map in_first) loose_are ∙ (variables_are ∙ ap (λ (fs : List (horn.Fact Id)). loose_variables (facts_at all fs)) second_is) in
     let firm_is : facts_at all facts ≡ firm (facts_at all g.hypotheses) = ap (facts_at all) facts_are ∙ named.are in
-    subst (λ (xs : List ℕ). AreLinked bs xs (facts_at all facts)) (sym loose_is) (subst (λ (fs : List (horn.Fact Term)). AreLinked bs (loose_variables (facts_at all g.hypotheses)) fs) (sym firm_is) linked)
+    let variables_of_both : linked_variables (map in_first loose) [] ≡ linked_variables (loose_variables (facts_at all g.hypotheses)) g.diffs = λ i. linked_variables (loose_is i) (sym none i) in
+    subst (λ (xs : List ℕ). AreLinked bs xs (facts_at all facts)) (sym variables_of_both) (subst (λ (fs : List (horn.Fact Term)). AreLinked bs (linked_variables (loose_variables (facts_at all g.hypotheses)) g.diffs) fs) (sym firm_is) linked)
+
+-- without constraints, loose hypotheses of the first phase are all that is left to decide
+pub ending_told : (all : List Term) (g s : Clause Id) (loose : List ℕ) → map in_first loose ≡ loose_variables (facts_at all g.hypotheses) → g.diffs ≡ [] → s.diffs ≡ [] → ending_at loose ≡ ending_of (clause_at all g) (clause_at all s)
+ending_told all g s loose loose_is none special_none = λ i. record { loose = loose_is i; diffs = sym none i; kept_in = sym special_none i }
 
 -- what is asked of the facts is what is asked of the clauses
-module _ (all : List Term) (g s : Clause Id) (facts : List (horn.Fact Id)) (loose : List ℕ) (firm_is : facts_at all facts ≡ firm (facts_at all g.hypotheses)) (loose_is : loose ≡ loose_variables (facts_at all g.hypotheses)) where
-  abbrev Asked : List Binding → List (horn.Fact Term) → List ℕ → List ℕ → Type 0
-  Asked bs fs xs row = HoldsFrom bs (replicate (length (facts_at all s.hypotheses)) false) (facts_at all s.hypotheses) fs xs row
+module _ (all : List Term) (g s : Clause Id) (facts : List (horn.Fact Id)) (loose : List ℕ) (firm_is : facts_at all facts ≡ firm (facts_at all g.hypotheses)) (ending_is : ending_at loose ≡ ending_of (clause_at all g) (clause_at all s)) where
+  abbrev Asked : List Binding → List (horn.Fact Term) → Ending → List ℕ → Type 0
+  Asked bs fs ending row = HoldsFrom bs (replicate (length (facts_at all s.hypotheses)) false) (facts_at all s.hypotheses) fs ending row
 
-  asked : (bs : List Binding) (row : List ℕ) → Asked bs (firm (facts_at all g.hypotheses)) (loose_variables (facts_at all g.hypotheses)) row → HoldsFirst all s.hypotheses loose bs facts row
-  asked bs row h = subst (λ (fs : List (horn.Fact Term)). Asked bs fs loose row) (sym firm_is) (subst (λ (xs : List ℕ). Asked bs (firm (facts_at all g.hypotheses)) xs row) (sym loose_is) h)
+  asked : (bs : List Binding) (row : List ℕ) → Asked bs (firm (facts_at all g.hypotheses)) (ending_of (clause_at all g) (clause_at all s)) row → HoldsFirst all s.hypotheses loose bs facts row
+  asked bs row h = subst (λ (fs : List (horn.Fact Term)). Asked bs fs (ending_at loose) row) (sym firm_is) (subst (λ (e : Ending). Asked bs (firm (facts_at all g.hypotheses)) e row) (sym ending_is) h)
 
-  told : (bs : List Binding) (row : List ℕ) → HoldsFirst all s.hypotheses loose bs facts row → Asked bs (firm (facts_at all g.hypotheses)) (loose_variables (facts_at all g.hypotheses)) row
-  told bs row h = subst (λ (xs : List ℕ). Asked bs (firm (facts_at all g.hypotheses)) xs row) loose_is (subst (λ (fs : List (horn.Fact Term)). Asked bs fs loose row) firm_is h)
+  told : (bs : List Binding) (row : List ℕ) → HoldsFirst all s.hypotheses loose bs facts row → Asked bs (firm (facts_at all g.hypotheses)) (ending_of (clause_at all g) (clause_at all s)) row
+  told bs row h = subst (λ (e : Ending). Asked bs (firm (facts_at all g.hypotheses)) e row) ending_is (subst (λ (fs : List (horn.Fact Term)). Asked bs fs (ending_at loose) row) firm_is h)
 
   row_told : (row : List ℕ) (r : Result Bool AllocError) → IfOk r (λ yes. MatchBool yes (HoldsWith all s.hypotheses loose facts g.conclusion s.conclusion row) (FailsWith all s.hypotheses loose facts g.conclusion s.conclusion row))
       → IfOk r (λ yes. IsTrue yes ↔ RowHolds (clause_at all g) (clause_at all s) row)
@@ -123,13 +144,13 @@ module _ (all : List Term) (g s : Clause Id) (facts : List (horn.Fact Id)) (loos
   row_told row (Err e) told = tt
 
 -- the same, of clauses that are put together
-pub rows_told : (all : List Term) (general special g s : Clause Id) (facts found second : List (horn.Fact Id)) (loose variables row ps : List ℕ) (r : Result Bool AllocError) → g ≡ general → s ≡ special
-    → NameFacts all found (firm (facts_at all g.hypotheses)) → facts ≡ found → variables ≡ loose_variables (facts_at all second) → second ≡ g.hypotheses → loose ≡ variables → ps ≡ row
+pub rows_told : (all : List Term) (general special g s : Clause Id) (facts found second : List (horn.Fact Id)) (loose variables row ps : List ℕ) (r : Result Bool AllocError) → g ≡ general → s ≡ special → g.diffs ≡ [] → s.diffs ≡ []
+    → NameFacts all found (firm (facts_at all g.hypotheses)) → facts ≡ found → map in_first variables ≡ loose_variables (facts_at all second) → second ≡ g.hypotheses → loose ≡ variables → ps ≡ row
     → IfOk r (λ yes. MatchBool yes (HoldsWith all s.hypotheses loose facts g.conclusion s.conclusion ps) (FailsWith all s.hypotheses loose facts g.conclusion s.conclusion ps)) → IfOk r (λ yes. IsTrue yes ↔ RowHolds (clause_at all general) (clause_at all special) row)
-rows_told all general special g s facts found second loose variables row ps r g_is s_is named facts_are variables_are second_is loose_are ps_are held =
+rows_told all general special g s facts found second loose variables row ps r g_is s_is none special_none named facts_are variables_are second_is loose_are ps_are held =
     let firm_is : facts_at all facts ≡ firm (facts_at all g.hypotheses) = ap (facts_at all) facts_are ∙ named.are in
-    let loose_is : loose ≡ loose_variables (facts_at all g.hypotheses) = loose_are ∙ (variables_are ∙ ap (λ (fs : List (horn.Fact Id)). loose_variables (facts_at all fs)) second_is) in
-    let here = row_told all g s facts loose firm_is loose_is ps r held in
+    let loose_is : map in_first loose ≡ loose_variables (facts_at all g.hypotheses) = ap (map in_first) loose_are ∙ (variables_are ∙ ap (λ (fs : List (horn.Fact Id)). loose_variables (facts_at all fs)) second_is) in
+    let here = row_told all g s facts loose firm_is (ending_told all g s loose loose_is none special_none) ps r held in
     subst (λ (c : Clause Id). IfOk r (λ yes. IsTrue yes ↔ RowHolds (clause_at all c) (clause_at all special) row)) g_is
     (subst (λ (c : Clause Id). IfOk r (λ yes. IsTrue yes ↔ RowHolds (clause_at all g) (clause_at all c) row)) s_is
     (subst (λ (l : List ℕ). IfOk r (λ yes. IsTrue yes ↔ RowHolds (clause_at all g) (clause_at all s) l)) ps_are here))

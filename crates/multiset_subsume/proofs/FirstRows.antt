@@ -19,13 +19,14 @@ use Rattle.unify_match.specs.Seen.{seen}
 use Rattle.clause_form.specs.declared.facts.Fact.{Fact}
 use Rattle.clause_form.specs.Seen.{fact_at, clause_at, AreFactsIn, NameFacts}
 use Rattle.clause_form.proofs.Comparing.{map_drop}
-use Rattle.spec_placements.specs.Placing.{IsFirstFrom, CanPlace, loose_variables}
+use Rattle.spec_placements.specs.Placing.{Ending, ending_of, IsFirstFrom, CanPlace, loose_variables}
 use Rattle.spec_placements.specs.Stages.{PlacesFirst}
 use Rattle.spec_placements.proofs.Holding.{from_first, no_row}
 use Rattle.spec_placements.proofs.Leading.{leads_first_nowhere, leads_first_on, leads_first_to_end}
 use Rattle.spec_placements.proofs.Standing.{one_holds, row_placed}
-use Rattle.fact_placing.specs.Boards.{facts_at, IsPlacing, IsAsBefore, IsBegun, IsPut, CannotPut, CanPlaceOn, CanStandOn, HoldsOn, IsFirstOn, IsFirstByOn, IsLeastRow, IsNextRow, IsFirstWith, NowhereWith}
+use Rattle.fact_placing.specs.Boards.{facts_at, in_first, ending_at, IsPlacing, IsAsBefore, IsBegun, IsPut, CannotPut, CanPlaceOn, CanStandOn, HoldsOn, IsFirstOn, IsFirstByOn, IsLeastRow, IsNextRow, IsFirstWith, NowhereWith}
 use Rattle.fact_placing.proofs.Listing.{unref}
+use Rattle.multiset_subsume.proofs.Along.{ending_told}
 use Rattle.multiset_subsume.proofs.Keeping.{as_back}
 
 pub insert_front : (row : List ℕ) (p : ℕ) → insert row 0 p ≡ p ∷ row
@@ -62,7 +63,7 @@ module _ (all : List Term) (hyps : List (horn.Fact Id)) (loose : List ℕ) (fact
     go true put =
         let there : IsPut all hyps old new taken_old taken_new fact p = as_back (λ pairs flags. IsPut all hyps pairs new flags taken_new fact p) old mid taken_old taken_mid same put in
         let first : IsPut all hyps old new taken_old taken_new fact least.position = subst (λ (n : ℕ). IsPut all hyps old new taken_old taken_new fact n) here there in
-        let held = one_holds (facts_at all hyps) taken_old loose (seen all old) (seen all new) (fact_at all fact) first.there least.position first.stands first.matched (facts_at all rest) least.others least.holds in
+        let held = one_holds (facts_at all hyps) taken_old (ending_at loose) (seen all old) (seen all new) (fact_at all fact) first.there least.position first.stands first.matched (facts_at all rest) least.others least.holds in
         record {
           position = least.position;
           others = least.others;
@@ -82,7 +83,7 @@ pub record IsOnTheWay (all : List Term) (hyps : List (horn.Fact Id)) (loose : Li
   pub holds : HoldsOn all hyps loose now taken_now front row
   pub done : List ℕ
   pub are : items ≡ map suc done
-  pub leads : PlacesFirst (facts_at all hyps) loose (record { bindings = seen all start; taken = taken_start; unplaced = facts_at all facts }) done (record { bindings = seen all now; taken = taken_now; unplaced = facts_at all front })
+  pub leads : PlacesFirst (facts_at all hyps) (ending_at loose) (record { bindings = seen all start; taken = taken_start; unplaced = facts_at all facts }) done (record { bindings = seen all now; taken = taken_now; unplaced = facts_at all front })
 
 module _ (all : List Term) (hyps : List (horn.Fact Id)) (loose : List ℕ) (start : List Bound) (taken_start : List Bool) (facts : List (horn.Fact Id)) where
   pub way_begins : (row items : List ℕ) → items ≡ [] → IsPlacing all hyps start taken_start → HoldsOn all hyps loose start taken_start facts row → IsOnTheWay all hyps loose start start taken_start taken_start facts facts items row
@@ -91,7 +92,7 @@ module _ (all : List Term) (hyps : List (horn.Fact Id)) (loose : List ℕ) (star
     holds = held;
     done = [];
     are = none;
-    leads = leads_first_nowhere (facts_at all hyps) loose (record { bindings = seen all start; taken = taken_start; unplaced = facts_at all facts });
+    leads = leads_first_nowhere (facts_at all hyps) (ending_at loose) (record { bindings = seen all start; taken = taken_start; unplaced = facts_at all facts });
   }
 
   pub way_on : (old new : List Bound) (taken_old taken_new : List Bool) (front rest : List (horn.Fact Id)) (fact : horn.Fact Id) (items more row next left : List ℕ) (position : ℕ) → front ≡ fact ∷ rest → IsOnTheWay all hyps loose start old taken_start taken_old facts front items row
@@ -99,24 +100,24 @@ module _ (all : List Term) (hyps : List (horn.Fact Id)) (loose : List ℕ) (star
   way_on old new taken_old taken_new front rest fact items more row next left position front_is way placing is at left_is more_is =
       let first : position ≡ is.position = at ∙ ap (λ (ps : List ℕ). get_or ps 0 position) is.are in
       let others : left ≡ is.others = left_is ∙ ap (λ (ps : List ℕ). remove ps 0) is.are in
-      let stage : PlacesFirst (facts_at all hyps) loose (record { bindings = seen all start; taken = taken_start; unplaced = facts_at all facts }) way.done (record { bindings = seen all old; taken = taken_old; unplaced = fact_at all fact ∷ facts_at all rest }) =
-      subst (λ (fs : List (horn.Fact Id)). PlacesFirst (facts_at all hyps) loose (record { bindings = seen all start; taken = taken_start; unplaced = facts_at all facts }) way.done (record { bindings = seen all old; taken = taken_old; unplaced = facts_at all fs })) front_is way.leads in
-      let next_stage = leads_first_on (facts_at all hyps) loose (record { bindings = seen all start; taken = taken_start; unplaced = facts_at all facts }) (seen all old) taken_old way.done (fact_at all fact) (facts_at all rest) is.position (seen all new) is.put.there way.placing.flags is.put.free is.put.stands is.put.matched is.least stage in
+      let stage : PlacesFirst (facts_at all hyps) (ending_at loose) (record { bindings = seen all start; taken = taken_start; unplaced = facts_at all facts }) way.done (record { bindings = seen all old; taken = taken_old; unplaced = fact_at all fact ∷ facts_at all rest }) =
+      subst (λ (fs : List (horn.Fact Id)). PlacesFirst (facts_at all hyps) (ending_at loose) (record { bindings = seen all start; taken = taken_start; unplaced = facts_at all facts }) way.done (record { bindings = seen all old; taken = taken_old; unplaced = facts_at all fs })) front_is way.leads in
+      let next_stage = leads_first_on (facts_at all hyps) (ending_at loose) (record { bindings = seen all start; taken = taken_start; unplaced = facts_at all facts }) (seen all old) taken_old way.done (fact_at all fact) (facts_at all rest) is.position (seen all new) is.put.there way.placing.flags is.put.free is.put.stands is.put.matched is.least stage in
       record {
         placing = placing;
         holds = subst (λ (ps : List ℕ). HoldsOn all hyps loose new taken_new rest ps) (sym others) is.holds;
         done = way.done ++ is.position ∷ [];
         are = more_is ∙ (ap (λ (ps : List ℕ). ps ++ (position + 1) ∷ []) way.are ∙ (ap (λ (n : ℕ). map suc way.done ++ n ∷ []) (add-one position ∙ ap suc first) ∙ sym (map-append suc way.done (is.position ∷ []))));
-        leads = subst (λ (flags : List Bool). PlacesFirst (facts_at all hyps) loose (record { bindings = seen all start; taken = taken_start; unplaced = facts_at all facts }) (way.done ++ is.position ∷ []) (record { bindings = seen all new; taken = flags; unplaced = facts_at all rest })) (sym is.put.flags) next_stage;
+        leads = subst (λ (flags : List Bool). PlacesFirst (facts_at all hyps) (ending_at loose) (record { bindings = seen all start; taken = taken_start; unplaced = facts_at all facts }) (way.done ++ is.position ∷ []) (record { bindings = seen all new; taken = flags; unplaced = facts_at all rest })) (sym is.put.flags) next_stage;
       }
 
   pub way_ends : (now : List Bound) (taken_now : List Bool) (front : List (horn.Fact Id)) (items row : List ℕ) → front ≡ [] → IsOnTheWay all hyps loose start now taken_start taken_now facts front items row → IsFirstByOn all hyps loose start taken_start facts items
   way_ends now taken_now front items row none way =
       let held : HoldsOn all hyps loose now taken_now [] row = subst (λ (fs : List (horn.Fact Id)). HoldsOn all hyps loose now taken_now fs row) none way.holds in
-      let can = row_placed (facts_at all hyps) taken_now loose (seen all now) [] row way.placing.flags held in
-      let stage : PlacesFirst (facts_at all hyps) loose (record { bindings = seen all start; taken = taken_start; unplaced = facts_at all facts }) way.done (record { bindings = seen all now; taken = taken_now; unplaced = [] }) =
-      subst (λ (fs : List (horn.Fact Id)). PlacesFirst (facts_at all hyps) loose (record { bindings = seen all start; taken = taken_start; unplaced = facts_at all facts }) way.done (record { bindings = seen all now; taken = taken_now; unplaced = facts_at all fs })) none way.leads in
-      (way.done, way.are, leads_first_to_end (facts_at all hyps) loose (record { bindings = seen all start; taken = taken_start; unplaced = facts_at all facts }) (seen all now) taken_now way.done stage can)
+      let can = row_placed (facts_at all hyps) taken_now (ending_at loose) (seen all now) [] row way.placing.flags held in
+      let stage : PlacesFirst (facts_at all hyps) (ending_at loose) (record { bindings = seen all start; taken = taken_start; unplaced = facts_at all facts }) way.done (record { bindings = seen all now; taken = taken_now; unplaced = [] }) =
+      subst (λ (fs : List (horn.Fact Id)). PlacesFirst (facts_at all hyps) (ending_at loose) (record { bindings = seen all start; taken = taken_start; unplaced = facts_at all facts }) way.done (record { bindings = seen all now; taken = taken_now; unplaced = facts_at all fs })) none way.leads in
+      (way.done, way.are, leads_first_to_end (facts_at all hyps) (ending_at loose) (record { bindings = seen all start; taken = taken_start; unplaced = facts_at all facts }) (seen all now) taken_now way.done stage can)
 
 -- what is told once the conclusions are matched
 pub first_with : (all : List Term) (hyps : List (horn.Fact Id)) (loose : List ℕ) (facts : List (horn.Fact Id)) (general special : horn.Fact Id) (pairs : List Bound) (taken : List Bool) (r : Result (Option (List ℕ)) AllocError) → IsBegun all hyps general special pairs taken
@@ -136,7 +137,7 @@ first_with all hyps loose facts general special pairs taken (Ok (Some row)) begu
 first_with all hyps loose facts general special pairs taken (Err e) begun told = tt
 
 -- what is asked of the facts is what is asked of the clauses
-module _ (all : List Term) (g s : Clause Id) (facts : List (horn.Fact Id)) (loose : List ℕ) (firm_is : facts_at all facts ≡ firm (facts_at all g.hypotheses)) (loose_is : loose ≡ loose_variables (facts_at all g.hypotheses)) where
+module _ (all : List Term) (g s : Clause Id) (facts : List (horn.Fact Id)) (loose : List ℕ) (firm_is : facts_at all facts ≡ firm (facts_at all g.hypotheses)) (ending_is : ending_at loose ≡ ending_of (clause_at all g) (clause_at all s)) where
   none_taken : List Bool
   none_taken = replicate (length (facts_at all s.hypotheses)) false
 
@@ -145,23 +146,23 @@ module _ (all : List Term) (g s : Clause Id) (facts : List (horn.Fact Id)) (loos
   first_told (Ok None) (inl none) = λ row h. none h.by tt h.conclusion
   first_told (Ok None) (inr w) = λ row h.
       no_row w.bindings (clause_at all g) (clause_at all s) w.matched row (λ can. w.never
-      (subst (λ (fs : List (horn.Fact Term)). CanPlace w.bindings (replicate (length (facts_at all s.hypotheses)) false) (facts_at all s.hypotheses) fs loose) (sym firm_is)
-      (subst (λ (xs : List ℕ). CanPlace w.bindings (replicate (length (facts_at all s.hypotheses)) false) (facts_at all s.hypotheses) (firm (facts_at all g.hypotheses)) xs) (sym loose_is) can))) h
+      (subst (λ (fs : List (horn.Fact Term)). CanPlace w.bindings (replicate (length (facts_at all s.hypotheses)) false) (facts_at all s.hypotheses) fs (ending_at loose)) (sym firm_is)
+      (subst (λ (e : Ending). CanPlace w.bindings (replicate (length (facts_at all s.hypotheses)) false) (facts_at all s.hypotheses) (firm (facts_at all g.hypotheses)) e) (sym ending_is) can))) h
   first_told (Ok (Some row)) w =
       subst (λ (ps : List ℕ). IsFirstRow (clause_at all g) (clause_at all s) ps) (sym w.positions) (from_first w.bindings (clause_at all g) (clause_at all s) w.matched w.inner
-      (subst (λ (xs : List ℕ). IsFirstFrom w.bindings (replicate (length (facts_at all s.hypotheses)) false) (facts_at all s.hypotheses) (firm (facts_at all g.hypotheses)) xs w.inner) loose_is
-      (subst (λ (fs : List (horn.Fact Term)). IsFirstFrom w.bindings (replicate (length (facts_at all s.hypotheses)) false) (facts_at all s.hypotheses) fs loose w.inner) firm_is w.first)))
+      (subst (λ (e : Ending). IsFirstFrom w.bindings (replicate (length (facts_at all s.hypotheses)) false) (facts_at all s.hypotheses) (firm (facts_at all g.hypotheses)) e w.inner) ending_is
+      (subst (λ (fs : List (horn.Fact Term)). IsFirstFrom w.bindings (replicate (length (facts_at all s.hypotheses)) false) (facts_at all s.hypotheses) fs (ending_at loose) w.inner) firm_is w.first)))
   first_told (Err e) told = tt
 
 -- the same, of clauses that are put together
-pub firsts_told : (all : List Term) (general special g s : Clause Id) (facts found second : List (horn.Fact Id)) (loose variables : List ℕ) (r : Result (Option (List ℕ)) AllocError) → g ≡ general → s ≡ special
-    → NameFacts all found (firm (facts_at all g.hypotheses)) → facts ≡ found → variables ≡ loose_variables (facts_at all second) → second ≡ g.hypotheses → loose ≡ variables
+pub firsts_told : (all : List Term) (general special g s : Clause Id) (facts found second : List (horn.Fact Id)) (loose variables : List ℕ) (r : Result (Option (List ℕ)) AllocError) → g ≡ general → s ≡ special → g.diffs ≡ [] → s.diffs ≡ []
+    → NameFacts all found (firm (facts_at all g.hypotheses)) → facts ≡ found → map in_first variables ≡ loose_variables (facts_at all second) → second ≡ g.hypotheses → loose ≡ variables
     → IfOk r (λ found. MatchOption found (NowhereWith all s.hypotheses loose facts g.conclusion s.conclusion) (λ row. IsFirstWith all s.hypotheses loose facts g.conclusion s.conclusion row))
     → IfOk r (λ found. MatchOption found ((row : List ℕ) → RowHolds (clause_at all general) (clause_at all special) row → ⊥) (λ row. IsFirstRow (clause_at all general) (clause_at all special) row))
-firsts_told all general special g s facts found second loose variables r g_is s_is named facts_are variables_are second_is loose_are told =
+firsts_told all general special g s facts found second loose variables r g_is s_is none special_none named facts_are variables_are second_is loose_are told =
     let firm_is : facts_at all facts ≡ firm (facts_at all g.hypotheses) = ap (facts_at all) facts_are ∙ named.are in
-    let loose_is : loose ≡ loose_variables (facts_at all g.hypotheses) = loose_are ∙ (variables_are ∙ ap (λ (fs : List (horn.Fact Id)). loose_variables (facts_at all fs)) second_is) in
-    let here = first_told all g s facts loose firm_is loose_is r told in
+    let loose_is : map in_first loose ≡ loose_variables (facts_at all g.hypotheses) = ap (map in_first) loose_are ∙ (variables_are ∙ ap (λ (fs : List (horn.Fact Id)). loose_variables (facts_at all fs)) second_is) in
+    let here = first_told all g s facts loose firm_is (ending_told all g s loose loose_is none special_none) r told in
     subst (λ (c : Clause Id). IfOk r (λ found. MatchOption found ((row : List ℕ) → RowHolds (clause_at all c) (clause_at all special) row → ⊥) (λ row. IsFirstRow (clause_at all c) (clause_at all special) row))) g_is
     (subst (λ (c : Clause Id). IfOk r (λ found. MatchOption found ((row : List ℕ) → RowHolds (clause_at all g) (clause_at all c) row → ⊥) (λ row. IsFirstRow (clause_at all g) (clause_at all c) row))) s_is here)
 

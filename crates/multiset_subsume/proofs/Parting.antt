@@ -14,7 +14,7 @@ use Rattle.clause_form.specs.declared.facts.Fact.{Fact}
 use Rattle.clause_form.specs.Seen.{fact_at, IsFactIn, AreFactsIn}
 use Rattle.spec_placements.specs.Takes.{left}
 use Rattle.spec_placements.specs.Placing.{all_known}
-use Rattle.fact_placing.specs.Boards.{facts_at, CanPlaceOn}
+use Rattle.fact_placing.specs.Boards.{facts_at, in_first, CanPlaceOn}
 use Rattle.fact_placing.proofs.Listing.{unref}
 
 pick_known : (all : List Term) {fs rest : List (horn.Fact Id)} {f : horn.Fact Id} → Picks fs f rest → AreFactsIn all fs → IsFactIn all f × AreFactsIn all rest
@@ -34,10 +34,11 @@ part_placed all hyps loose none pairs taken facts part is within can =
     let those = map f (facts_at all facts) in
     let free = left taken (facts_at all hyps) in
     let among : IsWithin these those = within-map f (facts_at all part) (facts_at all facts) (within-map (fact_at all) part facts within) in
-    let inside : IsWithin these free = within-trans these (those ++ flat_under can.by (all_known loose)) free (within-more_right these those (flat_under can.by (all_known loose)) among) can.within in
+    let inside : IsWithin these free = within-trans these (those ++ flat_under can.by (all_known (map in_first loose))) free (within-more_right these those (flat_under can.by (all_known (map in_first loose))) among) can.within in
     subst (λ (xs : List ℕ). CanPlaceOn all hyps xs pairs taken part) (sym is) (record {
       by = can.by;
       agrees = can.agrees;
+      kept = tt;
       within = subst (λ (ys : List (horn.Fact Term)). IsWithin ys free) (sym (append-nil these)) inside;
     })
 

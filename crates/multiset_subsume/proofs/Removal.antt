@@ -38,12 +38,12 @@ module _ {X : Type 0} (f : X → List (Fact Term)) (hs : List (Fact Term)) where
       ap (flat_map f) (sym (take-append-drop i xs)) ∙ (flat_map-append f (take i xs) (drop i xs) ∙ ap (λ ys. flat_map f (take i xs) ++ flat_map f ys) (drop-cons xs i d within)) in
       subst (λ ys. HasNoRoom hs before ys) (sym apart) (no_room_later hs before mid (flat_map f (take i xs)) (f (get_or xs i d) ++ flat_map f rest) front (no_room_more hs mid (f (get_or xs i d)) (flat_map f rest) none))
 
--- the parts of a variable that is bound, and of one that isn't
+-- the parts of a loose variable that is bound, and of one that isn't, in the first phase
 abbrev pub parts_of : List Binding → ℕ → List (Fact Term)
-parts_of bs x = flat_of (bound_to bs x)
+parts_of bs x = flat_of 0 (bound_to bs x)
 
-pub bound_part : (all : List Term) (pairs : List Bound) (x : ℕ) (id : Id) → id_of pairs x ≡ Some id → parts_of (seen all pairs) x ≡ flat (Att (tree_at all id))
-bound_part all pairs x id e = ap flat_of (bound_to-seen all pairs x id e)
+pub bound_part : (all : List Term) (pairs : List Bound) (x : ℕ) (id : Id) → id_of pairs x ≡ Some id → parts_of (seen all pairs) x ≡ flat (Att 0 (tree_at all id))
+bound_part all pairs x id e = ap (flat_of 0) (bound_to-seen all pairs x id e)
 
 pub unbound_part : (all : List Term) (pairs : List Bound) (x : ℕ) → id_of pairs x ≡ None → parts_of (seen all pairs) x ≡ []
-unbound_part all pairs x e = ap flat_of (bound_to-seen_none all pairs x e)
+unbound_part all pairs x e = ap (flat_of 0) (bound_to-seen_none all pairs x e)

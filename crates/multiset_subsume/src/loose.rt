@@ -11,8 +11,8 @@ ghost use Rattle.unify_match.specs.Seen.{seen, AreBindings};
 ghost use Rattle.clause_form.specs.Facts.{fact_of};
 ghost use Rattle.clause_form.specs.Seen.{fact_at, IsFactIn, AreFactsIn};
 ghost use Rattle.spec_placements.specs.Takes.{left};
-ghost use Rattle.spec_placements.specs.LooseParts.{flat_of, bound_parts, Removes, HasNoRoom};
-ghost use Rattle.fact_placing.specs.Boards.{facts_at, IsBoard, IsPlacing};
+ghost use Rattle.spec_placements.specs.LooseParts.{flat_of, Removes, HasNoRoom};
+ghost use Rattle.fact_placing.specs.Boards.{facts_at, loose_parts, IsBoard, IsPlacing};
 
 use clause_form::{Fact, is_data_symbol};
 use fact_placing::board::Board;
@@ -25,7 +25,7 @@ use unify_match::Binds;
 fn is_known<B: Bank>(bank: &B, fact: &Fact, term: Id) -> bool
     requires fact { IsFactIn (B.trees bank.now) (fact_of fact.now) }
     requires term { term.index < length (B.trees bank.now) }
-    ensures { IsTrue result ↔ (fact_at (B.trees bank.now) (fact_of fact.now) ≡ Att
+    ensures { IsTrue result ↔ (fact_at (B.trees bank.now) (fact_of fact.now) ≡ Att 0
         (tree_at (B.trees bank.now) term)) }
 {
     match fact {
@@ -39,7 +39,7 @@ fn is_free<B: Bank>(bank: &B, fact: &Fact, term: Id, taken: bool) -> bool
     requires fact { IsFactIn (B.trees bank.now) (fact_of fact.now) }
     requires term { term.index < length (B.trees bank.now) }
     ensures { IsTrue result ↔ ((taken ≡ false) ×
-        (fact_at (B.trees bank.now) (fact_of fact.now) ≡ Att (tree_at (B.trees bank.now) term))) }
+        (fact_at (B.trees bank.now) (fact_of fact.now) ≡ Att 0 (tree_at (B.trees bank.now) term))) }
 {
     if taken {
         return false;
@@ -55,8 +55,8 @@ fn take_known<B: Bank>(bank: &B, hyps: &[Fact], term: Id, taken: &mut [bool]) ->
         (facts_at (B.trees bank.now) (map fact_of hyps.now)) }
     ensures { let all = B.trees bank.now in MatchBool result
         (Removes (facts_at all (map fact_of hyps.now)) taken.old taken.new
-        (Att (tree_at all term) ∷ [])) (HasNoRoom (facts_at all (map fact_of hyps.now)) taken.old
-        (Att (tree_at all term) ∷ [])) }
+        (Att 0 (tree_at all term) ∷ [])) (HasNoRoom (facts_at all (map fact_of hyps.now)) taken.old
+        (Att 0 (tree_at all term) ∷ [])) }
 {
     'each: for (p, hyp) in hyps.iter().enumerate() {
         if is_free(bank, hyp, term, taken[p]) {
@@ -75,8 +75,8 @@ fn take_parts<B: Bank>(bank: &B, hyps: &[Fact], term: Id, taken: &mut [bool]) ->
         (facts_at (B.trees bank.now) (map fact_of hyps.now)) }
     ensures { let all = B.trees bank.now in MatchBool result
         (Removes (facts_at all (map fact_of hyps.now)) taken.old taken.new
-        (flat (Att (tree_at all term)))) (HasNoRoom (facts_at all (map fact_of hyps.now)) taken.old
-        (flat (Att (tree_at all term)))) }
+        (flat (Att 0 (tree_at all term)))) (HasNoRoom (facts_at all (map fact_of hyps.now)) taken.old
+        (flat (Att 0 (tree_at all term)))) }
 {
     match bank.node(term) {
         Node::Var(_) => take_known(bank, hyps, term, taken),
@@ -108,9 +108,9 @@ fn take_bound<B: Bank>(
         (facts_at (B.trees bank.now) (map fact_of hyps.now)) }
     ensures { let all = B.trees bank.now in MatchBool result
         (Removes (facts_at all (map fact_of hyps.now)) taken.old taken.new
-        (flat_of (bound_to (seen all binds.now.pairs) variable)))
+        (flat_of 0 (bound_to (seen all binds.now.pairs) variable)))
         (HasNoRoom (facts_at all (map fact_of hyps.now)) taken.old
-        (flat_of (bound_to (seen all binds.now.pairs) variable))) }
+        (flat_of 0 (bound_to (seen all binds.now.pairs) variable))) }
 {
     match binds.look(variable) {
         None => true,
@@ -126,9 +126,9 @@ fn take_loose<B: Bank>(board: &Board<'_, B>, binds: &Binds, taken: &mut [bool]) 
         (map fact_of board.now.hyps.now)) }
     ensures { let all = B.trees board.now.bank.now in MatchBool result
         (Removes (facts_at all (map fact_of board.now.hyps.now)) taken.old taken.new
-        (bound_parts (seen all binds.now.pairs) board.now.loose.now))
+        (loose_parts (seen all binds.now.pairs) board.now.loose.now))
         (HasNoRoom (facts_at all (map fact_of board.now.hyps.now)) taken.old
-        (bound_parts (seen all binds.now.pairs) board.now.loose.now)) }
+        (loose_parts (seen all binds.now.pairs) board.now.loose.now)) }
 {
     'each: for variable in board.loose {
         if !take_bound(board.bank, board.hyps, binds, *variable, taken) {
@@ -147,7 +147,7 @@ pub(crate) fn loose_may_stand<B: Bank>(
     requires board { IsBoard (B.trees board.now.bank.now) (map fact_of board.now.hyps.now) }
     requires placing { IsPlacing (B.trees board.now.bank.now) (map fact_of board.now.hyps.now)
         placing.now.binds.pairs placing.now.taken.items }
-    ensures { let all = B.trees board.now.bank.now in let parts = bound_parts
+    ensures { let all = B.trees board.now.bank.now in let parts = loose_parts
         (seen all placing.now.binds.pairs) board.now.loose.now in IfOk result
         (λ yes. MatchBool yes (IsWithin parts (left placing.now.taken.items
         (facts_at all (map fact_of board.now.hyps.now))))

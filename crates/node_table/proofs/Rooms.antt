@@ -18,7 +18,7 @@ use Rattle.spec_node_tables.specs.Table.{facts_in_order, terms_in_order, table}
 use Rattle.spec_node_tables.specs.Large.{most_certificate_symbols, up_to_terms, up_to_fact, up_to_facts, up_to_clauses, AreUpTo, FitsInNodes, is_large_in_nodes}
 use Rattle.spec_node_tables.proofs.Walks.{table_has}
 use Rattle.spec_node_tables.proofs.Back.{all_there}
-use Rattle.spec_node_tables.proofs.Sizes.{ordered_total, subterm_size, large_decides}
+use Rattle.spec_node_tables.proofs.Sizes.{spelled_total, subterm_size, large_decides}
 use Rattle.clause_form.proofs.Lists.{total_more, total_all, total-map, total-append}
 use Rattle.node_table.specs.Room.{room_less, room_behind_fact, room_behind_facts}
 
@@ -108,7 +108,7 @@ some_again None = refl
 some_again (Some n) = refl
 
 abbrev clause_of : List (Fact Term) → Fact Term → Clause Term
-clause_of hypotheses conclusion = record { hypotheses = hypotheses; conclusion = conclusion }
+clause_of hypotheses conclusion = record { hypotheses = hypotheses; diffs = []; conclusion = conclusion }
 
 pub behind_clause : (c : Clause Term) (hypotheses : List (Fact Term)) (conclusion : Fact Term) (room left : ℕ) (r : Option ℕ) → clause_of hypotheses conclusion ≡ c → Some left ≡ room_behind_facts room hypotheses → r ≡ room_behind_fact left conclusion → r ≡ room_behind_facts room (facts_in_order c)
 behind_clause c hypotheses conclusion room left r is first last =
@@ -190,8 +190,8 @@ clauses_behind (d ∷ cs) c before =
 total_behind : (cs : List (Clause Term)) (c : Clause Term) → total clause_size (cs ++ (c ∷ [])) ≡ total clause_size cs + clause_size c
 total_behind cs c = omega (arith, total-append clause_size cs (c ∷ []))
 
-pub one_counted : (cs : List (Clause Term)) (c : Clause Term) (left some less : ℕ) → AreCounted cs left → Some some ≡ room_behind_facts most_symbols (facts_in_order c) → Some less ≡ room_behind_facts left (facts_in_order c) → AreCounted (cs ++ (c ∷ [])) less
-one_counted cs c left some less counted own whole =
+pub one_counted : (cs : List (Clause Term)) (c : Clause Term) (left some less : ℕ) → AreCounted cs left → c.diffs ≡ [] → Some some ≡ room_behind_facts most_symbols (facts_in_order c) → Some less ≡ room_behind_facts left (facts_in_order c) → AreCounted (cs ++ (c ∷ [])) less
+one_counted cs c left some less counted no_diffs own whole =
     let alone = facts_fit most_symbols (facts_in_order c) 0 most_symbols some (omega arith) (sym own) in
     let before = total clause_size cs in
     let among = facts_fit most_certificate_symbols (facts_in_order c) before left less counted.room (sym whole) in
@@ -200,19 +200,19 @@ one_counted cs c left some less counted own whole =
       together = subst (AreUpTo most_certificate_symbols) (sym (clauses_behind cs c 0 ∙ ap (λ n. up_to_clauses 0 cs ++ (up_to_facts n (facts_in_order c) ++ [])) (omega arith)))
           (all_append (λ n. n ≤ most_certificate_symbols) (up_to_clauses 0 cs) (up_to_facts before (facts_in_order c) ++ []) counted.together
           (all_append (λ n. n ≤ most_certificate_symbols) (up_to_facts before (facts_in_order c)) [] among.0 tt));
-      room = omega (arith, among.1, total_behind cs c, ordered_total c);
+      room = omega (arith, among.1, total_behind cs c, spelled_total c no_diffs);
     }
 
 pub nothing_counted : (left : ℕ) → left ≡ most_certificate_symbols → AreCounted [] left
 nothing_counted left is = record { each = tt; together = tt; room = omega (arith, is) }
 
 -- one more clause of a list
-pub counted_on : (cs : List (Clause Term)) (i : ℕ) (c : Clause Term) (left less : ℕ) (r : Option ℕ) → AreCounted (take i cs) left → i < length cs → c ≡ get_or cs i c → is_none r ≡ false → r ≡ room_behind_facts most_symbols (facts_in_order c) → Some less ≡ room_behind_facts left (facts_in_order c)
+pub counted_on : (cs : List (Clause Term)) (i : ℕ) (c : Clause Term) (left less : ℕ) (r : Option ℕ) → AreCounted (take i cs) left → i < length cs → c ≡ get_or cs i c → is_none r ≡ false → c.diffs ≡ [] → r ≡ room_behind_facts most_symbols (facts_in_order c) → Some less ≡ room_behind_facts left (facts_in_order c)
     → AreCounted (take (i + 1) cs) less
-counted_on cs i c left less None counted below is some own whole = cc
-counted_on cs i c left less (Some n) counted below is some own whole =
+counted_on cs i c left less None counted below is some no_diffs own whole = cc
+counted_on cs i c left less (Some n) counted below is some no_diffs own whole =
     let taken : take (i + 1) cs ≡ take i cs ++ (c ∷ []) = take_more cs i c below ∙ ap (λ d. take i cs ++ (d ∷ [])) (sym is) in
-    subst (λ ds. AreCounted ds less) (sym taken) (one_counted (take i cs) c left n less counted own whole)
+    subst (λ ds. AreCounted ds less) (sym taken) (one_counted (take i cs) c left n less counted no_diffs own whole)
 
 -- a clause that is too large by itself
 pub none_alone : (r : Option ℕ) (cs : List (Fact Term)) → is_none r ≡ true → r ≡ room_behind_facts most_symbols cs → None ≡ room_behind_facts most_symbols cs

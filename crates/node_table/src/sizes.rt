@@ -1,6 +1,6 @@
 //! Whether clauses are too large for a table: their symbols are counted up to each term, as long as they are within the limits.
 
-ghost use Rattle.std.specs.Prelude.{◌≡◌, map};
+ghost use Rattle.std.specs.Prelude.{◌≡◌, [], map};
 ghost use Rattle.spec_trees.specs.Tree.{size};
 ghost use Rattle.spec_clauses.specs.Fact.{total};
 ghost use Rattle.spec_clauses.specs.Head.{head_of, head_size};
@@ -95,7 +95,8 @@ fn room_behind_facts(facts: &PlainFacts, room: u64) -> Option<u64>
 
 /// Room for so many symbols, less those of a clause; none where there are too many up to one of its terms.
 fn room_behind_clause(clause: &PlainClause, room: u64) -> Option<u64>
-    ensures { result ≡ room_behind_facts room (facts_in_order clause.now) }
+    ensures room { result ≡ room_behind_facts room (facts_in_order clause.now) }
+    ensures no_diffs { clause.now.diffs ≡ [] }
 {
     match room_behind_facts(&clause.hyps, room) {
         Some(left) => room_behind_fact(&clause.concl, left),

@@ -1,6 +1,6 @@
 -- The decision of queries is right.
-use Rattle.std.proofs.Common.{◌≡◌, ℕ, zero, suc, Bool, true, false, not, ◌&&◌, nat_eq, cond, List, [], ◌∷◌, ◌++◌, length, take, slice_get, Option, Some, is_some, unwrap_or, IsTrue, Contains, ◌↔◌, inl, inr, refl, sym, ap, ◌∙◌, subst, append_assoc}
-use Rattle.std.proofs.lemmas.Bool.{eq-eqb, eqb-true, or_left, or_right}
+use Rattle.std.proofs.Common.{◌≡◌, ℕ, zero, suc, Bool, true, false, not, ◌&&◌, nat_eq, nat_le, cond, List, [], ◌∷◌, ◌++◌, length, take, slice_get, Option, Some, is_some, unwrap_or, IsTrue, Contains, ◌↔◌, inl, inr, refl, sym, ap, ◌∙◌, subst, append_assoc}
+use Rattle.std.proofs.lemmas.Bool.{eq-eqb, eqb-true, le-leb, leb-true, or_left, or_right}
 use Rattle.std.specs.List.{AllByRecursion, list_any}
 use Rattle.spec_trees.specs.Tree.{Trees, Leaf, Node, binds, trees, some_leaves}
 use Rattle.spec_trees.proofs.Equality.{and_true}
@@ -210,18 +210,24 @@ made-sound point (Leaf (AttackerName number)) h = cc
 made-sound point (Node f vs) h = cc
 
 pub violation-sound : (q : Query) (c : Configuration) → is_violated q c ≡ true → IsViolated q c
-violation-sound (Secret message) c h =
-    let found = any-contains (same_value (value_of [] message)) c.known h in
-    subst (λ (w : Value). Contains c.known w) (sym (same_value-sound (value_of [] message) found.0 found.2)) found.1
-violation-sound (SecretNew point) c h =
-    let found = any-contains (is_made_at point) c.known h in
+violation-sound (Secret message phase) c h =
+    let both = and_true (nat_le c.phase phase) (list_any (same_value (value_of [] message)) c.known) h in
+    let found = any-contains (same_value (value_of [] message)) c.known both.1 in
+    (subst (λ (w : Value). Contains c.known w) (sym (same_value-sound (value_of [] message) found.0 found.2)) found.1, leb-true c.phase phase both.0)
+violation-sound (SecretNew point phase) c h =
+    let both = and_true (nat_le c.phase phase) (list_any (is_made_at point) c.known) h in
+    let found = any-contains (is_made_at point) c.known both.1 in
     let made = made-sound point found.0 found.2 in
-    (made.0, subst (λ (w : Value). Contains c.known w) made.1 found.1)
+    ((made.0, subst (λ (w : Value). Contains c.known w) made.1 found.1), leb-true c.phase phase both.0)
 violation-sound (Correspondence left alternatives) c h = some-sound left alternatives [] c.events h
 
 pub violation-complete : (q : Query) (c : Configuration) → IsViolated q c → is_violated q c ≡ true
-violation-complete (Secret message) c h = any-of (same_value (value_of [] message)) c.known (value_of [] message) h (same_value-refl (value_of [] message))
-violation-complete (SecretNew point) c (number, among) = any-of (is_made_at point) c.known (Leaf (MadeName point number)) among (eq-eqb point point refl)
+violation-complete (Secret message phase) c (known, within) =
+    both_true (nat_le c.phase phase) (list_any (same_value (value_of [] message)) c.known) (le-leb c.phase phase within)
+    (any-of (same_value (value_of [] message)) c.known (value_of [] message) known (same_value-refl (value_of [] message)))
+violation-complete (SecretNew point phase) c ((number, among), within) =
+    both_true (nat_le c.phase phase) (list_any (is_made_at point) c.known) (le-leb c.phase phase within)
+    (any-of (is_made_at point) c.known (Leaf (MadeName point number)) among (eq-eqb point point refl))
 violation-complete (Correspondence left alternatives) c (index, h) =
     some-complete left alternatives [] c.events index (instance h.environment left) h.is_instance (h.environment, refl, h.unpreceded)
 

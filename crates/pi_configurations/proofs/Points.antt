@@ -1,7 +1,7 @@
 -- Points of threads, and of what comes after them.
 use Rattle.std.proofs.Common.{◌≡◌, ℕ, zero, suc, ◌+◌, ◌≤◌, ◌⊎◌, inl, inr, List, [], ◌∷◌, ◌++◌, length, slice_get, Some, IfSome, sym, ap, subst, arith, length-append}
 use Rattle.std.specs.List.{AllByRecursion}
-use Rattle.spec_calculus.specs.Syntax.{Process, Nil, Output, Input, Parallel, Replication, New, Let, Event, Protocol}
+use Rattle.spec_calculus.specs.Syntax.{Process, Nil, Output, Input, Parallel, Replication, New, Let, Event, Phase, Insert, Get, Protocol}
 use Rattle.spec_calculus.specs.Points.{numbered, nodes}
 use Rattle.spec_calculus.specs.Runs.{Thread, Configuration, start}
 use Rattle.spec_calculus.proofs.Items.{each-slice_get, if_some-is}
@@ -26,6 +26,9 @@ nodes-some (Replication copied) = omega arith
 nodes-some (New word next) = omega arith
 nodes-some (Let pattern expression next otherwise) = omega arith
 nodes-some (Event performed next) = omega arith
+nodes-some (Phase number next) = omega arith
+nodes-some (Insert table arguments next) = omega arith
+nodes-some (Get table patterns condition next otherwise) = omega arith
 
 -- what stands there in two lists is in the one or the other
 in-append : {A : Type 0} (xs ys : List A) (k : ℕ) (x : A) → slice_get (xs ++ ys) k ≡ Some x → (slice_get xs k ≡ Some x) ⊎ ((j : ℕ) × (k ≡ length xs + j) × (slice_get ys j ≡ Some x))
@@ -62,6 +65,12 @@ nodes-within (Let pattern expression next otherwise) q zero h = let e = first (L
 nodes-within (Let pattern expression next otherwise) q (suc k) h = within-two next otherwise q k (nodes-within next q k) (λ j. nodes-within otherwise q j) (in-append (nodes next) (nodes otherwise) k q h)
 nodes-within (Event performed next) q zero h = let e = first (Event performed next) q h (omega arith) in omega arith
 nodes-within (Event performed next) q (suc k) h = let e = nodes-within next q k h in omega arith
+nodes-within (Phase number next) q zero h = let e = first (Phase number next) q h (omega arith) in omega arith
+nodes-within (Phase number next) q (suc k) h = let e = nodes-within next q k h in omega arith
+nodes-within (Insert table arguments next) q zero h = let e = first (Insert table arguments next) q h (omega arith) in omega arith
+nodes-within (Insert table arguments next) q (suc k) h = let e = nodes-within next q k h in omega arith
+nodes-within (Get table patterns condition next otherwise) q zero h = let e = first (Get table patterns condition next otherwise) q h (omega arith) in omega arith
+nodes-within (Get table patterns condition next otherwise) q (suc k) h = within-two next otherwise q k (nodes-within next q k) (λ j. nodes-within otherwise q j) (in-append (nodes next) (nodes otherwise) k q h)
 
 pub point-within : (P : Protocol) (point : ℕ) (q : Process) → numbered (nodes P.main) point ≡ Some q → point + length (nodes q) ≤ length (nodes P.main) + 1
 point-within P zero q h = cc

@@ -1,5 +1,5 @@
 -- A decision of queries: the events of an alternative are looked for one after another.
-use Rattle.std.specs.Prelude.{◌≡◌, ℕ, Bool, true, false, not, ◌&&◌, ◌||◌, nat_eq, List, [], ◌∷◌, ◌++◌}
+use Rattle.std.specs.Prelude.{◌≡◌, ℕ, Bool, true, false, not, ◌&&◌, ◌||◌, nat_eq, nat_le, List, [], ◌∷◌, ◌++◌}
 use Rattle.std.specs.List.{AllByRecursion, list_any}
 use Rattle.spec_trees.specs.Tree.{Leaf, Node, trees}
 use Rattle.spec_calculus.specs.Syntax.{EventTerm, Query, Secret, SecretNew, Correspondence}
@@ -41,6 +41,6 @@ some_unpreceded left alternatives before [] = false
 some_unpreceded left alternatives before (p ∷ ps) = unpreceded left alternatives before p || some_unpreceded left alternatives (before ++ p ∷ []) ps
 
 abbrev pub is_violated : Query → Configuration → Bool
-is_violated (Secret message) c = knows c (value_of [] message)
-is_violated (SecretNew point) c = list_any (is_made_at point) c.known
+is_violated (Secret message phase) c = nat_le c.phase phase && knows c (value_of [] message)
+is_violated (SecretNew point phase) c = nat_le c.phase phase && list_any (is_made_at point) c.known
 is_violated (Correspondence left alternatives) c = some_unpreceded left alternatives [] c.events

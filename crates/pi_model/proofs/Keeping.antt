@@ -1,14 +1,15 @@
 -- Each step leads from a configuration of the protocol to one.
-use Rattle.std.proofs.Common.{◌≡◌, ℕ, ◌+◌, ◌≤◌, List, [], ◌∷◌, ◌++◌, length, Option, Some, None, IfSome, option_and_then, option_map, is_some, arith, length-append}
+use Rattle.std.proofs.Common.{◌≡◌, ℕ, ◌+◌, ◌≤◌, Bool, true, false, nat_eq, nat_lt, cond, List, [], ◌∷◌, ◌++◌, length, refl, Option, Some, None, IfSome, option_and_then, option_map, is_some, arith, length-append}
 use Rattle.std.specs.List.{AllByRecursion, list_any}
-use Rattle.spec_calculus.specs.Syntax.{Process, Output, Input, Parallel, Replication, New, Let, Event, Protocol}
-use Rattle.spec_calculus.specs.Points.{numbered, nodes, point_after}
+use Rattle.spec_calculus.specs.Syntax.{Process, Output, Input, Parallel, Replication, New, Let, Event, Phase, Insert, Get, Protocol}
+use Rattle.spec_calculus.specs.Points.{numbered, nodes, point_after, greatest_phase}
 use Rattle.spec_calculus.specs.Values.{Value, Environment, same_value, value_of}
 use Rattle.spec_calculus.specs.Matching.{matched, rule_value, rules_of}
+use Rattle.spec_calculus.specs.Tables.{matched_entry}
 use Rattle.spec_calculus.specs.Choices.{value_at, values_at}
-use Rattle.spec_calculus.specs.Runs.{Thread, At, Ended, Configuration, Step, Build, Reduce, Part, Fresh, Split, Copy, Make, Pass, Hear, Say, Take, Fail, Mark, acts, acting, knows, learns, goes_on, known_values, can_build, built, part_of, received, after_split, after_copy, after_make, after_receipt, after_pass, after_hear, after_say, after_take, after_fail, after_mark, after_step}
+use Rattle.spec_calculus.specs.Runs.{Thread, At, Ended, Configuration, Step, Build, Reduce, Part, Fresh, Split, Copy, Make, Pass, Hear, Say, Take, Fail, Mark, Next, Put, Fetch, Miss, acts, acting, knows, learns, goes_on, known_values, can_build, built, part_of, received, after_split, after_copy, after_make, after_receipt, after_pass, after_hear, after_say, after_take, after_fail, after_mark, after_put, after_fetch, after_miss, at_phase, enters, raised, after_step}
 use Rattle.spec_calculus.specs.Standing.{names_made}
-use Rattle.spec_calculus.proofs.Items.{each-append, each-replaced, if_some-is, if_some-cond, if_some-choice, if_some-then, if_some-map}
+use Rattle.spec_calculus.proofs.Items.{each-append, each-map, each-weaker, each-replaced, if_some-is, if_some-cond, if_some-choice, if_some-then, if_some-map}
 use Rattle.spec_calculus.proofs.Growth.{numbers_are_taken}
 use Rattle.pi_configurations.specs.declared.configurations.Conf.{Conf}
 use Rattle.pi_configurations.specs.Configurations.{IsPointOf, IsConfigurationOf, configuration_of}
@@ -97,6 +98,46 @@ module _ (P : Protocol) where
     mark-kept i point environment (Event performed next) h = goes_on-kept c i (At (point + 1) environment) (next-point point environment next (omega (arith, h))) stays
     mark-kept i point environment other h = tt
 
+    put-kept : (i point : ℕ) (environment : Environment) (process : Process) → point + length (nodes process) ≤ length (nodes P.main) + 1 → IfSome (after_put c i point environment process) (λ d. AllByRecursion (IsPointOf P) d.threads)
+    put-kept i point environment (Insert table arguments next) h = goes_on-kept c i (At (point + 1) environment) (next-point point environment next (omega (arith, h))) stays
+    put-kept i point environment other h = tt
+
+    fetch-kept : (i e point : ℕ) (environment : Environment) (process : Process) → point + length (nodes process) ≤ length (nodes P.main) + 1 → IfSome (after_fetch c i e point environment process) (λ d. AllByRecursion (IsPointOf P) d.threads)
+    fetch-kept i e point environment (Get table patterns condition next otherwise) h =
+        let within : point + (1 + (length (nodes next) + length (nodes otherwise))) ≤ length (nodes P.main) + 1 = omega (arith, h, length-append (nodes next) (nodes otherwise)) in
+        if_some-map (λ d. AllByRecursion (IsPointOf P) d.threads) (λ bindings. goes_on c i (At (point + 1) (environment ++ bindings))) (option_and_then (matched_entry environment table patterns condition) (numbered c.entries e))
+        (λ bindings is. goes_on-kept c i (At (point + 1) (environment ++ bindings)) (omega arith, omega (arith, within, nodes-some next)) stays)
+    fetch-kept i e point environment other h = tt
+
+    miss-kept : (i point : ℕ) (environment : Environment) (process : Process) → point + length (nodes process) ≤ length (nodes P.main) + 1 → IfSome (after_miss c i point environment process) (λ d. AllByRecursion (IsPointOf P) d.threads)
+    miss-kept i point environment (Get table patterns condition next otherwise) h =
+        let within : point + (1 + (length (nodes next) + length (nodes otherwise))) ≤ length (nodes P.main) + 1 = omega (arith, h, length-append (nodes next) (nodes otherwise)) in
+        if_some-choice (λ d. AllByRecursion (IsPointOf P) d.threads) (list_any (λ held. is_some (matched_entry environment table patterns condition held)) c.entries) None (Some (goes_on c i (At (point_after (point + 1) next) environment))) tt
+        (goes_on-kept c i (At (point_after (point + 1) next) environment) (omega arith, omega (arith, within, nodes-some otherwise)) stays)
+    miss-kept i point environment other h = tt
+
+    -- a thread that the next phase finds at a point goes on at the next, stays there, or ends
+    waiting-kept : (goes waits : Bool) (point : ℕ) (environment : Environment) → IsPointOf P (At (point + 1) environment) → IsPointOf P (At point environment) → IsPointOf P (cond goes (At (point + 1) environment) (cond waits (At point environment) Ended))
+    waiting-kept true waits point environment further here = further
+    waiting-kept false true point environment further here = here
+    waiting-kept false false point environment further here = tt
+
+    phase-kept : (n point : ℕ) (environment : Environment) (process : Process) → IsPointOf P (At point environment) → point + length (nodes process) ≤ length (nodes P.main) + 1 → IsPointOf P (at_phase n point environment (Some process))
+    phase-kept n point environment (Phase number next) here h =
+        waiting-kept (nat_eq number n) (nat_lt n number) point environment (next-point point environment next (omega (arith, h))) here
+    phase-kept n point environment other here h = tt
+
+    node-kept : (n point : ℕ) (environment : Environment) (o : Option Process) → numbered (nodes P.main) point ≡ o → IsPointOf P (At point environment) → IsPointOf P (at_phase n point environment o)
+    node-kept n point environment None is here = tt
+    node-kept n point environment (Some process) is here = phase-kept n point environment process here (point-within P point process is)
+
+    thread-kept : (n : ℕ) (thread : Thread) → IsPointOf P thread → IsPointOf P (enters P n thread)
+    thread-kept n (At point environment) here = node-kept n point environment (numbered (nodes P.main) point) refl here
+    thread-kept n Ended here = tt
+
+    raised-kept : AllByRecursion (IsPointOf P) (raised P c).threads
+    raised-kept = each-map (IsPointOf P) (enters P (c.phase + 1)) c.threads (each-weaker (IsPointOf P) (λ thread. IsPointOf P (enters P (c.phase + 1) thread)) (thread-kept (c.phase + 1)) c.threads stays)
+
     step-kept : (step : Step) → IfSome (after_step P c step) (λ d. AllByRecursion (IsPointOf P) d.threads)
     step-kept (Build f ks) =
         if_some-choice (λ d. AllByRecursion (IsPointOf P) d.threads) (can_build P f (length ks)) (option_map (λ vs. learns c (built f vs)) (known_values c ks)) None
@@ -115,6 +156,10 @@ module _ (P : Protocol) where
     step-kept (Take i label) = acting-kept c i (after_take P c i label) (take-kept i label)
     step-kept (Fail i) = acting-kept c i (after_fail P c i) (fail-kept i)
     step-kept (Mark i) = acting-kept c i (after_mark c i) (mark-kept i)
+    step-kept Next = if_some-cond (λ d. AllByRecursion (IsPointOf P) d.threads) (nat_lt c.phase (greatest_phase P.main)) (raised P c) raised-kept
+    step-kept (Put i) = acting-kept c i (after_put c i) (put-kept i)
+    step-kept (Fetch i e) = acting-kept c i (after_fetch c i e) (fetch-kept i e)
+    step-kept (Miss i) = acting-kept c i (after_miss c i) (miss-kept i)
 
 at_most_one : (step : Step) → names_made step ≤ 1
 at_most_one Fresh = omega arith
@@ -130,6 +175,10 @@ at_most_one (Say j k) = omega arith
 at_most_one (Take i label) = omega arith
 at_most_one (Fail i) = omega arith
 at_most_one (Mark i) = omega arith
+at_most_one Next = omega arith
+at_most_one (Put i) = omega arith
+at_most_one (Fetch i e) = omega arith
+at_most_one (Miss i) = omega arith
 
 -- a step that is counted leads to a configuration of the protocol
 pub step-of_protocol : (P : Protocol) (before now : Conf) (step : Step) → IsConfigurationOf P before → after_step P (configuration_of before) step ≡ Some (configuration_of now) → now.steps ≡ before.steps + 1 → IsConfigurationOf P now

@@ -4,3 +4,4 @@ pub mod Naming
 pub mod Passing
 pub mod Keeping
 pub mod Told
+pub mod Plain

@@ -3,7 +3,7 @@ use Rattle.std.proofs.Common.{◌≡◌, ◌≢◌, Bool, true, false, cond, [],
 use Rattle.std.specs.List.{list_any}
 use Rattle.std.specs.Option.{option_or}
 use Rattle.spec_calculus.specs.Syntax.{Protocol}
-use Rattle.spec_calculus.specs.Runs.{Configuration, Step, Build, Reduce, Part, Fresh, Split, Copy, Make, Pass, Hear, Say, Take, Fail, Mark, after_step}
+use Rattle.spec_calculus.specs.Runs.{Configuration, Step, Build, Reduce, Part, Fresh, Split, Copy, Make, Pass, Hear, Say, Take, Fail, Mark, Next, Put, Fetch, Miss, after_step}
 use Rattle.spec_calculus.specs.Refusals as cause
 use Rattle.spec_calculus.specs.Refusals.{Refusal, first_cause, where_true, refusal, IsUniform}
 use Rattle.spec_calculus.specs.Limits.{is_large, evaluated, limited_refusal}
@@ -42,6 +42,9 @@ not_failing-other e = cc
 not_public-other : cause.NotPublic ≢ cause.Large
 not_public-other e = cc
 
+no_entry-other : cause.NoEntry ≢ cause.Large
+no_entry-other e = cc
+
 one : (a : Bool) (r : Refusal) → r ≢ cause.Large → first_cause (where_true r a ∷ []) ≢ Some cause.Large
 one a r h = other-first a r None h (λ e. cc)
 
@@ -68,6 +71,10 @@ refusal-other P c (Say j k) = four _ _ _ _ _ _ _ _ no_thread-other wrong_form-ot
 refusal-other P c (Take i n) = three _ _ _ _ _ _ no_thread-other wrong_form-other no_rule-other
 refusal-other P c (Fail i) = three _ _ _ _ _ _ no_thread-other wrong_form-other not_failing-other
 refusal-other P c (Mark i) = two _ _ _ _ no_thread-other wrong_form-other
+refusal-other P c Next = one _ _ wrong_form-other
+refusal-other P c (Put i) = two _ _ _ _ no_thread-other wrong_form-other
+refusal-other P c (Fetch i e) = three _ _ _ _ _ _ no_thread-other wrong_form-other no_entry-other
+refusal-other P c (Miss i) = three _ _ _ _ _ _ no_thread-other wrong_form-other not_failing-other
 
 cond-some : (b : Bool) (r : Refusal) → cond b (Some cause.Large) None ≡ Some r → (b ≡ true) × (r ≡ cause.Large)
 cond-some true r e = (refl, cc)

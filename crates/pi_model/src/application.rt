@@ -16,6 +16,7 @@ ghost use Rattle.pi_model.specs.Steps.{step_of};
 use crate::attacker::{build, part, reduce};
 use crate::choices::{fail, take};
 use crate::errors::ApplyError;
+use crate::phases::{fetch, miss, next, put};
 use crate::processes::{copy, hear, make, mark, split};
 use crate::receiving::{pass, say};
 use crate::running::Run;
@@ -55,6 +56,10 @@ fn plan(alloc: Global, protocol: &Protocol, conf: &Conf, step: &Step) -> Result<
         Step::Take(thread, label) => take(&run, *thread, label),
         Step::Fail(thread) => fail(&run, *thread),
         Step::Mark(thread) => mark(&run, *thread),
+        Step::Next => next(&run),
+        Step::Put(thread) => put(&run, *thread),
+        Step::Fetch(thread, entry) => fetch(&run, *thread, *entry),
+        Step::Miss(thread) => miss(&run, *thread),
     }
 }
 

@@ -10,7 +10,7 @@ ghost use Rattle.spec_calculus.specs.Points.{numbered};
 ghost use Rattle.spec_calculus.specs.Matching.{matched, filled, is_binding, IsLinear, instance_of, rule_value, rules_of, IsClosedRule};
 ghost use Rattle.spec_calculus.specs.Runs.{Performed, Configuration, Step, can_build, built, is_data, learns, after_step, after_steps, run};
 ghost use Rattle.spec_calculus.specs.Refusals.{refusal, IsUniform};
-ghost use Rattle.spec_calculus.specs.Secrecy.{IsViolated, Holds};
+ghost use Rattle.spec_calculus.specs.Secrecy.{IsViolated, IsOpen, Holds};
 ghost use Rattle.spec_calculus.specs.Absence.{IsAbsent};
 ghost use Rattle.spec_calculus.specs.Standing.{NextIsNew, names_made};
 
@@ -22,7 +22,7 @@ pub fn absence_is_secrecy()
 {}
 
 /// Steps take nothing from what the attacker knows, nor from the events, and so what is violated stays
-/// violated.
+/// violated while the query is open.
 #[tactic(auto, using(spec_calculus::proofs::Growth::knowledge_grows, spec_calculus::proofs::Growth::events_grow, spec_calculus::proofs::Growth::violation_stays))]
 pub fn steps_only_add()
     ensures known { (P : Protocol) (c d : Configuration) (steps : List Step) →
@@ -30,7 +30,7 @@ pub fn steps_only_add()
     ensures events { (P : Protocol) (c d : Configuration) (steps : List Step) →
         after_steps P c steps ≡ Some d → (more : List Performed) × (d.events ≡ c.events ++ more) }
     ensures violated { (P : Protocol) (q : Query) (c d : Configuration) (steps : List Step) →
-        after_steps P c steps ≡ Some d → IsViolated q c → IsViolated q d }
+        after_steps P c steps ≡ Some d → IsOpen q d → IsViolated q c → IsViolated q d }
 {}
 
 /// The test by which a step compares channels is equality of values.

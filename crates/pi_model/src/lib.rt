@@ -8,6 +8,7 @@ mod choices;
 pub mod errors;
 mod knowledge;
 pub mod laws;
+mod phases;
 mod processes;
 mod receiving;
 mod running;

@@ -47,4 +47,12 @@ pub enum Step {
     Fail(u32),
     /// The thread performs its event.
     Mark(u32),
+    /// The next phase begins.
+    Next,
+    /// The thread writes its entry into its table.
+    Put(u32),
+    /// The thread at a `get` takes the entry, the second number.
+    Fetch(u32, u32),
+    /// The thread at a `get` goes to its else branch.
+    Miss(u32),
 }

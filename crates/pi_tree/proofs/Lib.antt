@@ -1,3 +1,4 @@
 pub mod Numbers
+pub mod Plain
 pub mod Walks
 pub mod Items

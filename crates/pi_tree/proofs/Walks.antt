@@ -1,6 +1,6 @@
 -- Walks over the nodes of a process.
 use Rattle.std.proofs.Common.{◌≡◌, ℕ, zero, suc, ◌+◌, ◌-◌, Some, List, [], ◌∷◌, ◌++◌, length, slice_get, refl, ap, ◌∙◌, subst, arith, length-append}
-use Rattle.spec_calculus.specs.Syntax.{Pattern, Expression, Process, Nil, Output, Input, Parallel, Replication, New, Let, Event}
+use Rattle.spec_calculus.specs.Syntax.{Pattern, Expression, Process, Nil, Output, Input, Parallel, Replication, New, Let, Event, Phase, Insert, Get}
 use Rattle.spec_calculus.specs.Points.{nodes, name_arguments}
 use Rattle.pi_tree.specs.Processes.{process_of}
 use Rattle.pi_tree.specs.Walks.{Ends}
@@ -17,6 +17,9 @@ first_node (Replication copied) = refl
 first_node (New word next) = refl
 first_node (Let pattern expression next otherwise) = refl
 first_node (Event performed next) = refl
+first_node (Phase number next) = refl
+first_node (Insert table arguments next) = refl
+first_node (Get table patterns condition next otherwise) = refl
 
 pub first_arguments : (above : ℕ) (process : Process) → slice_get (name_arguments above process) 0 ≡ Some above
 first_arguments above Nil = refl
@@ -27,6 +30,9 @@ first_arguments above (Replication copied) = refl
 first_arguments above (New word next) = refl
 first_arguments above (Let pattern expression next otherwise) = refl
 first_arguments above (Event performed next) = refl
+first_arguments above (Phase number next) = refl
+first_arguments above (Insert table arguments next) = refl
+first_arguments above (Get table patterns condition next otherwise) = refl
 
 -- items of two lists in a row, past a first item
 pub slice_get-left : {A : Type 0} (xs ys : List A) (k : ℕ) (x : A) → slice_get xs k ≡ Some x → slice_get (xs ++ ys) k ≡ Some x
@@ -61,6 +67,11 @@ length-name_arguments above (New word next) = ap suc (length-name_arguments abov
 length-name_arguments above (Let pattern expression next otherwise) =
     omega (arith, length-name_arguments above next, length-name_arguments above otherwise, length-append (name_arguments above next) (name_arguments above otherwise), length-append (nodes next) (nodes otherwise))
 length-name_arguments above (Event performed next) = ap suc (length-name_arguments above next)
+length-name_arguments above (Phase number next) = ap suc (length-name_arguments above next)
+length-name_arguments above (Insert table arguments next) = ap suc (length-name_arguments above next)
+length-name_arguments above (Get table patterns condition next otherwise) =
+    let at = above + length patterns in
+    omega (arith, length-name_arguments at next, length-name_arguments above otherwise, length-append (name_arguments at next) (name_arguments above otherwise), length-append (nodes next) (nodes otherwise))
 
 module _ (first : Process) (left right : Process) (skip above rest : ℕ) (h : ¬ (skip ≡ 0)) (passed : length (nodes left) + rest ≡ skip - 1) where
   pub node_in_second : (node : Process) → slice_get (nodes right) rest ≡ Some node → slice_get (first ∷ (nodes left ++ nodes right)) skip ≡ Some node

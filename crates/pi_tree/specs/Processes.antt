@@ -1,4 +1,4 @@
--- What contracts see of a process.
+-- What contracts see of a process: it waits for no phase, and has no tables.
 use Rattle.spec_calculus.specs.Syntax as calculus
 use Rattle.pi_tree.specs.declared.syntax.Process.{Process, Nil, Output', Input', Par', Copies', New', Let', Event'}
 use Rattle.pi_tree.specs.Terms.{term_of}

@@ -1,4 +1,5 @@
--- What contracts see of a protocol.
+-- What contracts see of a protocol: it declares no tables.
+use Rattle.std.specs.Prelude.{[]}
 use Rattle.spec_calculus.specs.Syntax as calculus
 use Rattle.pi_tree.specs.declared.protocols.Protocol.{Protocol}
 use Rattle.pi_tree.specs.Processes.{process_of}
@@ -9,6 +10,7 @@ protocol_of P = record {
   constructors = P.ctors;
   destructors = P.dtors;
   events = P.events;
+  tables = [];
   queries = P.queries;
   main = process_of P.main;
 }

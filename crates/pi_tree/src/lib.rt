@@ -5,6 +5,7 @@
 pub mod accessors;
 pub mod destructors;
 pub mod expressions;
+pub mod laws;
 pub mod names;
 pub mod points;
 pub mod protocols;

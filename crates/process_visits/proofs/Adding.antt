@@ -1,5 +1,5 @@
 -- Clauses that are added, unless they are too large.
-use Rattle.std.proofs.Common.{◌≡◌, Bool, true, false, ◌||◌, Ok, Err, Result, List, map, refl, ap, sym, subst, ◌∙◌}
+use Rattle.std.proofs.Common.{◌≡◌, Bool, true, false, ◌||◌, Ok, Err, Result, List, [], map, refl, ap, sym, subst, ◌∙◌}
 use Rattle.std.specs.Prelude.{IfOk, MatchBool}
 use Rattle.spec_terms.specs.Term.{Term}
 use Rattle.spec_clauses.specs.Fact.{Fact, Clause}
@@ -17,11 +17,12 @@ use Rattle.process_visits.specs.Forms.{Adds}
 pub clauses_later : (old now : List Term) (cs : List (Clause Id)) → Grows old now → AreClausesIn old cs → NameClauses now cs (map (clause_at old) cs)
 clauses_later old now cs grows known = NameClauses-grow old now cs (map (clause_at old) cs) grows record { known = known; are = refl }
 
--- a raw clause whose parts are named is
-pub raw_named : (all : List Term) (hyps : List (Fact Id)) (concl : Fact Id) (v : Visit) (f : Fact Term) → NameFacts all hyps v.hypotheses → NamesFact all concl f → NamesClause all (record { hypotheses = hyps; conclusion = concl }) (raw_clause v f)
-raw_named all hyps concl v f first last = record {
+-- a raw clause without constraints whose parts are named is
+pub raw_named : (all : List Term) (hyps : List (Fact Id)) (concl : Fact Id) (v : Visit) (f : Fact Term) → NameFacts all hyps v.hypotheses → NamesFact all concl f → [] ≡ v.diffs
+    → NamesClause all (record { hypotheses = hyps; diffs = []; conclusion = concl }) (raw_clause v f)
+raw_named all hyps concl v f first last unconstrained = record {
   known = record { hypotheses = first.known; conclusion = last.known };
-  is = λ i. record { hypotheses = first.are i; conclusion = last.is i };
+  is = λ i. record { hypotheses = first.are i; diffs = unconstrained i; conclusion = last.is i };
 }
 
 -- what `add` tells of a clause, of the raw clause that it names

@@ -24,10 +24,10 @@ use Rattle.process_visits.proofs.Adding.{raw_named}
 event_fact : (all : List Term) (event : ℕ) (ids : List Id) → AreKnown all ids → NamesFact all (Ev event ids) (Ev event (map (tree_at all) ids))
 event_fact all event ids known = record { known = known; is = refl }
 
-pub event_named : (all : List Term) (v : source.Visit) (event : ℕ) (ids : List Id) (raw : Clause Id) → IsVisitIn all v → AreKnown all ids → raw ≡ record { hypotheses = v.hypotheses; conclusion = Ev event ids } → NamesClause all raw (raw_event (visit_at all v) event (map (tree_at all) ids))
+pub event_named : (all : List Term) (v : source.Visit) (event : ℕ) (ids : List Id) (raw : Clause Id) → IsVisitIn all v → AreKnown all ids → raw ≡ record { hypotheses = v.hypotheses; diffs = []; conclusion = Ev event ids } → NamesClause all raw (raw_event (visit_at all v) event (map (tree_at all) ids))
 event_named all v event ids raw known args e =
     subst (λ (c : Clause Id). NamesClause all c (raw_event (visit_at all v) event (map (tree_at all) ids))) (sym e)
-    (raw_named all v.hypotheses (Ev event ids) (visit_at all v) (Ev event (map (tree_at all) ids)) (hypotheses_later all all v (Grows_refl all) known) (event_fact all event ids args))
+    (raw_named all v.hypotheses (Ev event ids) (visit_at all v) (Ev event (map (tree_at all) ids)) (hypotheses_later all all v (Grows_refl all) known) (event_fact all event ids args) refl)
 
 -- one more fact's variables
 pub facts_below : (n : ℕ) (fs : List (Fact Term)) (f : Fact Term) → AreBelow n (flat_map terms_of fs) → AreBelow n (terms_of f) → AreBelow n (flat_map terms_of (fs ++ f ∷ []))
@@ -43,12 +43,13 @@ evented all v event ids made known args below e =
     subst (λ (m : source.Visit). NamesVisit all m (below_event (visit_at all v) event (map (tree_at all) ids))) (sym e)
     (visit_named all whole (below_event (visit_at all v) event (map (tree_at all) ids)) (scope_later all all v (Grows_refl all) known)
     (NameFacts-push all v.hypotheses (visit_at all v).hypotheses (Mev event ids) (Mev event (map (tree_at all) ids)) (hypotheses_later all all v (Grows_refl all) known) record { known = args; is = refl })
-    (messages_later all all v (Grows_refl all) known) (sessions_later all all v (Grows_refl all) known)
+    (messages_later all all v (Grows_refl all) known) (sessions_later all all v (Grows_refl all) known) (refl, refl)
     record {
       scope = parts.scope;
       hypotheses = facts_below v.next (visit_at all v).hypotheses (Mev event (map (tree_at all) ids)) parts.hypotheses below;
       messages = parts.messages;
       sessions = parts.sessions;
+      diffs = parts.diffs;
     }
     known.room)
 

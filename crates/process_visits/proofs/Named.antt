@@ -6,6 +6,7 @@ use Rattle.spec_trees.specs.Tree.{Leaf, node, trees}
 use Rattle.spec_calculus.specs.Syntax.{Name, Made}
 use Rattle.spec_terms.specs.Term.{Point, Sym, Term}
 use Rattle.spec_clauses.specs.Fact.{terms_of}
+use Rattle.spec_clauses.specs.Diff.{diff_variables}
 use Rattle.spec_clauses.specs.Variables.{leaves, row_leaves, IsBelow, AreBelow}
 use Rattle.spec_clauses.proofs.Lists.{all_append, all_first, all_second, all_weaker}
 use Rattle.spec_translation.specs.Conversion.{Scope, name_term}
@@ -32,27 +33,40 @@ below_more n m up t b = all_weaker (λ x. x < n) (λ x. x < m) (λ x h. omega (a
 pub all_below_more : (n m : ℕ) → n ≤ m → (ts : List Term) → AreBelow n ts → AreBelow m ts
 all_below_more n m up ts b = all_weaker (IsBelow n) (IsBelow m) (below_more n m up) ts b
 
+-- the variables of its constraints
+abbrev constrained : Visit → List Term
+constrained v = map Leaf (flat_map diff_variables v.diffs)
+
 -- all variables of a visit are below a number
 pub record Below (n : ℕ) (v : Visit) : Type 0 where
   pub scope : AreBelow n (map (λ b. b.term) v.scope)
   pub hypotheses : AreBelow n (flat_map terms_of v.hypotheses)
   pub messages : AreBelow n v.messages
   pub sessions : AreBelow n v.sessions
+  pub diffs : AreBelow n (constrained v)
 
 pub parted : (n : ℕ) (v : Visit) → AreBelow n (visit_terms v) → Below n v
 parted n v b =
-    let past = all_second (IsBelow n) (flat_map terms_of v.hypotheses) (v.messages ++ v.sessions) (all_second (IsBelow n) (map (λ b. b.term) v.scope) (flat_map terms_of v.hypotheses ++ (v.messages ++ v.sessions)) b) in
+    let scope : List Term = map (λ b. b.term) v.scope in
+    let hypotheses = flat_map terms_of v.hypotheses in
+    let others = v.sessions ++ constrained v in
+    let known = all_second (IsBelow n) scope (hypotheses ++ (v.messages ++ others)) b in
+    let past = all_second (IsBelow n) hypotheses (v.messages ++ others) known in
+    let last = all_second (IsBelow n) v.messages others past in
     record {
-      scope = all_first (IsBelow n) (map (λ b. b.term) v.scope) (flat_map terms_of v.hypotheses ++ (v.messages ++ v.sessions)) b;
-      hypotheses = all_first (IsBelow n) (flat_map terms_of v.hypotheses) (v.messages ++ v.sessions) (all_second (IsBelow n) (map (λ b. b.term) v.scope) (flat_map terms_of v.hypotheses ++ (v.messages ++ v.sessions)) b);
-      messages = all_first (IsBelow n) v.messages v.sessions past;
-      sessions = all_second (IsBelow n) v.messages v.sessions past;
+      scope = all_first (IsBelow n) scope (hypotheses ++ (v.messages ++ others)) b;
+      hypotheses = all_first (IsBelow n) hypotheses (v.messages ++ others) known;
+      messages = all_first (IsBelow n) v.messages others past;
+      sessions = all_first (IsBelow n) v.sessions (constrained v) last;
+      diffs = all_second (IsBelow n) v.sessions (constrained v) last;
     }
 
 pub joined : (n : ℕ) (v : Visit) → Below n v → AreBelow n (visit_terms v)
 joined n v b =
-    all_append (IsBelow n) (map (λ b. b.term) v.scope) (flat_map terms_of v.hypotheses ++ (v.messages ++ v.sessions)) b.scope
-    (all_append (IsBelow n) (flat_map terms_of v.hypotheses) (v.messages ++ v.sessions) b.hypotheses (all_append (IsBelow n) v.messages v.sessions b.messages b.sessions))
+    let hypotheses = flat_map terms_of v.hypotheses in
+    let others = v.sessions ++ constrained v in
+    all_append (IsBelow n) (map (λ b. b.term) v.scope) (hypotheses ++ (v.messages ++ others)) b.scope
+    (all_append (IsBelow n) hypotheses (v.messages ++ others) b.hypotheses (all_append (IsBelow n) v.messages others b.messages (all_append (IsBelow n) v.sessions (constrained v) b.sessions b.diffs)))
 
 pub below_visit_more : (n m : ℕ) (v : Visit) → n ≤ m → Below n v → Below m v
 below_visit_more n m v up b = record {
@@ -60,13 +74,18 @@ below_visit_more n m v up b = record {
   hypotheses = all_below_more n m up (flat_map terms_of v.hypotheses) b.hypotheses;
   messages = all_below_more n m up v.messages b.messages;
   sessions = all_below_more n m up v.sessions b.sessions;
+  diffs = all_below_more n m up (constrained v) b.diffs;
 }
 
--- a visit whose parts are named is
+-- a visit in phase 0, without constraints
+abbrev pub IsFirst : Visit → Type 0
+IsFirst v = ([] ≡ v.diffs) × (0 ≡ v.phase)
+
+-- such a visit whose parts are named is
 pub visit_named : (all : List Term) (made : source.Visit) (v : Visit) → NamesScope all made.scope v.scope → NameFacts all made.hypotheses v.hypotheses → NameTerms all made.messages v.messages → NameTerms all made.sessions v.sessions
-    → Below made.next v → made.next ≤ most_next + length made.sessions → NamesVisit all made v
-visit_named all made v scope hypotheses messages sessions below room =
-    let is : visit_at all made ≡ v = λ i. record { scope = scope.is i; hypotheses = hypotheses.are i; messages = messages.are i; sessions = sessions.are i } in
+    → IsFirst v → Below made.next v → made.next ≤ most_next + length made.sessions → NamesVisit all made v
+visit_named all made v scope hypotheses messages sessions first below room =
+    let is : visit_at all made ≡ v = λ i. record { scope = scope.is i; hypotheses = hypotheses.are i; diffs = first.0 i; messages = messages.are i; sessions = sessions.are i; phase = first.1 i } in
     record {
       known = record {
         scope = scope.known;
@@ -97,7 +116,7 @@ module _ (old now : List Term) (v : source.Visit) (grows : Grows old now) (known
   below_parts = parted v.next (visit_at old v) known.below
 
   pub visit_later : NamesVisit now v (visit_at old v)
-  visit_later = visit_named now v (visit_at old v) scope_later hypotheses_later messages_later sessions_later below_parts known.room
+  visit_later = visit_named now v (visit_at old v) scope_later hypotheses_later messages_later sessions_later (refl, refl) below_parts known.room
 
 pub NamesVisit-grows : (old now : List Term) (v : source.Visit) (tree : Visit) → Grows old now → NamesVisit old v tree → NamesVisit now v tree
 NamesVisit-grows old now v tree grows names = subst (λ (w : Visit). NamesVisit now v w) names.is (visit_later old now v grows names.known)
@@ -109,12 +128,13 @@ copied old now v session next grows known names e =
     let up : v.next ≤ next = omega (arith, e) in
     let below = below_visit_more v.next next (visit_at old v) up (below_parts old now v grows known) in
     visit_named now (record v { sessions = v.sessions ++ session ∷ []; next = next }) (after_copy (visit_at old v) v.next) (scope_later old now v grows known) (hypotheses_later old now v grows known) (messages_later old now v grows known)
-    (NameTerms-push now v.sessions (visit_at old v).sessions session (Leaf v.next) (sessions_later old now v grows known) names)
+    (NameTerms-push now v.sessions (visit_at old v).sessions session (Leaf v.next) (sessions_later old now v grows known) names) (refl, refl)
     record {
       scope = below.scope;
       hypotheses = below.hypotheses;
       messages = below.messages;
       sessions = all_append (IsBelow next) (visit_at old v).sessions (Leaf v.next ∷ []) below.sessions ((omega (arith, e), tt), tt);
+      diffs = below.diffs;
     }
     (omega (arith, e, known.room, length-append v.sessions (session ∷ [])))
 
@@ -144,12 +164,13 @@ restricted old now v term point grows known names =
     let t = name_term point (visit_at old v).messages (visit_at old v).sessions in
     visit_named now (record v { scope = v.scope ++ record { name = Made point; id = term } ∷ [] }) (after_new (visit_at old v) point)
     (NamesScope-push now v.scope (visit_at old v).scope (Made point) term t (scope_later old now v grows known) names)
-    (hypotheses_later old now v grows known) (messages_later old now v grows known) (sessions_later old now v grows known)
+    (hypotheses_later old now v grows known) (messages_later old now v grows known) (sessions_later old now v grows known) (refl, refl)
     record {
       scope = subst (λ (l : List Term). AreBelow v.next l) (sym (map-append (λ b. b.term) (visit_at old v).scope (record { name = Made point; term = t } ∷ [])))
           (all_append (IsBelow v.next) (map (λ b. b.term) (visit_at old v).scope) (t ∷ []) below.scope (name_below v.next point (visit_at old v).messages (visit_at old v).sessions below.messages below.sessions, tt));
       hypotheses = below.hypotheses;
       messages = below.messages;
       sessions = below.sessions;
+      diffs = below.diffs;
     }
     known.room

@@ -1,5 +1,5 @@
 -- The parts of visits under bindings, over a bank that grows.
-use Rattle.std.proofs.Common.{◌≡◌, true, Option, None, List, length, map, ap, sym, subst, ◌∙◌, arith}
+use Rattle.std.proofs.Common.{◌≡◌, true, Option, None, List, length, map, refl, ap, sym, subst, ◌∙◌, arith}
 use Rattle.std.proofs.lemmas.List.{length-map}
 use Rattle.std.specs.Prelude.{MatchOption}
 use Rattle.spec_trees.specs.Tree.{bind}
@@ -57,6 +57,6 @@ same_length old new s ids made names = sym (length-map made (tree_at new)) ∙ (
 pub visit_under_named : (old mid new : List Term) (s : Subst) (v made : source.Visit) → IsVisitIn old v → Grows mid new → HasBelow s v.next → made.next ≡ v.next → NamesKnown mid made.scope made.hypotheses (visit_under s (visit_at old v))
     → NameTerms new made.messages (map (bind s) (map (tree_at old) v.messages)) → NameTerms new made.sessions (map (bind s) (map (tree_at old) v.sessions)) → NameFacts new made.hypotheses (map (fact_under s) (map (fact_at old) v.hypotheses)) → NamesVisit new made (visit_under s (visit_at old v))
 visit_under_named old mid new s v made known grows below next parts messages sessions facts =
-    visit_named new made (visit_under s (visit_at old v)) (NamesScope-grows mid new made.scope (visit_under s (visit_at old v)).scope grows parts.scope) facts messages sessions
-    (subst (λ n. Below n (visit_under s (visit_at old v))) (sym next) (visit_below s v.next below (visit_at old v) (parted v.next (visit_at old v) known.below)))
+    visit_named new made (visit_under s (visit_at old v)) (NamesScope-grows mid new made.scope (visit_under s (visit_at old v)).scope grows parts.scope) facts messages sessions (refl, refl)
+    (subst (λ n. Below n (visit_under s (visit_at old v))) (sym next) (visit_below s v.next below (visit_at old v) refl (parted v.next (visit_at old v) known.below)))
     (omega (arith, next, known.room, same_length old new s v.sessions made.sessions sessions))

@@ -51,13 +51,14 @@ bound_named old now v made span pattern bound grows known up is_span names e =
     subst (λ (m : source.Visit). NamesVisit now m (with_pattern (visit_at old v) pattern (fresh_of span.at))) (sym e)
     (visit_named now whole (with_pattern (visit_at old v) pattern (fresh_of span.at))
     (scope_append now v.scope bound (visit_at old v).scope (pattern_scope (fresh_of span.at) pattern) (scope_later old now v grows known) names)
-    (hypotheses_later old now v grows known) (messages_later old now v grows known) (sessions_later old now v grows known)
+    (hypotheses_later old now v grows known) (messages_later old now v grows known) (sessions_later old now v grows known) (refl, refl)
     record {
       scope = subst (λ (l : List Term). AreBelow span.next l) (sym (map-append (λ b. b.term) (visit_at old v).scope (pattern_scope (fresh_of span.at) pattern)))
           (all_append (IsBelow span.next) (map (λ b. b.term) (visit_at old v).scope) (map (λ b. b.term) (pattern_scope (fresh_of span.at) pattern)) below.scope (bound_below span.next (fresh_of span.at) (leaves pattern) is_span.room));
       hypotheses = below.hypotheses;
       messages = below.messages;
       sessions = below.sessions;
+      diffs = below.diffs;
     }
     (omega (arith, is_span.few)))
 
@@ -83,15 +84,15 @@ pattern_named P old mid new v made from span pattern term grows later known up i
     }
 
 -- the fact that a message was sent is below a number where channel and message are
-sent_below : (P : Protocol) (n : ℕ) (channel message : Term) → IsBelow n channel → IsBelow n message → AreBelow n (terms_of (sent P channel message))
-sent_below P n channel message b c = go (is_public_channel P channel) where
-  go : (t : Bool) → AreBelow n (terms_of (cond t (Att message) (Mess channel message)))
+sent_below : (P : Protocol) (n phase : ℕ) (channel message : Term) → IsBelow n channel → IsBelow n message → AreBelow n (terms_of (sent P phase channel message))
+sent_below P n phase channel message b c = go (is_public_channel P channel) where
+  go : (t : Bool) → AreBelow n (terms_of (cond t (Att phase message) (Mess phase channel message)))
   go true = (c, tt)
   go false = (b, (c, tt))
 
 -- the visit below an input, from the one with what the pattern binds
 module _ (P : Protocol) (v : Visit) (c : calculus.Term) (pattern : Pattern) (from : ℕ) (new : List Term) (w made : source.Visit) (channel message : Id) (fact : Fact Id) where
-  received_from : (bound : WithPattern P v pattern from new w message) → IsBelow from (term_in P v.scope c) → Names new channel (term_in P v.scope c) → NamesFact new fact (sent P (tree_at new channel) (tree_at new message))
+  received_from : (bound : WithPattern P v pattern from new w message) → IsBelow from (term_in P v.scope c) → Names new channel (term_in P v.scope c) → NamesFact new fact (sent P 0 (tree_at new channel) (tree_at new message))
       → made ≡ record w { hypotheses = w.hypotheses ++ fact ∷ []; messages = w.messages ++ message ∷ [] } → (at : Fresh) × IsFresh v pattern at × NamesVisit new made (after_input P v c pattern at)
   received_from bound below names sent_is e =
       let at = bound.at in
@@ -99,24 +100,25 @@ module _ (P : Protocol) (v : Visit) (c : calculus.Term) (pattern : Pattern) (fro
       let is = bound.visit.is in
       let known = bound.visit.known in
       let parts = parted w.next (with_pattern v pattern at) (subst (λ (x : Visit). AreBelow w.next (visit_terms x)) is known.below) in
-      let fact_is : NamesFact new fact (sent P (term_in P v.scope c) t) = subst (λ f. NamesFact new fact f) (λ i. sent P (names.is i) (bound.term.is i)) sent_is in
+      let fact_is : NamesFact new fact (sent P v.phase (term_in P v.scope c) t) = subst (λ f. NamesFact new fact f) (λ i. sent P (is i).phase (names.is i) (bound.term.is i)) sent_is in
       let whole : source.Visit = record w { hypotheses = w.hypotheses ++ fact ∷ []; messages = w.messages ++ message ∷ [] } in
       let here : NamesVisit new whole (after_input P v c pattern at) = visit_named new whole (after_input P v c pattern at)
       record { known = known.scope; is = λ i. (is i).scope }
-      (NameFacts-push new w.hypotheses v.hypotheses fact (sent P (term_in P v.scope c) t) record { known = known.hypotheses; are = λ i. (is i).hypotheses } fact_is)
+      (NameFacts-push new w.hypotheses v.hypotheses fact (sent P v.phase (term_in P v.scope c) t) record { known = known.hypotheses; are = λ i. (is i).hypotheses } fact_is)
       (NameTerms-push new w.messages v.messages message t record { known = known.messages; are = λ i. (is i).messages } bound.term)
-      record { known = known.sessions; are = λ i. (is i).sessions }
+      record { known = known.sessions; are = λ i. (is i).sessions } (λ i. (is i).diffs, λ i. (is i).phase)
       record {
         scope = parts.scope;
-        hypotheses = facts_below w.next v.hypotheses (sent P (term_in P v.scope c) t) parts.hypotheses (sent_below P w.next (term_in P v.scope c) t (below_more from w.next bound.up (term_in P v.scope c) below) bound.below);
+        hypotheses = facts_below w.next v.hypotheses (sent P v.phase (term_in P v.scope c) t) parts.hypotheses (sent_below P w.next v.phase (term_in P v.scope c) t (below_more from w.next bound.up (term_in P v.scope c) below) bound.below);
         messages = all_append (IsBelow w.next) v.messages (t ∷ []) parts.messages (bound.below, tt);
         sessions = parts.sessions;
+        diffs = parts.diffs;
       }
       known.room in
       (at, bound.is_fresh, subst (λ (m : source.Visit). NamesVisit new m (after_input P v c pattern at)) (sym e) here)
 
 pub received_named : (P : Protocol) (old mid new : List Term) (v w made : source.Visit) (c : calculus.Term) (pattern : Pattern) (channel message : Id) (fact : Fact Id) → Grows old mid → Grows mid new → IsVisitIn old v
-    → WithPattern P (visit_at mid v) pattern v.next new w message → Names mid channel (term_in P (scope_at old v.scope) c) → NamesFact new fact (sent P (tree_at new channel) (tree_at new message))
+    → WithPattern P (visit_at mid v) pattern v.next new w message → Names mid channel (term_in P (scope_at old v.scope) c) → NamesFact new fact (sent P 0 (tree_at new channel) (tree_at new message))
     → made ≡ record w { hypotheses = w.hypotheses ++ fact ∷ []; messages = w.messages ++ message ∷ [] } → (at : Fresh) × IsFresh (visit_at old v) pattern at × NamesVisit new made (after_input P (visit_at old v) c pattern at)
 received_named P old mid new v w made c pattern channel message fact grows later known bound names sent_is e =
     let same = (visit_later old mid v grows known).is in

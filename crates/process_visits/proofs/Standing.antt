@@ -8,7 +8,8 @@ use Rattle.spec_trees.specs.Tree.{Trees, Leaf, Node, none, more, bind, binds, si
 use Rattle.spec_trees.specs.Leaves.{leaves, row_leaves}
 use Rattle.spec_calculus.specs.Bounds.{most_symbols}
 use Rattle.spec_terms.specs.Term.{Sym, Term, Subst}
-use Rattle.spec_clauses.specs.Fact.{Fact, Att, Mess, Ev, Mev, Bad, terms_of, fact_under, fact_size, total}
+use Rattle.spec_clauses.specs.Fact.{Fact, Att, Mess, Tab, Ev, Mev, Bad, terms_of, fact_under, fact_size, total}
+use Rattle.spec_clauses.specs.Diff.{Diff, diff_variables, diff_under}
 use Rattle.spec_clauses.specs.Variables.{IsBelow, AreBelow}
 use Rattle.spec_clauses.proofs.Lists.{all_append, all_first, all_second}
 use Rattle.spec_translation.specs.Conversion.{StandsFor, Scope}
@@ -86,8 +87,9 @@ over_total most (t ∷ ts) e =
     or_cases (is_over most t) (some_over most ts) (most < size t + total size ts) e (λ h. omega (arith, over_size most t h)) (λ h. omega (arith, others h))
 
 fact_over : (most : ℕ) (f : Fact Term) → some_over_in most f ≡ true → most < fact_size f
-fact_over most (Att t) e = omega (arith, over_total most (t ∷ []) e)
-fact_over most (Mess t u) e = omega (arith, over_total most (t ∷ u ∷ []) e)
+fact_over most (Att k t) e = omega (arith, over_total most (t ∷ []) e)
+fact_over most (Mess k t u) e = omega (arith, over_total most (t ∷ u ∷ []) e)
+fact_over most (Tab n ts) e = omega (arith, over_total most ts e)
 fact_over most (Ev k ts) e = omega (arith, over_total most ts e)
 fact_over most (Mev k ts) e = omega (arith, over_total most ts e)
 fact_over most (Bad ts) e = omega (arith, over_total most ts e)
@@ -131,8 +133,9 @@ module _ (s : Subst) (n : ℕ) (below : HasBelow s n) where
   scope_below (d ∷ scope) b = (bind_below d.term b.0, scope_below scope b.1)
 
   fact_below : (f : Fact Term) → AreBelow n (terms_of f) → AreBelow n (terms_of (fact_under s f))
-  fact_below (Att t) b = terms_below (t ∷ []) b
-  fact_below (Mess t u) b = terms_below (t ∷ u ∷ []) b
+  fact_below (Att k t) b = terms_below (t ∷ []) b
+  fact_below (Mess k t u) b = terms_below (t ∷ u ∷ []) b
+  fact_below (Tab n ts) b = terms_below ts b
   fact_below (Ev k ts) b = terms_below ts b
   fact_below (Mev k ts) b = terms_below ts b
   fact_below (Bad ts) b = terms_below ts b
@@ -142,10 +145,11 @@ module _ (s : Subst) (n : ℕ) (below : HasBelow s n) where
   facts_below (f ∷ fs) b =
       all_append (IsBelow n) (terms_of (fact_under s f)) (flat_map terms_of (map (fact_under s) fs)) (fact_below f (all_first (IsBelow n) (terms_of f) (flat_map terms_of fs) b)) (facts_below fs (all_second (IsBelow n) (terms_of f) (flat_map terms_of fs) b))
 
-  pub visit_below : (v : Visit) → Below n v → Below n (visit_under s v)
-  visit_below v b = record {
+  pub visit_below : (v : Visit) → [] ≡ v.diffs → Below n v → Below n (visit_under s v)
+  visit_below v unconstrained b = record {
     scope = scope_below v.scope b.scope;
     hypotheses = facts_below v.hypotheses b.hypotheses;
     messages = terms_below v.messages b.messages;
     sessions = terms_below v.sessions b.sessions;
+    diffs = subst (λ (ds : List Diff). AreBelow n (map Leaf (flat_map diff_variables (map (diff_under s) ds)))) unconstrained tt;
   }

@@ -35,7 +35,7 @@ pub record Adds (all : List Term) (before after : Listing) (more : List (Clause 
 
 -- the raw clause of an output, and whether its visit is too large
 abbrev pub output_raw : Protocol → Visit → calculus.Term → calculus.Term → Clause Term
-output_raw P v channel message = raw_clause v (sent P (term_in P v.scope channel) (term_in P v.scope message))
+output_raw P v channel message = raw_clause v (sent P v.phase (term_in P v.scope channel) (term_in P v.scope message))
 
 abbrev pub is_large_output : Protocol → Visit → calculus.Term → calculus.Term → Bool
 is_large_output P v channel message = are_large_in P v.scope (channel ∷ message ∷ []) || is_large_raw (output_raw P v channel message)

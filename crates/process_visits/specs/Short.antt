@@ -2,9 +2,10 @@
 use Rattle.std.specs.Prelude.{ℕ, ◌+◌, ◌*◌, ◌≤◌, List, length}
 use Rattle.std.specs.List.{AllByRecursion}
 use Rattle.spec_trees.specs.Leaves.{leaves}
-use Rattle.spec_calculus.specs.Syntax.{Process, Nil, Output, Input, Parallel, Replication, New, Let, Event, Head, Builds, Calls, Expression, Rule, Protocol}
+use Rattle.spec_calculus.specs.Syntax.{Process, Nil, Output, Input, Parallel, Replication, New, Let, Event, Phase, Insert, Get, Head, Builds, Calls, Expression, Rule, Protocol}
 use Rattle.spec_calculus.specs.Bounds.{most_written_symbols, most_applications, most_choices}
 use Rattle.spec_calculus.specs.Choices.{applications, choice_count}
+use Rattle.spec_calculus.specs.Tables.{sides}
 use Rattle.spec_calculus.specs.Matching.{rules_of}
 use Rattle.spec_well_formed.specs.Terms.{EachSymbol}
 use Rattle.spec_choice_walks.specs.Instructions.{Instruction, Push, Apply, BecomesOne, applied_by}
@@ -45,6 +46,10 @@ IsFitProcess P (New word next) = IsFitProcess P next
 IsFitProcess P (Let pattern expression next otherwise) =
     IsShortPattern pattern × IsFitExpression P expression × IsFitProcess P next × IsFitProcess P otherwise
 IsFitProcess P (Event performed next) = AllByRecursion HasShortTuples performed.arguments × IsFitProcess P next
+IsFitProcess P (Phase number next) = IsFitProcess P next
+IsFitProcess P (Insert table arguments next) = AllByRecursion HasShortTuples arguments × IsFitProcess P next
+IsFitProcess P (Get table patterns condition next otherwise) =
+    AllByRecursion IsShortPattern patterns × AllByRecursion HasShortTuples (sides condition) × IsFitProcess P next × IsFitProcess P otherwise
 
 -- a rule has short tuples, and no more variables than a rule may have symbols
 pub record IsFitRule (rule : Rule) : Type 0 where

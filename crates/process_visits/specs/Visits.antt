@@ -1,5 +1,5 @@
 -- What contracts see of visits.
-use Rattle.std.specs.Prelude.{◌≡◌, ℕ, ◌+◌, ◌≤◌, List, length, map}
+use Rattle.std.specs.Prelude.{◌≡◌, ℕ, ◌+◌, ◌≤◌, List, [], length, map}
 use Rattle.spec_terms.specs.Term.{Term}
 use Rattle.spec_clauses.specs.Variables.{AreBelow}
 use Rattle.term_tree.specs.Bank.{tree_at, AreKnown}
@@ -9,13 +9,15 @@ use Rattle.clause_terms.specs.Scopes.{scope_at, IsScopeIn}
 use Rattle.process_visits.specs.declared.visit.Visit.{Visit}
 use Rattle.process_visits.specs.Room.{most_next}
 
--- the visit of the trees that the ids name
+-- the visit of the trees that the ids name: in phase 0, without constraints
 abbrev pub visit_at : List Term → Visit → translation.Visit
 visit_at all v = record {
   scope = scope_at all v.scope;
   hypotheses = map (fact_at all) v.hypotheses;
+  diffs = [];
   messages = map (tree_at all) v.messages;
   sessions = map (tree_at all) v.sessions;
+  phase = 0;
 }
 
 -- each id of the visit names a tree, and all variables are below the next one, whose number is within its limit but for

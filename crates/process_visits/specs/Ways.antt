@@ -10,6 +10,12 @@ use Rattle.process_visits.specs.declared.ways.Way.{Way}
 use Rattle.process_visits.specs.declared.ways.Way.TheVariants as ways
 use Rattle.process_visits.specs.Visits.{NamesVisit}
 
+-- whether choices go on nowhere, and whether the visit that goes on is too large
+abbrev pub is_nowhere_way : Way → Bool
+is_nowhere_way ways.Nowhere = true
+is_nowhere_way ways.Large = false
+is_nowhere_way (ways.Visit made) = false
+
 abbrev pub is_large_way : Way → Bool
 is_large_way ways.Nowhere = false
 is_large_way ways.Large = true

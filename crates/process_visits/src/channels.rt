@@ -56,12 +56,12 @@ fn is_public_channel<B: Bank>(bank: &B, protocol: &Protocol, channel: Id) -> boo
     }
 }
 
-/// That the message may be sent on the channel.
+/// That the message may be sent on the channel in phase 0.
 pub fn sent<B: Bank>(bank: &B, protocol: &Protocol, channel: Id, message: Id) -> Fact
     requires channel { channel.index < length (B.trees bank.now) }
     requires message { message.index < length (B.trees bank.now) }
     ensures { NamesFact (B.trees bank.now) (fact_of result)
-        (sent (protocol_of protocol.now) (tree_at (B.trees bank.now) channel)
+        (sent (protocol_of protocol.now) 0 (tree_at (B.trees bank.now) channel)
         (tree_at (B.trees bank.now) message)) }
 {
     if is_public_channel(bank, protocol, channel) {

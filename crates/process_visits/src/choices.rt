@@ -5,7 +5,7 @@
 //! become the left sides of its rule, nor can they in any other choice that begins with the same rules: all of these
 //! are passed at once. Nothing is kept from one choice to the next.
 
-ghost use Rattle.std.specs.Prelude.{◌≡◌, ◌-◌, ◌*◌, ◌<◌, ◌≤◌, List, [], ◌∷◌, map, drop, IfOk, MatchBool};
+ghost use Rattle.std.specs.Prelude.{◌≡◌, ◌-◌, ◌*◌, ◌<◌, ◌≤◌, true, List, [], ◌∷◌, map, drop, IfOk, MatchBool};
 ghost use Rattle.spec_calculus.specs.Bounds.{most_choices};
 ghost use Rattle.spec_calculus.specs.Syntax.{Ruled, Calls};
 ghost use Rattle.pi_tree.specs.Protocols.{protocol_of};
@@ -17,7 +17,7 @@ ghost use Rattle.spec_choice_walks.specs.Instructions.{Apply, choices_by};
 ghost use Rattle.term_values.specs.Instructions.{instruction_of};
 ghost use Rattle.process_visits.specs.Places.{protocol_at};
 ghost use Rattle.process_visits.specs.Visits.{visit_at};
-ghost use Rattle.process_visits.specs.Ways.{Passes, AreCut};
+ghost use Rattle.process_visits.specs.Ways.{is_nowhere_way, Passes, AreCut};
 ghost use Rattle.process_visits.specs.Walks.{choices_of, IsChoosingIn, IsAlong, StandsBefore, StandsAtEnd, LooksAt, HasChoices};
 
 use crate::choice::Choosing;
@@ -192,6 +192,8 @@ pub fn choices_from<B: Bank>(
     requires known { IsChoosingIn (B.trees bank.old) choosing.now }
     requires within { number < choosing.now.count }
     ensures grows { Grows (B.trees bank.old) (B.trees bank.new) }
+    ensures back { IfOk result (λ passed. is_nowhere_way passed.way ≡ true →
+        B.trees bank.new ≡ B.trees bank.old) }
     ensures passes { IfOk result (λ passed. Passes (protocol_at choosing.now.place.now)
         (visit_at (B.trees bank.old) choosing.now.visit.now)
         (pattern_of choosing.now.pattern.now) (drop number (choices_of choosing.now))

@@ -1,6 +1,6 @@
 //! Events: the clause that it may have run, and the hypothesis that it must have.
 
-ghost use Rattle.std.specs.Prelude.{◌≡◌, map, IfOk};
+ghost use Rattle.std.specs.Prelude.{◌≡◌, [], map, IfOk};
 ghost use Rattle.std.specs.List.{AllByRecursion};
 ghost use Rattle.pi_tree.specs.Events.{event_of};
 ghost use Rattle.spec_clauses.specs.Fact as horn;
@@ -29,7 +29,11 @@ fn event_clause(
     arguments: &Ids,
 ) -> Result<Clause, AllocError>
     ensures { IfOk result (λ raw. raw ≡
-        record { hypotheses = visit.now.hypotheses; conclusion = horn.Ev event arguments.now }) }
+        record {
+          hypotheses = visit.now.hypotheses;
+          diffs = [];
+          conclusion = horn.Ev event arguments.now;
+        }) }
 {
     let hyps = visit.hypotheses.copy(alloc)?;
     let arguments = arguments.copy(alloc)?;

@@ -41,7 +41,7 @@ fn sent_in<B: Bank>(
     ensures names { let P = protocol_at place.now in
         let bound = scope_at (B.trees bank.old) scope.now in
         IfOk result (λ fact. NamesFact (B.trees bank.new) (fact_of fact)
-        (sent P (translation.term_in P bound (term_of channel.now))
+        (sent P 0 (translation.term_in P bound (term_of channel.now))
         (translation.term_in P bound (term_of message.now)))) }
 {
     let channel = term_in(place.alloc, bank, place.protocol, scope, channel)?;

@@ -11,7 +11,8 @@ use std::alloc::{AllocError, Global};
 use term_tree::Id;
 
 /// What is known where a point is visited: what the leaves stand for, the hypotheses so far, the messages received
-/// above the point, and the numbers of the copies that were taken above it. All variables are below `next`.
+/// above the point, and the numbers of the copies that were taken above it. All variables are below `next`. It is in
+/// phase 0, and has no constraints.
 pub struct Visit {
     pub scope: Scope,
     pub hypotheses: Facts,

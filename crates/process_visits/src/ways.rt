@@ -3,7 +3,7 @@
 ghost use Rattle.std.specs.Prelude.{◌≡◌, true, IfSome, MatchOption, MatchBool};
 ghost use Rattle.spec_translation.specs.Visit as translation;
 ghost use Rattle.process_visits.specs.Visits.{visit_at, IsVisitIn};
-ghost use Rattle.process_visits.specs.Ways.{is_large_way};
+ghost use Rattle.process_visits.specs.Ways.{is_nowhere_way, is_large_way};
 ghost use Rattle.process_visits.specs.declared.ways.Way.TheVariants as ways;
 
 use crate::large::is_large_visit;
@@ -30,7 +30,8 @@ pub struct Passed {
 impl Passed {
     /// Whether they go on nowhere.
     pub fn is_nowhere(&self) -> bool
-        ensures { result ≡ true → self.now.way ≡ ways.Nowhere }
+        ensures is { result ≡ is_nowhere_way self.now.way }
+        ensures way { result ≡ true → self.now.way ≡ ways.Nowhere }
     {
         matches!(self.way, Way::Nowhere)
     }

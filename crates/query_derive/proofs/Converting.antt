@@ -14,7 +14,8 @@ use Rattle.spec_clauses.specs.Variables.{leaves, row_leaves}
 use Rattle.spec_clauses.specs.Norm.{distinct}
 use Rattle.spec_translation.specs.Conversion.{symbol_over, row_length}
 use Rattle.spec_translation.specs.Goal.{query_leaf, query_term, variable_at}
-use Rattle.spec_abstraction.proofs.Values.{row_length-trees, converted_row-trees}
+use Rattle.spec_translation.proofs.Conversions.{converted_row-trees}
+use Rattle.spec_abstraction.proofs.Values.{row_length-trees}
 use Rattle.pi_tree.specs.declared.syntax.Term as syntax
 use Rattle.pi_tree.specs.Terms.{term_of}
 use Rattle.clause_form.proofs.Comparing.{map_drop}

@@ -12,7 +12,7 @@ use Rattle.spec_calculus.specs.Points.{numbered}
 use Rattle.spec_well_formed.specs.Limits.{IsSmallQuery, IsWithinLimits}
 use Rattle.spec_terms.specs.Term.{Term, Subst}
 use Rattle.spec_terms.proofs.Replace.{some_same}
-use Rattle.spec_clauses.specs.Fact.{Fact, Att, Mess, Ev, Mev, Bad, Clause, total, fact_size, fact_under}
+use Rattle.spec_clauses.specs.Fact.{Fact, Att, Mess, Tab, Ev, Mev, Bad, Clause, total, fact_size, fact_under}
 use Rattle.spec_clauses.specs.Limits.{IsWithinLimit}
 use Rattle.spec_clauses.specs.Subsumption.{ComesBefore}
 use Rattle.spec_translation.specs.Goal.{required}
@@ -97,13 +97,13 @@ found_there f (Some x) y e = (x, refl, some_same e)
 
 -- a goal row holds exactly where it does for what is sought
 pub goal_holds : (P : Protocol) (q : Query) (c : Clause Term) (row : List ℕ) → GoalHolds P q row c ↔ HoldsAmong (all_sought P q) c row
-goal_holds P (Secret message) c [] = (λ h. h, λ h. h)
-goal_holds P (Secret message) c (n ∷ row) = (λ h. absurd h, λ h. none n h.0 h.1) where
+goal_holds P (Secret message phase) c [] = (λ h. h, λ h. h)
+goal_holds P (Secret message phase) c (n ∷ row) = (λ h. absurd h, λ h. none n h.0 h.1) where
   none : (n : ℕ) (one : Sought) → numbered {A = Sought} [] n ≡ Some one → ⊥
   none zero one e = cc
   none (suc n) one e = cc
-goal_holds P (SecretNew point) c [] = (λ h. h, λ h. h)
-goal_holds P (SecretNew point) c (n ∷ row) = (λ h. absurd h, λ h. none n h.0 h.1) where
+goal_holds P (SecretNew point phase) c [] = (λ h. h, λ h. h)
+goal_holds P (SecretNew point phase) c (n ∷ row) = (λ h. absurd h, λ h. none n h.0 h.1) where
   none : (n : ℕ) (one : Sought) → numbered {A = Sought} [] n ≡ Some one → ⊥
   none zero one e = cc
   none (suc n) one e = cc
@@ -128,8 +128,8 @@ first_goal_row P q c row h = record { holds = (goal_holds P q c row).1 h.holds; 
 
 -- a clause satisfies a query exactly where some row holds
 pub satisfied_by_rows : (P : Protocol) (q : Query) (c : Clause Term) → IsSatisfied P q c ↔ ((row : List ℕ) × GoalHolds P q row c)
-satisfied_by_rows P (Secret message) c = (λ h. absurd h, λ (row, h). h)
-satisfied_by_rows P (SecretNew point) c = (λ h. absurd h, λ (row, h). h)
+satisfied_by_rows P (Secret message phase) c = (λ h. absurd h, λ (row, h). h)
+satisfied_by_rows P (SecretNew point phase) c = (λ h. absurd h, λ (row, h). h)
 satisfied_by_rows P (Correspondence left alternatives) c = (there, back) where
   there : IsSatisfied P (Correspondence left alternatives) c → (row : List ℕ) × GoalHolds P (Correspondence left alternatives) row c
   there met = let found = (rows_tell P left alternatives c).0 met in (found.0 ∷ found.1, found.2)
@@ -197,13 +197,14 @@ pub query_has : (Q : Query → Type 0) (P : Protocol) (number : ℕ) (q : Query)
 query_has Q P number q each there = all_numbered Q P.queries number q each there
 
 pub few_sought : (P : Protocol) (q : Query) → IsSmallQuery q → length (all_sought P q) ≤ most_alternatives
-few_sought P (Secret message) small = omega arith
-few_sought P (SecretNew point) small = omega arith
+few_sought P (Secret message phase) small = omega arith
+few_sought P (SecretNew point phase) small = omega arith
 few_sought P (Correspondence left alternatives) small = omega (arith, length-map alternatives (sought_for P left), small.1)
 
 some_size : (h : Fact Term) → 1 ≤ fact_size h
-some_size (Att t) = omega arith
-some_size (Mess t u) = omega arith
+some_size (Att k t) = omega arith
+some_size (Mess k t u) = omega arith
+some_size (Tab n ts) = omega arith
 some_size (Ev e ts) = omega arith
 some_size (Mev e ts) = omega arith
 some_size (Bad ts) = omega arith

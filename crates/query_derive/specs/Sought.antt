@@ -19,8 +19,8 @@ sought_for P left alternative = record {
 }
 
 abbrev pub all_sought : Protocol → Query → List Sought
-all_sought P (Secret message) = []
-all_sought P (SecretNew point) = []
+all_sought P (Secret message phase) = []
+all_sought P (SecretNew point phase) = []
 all_sought P (Correspondence left alternatives) = map (sought_for P left) alternatives
 
 -- under the substitution the events stand at the positions, one each

@@ -29,7 +29,7 @@ use term_tree::{Bank, Sym};
 /// The clause of one hypothesis that concludes `bad` of the terms.
 fn bad_where(alloc: Global, hypothesis: PlainFact, bad: Trees) -> Result<PlainClause, AllocError>
     ensures { IfOk result (λ plain. plain ≡
-        record { hypotheses = plain_fact_of hypothesis ∷ []; conclusion = Bad bad }) }
+        record { hypotheses = plain_fact_of hypothesis ∷ []; diffs = []; conclusion = Bad bad }) }
 {
     let mut items = Vec::new(alloc);
     items.push(hypothesis)?;

@@ -53,7 +53,7 @@ common_fit P all given limits h normal small = named_fit all given h.list h.name
     (λ c has. small any (h.list ++ goal_clauses P any) c limits tt (h.translates any) (Has-append_left h.list (goal_clauses P any) c has))
   where
     any : Query
-    any = SecretNew 1
+    any = SecretNew 1 0
 
 -- there is a goal behind the clauses
 pub goal_some : (all : List Term) (shared : Shared) (given : List (Clause Id)) → AreGoalBehind all shared given → length given ≡ suc (length shared.clauses)
@@ -94,7 +94,7 @@ fresh_known all shared common known begun =
     (known all (begun_log common) begun.held.log (subst (λ (trees : List Term). TellLog trees (begun_log common) begun.held.log) whole begun.held.tell))
 
 -- what is kept of clauses that are known in a bank is right there, if it is as that has grown
-pub kept_back : {X E : Type 0} (old new : List Term) (was is : KnownRows) (result : Result X E) → ((known : KnownRows) → Grows old new → AreClausesIn old known.live → IsKnown new known → IsKnown old known) → Grows old new → IsKnown old was → is.live ≡ was.live
+pub kept_back : {X E : Type 0} (old new : List Term) (was is : KnownRows) (result : Result X E) → ((known : KnownRows) → Grows old new → AreClausesIn old known.live → AreClausesIn old known.given → IsKnown new known → IsKnown old known) → Grows old new → IsKnown old was → is.live ≡ was.live → is.given ≡ was.given
     → OnOk result (IsKnown new is) → OnOk result (IsKnown old is)
-kept_back old new was is result back grows kept same there =
-    IfOk-weaker result (λ _. IsKnown new is) (λ _. IsKnown old is) (λ _ h. back is grows (subst (λ (cs : List (Clause Id)). AreClausesIn old cs) (sym same) kept.names) h) there
+kept_back old new was is result back grows kept same also there =
+    IfOk-weaker result (λ _. IsKnown new is) (λ _. IsKnown old is) (λ _ h. back is grows (subst (λ (cs : List (Clause Id)). AreClausesIn old cs) (sym same) kept.names) (subst (λ (cs : List (Clause Id)). AreClausesIn old cs) (sym also) kept.given) h) there

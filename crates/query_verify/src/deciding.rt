@@ -46,6 +46,7 @@ pub(crate) fn closed<B: Bank>(
     ensures answers { IfOk result (λ answer. Answers question.now answer) }
     ensures kept { OnOk result (IsKnown (B.trees bank.old) known.new) }
     ensures live { known.new.live ≡ known.old.live }
+    ensures given { known.new.given ≡ known.old.given }
     ensures bank { B.trees bank.new ≡ B.trees bank.old }
 {
     entries_tell_logs();

@@ -35,7 +35,7 @@ use spec_translation::{
 use std::alloc::{AllocError, Global};
 use term_tree::Bank;
 
-/// What the queries share: the common part of their logs, and the rows of its clauses.
+/// What the queries share: the common part of their logs, and the rows of its clauses and of what is given.
 #[derive(Drop)]
 struct Sharing {
     common: Common,
@@ -58,6 +58,7 @@ fn told<B: Bank>(
     ensures answers { IfOk result (λ answer. Answers question.now answer) }
     ensures kept { OnOk result (IsKnown (B.trees bank.old) sharing.new.known) }
     ensures live { sharing.new.known.live ≡ sharing.old.known.live }
+    ensures given { sharing.new.known.given ≡ sharing.old.known.given }
     ensures common { sharing.new.common ≡ sharing.old.common }
     ensures bank { B.trees bank.new ≡ B.trees bank.old }
 {
@@ -110,6 +111,7 @@ fn gone_on<B: Bank>(
     ensures answers { IfOk result (λ answer. Answers question.now answer) }
     ensures kept { OnOk result (IsKnown (B.trees bank.old) sharing.new.known) }
     ensures live { sharing.new.known.live ≡ sharing.old.known.live }
+    ensures given { sharing.new.known.given ≡ sharing.old.known.given }
     ensures grows { Grows (B.trees bank.old) (B.trees bank.new) }
     ensures common { IsCommonOf (B.trees bank.new) shared sharing.new.common }
     ensures begun { begun_log sharing.new.common ≡ begun_log sharing.old.common }
@@ -142,6 +144,7 @@ fn finished<B: Bank>(
     ensures answers { IfOk result (λ answer. Answers question.now answer) }
     ensures kept { OnOk result (IsKnown (B.trees bank.old) sharing.new.known) }
     ensures live { sharing.new.known.live ≡ sharing.old.known.live }
+    ensures given { sharing.new.known.given ≡ sharing.old.known.given }
     ensures grows { Grows (B.trees bank.old) (B.trees bank.new) }
     ensures common { IsCommonOf (B.trees bank.new) shared sharing.new.common }
     ensures begun { begun_log sharing.new.common ≡ begun_log sharing.old.common }
@@ -179,6 +182,7 @@ fn decided_by<B: Bank>(
     ensures answers { IfOk result (λ answer. Answers question.now answer) }
     ensures kept { OnOk result (IsKnown (B.trees bank.old) sharing.new.known) }
     ensures live { sharing.new.known.live ≡ sharing.old.known.live }
+    ensures given { sharing.new.known.given ≡ sharing.old.known.given }
     ensures bank { B.trees bank.new ≡ B.trees bank.old }
     ensures common { IsFreshCommon (B.trees bank.new)
         (shared_of (B.trees bank.new) given.now question.now.budget) sharing.new.common }
@@ -239,7 +243,8 @@ fn begun_verdicts<B: Bank>(
     entries_tell_logs();
     match begin(asking.alloc, bank, given, asking.budget)? {
         Begun::Ready(common) => {
-            let known = known_rows(asking.alloc, log(&common))?;
+            let copied = copies(asking.alloc, given)?;
+            let known = known_rows(asking.alloc, copied, log(&common))?;
             let mut sharing = Sharing { common, known };
             let answers = shared_verdicts(asking, bank, given, &mut sharing);
             drop(sharing);

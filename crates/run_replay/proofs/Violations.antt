@@ -7,15 +7,27 @@ use Rattle.spec_calculus.specs.Points.{numbered}
 use Rattle.run_replay.specs.Reached.{IsDoneSomewhere, TellsViolation, IsViolatedAtEnd, TellsFirst}
 use Rattle.spec_calculus.specs.Syntax.{Protocol, Query}
 use Rattle.spec_calculus.specs.Runs.{Configuration, Step, start, after_steps, run}
-use Rattle.spec_calculus.specs.Secrecy.{IsViolated}
+use Rattle.spec_calculus.specs.Secrecy.{IsViolated, IsOpen}
 use Rattle.spec_calculus.specs.Refusals.{Refusal}
 use Rattle.run_replay.specs.Replay.{IsRefusedAt, IsFirstRefused, IsDone, IsViolatedAfter, IsFirstViolation, AreFirstViolations, Replay, Done, Stuck, IsReplayOf}
 use Rattle.spec_calculus.proofs.Points.{numbered-add-one, there-numbered}
+use Rattle.spec_calculus.proofs.Plain.{plain_open}
+use Rattle.pi_tree.specs.declared.protocols.Protocol as source
+use Rattle.pi_tree.specs.Protocols.{protocol_of}
+use Rattle.pi_tree.proofs.Plain.{process_plain}
 use Rattle.run_replay.proofs.Applying.{take_next, some_one, fronts_reach, after_steps-append, take_front, take_all_of, refused_in_front, refused_once}
 
--- steps leave violated what is violated
+-- steps leave violated what is violated: while the query is open they do, and it is at the end of each run
 abbrev pub Stays : Protocol → Query → Type 0
-Stays P q = (c d : Configuration) (steps : List Step) → after_steps P c steps ≡ Some d → IsViolated q c → IsViolated q d
+Stays P q =
+    ((c d : Configuration) (steps : List Step) → after_steps P c steps ≡ Some d → IsOpen q d → IsViolated q c → IsViolated q d)
+    × ((d : Configuration) (steps : List Step) → run P steps ≡ Some d → IsOpen q d)
+
+-- in a protocol, which has phase 0 alone, they do
+pub always_stay : (P : source.Protocol)
+    → ((q : Query) (c d : Configuration) (steps : List Step) → after_steps (protocol_of P) c steps ≡ Some d → IsOpen q d → IsViolated q c → IsViolated q d)
+    → (q : Query) → Stays (protocol_of P) q
+always_stay P stay q = (stay q, λ d steps. plain_open (protocol_of P) q d steps (process_plain P.main))
 
 -- each front of a run that is done is done
 pub front_done : (P : Protocol) (steps : List Step) (n : ℕ) (end : Configuration) → IsDone P steps end → (c : Configuration) × IsDone P (take n steps) c
@@ -39,7 +51,8 @@ violated_later P q steps end n m stays all le violated =
     record {
       configuration = later.end;
       reached = later.reached;
-      violated = stays violated.configuration later.end (drop n (take m steps)) (sym split ∙ later.reached) violated.violated;
+      violated = stays.0 violated.configuration later.end (drop n (take m steps)) (sym split ∙ later.reached)
+          (stays.1 later.end (take m steps) later.reached) violated.violated;
     }
 
 -- where it is not violated after n steps, it is after no number of steps up to n

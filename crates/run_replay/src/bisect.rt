@@ -1,8 +1,8 @@
 //! Since when a query is violated.
 //!
-//! What is violated stays violated, whatever the steps that follow. So the least number of steps after which a
-//! query is violated is found by bisection, where each try replays a front of the run: a run of n steps takes
-//! n log n steps, and not n looks at all that is known.
+//! What is violated stays violated while the query is open, and in phase 0, where each run stays, each query is.
+//! So the least number of steps after which a query is violated is found by bisection, where each try replays a
+//! front of the run: a run of n steps takes n log n steps, and not n looks at all that is known.
 
 ghost use Rattle.std.specs.Prelude.{◌≡◌, ◌<◌, ◌≤◌, ◌^◌, ◌↔◌, ℕ, length, map, Some, IfOk, IsTrue, take};
 ghost use Rattle.spec_calculus.specs.Points.{numbered};

@@ -42,6 +42,10 @@ fn step(alloc: Global, action: Action, numbers: &[u32]) -> Result<Option<Step>, 
         }
         (Action::Fail, [thread]) => Step::Fail(*thread),
         (Action::Mark, [thread]) => Step::Mark(*thread),
+        (Action::Next, []) => Step::Next,
+        (Action::Put, [thread]) => Step::Put(*thread),
+        (Action::Fetch, [thread, entry]) => Step::Fetch(*thread, *entry),
+        (Action::Miss, [thread]) => Step::Miss(*thread),
         _ => return Ok(None),
     };
     Ok(Some(step))

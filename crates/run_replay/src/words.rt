@@ -21,6 +21,10 @@ pub enum Action {
     Take,
     Fail,
     Mark,
+    Next,
+    Put,
+    Fetch,
+    Miss,
 }
 
 fn is(word: &[u8], name: &[u8]) -> bool
@@ -59,6 +63,14 @@ pub fn action_named(word: &[u8]) -> Option<Action>
         Some(Action::Fail)
     } else if is(word, b"mark") {
         Some(Action::Mark)
+    } else if is(word, b"next") {
+        Some(Action::Next)
+    } else if is(word, b"insert") {
+        Some(Action::Put)
+    } else if is(word, b"get") {
+        Some(Action::Fetch)
+    } else if is(word, b"miss") {
+        Some(Action::Miss)
     } else {
         None
     }

@@ -2,7 +2,7 @@
 use Rattle.std.proofs.Common.{◌≡◌, ℕ, suc, ◌+◌, Bool, true, false, if◌then◌else◌, List, [], ◌∷◌, ◌++◌, length, refl, sym, ap, ◌∙◌, arith, append_assoc, ◌⊎◌, inl, inr, Box, Ok}
 use Rattle.std.specs.Str.{bytes_eq}
 use Rattle.std.specs.declared.alloc.Global.{Global}
-use Rattle.spec_calculus.specs.Syntax.{Process, Nil, Output, Input, Parallel, Replication, New, Event}
+use Rattle.spec_calculus.specs.Syntax.{Process, Nil, Output, Input, Parallel, Replication, New, Event, Phase, Insert, Get}
 use Rattle.spec_calculus.specs.Syntax as calculus
 use Rattle.spec_calculus.specs.Points.{nodes}
 use Rattle.pi_tree.specs.declared.syntax.Process.{Process as Tree, Par, Let}
@@ -51,6 +51,9 @@ points_append word point (Parallel left right ∷ ps) qs = behind word point ps 
 points_append word point (Replication copied ∷ ps) qs = behind word point ps qs (points_append word (point + 1) ps qs)
 points_append word point (calculus.Let p e next otherwise ∷ ps) qs = behind word point ps qs (points_append word (point + 1) ps qs)
 points_append word point (Event performed next ∷ ps) qs = behind word point ps qs (points_append word (point + 1) ps qs)
+points_append word point (Phase number next ∷ ps) qs = behind word point ps qs (points_append word (point + 1) ps qs)
+points_append word point (Insert table arguments next ∷ ps) qs = behind word point ps qs (points_append word (point + 1) ps qs)
+points_append word point (Get table patterns condition next otherwise ∷ ps) qs = behind word point ps qs (points_append word (point + 1) ps qs)
 
 -- what is kept behind two parts in a row
 pub both_parts : (word : List ℕ) (point next : ℕ) (left right : List Process) (before : List ℕ) (after : Seen)
@@ -77,7 +80,7 @@ parts_of word point process left right one other (inr (p, e, is)) l r =
 -- what a query for a name's restriction answers, by what is kept of them
 abbrev pub by_seen : ℕ → Seen → Answer calculus.Query
 by_seen token Nowhere = fault Unknown token
-by_seen token (Once point) = Ok (calculus.SecretNew point)
+by_seen token (Once point) = Ok (calculus.SecretNew point 0)
 by_seen token Often = fault AmbiguousNew token
 
 kept_only : (token : ℕ) (points : List ℕ) → only_point token points ≡ by_seen token (summary points)

@@ -75,7 +75,7 @@ module _ (P : Protocol) (s t : Subst) (base n : ℕ) (agree : Agree (base + n) s
       let others = rule_terms_agree us a.1 in λ i. first i ∷ others i
 
 -- a row has as many values as it has parts
-values_counted : (environment : Environment) (parts : Trees calculus.Term (Head Rule)) (vs : List Value) → ruled_values environment parts ≡ Some vs → row_length parts ≡ length vs
+pub values_counted : (environment : Environment) (parts : Trees calculus.Term (Head Rule)) (vs : List Value) → ruled_values environment parts ≡ Some vs → row_length parts ≡ length vs
 values_counted environment none vs e = ap length (of_some [] vs e)
 values_counted environment (more part parts) vs e =
     let (v, first, then_is) = of_then (λ v. option_map (λ ws. v ∷ ws) (ruled_values environment parts)) (ruled_value environment part) vs e in

@@ -10,7 +10,7 @@ use Rattle.spec_trees.proofs.Occurrence.{or_true}
 use Rattle.spec_calculus.specs.Syntax.{Made, Process, New, Declared, Protocol}
 use Rattle.spec_calculus.specs.Points.{numbered}
 use Rattle.spec_calculus.specs.Values.{Atom, FreeName, MadeName, AttackerName, Binding, Environment}
-use Rattle.spec_calculus.specs.Runs.{At, Configuration, Step, Build, Reduce, Part, Fresh, Split, Copy, Make, Pass, Hear, Say, Take, Fail, Mark, goes_on, after_make, public_name, start, acting, after_step, after_steps, run}
+use Rattle.spec_calculus.specs.Runs.{At, Configuration, Step, Build, Reduce, Part, Fresh, Split, Copy, Make, Pass, Hear, Say, Take, Fail, Mark, Next, Put, Fetch, Miss, goes_on, after_make, public_name, start, acting, after_step, after_steps, run}
 use Rattle.spec_calculus.specs.Runs as runs
 use Rattle.spec_calculus.specs.Standing.{Lacks, EnvironmentLacks, ThreadLacks, IsLacking}
 use Rattle.spec_calculus.proofs.Items.{of_some, of_then, each-append, each-replaced, each-numbered, if_some-is}
@@ -19,11 +19,10 @@ use Rattle.spec_calculus.proofs.Freshness.{none_passes, lacking_weaker}
 use Rattle.spec_clauses.specs.Inclusion.{here, there, Has}
 use Rattle.spec_abstraction.specs.Trace.{MadeAt, Trace, start_trace, past_of, message_at, point_of, standing_at, after_trace, trace_from, trace_of}
 pub use Rattle.spec_abstraction.specs.OneToOne.{is_entry, is_foreign}
-use Rattle.spec_abstraction.proofs.Runs.{hears_made}
-use Rattle.spec_abstraction.proofs.Steps.{acted}
+use Rattle.spec_abstraction.proofs.Acting.{acted, hears_made}
 
 -- with one entry more no name becomes foreign
-more_entries : (e : MadeAt) (made : List MadeAt) (x : Atom) → is_foreign made x ≡ false → is_foreign (e ∷ made) x ≡ false
+pub more_entries : (e : MadeAt) (made : List MadeAt) (x : Atom) → is_foreign made x ≡ false → is_foreign (e ∷ made) x ≡ false
 more_entries e made (FreeName n) h = refl
 more_entries e made (MadeName point number) h = go (is_entry point number e) (list_any (is_entry point number) made) h where
   go : (a b : Bool) → not b ≡ false → not (a || b) ≡ false
@@ -55,11 +54,12 @@ module _ (P : Protocol) where
         known = before.known;
         threads = each-replaced (ThreadLacks q) c.threads n (At (point + 1) (environment ++ binding ∷ [])) new before.threads;
         events = before.events;
+        entries = before.entries;
       } in
       subst (IsLacking q) (of_some (runs.names (goes_on c n (At (point + 1) (environment ++ binding ∷ [])))) d e) after
   make_entries c d t n point environment _ thread e h = cc
 
-  step_entries : (c d : Configuration) (t : Trace) (step : Step) → after_step P c step ≡ Some d → IsLacking (is_foreign t.made) c → IsLacking (is_foreign (after_trace P c t step).made) d
+  pub step_entries : (c d : Configuration) (t : Trace) (step : Step) → after_step P c step ≡ Some d → IsLacking (is_foreign t.made) c → IsLacking (is_foreign (after_trace P c t step).made) d
   step_entries c d t (Build f ks) e h = other_entries c d t (Build f ks) e tt refl h
   step_entries c d t (Reduce n r ks) e h = other_entries c d t (Reduce n r ks) e tt refl h
   step_entries c d t (Part k n) e h = other_entries c d t (Part k n) e tt refl h
@@ -75,6 +75,10 @@ module _ (P : Protocol) where
   step_entries c d t (Take n label) e h = other_entries c d t (Take n label) e tt refl h
   step_entries c d t (Fail n) e h = other_entries c d t (Fail n) e tt refl h
   step_entries c d t (Mark n) e h = other_entries c d t (Mark n) e tt refl h
+  step_entries c d t Next e h = other_entries c d t Next e tt refl h
+  step_entries c d t (Put n) e h = other_entries c d t (Put n) e tt refl h
+  step_entries c d t (Fetch n k) e h = other_entries c d t (Fetch n k) e tt refl h
+  step_entries c d t (Miss n) e h = other_entries c d t (Miss n) e tt refl h
 
   steps_entries : (steps : List Step) (c d : Configuration) (t : Trace) → after_steps P c steps ≡ Some d → IsLacking (is_foreign t.made) c → IsLacking (is_foreign (trace_from P c t steps).made) d
   steps_entries [] c d t e h = let same : c ≡ d = cc in subst (IsLacking (is_foreign t.made)) same h
@@ -83,9 +87,9 @@ module _ (P : Protocol) where
       let onward : trace_from P c t (step ∷ steps) ≡ trace_from P x (after_trace P c t step) steps = ap (λ o. option_map_or (λ y. trace_from P y (after_trace P c t step) steps) o t) made in
       subst (λ u. IsLacking (is_foreign u.made) d) (sym onward) (steps_entries steps x d (after_trace P c t step) rest (step_entries c x t step made h))
 
-  -- In a run no name stands anywhere without an entry.
-  pub runs_have_entries : (steps : List Step) (c : Configuration) → run P steps ≡ Some c → IsLacking (is_foreign (trace_of P steps).made) c
-  runs_have_entries steps c e = steps_entries steps (start P) c start_trace e (record { known = public_known 1 P.frees; threads = (tt, tt); events = tt })
+  -- at the start none stands anywhere
+  pub start_lacks : IsLacking (is_foreign []) (start P)
+  start_lacks = record { known = public_known 1 P.frees; threads = (tt, tt); events = tt; entries = tt }
     where
       public_known : (k : ℕ) (frees : List Declared) → AllByRecursion (Lacks (is_foreign [])) (filter_map public_name (enumerate_from k frees))
       public_known k [] = tt
@@ -94,6 +98,10 @@ module _ (P : Protocol) where
           go : (public : Bool) → AllByRecursion (Lacks (is_foreign [])) (filter_map public_name (enumerate_from (k + 1) frees)) → AllByRecursion (Lacks (is_foreign [])) (cons_option (cond public (Some (Leaf (FreeName k))) None) (filter_map public_name (enumerate_from (k + 1) frees)))
           go true others = (refl, others)
           go false others = others
+
+  -- In a run no name stands anywhere without an entry.
+  pub runs_have_entries : (steps : List Step) (c : Configuration) → run P steps ≡ Some c → IsLacking (is_foreign (trace_of P steps).made) c
+  runs_have_entries steps c e = steps_entries steps (start P) c start_trace e start_lacks
 
 -- the entry of a name that isn't foreign
 pub found_entry : (point number : ℕ) (made : List MadeAt) → is_foreign made (MadeName point number) ≡ false → (e : MadeAt) × Has made e × (e.point ≡ point) × (e.number ≡ number)

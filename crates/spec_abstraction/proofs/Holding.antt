@@ -3,11 +3,11 @@ use Rattle.std.proofs.Common.{◌≡◌, ℕ, zero, suc, ◌+◌, Bool, true, fa
 use Rattle.std.specs.Prelude.{flat_map}
 use Rattle.std.specs.Option.{IfSome}
 use Rattle.std.specs.List.{AllByRecursion}
-use Rattle.spec_calculus.specs.Syntax.{Process, Nil, Output, Input, Parallel, Replication, New, Let, Event, Query, Protocol}
+use Rattle.spec_calculus.specs.Syntax.{Process, Nil, Output, Input, Parallel, Replication, New, Let, Event, Phase, Insert, Get, Query, Protocol}
 use Rattle.spec_calculus.specs.Points.{point_after}
 use Rattle.spec_calculus.specs.Bounds.{most_visits}
 use Rattle.spec_terms.specs.Term.{Term}
-use Rattle.spec_clauses.specs.Fact.{Ev, Clause}
+use Rattle.spec_clauses.specs.Fact.{Tab, Ev, Clause}
 use Rattle.spec_clauses.specs.Variables.{AreBelow}
 use Rattle.spec_clauses.specs.Norm.{norms}
 use Rattle.spec_clauses.specs.Limits.{is_large_raw}
@@ -15,10 +15,11 @@ use Rattle.spec_clauses.specs.Inclusion.{here, there, Has}
 use Rattle.spec_clauses.proofs.Inclusion.{Has-append_left, Has-append_right}
 use Rattle.spec_translation.specs.Conversion.{Fresh, term_in}
 use Rattle.spec_translation.specs.Attacker.{attacker_raw}
-use Rattle.spec_translation.specs.Visit.{Visit, visit_terms, first_visit, is_large_visit, evaluates_large, sent, raw_clause, IsFresh, after_input, after_copy, after_new, event_terms, after_event}
-use Rattle.spec_translation.specs.Choice.{AllGoOn}
+use Rattle.spec_translation.specs.Visit.{Visit, visit_terms, first_visit, is_large_visit, evaluates_large, sent, raw_clause, IsFresh, after_input, after_copy, after_new, event_terms, after_event, after_phase, written_terms}
+use Rattle.spec_translation.specs.Choice.{AllGoOn, EntryGoesOn}
+use Rattle.spec_translation.specs.Otherwise.{otherwise_visit}
 use Rattle.spec_translation.specs.Course.{Outcome, Done, TooLarge, Course, Counted, Unless, preceded, After, Then, Adds}
-use Rattle.spec_translation.specs.Visited.{some_large, EachThen, Copied, Received, Chosen, Visited}
+use Rattle.spec_translation.specs.Visited.{some_large, EachThen, Copied, Received, Chosen, Fetched, Visited}
 use Rattle.spec_translation.specs.Translation.{Clauses, attacker_clauses, goal_clauses, whole, IsTranslation}
 use Rattle.spec_abstraction.specs.Taken.{IsTaken, HasVisit, HoldsAll}
 
@@ -83,7 +84,7 @@ each_yields R T G H each last (Some v ∷ outs) left rest clauses all x part =
 pub visited_yields : (P : Protocol) (process : Process) (point : ℕ) (v : Visit) → Yields (Visited P process point v) (λ all. HasVisit all P process point v)
 visited_yields P Nil point v = λ left rest clauses all x part. tt
 visited_yields P (Output channel message next) point v =
-    let raw = raw_clause v (sent P (term_in P v.scope channel) (term_in P v.scope message)) in
+    let raw = raw_clause v (sent P v.phase (term_in P v.scope channel) (term_in P v.scope message)) in
     let R = Adds (norms raw) (Visited P next (point + 1) v) in
     let G = λ (all : List (Clause Term)). IsTaken all raw × HasVisit all P next (point + 1) v in
     counted_yields point (Unless (evaluates_large P v (Output channel message next) || is_large_raw raw) point R) G
@@ -115,12 +116,13 @@ visited_yields P (New word next) point v =
 visited_yields P (Let pattern expression next otherwise) point v =
     let process = Let pattern expression next otherwise in
     let R = λ (w : Visit). Visited P next (point + 1) w in
-    let T = Visited P otherwise (point_after (point + 1) next) v in
+    let w_else = otherwise_visit P v pattern expression in
+    let T = Visited P otherwise (point_after (point + 1) next) w_else in
     let G = λ (all : List (Clause Term)) (w : Visit). HasVisit all P next (point + 1) w in
-    let H = λ (all : List (Clause Term)). HasVisit all P otherwise (point_after (point + 1) next) v in
+    let H = λ (all : List (Clause Term)). HasVisit all P otherwise (point_after (point + 1) next) w_else in
     let C = Chosen P v pattern expression point R T in
     let D = λ (all : List (Clause Term)). (outs : List (Option Visit)) × AllGoOn P v pattern expression outs × AllByRecursion (λ out. IfSome out (G all)) outs × H all in
-    let each = each_yields R T G H (λ w. visited_yields P next (point + 1) w) (visited_yields P otherwise (point_after (point + 1) next) v) in
+    let each = each_yields R T G H (λ w. visited_yields P next (point + 1) w) (visited_yields P otherwise (point_after (point + 1) next) w_else) in
     counted_yields point (Unless (evaluates_large P v process) point C) D
     (unless_yields (evaluates_large P v process) point C D
     (λ left rest clauses all x part.
@@ -136,6 +138,32 @@ visited_yields P (Event performed next) point v =
     counted_yields point (Unless large point R) G
     (unless_yields large point R G
     (adds_yields (norms raw) (Visited P next (point + 1) w) (λ all. HasVisit all P next (point + 1) w) (visited_yields P next (point + 1) w)))
+visited_yields P (Phase number next) point v =
+    let w = after_phase v number in
+    counted_yields point (Visited P next (point + 1) w) (λ all. HasVisit all P next (point + 1) w) (visited_yields P next (point + 1) w)
+visited_yields P (Insert table arguments next) point v =
+    let raw = raw_clause v (Tab table (written_terms P v arguments)) in
+    let R = Adds (norms raw) (Visited P next (point + 1) v) in
+    let G = λ (all : List (Clause Term)). IsTaken all raw × HasVisit all P next (point + 1) v in
+    let large = evaluates_large P v (Insert table arguments next) || is_large_raw raw in
+    counted_yields point (Unless large point R) G
+    (unless_yields large point R G
+    (adds_yields (norms raw) (Visited P next (point + 1) v) (λ all. HasVisit all P next (point + 1) v) (visited_yields P next (point + 1) v)))
+visited_yields P (Get table patterns condition next otherwise) point v =
+    let process = Get table patterns condition next otherwise in
+    let R = λ (w : Visit). Visited P next (point + 1) w in
+    let T = Visited P otherwise (point_after (point + 1) next) v in
+    let G = λ (all : List (Clause Term)) (w : Visit). HasVisit all P next (point + 1) w in
+    let H = λ (all : List (Clause Term)). HasVisit all P otherwise (point_after (point + 1) next) v in
+    let C = Fetched P v table patterns condition point R T in
+    let D = λ (all : List (Clause Term)). (large : Bool) × (went : Option Visit) × EntryGoesOn P v table patterns condition large went × IfSome went (G all) × H all in
+    let each = each_yields R T G H (λ w. visited_yields P next (point + 1) w) (visited_yields P otherwise (point_after (point + 1) next) v) in
+    counted_yields point (Unless (evaluates_large P v process) point C) D
+    (unless_yields (evaluates_large P v process) point C D
+    (λ left rest clauses all x part.
+    let outs = x.1 ∷ [] in
+    let both = unless_yields (x.0 || some_large outs) point (EachThen R outs T) (λ a. AllByRecursion (λ out. IfSome out (G a)) outs × H a) (each outs) left rest clauses all x.3 part in
+    (x.0, x.1, x.2, both.0.0, both.1)))
 
 -- raw clauses, of which the list has all norms
 all_taken : (raws : List (Clause Term)) (all : List (Clause Term)) → ArePart (flat_map norms raws) all → AllByRecursion (IsTaken all) raws

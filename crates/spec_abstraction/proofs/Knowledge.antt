@@ -1,5 +1,5 @@
 -- What the attacker's steps make known is derived.
-use Rattle.std.proofs.Common.{◌≡◌, ◌∙◌, ℕ, zero, suc, ◌+◌, ◌-◌, ◌<◌, Bool, true, false, ◌&&◌, cond, nat_eq, Option, Some, None, List, [], ◌∷◌, ◌++◌, map, length, refl, ap, sym, subst, arith}
+use Rattle.std.proofs.Common.{◌≡◌, ◌∙◌, ℕ, zero, suc, ◌+◌, ◌-◌, ◌<◌, ◌≤◌, Bool, true, false, ◌&&◌, cond, nat_eq, Option, Some, None, List, [], ◌∷◌, ◌++◌, map, length, refl, ap, sym, subst, arith}
 use Rattle.std.specs.Prelude.{flat_map, slice_get, max}
 use Rattle.std.specs.Option.{option_map_or}
 use Rattle.std.specs.List.{AllByRecursion}
@@ -10,7 +10,7 @@ use Rattle.spec_trees.specs.Leaves.{leaves, row_leaves}
 use Rattle.spec_trees.proofs.Equality.{and_true}
 use Rattle.spec_calculus.specs.Syntax.{Name, Made, Variable, Symbol, Constructor, Rule, Declared, Protocol}
 use Rattle.spec_calculus.specs.Syntax as calculus
-use Rattle.spec_calculus.specs.Points.{numbered}
+use Rattle.spec_calculus.specs.Points.{numbered, greatest_phase}
 use Rattle.spec_calculus.specs.Values.{Atom, Value, Environment, value_of_bound}
 use Rattle.spec_calculus.specs.Matching.{instance_of, rule_value, rules_of}
 use Rattle.spec_calculus.specs.Runs.{can_build, built, is_data, part_of}
@@ -36,9 +36,9 @@ use Rattle.spec_abstraction.proofs.Values.{converted-of_bind, converted-node}
 use Rattle.spec_abstraction.proofs.Conclusions.{AttackerHas, Derived, both_derived, applied, rule_taken, constructor_derived}
 
 -- the flat of a data term is that of its parts
-pub data_parts : (ts : List Term) → map Att (row_parts (trees ts)) ≡ flat_map (λ t. flat (Att t)) ts
-data_parts [] = refl
-data_parts (t ∷ ts) = map-append Att (parts t) (row_parts (trees ts)) ∙ ap (λ fs. flat (Att t) ++ fs) (data_parts ts)
+pub data_parts : (phase : ℕ) (ts : List Term) → map (Att phase) (row_parts (trees ts)) ≡ flat_map (λ t. flat (Att phase t)) ts
+data_parts phase [] = refl
+data_parts phase (t ∷ ts) = map-append (Att phase) (parts t) (row_parts (trees ts)) ∙ ap (λ fs. flat (Att phase t) ++ fs) (data_parts phase ts)
 
 -- variables of rules: each is numbered from 1
 abbrev pub IsRuleVariable : Name → Type 0
@@ -91,112 +91,113 @@ module _ (P : Protocol) (names : Naming) where
       let first = rule_term_value base by s t a.0 in
       let others = rule_terms_value base by s ts a.1 in λ i. first i ∷ others i
 
-  module _ (all : List (Clause Term)) (events : List (Fact Term)) (has : AttackerHas P all) where
-    -- the attacker has the value
+  module _ (all : List (Clause Term)) (events : List (Fact Term)) (phase : ℕ) where
+    -- in the phase the attacker has the value
     abbrev pub IsKnown : Value → Type 0
-    IsKnown v = Derived P all events (flat (Att (abstracted P names v)))
+    IsKnown v = Derived P all events (flat (Att phase (abstracted P names v)))
 
-    pub all_known : (vs : List Value) → AllByRecursion IsKnown vs → Derived P all events (flat_map (λ t. flat (Att t)) (map (abstracted P names) vs))
+    pub all_known : (vs : List Value) → AllByRecursion IsKnown vs → Derived P all events (flat_map (λ t. flat (Att phase t)) (map (abstracted P names) vs))
     all_known [] a = nothing
     all_known (v ∷ vs) a =
-        both_derived P all events (flat (Att (abstracted P names v))) (flat_map (λ t. flat (Att t)) (map (abstracted P names) vs)) a.0 (all_known vs a.1)
+        both_derived P all events (flat (Att phase (abstracted P names v))) (flat_map (λ t. flat (Att phase t)) (map (abstracted P names) vs)) a.0 (all_known vs a.1)
 
     -- a data symbol on values that he has
-    data_known : (f : Sym) (ts : List Term) → clause_flat.is_data f ≡ true → Derived P all events (flat_map (λ t. flat (Att t)) ts) → Derived P all events (flat (Att (node f ts)))
+    data_known : (f : Sym) (ts : List Term) → clause_flat.is_data f ≡ true → Derived P all events (flat_map (λ t. flat (Att phase t)) ts) → Derived P all events (flat (Att phase (node f ts)))
     data_known f ts data_symbol known =
-        let e : flat (Att (node f ts)) ≡ flat_map (λ t. flat (Att t)) ts = rw data_symbol (data_parts ts) in
+        let e : flat (Att phase (node f ts)) ≡ flat_map (λ t. flat (Att phase t)) ts = rw data_symbol (data_parts phase ts) in
         subst (Derived P all events) (sym e) known
 
-    length-abstracted : (vs : List Value) → length (map (abstracted P names) vs) ≡ length vs
-    length-abstracted [] = refl
-    length-abstracted (v ∷ vs) = let h = length-abstracted vs in omega (arith, h)
+    module _ (has : AttackerHas P all) (within : phase ≤ greatest_phase P.main) where
+      length-abstracted : (vs : List Value) → length (map (abstracted P names) vs) ≡ length vs
+      length-abstracted [] = refl
+      length-abstracted (v ∷ vs) = let h = length-abstracted vs in omega (arith, h)
 
-    declared_built : (f : ℕ) (vs : List Value) (o : Option Declared) → numbered P.constructors f ≡ o → option_map_or (λ declared. declared.public && nat_eq declared.arity (length vs)) o false ≡ true → AllByRecursion IsKnown vs → Derived P all events (flat (Att (node (symbol_over P (length vs) (Constructor f)) (map (abstracted P names) vs))))
-    declared_built f vs None e can known = cc
-    declared_built f vs (Some declared) e can known = go declared.is_data refl
-      where
-        both : (declared.public ≡ true) × (nat_eq declared.arity (length vs) ≡ true)
-        both = and_true declared.public (nat_eq declared.arity (length vs)) can
+      declared_built : (f : ℕ) (vs : List Value) (o : Option Declared) → numbered P.constructors f ≡ o → option_map_or (λ declared. declared.public && nat_eq declared.arity (length vs)) o false ≡ true → AllByRecursion IsKnown vs → Derived P all events (flat (Att phase (node (symbol_over P (length vs) (Constructor f)) (map (abstracted P names) vs))))
+      declared_built f vs None e can known = cc
+      declared_built f vs (Some declared) e can known = go declared.is_data refl
+        where
+          both : (declared.public ≡ true) × (nat_eq declared.arity (length vs) ≡ true)
+          both = and_true declared.public (nat_eq declared.arity (length vs)) can
 
-        ts : List Term
-        ts = map (abstracted P names) vs
+          ts : List Term
+          ts = map (abstracted P names) vs
 
-        go : (b : Bool) → declared.is_data ≡ b → Derived P all events (flat (Att (node (symbol_over P (length vs) (Constructor f)) (map (abstracted P names) vs))))
-        go true d =
-            let symbol : symbol_over P (length vs) (Constructor f) ≡ Data f = rw e (rw d refl) in
-            subst (λ g. Derived P all events (flat (Att (node g (map (abstracted P names) vs))))) (sym symbol)
-            (data_known (Data f) (map (abstracted P names) vs) refl (all_known vs known))
-        go false d =
-            let symbol : symbol_over P (length vs) (Constructor f) ≡ Ctor f = rw e (rw d refl) in
-            let public_and = and_true declared.public (nat_eq declared.arity (length vs)) can in
-            let count : declared.arity ≡ length (map (abstracted P names) vs) = eqb-true declared.arity (length vs) public_and.1 ∙ sym (length-abstracted vs) in
-            subst (λ g. Derived P all events (flat (Att (node g (map (abstracted P names) vs))))) (sym symbol)
-            (constructor_derived P all events has f declared (map (abstracted P names) vs) e public_and.0 d count (all_known vs known))
+          go : (b : Bool) → declared.is_data ≡ b → Derived P all events (flat (Att phase (node (symbol_over P (length vs) (Constructor f)) (map (abstracted P names) vs))))
+          go true d =
+              let symbol : symbol_over P (length vs) (Constructor f) ≡ Data f = rw e (rw d refl) in
+              subst (λ g. Derived P all events (flat (Att phase (node g (map (abstracted P names) vs))))) (sym symbol)
+              (data_known (Data f) (map (abstracted P names) vs) refl (all_known vs known))
+          go false d =
+              let symbol : symbol_over P (length vs) (Constructor f) ≡ Ctor f = rw e (rw d refl) in
+              let public_and = and_true declared.public (nat_eq declared.arity (length vs)) can in
+              let count : declared.arity ≡ length (map (abstracted P names) vs) = eqb-true declared.arity (length vs) public_and.1 ∙ sym (length-abstracted vs) in
+              subst (λ g. Derived P all events (flat (Att phase (node g (map (abstracted P names) vs))))) (sym symbol)
+              (constructor_derived P all events has phase within f declared (map (abstracted P names) vs) e public_and.0 d count (all_known vs known))
 
-    -- what the attacker builds of values that he has, he has
-    pub built_known : (f : ℕ) (vs : List Value) → can_build P f (length vs) ≡ true → AllByRecursion IsKnown vs → IsKnown (built f vs)
-    built_known zero vs can known =
-        subst (λ t. Derived P all events (flat (Att t))) (sym (converted-node P (atom_term names) calculus.Tuple vs))
-        (data_known (Tuple (length vs)) (map (abstracted P names) vs) refl (all_known vs known))
-    built_known (suc f) vs can known =
-        subst (λ t. Derived P all events (flat (Att t))) (sym (converted-node P (atom_term names) (Constructor (suc f)) vs))
-        (declared_built (suc f) vs (numbered P.constructors (suc f)) refl can known)
+      -- what the attacker builds of values that he has, he has
+      pub built_known : (f : ℕ) (vs : List Value) → can_build P f (length vs) ≡ true → AllByRecursion IsKnown vs → IsKnown (built f vs)
+      built_known zero vs can known =
+          subst (λ t. Derived P all events (flat (Att phase t))) (sym (converted-node P (atom_term names) calculus.Tuple vs))
+          (data_known (Tuple (length vs)) (map (abstracted P names) vs) refl (all_known vs known))
+      built_known (suc f) vs can known =
+          subst (λ t. Derived P all events (flat (Att phase t))) (sym (converted-node P (atom_term names) (Constructor (suc f)) vs))
+          (declared_built (suc f) vs (numbered P.constructors (suc f)) refl can known)
 
-    -- the hypotheses of a rule
-    rule_hypotheses : (s : Subst) (ts : List calculus.Term) → flat_under s (map (λ t. Att (rule_term P 0 t)) ts) ≡ flat_map (λ t. flat (Att t)) (map (bind s) (map (rule_term P 0) ts))
-    rule_hypotheses s [] = refl
-    rule_hypotheses s (t ∷ ts) = ap (λ fs. flat (Att (bind s (rule_term P 0 t))) ++ fs) (rule_hypotheses s ts)
+      -- the hypotheses of a rule
+      rule_hypotheses : (s : Subst) (ts : List calculus.Term) → flat_under s (map (λ t. Att phase (rule_term P 0 t)) ts) ≡ flat_map (λ t. flat (Att phase t)) (map (bind s) (map (rule_term P 0) ts))
+      rule_hypotheses s [] = refl
+      rule_hypotheses s (t ∷ ts) = ap (λ fs. flat (Att phase (bind s (rule_term P 0 t))) ++ fs) (rule_hypotheses s ts)
 
-    -- what he reduces values that he has to, he has
-    pub reduced_known : (d r : ℕ) (rule : Rule) (vs : List Value) (v : Value) → IsProperRule rule → numbered (rules_of P d) r ≡ Some rule → rule_value rule vs ≡ Some v → AllByRecursion IsKnown vs → IsKnown v
-    reduced_known d r rule vs v proper stands gives known =
-        let (env, left, right) = rule_value-sound rule vs v gives in
-        let s = rule_values 0 Leaf env in
-        let variables = proper_variables rule proper in
-        let lefts = left_variables rule.left (all_first IsRuleVariable (row_leaves (trees rule.left)) (leaves rule.right) variables) in
-        let rights = all_second IsRuleVariable (row_leaves (trees rule.left)) (leaves rule.right) variables in
-        let hypotheses : flat_under s (map (λ t. Att (rule_term P 0 t)) rule.left) ≡ flat_map (λ t. flat (Att t)) (map (abstracted P names) vs) =
-        rule_hypotheses s rule.left ∙ ap (flat_map (λ t. flat (Att t))) (rule_terms_value 0 Leaf env rule.left lefts ∙ ap (map (abstracted P names)) left) in
-        let conclusion : bind s (rule_term P 0 rule.right) ≡ abstracted P names v = rule_term_value 0 Leaf env rule.right rights ∙ ap (abstracted P names) (sym right) in
-        subst (λ t. Derived P all events (flat (Att t))) conclusion
-        (applied P all events (rule_applied P rule) s refl (rule_taken P all events has d r rule stands) (subst (Derived P all events) (sym hypotheses) (all_known vs known)))
+      -- what he reduces values that he has to, he has
+      pub reduced_known : (d r : ℕ) (rule : Rule) (vs : List Value) (v : Value) → IsProperRule rule → numbered (rules_of P d) r ≡ Some rule → rule_value rule vs ≡ Some v → AllByRecursion IsKnown vs → IsKnown v
+      reduced_known d r rule vs v proper stands gives known =
+          let (env, left, right) = rule_value-sound rule vs v gives in
+          let s = rule_values 0 Leaf env in
+          let variables = proper_variables rule proper in
+          let lefts = left_variables rule.left (all_first IsRuleVariable (row_leaves (trees rule.left)) (leaves rule.right) variables) in
+          let rights = all_second IsRuleVariable (row_leaves (trees rule.left)) (leaves rule.right) variables in
+          let hypotheses : flat_under s (map (λ t. Att phase (rule_term P 0 t)) rule.left) ≡ flat_map (λ t. flat (Att phase t)) (map (abstracted P names) vs) =
+          rule_hypotheses s rule.left ∙ ap (flat_map (λ t. flat (Att phase t))) (rule_terms_value 0 Leaf env rule.left lefts ∙ ap (map (abstracted P names)) left) in
+          let conclusion : bind s (rule_term P 0 rule.right) ≡ abstracted P names v = rule_term_value 0 Leaf env rule.right rights ∙ ap (abstracted P names) (sym right) in
+          subst (λ t. Derived P all events (flat (Att phase t))) conclusion
+          (applied P all events (rule_applied P phase rule) s refl (rule_taken P all events has phase within d r rule stands) tt (subst (Derived P all events) (sym hypotheses) (all_known vs known)))
 
-    -- a part of a row
-    part_within : (vs : Trees Atom Symbol) (k : ℕ) (w : Value) → slice_get (items_of vs) k ≡ Some w → IsWithin (map Att (parts (abstracted P names w))) (map Att (row_parts (converted_row P (atom_term names) vs)))
-    part_within none k w e = cc
-    part_within (more v vs) zero w e =
-        let same : v ≡ w = cc in
-        let rest = map Att (row_parts (converted_row P (atom_term names) vs)) in
-        let joined = map-append Att (parts (abstracted P names v)) (row_parts (converted_row P (atom_term names) vs)) in
-        subst (λ u. IsWithin (map Att (parts (abstracted P names u))) (map Att (row_parts (converted_row P (atom_term names) (more v vs))))) same
-        (subst (IsWithin (map Att (parts (abstracted P names v)))) (sym joined)
-        (within-more_right (map Att (parts (abstracted P names v))) (map Att (parts (abstracted P names v))) rest (within_self (map Att (parts (abstracted P names v))))))
-    part_within (more v vs) (suc k) w e =
-        let rest = map Att (row_parts (converted_row P (atom_term names) vs)) in
-        let joined = map-append Att (parts (abstracted P names v)) (row_parts (converted_row P (atom_term names) vs)) in
-        subst (IsWithin (map Att (parts (abstracted P names w)))) (sym joined)
-        (within-more_left (map Att (parts (abstracted P names w))) (map Att (parts (abstracted P names v))) rest (part_within vs k w e))
+      -- a part of a row
+      part_within : (vs : Trees Atom Symbol) (k : ℕ) (w : Value) → slice_get (items_of vs) k ≡ Some w → IsWithin (map (Att phase) (parts (abstracted P names w))) (map (Att phase) (row_parts (converted_row P (atom_term names) vs)))
+      part_within none k w e = cc
+      part_within (more v vs) zero w e =
+          let same : v ≡ w = cc in
+          let rest = map (Att phase) (row_parts (converted_row P (atom_term names) vs)) in
+          let joined = map-append (Att phase) (parts (abstracted P names v)) (row_parts (converted_row P (atom_term names) vs)) in
+          subst (λ u. IsWithin (map (Att phase) (parts (abstracted P names u))) (map (Att phase) (row_parts (converted_row P (atom_term names) (more v vs))))) same
+          (subst (IsWithin (map (Att phase) (parts (abstracted P names v)))) (sym joined)
+          (within-more_right (map (Att phase) (parts (abstracted P names v))) (map (Att phase) (parts (abstracted P names v))) rest (within_self (map (Att phase) (parts (abstracted P names v))))))
+      part_within (more v vs) (suc k) w e =
+          let rest = map (Att phase) (row_parts (converted_row P (atom_term names) vs)) in
+          let joined = map-append (Att phase) (parts (abstracted P names v)) (row_parts (converted_row P (atom_term names) vs)) in
+          subst (IsWithin (map (Att phase) (parts (abstracted P names w)))) (sym joined)
+          (within-more_left (map (Att phase) (parts (abstracted P names w))) (map (Att phase) (parts (abstracted P names v))) rest (part_within vs k w e))
 
-    numbered_part : (vs : Trees Atom Symbol) (n : ℕ) (w : Value) → numbered (items_of vs) n ≡ Some w → IsWithin (map Att (parts (abstracted P names w))) (map Att (row_parts (converted_row P (atom_term names) vs)))
-    numbered_part vs zero w e = cc
-    numbered_part vs (suc k) w e = part_within vs k w e
+      numbered_part : (vs : Trees Atom Symbol) (n : ℕ) (w : Value) → numbered (items_of vs) n ≡ Some w → IsWithin (map (Att phase) (parts (abstracted P names w))) (map (Att phase) (row_parts (converted_row P (atom_term names) vs)))
+      numbered_part vs zero w e = cc
+      numbered_part vs (suc k) w e = part_within vs k w e
 
-    -- whether a symbol is one of data, for clauses
-    data_alike : (count : ℕ) (f : Symbol) → clause_flat.is_data (symbol_over P count f) ≡ is_data P f
-    data_alike count calculus.Tuple = refl
-    data_alike count (Constructor f) = go (is_data P (Constructor f)) where
-      go : (b : Bool) → clause_flat.is_data (cond b (Data f) (Ctor f)) ≡ b
-      go true = refl
-      go false = refl
+      -- whether a symbol is one of data, for clauses
+      data_alike : (count : ℕ) (f : Symbol) → clause_flat.is_data (symbol_over P count f) ≡ is_data P f
+      data_alike count calculus.Tuple = refl
+      data_alike count (Constructor f) = go (is_data P (Constructor f)) where
+        go : (b : Bool) → clause_flat.is_data (cond b (Data f) (Ctor f)) ≡ b
+        go true = refl
+        go false = refl
 
-    -- a part of a data value that he has, he has
-    pub part_known : (n : ℕ) (v w : Value) → part_of P n v ≡ Some w → IsKnown v → IsKnown w
-    part_known n (Leaf x) w e known = cc
-    part_known n (Node f vs) w e known = go (is_data P f) refl e where
-      go : (b : Bool) → is_data P f ≡ b → cond b (numbered (items_of vs) n) None ≡ Some w → IsKnown w
-      go false d h = cc
-      go true d h =
-          let row = converted_row P (atom_term names) vs in
-          let data_symbol = data_alike (row_length vs) f ∙ d in
-          let whole : flat (Att (abstracted P names (Node f vs))) ≡ map Att (row_parts row) = rw data_symbol refl in
-          (less (IsTaken all) events (flat (Att (abstracted P names w))) (numbered_part vs n w h) (subst (Derived P all events) whole known)).derivation
+      -- a part of a data value that he has, he has
+      pub part_known : (n : ℕ) (v w : Value) → part_of P n v ≡ Some w → IsKnown v → IsKnown w
+      part_known n (Leaf x) w e known = cc
+      part_known n (Node f vs) w e known = go (is_data P f) refl e where
+        go : (b : Bool) → is_data P f ≡ b → cond b (numbered (items_of vs) n) None ≡ Some w → IsKnown w
+        go false d h = cc
+        go true d h =
+            let row = converted_row P (atom_term names) vs in
+            let data_symbol = data_alike (row_length vs) f ∙ d in
+            let whole : flat (Att phase (abstracted P names (Node f vs))) ≡ map (Att phase) (row_parts row) = rw data_symbol refl in
+            (less (IsTaken all) events (flat (Att phase (abstracted P names w))) (numbered_part vs n w h) (subst (Derived P all events) whole known)).derivation

@@ -26,10 +26,10 @@ part_instance : (c : Clause Term) (premises : List (Fact Term)) (f : Fact Term) 
 part_instance c premises f i =
     let concluded : Has (flat_under i.by (flat c.conclusion)) f = subst (λ fs. Has fs f) (sym (flat_under-flat i.by c.conclusion)) i.concludes in
     let (g, found, made) = Has-flat_map_source (λ h. flat (fact_under i.by h)) (flat c.conclusion) f concluded in
-    let part : Clause Term = record { hypotheses = flat_map flat c.hypotheses; conclusion = g } in (
+    let part : Clause Term = record { hypotheses = flat_map flat c.hypotheses; diffs = c.diffs; conclusion = g } in (
       part,
-      (map (λ h. record { hypotheses = flat_map flat c.hypotheses; conclusion = h }) found.0, pick-map (λ h. record { hypotheses = flat_map flat c.hypotheses; conclusion = h }) found.1),
-      record { by = i.by; premises_are = i.premises_are ∙ sym (flat_under-flats i.by c.hypotheses); concludes = made },
+      (map (λ h. record { hypotheses = flat_map flat c.hypotheses; diffs = c.diffs; conclusion = h }) found.0, pick-map (λ h. record { hypotheses = flat_map flat c.hypotheses; diffs = c.diffs; conclusion = h }) found.1),
+      record { by = i.by; premises_are = i.premises_are ∙ sym (flat_under-flats i.by c.hypotheses); met = i.met; concludes = made },
     )
 
 module _ (events : List (Fact Term)) (clauses : List (Clause Term)) where

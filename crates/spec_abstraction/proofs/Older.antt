@@ -11,8 +11,9 @@ use Rattle.spec_trees.proofs.Occurrence.{or_false, some_leaf-never}
 use Rattle.spec_calculus.specs.Syntax.{Process, Output, Protocol}
 use Rattle.spec_calculus.specs.Points.{numbered, replaced}
 use Rattle.spec_calculus.specs.Values.{Atom, FreeName, MadeName, AttackerName, Value, Environment, value_of}
-use Rattle.spec_calculus.specs.Runs.{At, Configuration, Step, Build, Reduce, Part, Fresh, Split, Copy, Make, Pass, Hear, Say, Take, Fail, Mark, start, acting, after_step, after_steps, run}
-use Rattle.spec_calculus.specs.Standing.{Lacks, EnvironmentLacks, ThreadLacks, is_numbered_from, NextIsNew}
+use Rattle.spec_calculus.specs.Tables.{Held}
+use Rattle.spec_calculus.specs.Runs.{At, Configuration, Step, Build, Reduce, Part, Fresh, Split, Copy, Make, Pass, Hear, Say, Take, Fail, Mark, Next, Put, Fetch, Miss, start, acting, after_step, after_steps, run}
+use Rattle.spec_calculus.specs.Standing.{Lacks, EnvironmentLacks, ThreadLacks, EntryLacks, is_numbered_from, NextIsNew}
 use Rattle.spec_calculus.proofs.Items.{of_then, if_some-is}
 use Rattle.spec_calculus.proofs.Growth.{numbers_are_taken}
 use Rattle.spec_calculus.proofs.Leaves.{some_leaf-weaker}
@@ -21,10 +22,10 @@ use Rattle.spec_calculus.proofs.Lacking.{value_lacks}
 use Rattle.spec_clauses.proofs.Lists.{all_append, all_weaker, map_same}
 use Rattle.spec_translation.specs.Conversion.{name_term}
 use Rattle.spec_translation.proofs.Conversions.{converted-same}
-use Rattle.spec_abstraction.specs.Trace.{Past, nothing_past, MadeAt, Trace, start_trace, past_of, message_at, hears, after_trace, trace_from, trace_of}
+use Rattle.spec_abstraction.specs.Trace.{Past, nothing_past, MadeAt, Trace, start_trace, past_of, message_at, gets, hears, entry_values, after_trace, trace_from, trace_of}
 use Rattle.spec_abstraction.specs.Naming.{atom_term, abstracted, made_term, Names, naming}
 use Rattle.spec_abstraction.proofs.Conclusions.{all_numbered}
-use Rattle.spec_abstraction.proofs.Steps.{acted}
+use Rattle.spec_abstraction.proofs.Acting.{acted}
 
 -- no name in the past has this number or a later one
 abbrev pub PastLacks : ℕ → Past → Type 0
@@ -100,14 +101,17 @@ module _ (P : Protocol) where
   all_replaced Q xs zero x q a = a
   all_replaced Q xs (suc k) x q a = all_set Q xs k x q a
 
-  -- a message that is received is of names that are there
-  hears_older : (c : Configuration) (t : Trace) (n : ℕ) (o : Option Value) → IfSome o (Lacks (is_numbered_from c.next)) → IsOlder c t → IsOlder c (hears t n o)
-  hears_older c t n None h a = a
-  hears_older c t n (Some v) h a = record {
-    pasts = all_replaced (PastLacks c.next) t.pasts n (record (past_of t n) { messages = (past_of t n).messages ++ v ∷ [] })
-        (all_append (Lacks (is_numbered_from c.next)) (past_of t n).messages (v ∷ []) (past_lacks c t n a) (h, tt)) a.pasts;
+  -- what is received or taken is of names that are there
+  gets_older : (c : Configuration) (t : Trace) (n : ℕ) (vs : List Value) → AllByRecursion (Lacks (is_numbered_from c.next)) vs → IsOlder c t → IsOlder c (gets t n vs)
+  gets_older c t n vs h a = record {
+    pasts = all_replaced (PastLacks c.next) t.pasts n (record (past_of t n) { messages = (past_of t n).messages ++ vs })
+        (all_append (Lacks (is_numbered_from c.next)) (past_of t n).messages vs (past_lacks c t n a) h) a.pasts;
     made = a.made;
   }
+
+  hears_older : (c : Configuration) (t : Trace) (n : ℕ) (o : Option Value) → IfSome o (Lacks (is_numbered_from c.next)) → IsOlder c t → IsOlder c (hears t n o)
+  hears_older c t n None h a = a
+  hears_older c t n (Some v) h a = gets_older c t n (v ∷ []) (h, tt) a
 
   -- a message of a thread is of names that are there
   message_lacks : (c : Configuration) (n : ℕ) → NextIsNew c → IfSome (acting P c n message_at) (Lacks (is_numbered_from c.next))
@@ -132,6 +136,13 @@ module _ (P : Protocol) where
       go None e = tt
       go (Some v) e = all_numbered (Lacks (is_numbered_from c.next)) c.known k v e new.known
 
+  entry_lacks : (c : Configuration) (k : ℕ) → NextIsNew c → AllByRecursion (Lacks (is_numbered_from c.next)) (entry_values c k)
+  entry_lacks c k new = go (numbered c.entries k) refl
+    where
+      go : (o : Option Held) → numbered c.entries k ≡ o → AllByRecursion (Lacks (is_numbered_from c.next)) (option_map_or (λ held. held.arguments) o [])
+      go None e = tt
+      go (Some held) e = all_numbered (EntryLacks (is_numbered_from c.next)) c.entries k held e new.entries
+
   -- where the next name has a later number
   grown : (c d : Configuration) (t : Trace) → c.next ≤ d.next → IsOlder c t → IsOlder d t
   grown c d t le a = record {
@@ -154,6 +165,10 @@ module _ (P : Protocol) where
   trace_older c t (Take n label) new a other = a
   trace_older c t (Fail n) new a other = a
   trace_older c t (Mark n) new a other = a
+  trace_older c t Next new a other = a
+  trace_older c t (Put n) new a other = a
+  trace_older c t (Fetch n k) new a other = gets_older c t n (entry_values c k) (entry_lacks c k new) a
+  trace_older c t (Miss n) new a other = a
 
   step_older_other : (c d : Configuration) (t : Trace) (step : Step) → after_step P c step ≡ Some d → NextIsNew c → IsOlder c t → ((n : ℕ) → step ≡ Make n → ⊥) → IsOlder d (after_trace P c t step)
   step_older_other c d t step e new a other =
@@ -183,6 +198,10 @@ module _ (P : Protocol) where
   step_older c d t (Take n label) e new a = step_older_other c d t (Take n label) e new a (λ n h. cc)
   step_older c d t (Fail n) e new a = step_older_other c d t (Fail n) e new a (λ n h. cc)
   step_older c d t (Mark n) e new a = step_older_other c d t (Mark n) e new a (λ n h. cc)
+  step_older c d t Next e new a = step_older_other c d t Next e new a (λ n h. cc)
+  step_older c d t (Put n) e new a = step_older_other c d t (Put n) e new a (λ n h. cc)
+  step_older c d t (Fetch n k) e new a = step_older_other c d t (Fetch n k) e new a (λ n h. cc)
+  step_older c d t (Miss n) e new a = step_older_other c d t (Miss n) e new a (λ n h. cc)
 
   steps_older : (steps : List Step) (c d : Configuration) (t : Trace) → after_steps P c steps ≡ Some d → NextIsNew c → IsOlder c t → IsOlder d (trace_from P c t steps)
   steps_older [] c d t e new a = let same : c ≡ d = cc in subst (λ x. IsOlder x t) same a

@@ -1,5 +1,5 @@
 -- A restriction runs at most once for the same copies: no two threads reach one thing, and none what was made.
-use Rattle.std.proofs.Common.{◌≡◌, ◌∙◌, ℕ, zero, suc, ◌+◌, ◌≤◌, Bool, true, false, ◌&&◌, cond, nat_eq, Option, Some, None, List, [], ◌∷◌, ◌++◌, length, length-append, refl, ap, sym, subst, arith}
+use Rattle.std.proofs.Common.{◌≡◌, ◌∙◌, ℕ, zero, suc, ◌+◌, ◌≤◌, Bool, true, false, ◌&&◌, cond, nat_eq, nat_lt, Option, Some, None, List, [], ◌∷◌, ◌++◌, map, length, length-append, refl, ap, sym, subst, arith}
 use Rattle.std.specs.Prelude.{option_and_then, option_map, unwrap_or, slice_get, slice_set, is_some}
 use Rattle.std.specs.Option.{option_map_or}
 use Rattle.std.specs.List.{list_any}
@@ -8,18 +8,19 @@ use Rattle.spec_trees.specs.Tree.{Leaf}
 use Rattle.spec_calculus.proofs.Items.{of_some, of_cond, of_then, of_map}
 use Rattle.spec_clauses.specs.Inclusion.{Picks, here, there}
 use Rattle.spec_calculus.specs.Syntax as calculus
-use Rattle.spec_calculus.specs.Syntax.{Made, Pattern, Process, Nil, Output, Input, Parallel, Replication, New, Let, Event, Protocol}
-use Rattle.spec_calculus.specs.Points.{numbered, replaced, nodes, point_after}
+use Rattle.spec_calculus.specs.Syntax.{Made, Pattern, Process, Nil, Output, Input, Parallel, Replication, New, Let, Event, Phase, Insert, Get, Protocol}
+use Rattle.spec_calculus.specs.Points.{numbered, replaced, nodes, point_after, greatest_phase}
 use Rattle.spec_calculus.specs.Values.{MadeName, AttackerName, Value, Environment, same_value, value_of, values_of}
 use Rattle.spec_calculus.specs.Matching.{matched, rule_value, rules_of}
+use Rattle.spec_calculus.specs.Tables.{matched_entry}
 use Rattle.spec_calculus.specs.Choices.{value_at, values_at}
-use Rattle.spec_calculus.specs.Runs.{Thread, At, Ended, Configuration, Step, Build, Reduce, Part, Fresh, Split, Copy, Make, Pass, Hear, Say, Take, Fail, Mark, start, acting, learns, goes_on, begins, knows, known_values, can_build, built, part_of, after_split, after_copy, after_make, received, after_receipt, after_pass, after_hear, after_say, after_take, after_fail, after_mark, after_step, after_steps, run}
+use Rattle.spec_calculus.specs.Runs.{Thread, At, Ended, Configuration, Step, Build, Reduce, Part, Fresh, Split, Copy, Make, Pass, Hear, Say, Take, Fail, Mark, Next, Put, Fetch, Miss, start, acting, learns, goes_on, begins, knows, known_values, can_build, built, part_of, after_split, after_copy, after_make, received, after_receipt, after_pass, after_hear, after_say, after_take, after_fail, after_mark, after_put, after_fetch, after_miss, at_phase, enters, raised, after_step, after_steps, run}
 use Rattle.spec_calculus.specs.Runs as runs
-use Rattle.spec_abstraction.specs.Trace.{Past, nothing_past, MadeAt, Trace, start_trace, past_of, message_at, hears, goes_with, point_of, standing_at, after_trace, trace_from, trace_of}
+use Rattle.spec_abstraction.specs.Trace.{Past, nothing_past, MadeAt, Trace, start_trace, past_of, message_at, gets, hears, entry_values, goes_with, point_of, standing_at, after_trace, trace_from, trace_of}
 use Rattle.spec_abstraction.specs.OneToOne.{AreOnce}
-use Rattle.spec_abstraction.proofs.Standing.{Stands, whole_stands, stands_numbered, output_next, input_next, parallel_left, parallel_right, replication_next, new_next, let_next, let_otherwise, event_next}
-use Rattle.spec_abstraction.proofs.Pairs.{SideBySide, pairs_append, numbered_pair, replaced_left}
-use Rattle.spec_abstraction.proofs.Steps.{acted}
+use Rattle.spec_abstraction.proofs.Standing.{Stands, whole_stands, stands_numbered, output_next, input_next, parallel_left, parallel_right, replication_next, new_next, let_next, let_otherwise, event_next, phase_next, insert_next, get_next, get_otherwise}
+use Rattle.spec_abstraction.proofs.Pairs.{SideBySide, pairs_map, pairs_append, numbered_pair, replaced_left}
+use Rattle.spec_abstraction.proofs.Acting.{acted}
 use Rattle.spec_abstraction.proofs.Reaching.{continues, same_numbers, weight, extent, is_below, reached, threads_reach, is_made_at, made_at, weight_small, goes_within, goes_apart, goes_copied, goes_made, threads_later, replaced_reach, begun_reach, heard_reach}
 
 -- the same numbers are told to be
@@ -87,14 +88,17 @@ other_replaced xs zero m x other = refl
 other_replaced xs (suc k) zero x other = refl
 other_replaced xs (suc k) (suc m) x other = other_set xs k m x (λ e. other (ap suc e))
 
--- where a past is heard to have one message more
-hears_once : (main : Process) (threads : List Thread) (t : Trace) (n : ℕ) (o : Option Value) → IsOnce main threads t → IsOnce main threads (hears t n o)
-hears_once main threads t n None a = a
-hears_once main threads t n (Some v) a =
-    let past : Past = record (past_of t n) { messages = (past_of t n).messages ++ v ∷ [] } in record {
+-- where a past has messages more
+gets_once : (main : Process) (threads : List Thread) (t : Trace) (n : ℕ) (vs : List Value) → IsOnce main threads t → IsOnce main threads (gets t n vs)
+gets_once main threads t n vs a =
+    let past : Past = record (past_of t n) { messages = (past_of t n).messages ++ vs } in record {
       placed = past_replaced main threads t.pasts n past a.placed;
       once = λ q u. let same = heard_reach main q u t.copies threads t.pasts n past refl in let before = a.once q u in omega (arith, same, before);
     }
+
+hears_once : (main : Process) (threads : List Thread) (t : Trace) (n : ℕ) (o : Option Value) → IsOnce main threads t → IsOnce main threads (hears t n o)
+hears_once main threads t n None a = a
+hears_once main threads t n (Some v) a = gets_once main threads t n (v ∷ []) a
 
 module _ (main : Process) where
   -- a thread that goes on reaches no more than before
@@ -248,6 +252,35 @@ module _ (P : Protocol) where
         subst (λ d. IsOnce P.main d.threads t) (of_some after d e) (next_once n point above above environment environment (Event performed next) next at s (event_next P.main point above performed next s) (omega arith))
     mark_once n point above environment _ d at s e = cc
 
+    put_once : (n point above : ℕ) (environment : Environment) (process : Process) (d : Configuration) → numbered c.threads n ≡ Some (At point environment) → Stands P.main point process above → after_put c n point environment process ≡ Some d → IsOnce P.main d.threads t
+    put_once n point above environment (Insert table arguments next) d at s e =
+        let after : Configuration = runs.writes (goes_on c n (At (point + 1) environment)) (record { table = table; arguments = values_of environment arguments }) in
+        subst (λ d. IsOnce P.main d.threads t) (of_some after d e) (next_once n point above above environment environment (Insert table arguments next) next at s (insert_next P.main point above table arguments next s) (omega arith))
+    put_once n point above environment _ d at s e = cc
+
+    fetch_once : (n k point above : ℕ) (environment : Environment) (process : Process) (d : Configuration) → numbered c.threads n ≡ Some (At point environment) → Stands P.main point process above → after_fetch c n k point environment process ≡ Some d → IsOnce P.main d.threads t
+    fetch_once n k point above environment (Get table patterns condition next otherwise) d at s e =
+        let (bs, chosen, is) = of_map (λ bs. goes_on c n (At (point + 1) (environment ++ bs))) (option_and_then (matched_entry environment table patterns condition) (numbered c.entries k)) d e in
+        let sum : length (nodes next ++ nodes otherwise) ≡ length (nodes next) + length (nodes otherwise) = length-append (nodes next) (nodes otherwise) in
+        subst (λ d. IsOnce P.main d.threads t) is
+        (next_once n point above (above + length patterns) environment (environment ++ bs) (Get table patterns condition next otherwise) next at s (get_next P.main point above table patterns condition next otherwise s) (omega (arith, sum)))
+    fetch_once n k point above environment _ d at s e = cc
+
+    miss_once : (n point above : ℕ) (environment : Environment) (process : Process) (d : Configuration) → numbered c.threads n ≡ Some (At point environment) → Stands P.main point process above → after_miss c n point environment process ≡ Some d → IsOnce P.main d.threads t
+    miss_once n point above environment (Get table patterns condition next otherwise) d at s e =
+        go (list_any (λ held. is_some (matched_entry environment table patterns condition held)) c.entries) e
+      where
+        go : (b : Bool) → cond b None (Some (goes_on c n (At (point_after (point + 1) next) environment))) ≡ Some d → IsOnce P.main d.threads t
+        go true h = cc
+        go false h =
+            let thread = At (point_after (point + 1) next) environment in
+            let r = get_otherwise P.main point above table patterns condition next otherwise s in
+            let sum : length (nodes next ++ nodes otherwise) ≡ length (nodes next) + length (nodes otherwise) = length-append (nodes next) (nodes otherwise) in
+            subst (λ d. IsOnce P.main d.threads t) (of_some (goes_on c n thread) d h)
+            (goes_once P.main c.threads t n point environment thread at (otherwise, above, r)
+            (narrows P.main point (point_after (point + 1) next) above above (Get table patterns condition next otherwise) otherwise environment s r (omega arith) (omega (arith, sum))) a)
+    miss_once n point above environment _ d at s e = cc
+
     -- the one that sends is not the one that receives, since no point is both an output and an input
     receipt_once : (sender receiver from point above : ℕ) (environment bound : Environment) (channel message : Value) (output process : Process) (d : Configuration) → IsOnce P.main (replaced c.threads sender (At (from + 1) bound)) t → numbered c.threads sender ≡ Some (At from bound) → numbered (nodes P.main) from ≡ Some output → ((on : calculus.Term) (pattern : Pattern) (next : Process) → output ≡ Input on pattern next → ⊥) → numbered c.threads receiver ≡ Some (At point environment) → numbered (nodes P.main) point ≡ Some process → Stands P.main point process above → after_receipt c sender receiver (At (from + 1) bound) channel message point environment process ≡ Some d → IsOnce P.main d.threads t
     receipt_once sender receiver from point above environment bound channel message output (Input on pattern next) d sent from_there is_output no_input at is_input s e =
@@ -273,6 +306,50 @@ module _ (P : Protocol) where
         let sent = next_once sender point above above environment environment (Output channel message next) next at s (output_next P.main point above channel message next s) (omega arith) in
         receipt_once sender receiver point r.point over r.environment environment (value_of environment channel) (value_of environment message) (Output channel message next) r.process d sent at is (λ on pattern next e. cc) r.thread r.stands below r.is
     pass_once sender receiver point above environment _ d at is s e = cc
+
+  -- a thread when a phase begins: it stands at a point, and reaches no more than before
+  enters_placed : (n : ℕ) (thread : Thread) (past : Past) → Placed P.main thread past → Placed P.main (enters P n thread) past
+  enters_placed n Ended past a = tt
+  enters_placed n (At point environment) past a =
+      subst (λ o. Placed P.main (at_phase n point environment o) past) (sym (stands_numbered P.main point a.0 a.1 a.2)) (of_process a.0 a.2)
+    where
+      of_process : (process : Process) → Stands P.main point process a.1 → Placed P.main (at_phase n point environment (Some process)) past
+      of_process (Phase number next) s = go (nat_eq number n) (nat_lt n number)
+        where
+          go : (begins waits : Bool) → Placed P.main (cond begins (At (point + 1) environment) (cond waits (At point environment) Ended)) past
+          go true waits = (next, a.1, phase_next P.main point a.1 number next s)
+          go false true = (Phase number next, a.1, s)
+          go false false = tt
+      of_process _ s = tt
+
+  module _ (n q : ℕ) (u : List ℕ) (copies : ℕ) where
+    enters_reach : (thread : Thread) (past : Past) → Placed P.main thread past → reached P.main copies q u (enters P n thread) past.sessions ≤ reached P.main copies q u thread past.sessions
+    enters_reach Ended past a = omega arith
+    enters_reach (At point environment) past a =
+        subst (λ o. reached P.main copies q u (at_phase n point environment o) past.sessions ≤ before) (sym (stands_numbered P.main point a.0 a.1 a.2)) (of_process a.0 a.2)
+      where
+        before : ℕ
+        before = reached P.main copies q u (At point environment) past.sessions
+
+        of_process : (process : Process) → Stands P.main point process a.1 → reached P.main copies q u (at_phase n point environment (Some process)) past.sessions ≤ before
+        of_process (Phase number next) s = go (nat_eq number n) (nat_lt n number)
+          where
+            go : (begins waits : Bool) → reached P.main copies q u (cond begins (At (point + 1) environment) (cond waits (At point environment) Ended)) past.sessions ≤ before
+            go true waits = narrows P.main point (point + 1) a.1 a.1 (Phase number next) next environment s (phase_next P.main point a.1 number next s) (omega arith) (omega arith) copies q u past.sessions environment
+            go false true = omega arith
+            go false false = omega arith
+        of_process _ s = omega arith
+
+    all_enter_reach : (threads : List Thread) (pasts : List Past) → SideBySide (Placed P.main) threads pasts → threads_reach P.main copies q u (map (enters P n) threads) pasts ≤ threads_reach P.main copies q u threads pasts
+    all_enter_reach [] pasts a = omega arith
+    all_enter_reach (thread ∷ threads) [] a = omega arith
+    all_enter_reach (thread ∷ threads) (past ∷ pasts) a = let first = enters_reach thread past a.0 in let others = all_enter_reach threads pasts a.1 in omega (arith, first, others)
+
+  raised_once : (c : Configuration) (t : Trace) → IsOnce P.main c.threads t → IsOnce P.main (raised P c).threads t
+  raised_once c t a = record {
+    placed = pairs_map (Placed P.main) (Placed P.main) (enters P (c.phase + 1)) (enters_placed (c.phase + 1)) c.threads t.pasts a.placed;
+    once = λ q u. let less = all_enter_reach (c.phase + 1) q u t.copies c.threads t.pasts a.placed in let before = a.once q u in omega (arith, less, before);
+  }
 
   -- Each step keeps it.
   step_once : (c d : Configuration) (t : Trace) (step : Step) → after_step P c step ≡ Some d → IsOnce P.main c.threads t → IsOnce P.main d.threads (after_trace P c t step)
@@ -325,6 +402,21 @@ module _ (P : Protocol) where
       let r = acted P c n (after_mark c n) d e in
       let (above, s) = stands_there c.threads t n r.point r.environment r.process a r.thread r.stands in
       mark_once c t a n r.point above r.environment r.process d r.thread s r.is
+  step_once c d t Next e a =
+      let (before, is) = of_cond (nat_lt c.phase (greatest_phase P.main)) (Some (raised P c)) d e in
+      subst (λ d. IsOnce P.main d.threads t) (of_some (raised P c) d is) (raised_once c t a)
+  step_once c d t (Put n) e a =
+      let r = acted P c n (after_put c n) d e in
+      let (above, s) = stands_there c.threads t n r.point r.environment r.process a r.thread r.stands in
+      put_once c t a n r.point above r.environment r.process d r.thread s r.is
+  step_once c d t (Fetch n k) e a =
+      let r = acted P c n (after_fetch c n k) d e in
+      let (above, s) = stands_there c.threads t n r.point r.environment r.process a r.thread r.stands in
+      gets_once P.main d.threads t n (entry_values c k) (fetch_once c t a n k r.point above r.environment r.process d r.thread s r.is)
+  step_once c d t (Miss n) e a =
+      let r = acted P c n (after_miss c n) d e in
+      let (above, s) = stands_there c.threads t n r.point r.environment r.process a r.thread r.stands in
+      miss_once c t a n r.point above r.environment r.process d r.thread s r.is
 
   steps_once : (steps : List Step) (c d : Configuration) (t : Trace) → after_steps P c steps ≡ Some d → IsOnce P.main c.threads t → IsOnce P.main d.threads (trace_from P c t steps)
   steps_once [] c d t e a = let same : c ≡ d = cc in subst (λ x. IsOnce P.main x.threads t) same a

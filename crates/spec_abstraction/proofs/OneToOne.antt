@@ -38,7 +38,7 @@ has_function (Leaf x) = false
 has_function (Node f ts) = is_function f
 
 -- symbols over as many arguments are told apart
-symbols_same : (P : Protocol) (m n : ℕ) (f g : Symbol) → symbol_over P m f ≡ symbol_over P n g → f ≡ g
+pub symbols_same : (P : Protocol) (m n : ℕ) (f g : Symbol) → symbol_over P m f ≡ symbol_over P n g → f ≡ g
 symbols_same P m n (Constructor f) (Constructor g) e = go (is_data P (Constructor f)) (is_data P (Constructor g)) e where
   go : (a b : Bool) → cond a (Data f) (Ctor f) ≡ cond b (Data g) (Ctor g) → Constructor f ≡ Constructor g
   go true true h = let same : f ≡ g = cc in ap Constructor same

@@ -1,5 +1,5 @@
 -- Two lists side by side: threads and their pasts.
-use Rattle.std.proofs.Common.{◌≡◌, ℕ, zero, suc, Some, List, [], ◌∷◌, ◌++◌, subst}
+use Rattle.std.proofs.Common.{◌≡◌, ℕ, zero, suc, Some, List, [], ◌∷◌, ◌++◌, map, subst}
 use Rattle.std.specs.Prelude.{unwrap_or, slice_get, slice_set}
 use Rattle.spec_calculus.specs.Points.{numbered, replaced}
 
@@ -16,6 +16,13 @@ module _ {X Y : Type 0} where
   pairs_weaker R S h [] (y ∷ ys) a = a
   pairs_weaker R S h (x ∷ xs) [] a = a
   pairs_weaker R S h (x ∷ xs) (y ∷ ys) a = (h x y a.0, pairs_weaker R S h xs ys a.1)
+
+  -- each item of the first list becomes another
+  pub pairs_map : (R S : X → Y → Type 0) (f : X → X) → ((x : X) (y : Y) → R x y → S (f x) y) → (xs : List X) (ys : List Y) → SideBySide R xs ys → SideBySide S (map f xs) ys
+  pairs_map R S f h [] [] a = tt
+  pairs_map R S f h [] (y ∷ ys) a = a
+  pairs_map R S f h (x ∷ xs) [] a = a
+  pairs_map R S f h (x ∷ xs) (y ∷ ys) a = (h x y a.0, pairs_map R S f h xs ys a.1)
 
   module _ (R : X → Y → Type 0) where
     pub pairs_append : (xs : List X) (ys : List Y) (x : X) (y : Y) → SideBySide R xs ys → R x y → SideBySide R (xs ++ x ∷ []) (ys ++ y ∷ [])

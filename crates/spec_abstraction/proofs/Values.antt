@@ -7,6 +7,7 @@ use Rattle.spec_calculus.specs.Syntax as calculus
 use Rattle.spec_calculus.specs.Values.{FreeName, Value, Environment, same_name, bound_to, value_of_name, value_of, values_of}
 use Rattle.spec_terms.specs.Term.{Term}
 use Rattle.spec_translation.specs.Conversion.{free_term, row_length, symbol_over, converted, converted_row, found_in, leaf_term, term_in}
+use Rattle.spec_translation.proofs.Conversions.{converted_row-trees}
 use Rattle.spec_abstraction.specs.Naming.{Naming, atom_term, abstracted, abstracted_binding}
 
 -- a row keeps its length under a substitution
@@ -33,11 +34,7 @@ module _ (P : Protocol) {L M : Type 0} (leaf : M → Term) (f : L → Tree M Sym
         let first = converted-of_bind t in
         let others = converted_row-of_binds ts in λ i. more (first i) (others i)
 
--- a row is converted tree by tree
-pub converted_row-trees : (P : Protocol) {L : Type 0} (leaf : L → Term) (ts : List (Tree L Symbol)) → converted_row P leaf (trees ts) ≡ trees (map (converted P leaf) ts)
-converted_row-trees P leaf [] = refl
-converted_row-trees P leaf (t ∷ ts) = ap (λ row. more (converted P leaf t) row) (converted_row-trees P leaf ts)
-
+-- a node is converted over its trees
 pub converted-node : (P : Protocol) {L : Type 0} (leaf : L → Term) (f : Symbol) (ts : List (Tree L Symbol)) → converted P leaf (node f ts) ≡ node (symbol_over P (length ts) f) (map (converted P leaf) ts)
 converted-node P leaf f ts =
     let count = row_length-trees ts in

@@ -5,9 +5,11 @@ use Rattle.spec_trees.specs.Tree.{Leaf, node}
 use Rattle.spec_calculus.specs.Syntax.{Protocol}
 use Rattle.spec_calculus.specs.Values.{Atom, FreeName, MadeName, AttackerName, Value, Environment}
 use Rattle.spec_calculus.specs.Values as calculus
+use Rattle.spec_calculus.specs.Tables.{Held}
 use Rattle.spec_calculus.specs.Runs.{Performed}
 use Rattle.spec_terms.specs.Term.{Attacker, Term}
-use Rattle.spec_clauses.specs.Fact.{Fact, Ev, Mev}
+use Rattle.spec_clauses.specs.Diff.{Diff}
+use Rattle.spec_clauses.specs.Fact.{Fact, Tab, Ev, Mev}
 use Rattle.spec_translation.specs.Conversion.{StandsFor, free_term, name_term, converted}
 use Rattle.spec_translation.specs.Visit.{Visit}
 use Rattle.spec_abstraction.specs.Trace.{Past, MadeAt}
@@ -39,16 +41,24 @@ abbrev pub naming : Protocol → List MadeAt → Naming
 naming P [] point number = free_term 0
 naming P (e ∷ es) point number = cond (nat_eq e.number number) (made_term P (naming P es) e) (naming P es point number)
 
+-- what a visit of a thread has besides its environment and its past: the hypotheses, the constraints, and the phase
+pub record Carried : Type 0 where
+  pub facts : List (Fact Term)
+  pub diffs : List Diff
+  pub phase : ℕ
+
 -- a thread's environment, and all that is known of the thread, as a visit
 abbrev pub abstracted_binding : Protocol → Naming → calculus.Binding → StandsFor
 abstracted_binding P names b = record { name = b.name; term = abstracted P names b.value }
 
-abbrev pub abstracted_visit : Protocol → Naming → Environment → Past → List (Fact Term) → Visit
-abstracted_visit P names environment past facts = record {
+abbrev pub abstracted_visit : Protocol → Naming → Environment → Past → Carried → Visit
+abstracted_visit P names environment past carried = record {
   scope = map (abstracted_binding P names) environment;
-  hypotheses = facts;
+  hypotheses = carried.facts;
+  diffs = carried.diffs;
   messages = map (abstracted P names) past.messages;
   sessions = map Leaf past.sessions;
+  phase = carried.phase;
 }
 
 -- an event that was performed, as a fact that has run, and as one that must have run
@@ -60,3 +70,7 @@ event_fact P names performed = Mev performed.event (map (abstracted P names) per
 
 abbrev pub event_facts : Protocol → Naming → List Performed → List (Fact Term)
 event_facts P names performed = map (event_fact P names) performed
+
+-- an entry of a table, as a fact
+abbrev pub held_fact : Protocol → Naming → Held → Fact Term
+held_fact P names held = Tab held.table (map (abstracted P names) held.arguments)

@@ -1,13 +1,14 @@
--- What the abstraction needs of a run besides its configurations: what each thread has received, the copies above it, and
+-- What the abstraction needs of a run besides its configurations: what each thread has received and taken, the copies above it, and
 -- where each name was made.
 use Rattle.std.specs.Prelude.{ℕ, ◌+◌, List, [], ◌∷◌, ◌++◌, length, Option, Some, None, option_and_then, unwrap_or}
 use Rattle.std.specs.Option.{option_map_or}
 use Rattle.spec_calculus.specs.Syntax.{Process, Output, Protocol}
 use Rattle.spec_calculus.specs.Points.{numbered, replaced}
 use Rattle.spec_calculus.specs.Values.{Value, Environment, value_of}
-use Rattle.spec_calculus.specs.Runs.{Thread, At, Ended, Configuration, Step, Split, Copy, Make, Pass, Say, start, acting, after_step}
+use Rattle.spec_calculus.specs.Runs.{Thread, At, Ended, Configuration, Step, Split, Copy, Make, Pass, Say, Fetch, start, acting, after_step}
 
--- a thread's past: the messages that it received, and the numbers of the copies that it comes from
+-- a thread's past: the messages that it received and the values of the entries that it took, in order, and the numbers of the copies
+-- that it comes from
 pub record Past : Type 0 where
   pub messages : List Value
   pub sessions : List ℕ
@@ -15,7 +16,7 @@ pub record Past : Type 0 where
 abbrev pub nothing_past : Past
 nothing_past = record { messages = []; sessions = [] }
 
--- how many messages and copies it has: as many as inputs and replications stand above the thread
+-- how many messages and copies it has: as many as inputs, terms of entries and replications stand above the thread
 abbrev pub past_count : Past → ℕ
 past_count past = length past.messages + length past.sessions
 
@@ -44,11 +45,19 @@ abbrev pub message_at : ℕ → Environment → Process → Option Value
 message_at point environment (Output channel message next) = Some (value_of environment message)
 message_at point environment other = None
 
+-- the thread has these values besides
+abbrev pub gets : Trace → ℕ → List Value → Trace
+gets t i vs = let past = past_of t i in
+    record t { pasts = replaced t.pasts i (record past { messages = past.messages ++ vs }) }
+
 -- the thread receives the message
 abbrev pub hears : Trace → ℕ → Option Value → Trace
 hears t i None = t
-hears t i (Some v) = let past = past_of t i in
-    record t { pasts = replaced t.pasts i (record past { messages = past.messages ++ v ∷ [] }) }
+hears t i (Some v) = gets t i (v ∷ [])
+
+-- the values of the entry of that number
+abbrev pub entry_values : Configuration → ℕ → List Value
+entry_values c e = option_map_or (λ held. held.arguments) (numbered c.entries e) []
 
 -- a new last thread with this past
 abbrev pub goes_with : Trace → Past → Trace
@@ -71,6 +80,7 @@ after_trace P c t (Copy i) = let past = past_of t i in
 after_trace P c t (Make i) = record t { made = record { number = c.next; point = unwrap_or (standing_at c i) 0; past = past_of t i } ∷ t.made }
 after_trace P c t (Pass i j) = hears t j (acting P c i message_at)
 after_trace P c t (Say j k) = hears t j (numbered c.known k)
+after_trace P c t (Fetch i e) = gets t i (entry_values c e)
 after_trace P c t step = t
 
 -- the traces of steps from a configuration with this trace, to the last

@@ -2,19 +2,25 @@
 //! functions here have empty bodies, and say in their contracts what holds of the definitions.
 #![tactic(auto)]
 
-ghost use Rattle.std.specs.Prelude.{◌≡◌, List, Some, Contains};
-ghost use Rattle.spec_calculus.specs.Syntax.{Query, Protocol};
-ghost use Rattle.spec_calculus.specs.Values.{Value};
+ghost use Rattle.std.specs.Prelude.{◌≡◌, List, Some, Contains, false, map, is_some};
+ghost use Rattle.std.specs.List.{list_any};
+ghost use Rattle.spec_trees.specs.Tree.{Leaf};
+ghost use Rattle.spec_calculus.specs.Syntax.{Pattern, Expression, Query, Protocol};
+ghost use Rattle.spec_calculus.specs.Values.{Value, Environment};
+ghost use Rattle.spec_calculus.specs.Matching.{matched};
+ghost use Rattle.spec_calculus.specs.Choices.{values_at};
 ghost use Rattle.spec_calculus.specs.Runs.{Configuration, Step, run};
-ghost use Rattle.spec_calculus.specs.Standing.{IsLacking};
+ghost use Rattle.spec_calculus.specs.Standing.{IsLacking, EnvironmentLacks};
 ghost use Rattle.spec_well_formed.specs.Rules.{HasProperRules};
 ghost use Rattle.spec_well_formed.specs.Processes.{HasLinearPatterns};
 ghost use Rattle.spec_terms.specs.Term.{Term};
 ghost use Rattle.spec_clauses.specs.Fact.{Fact, Clause};
+ghost use Rattle.spec_clauses.specs.Kept.{AreMetBy};
 ghost use Rattle.spec_derivations.specs.Derivation.{AreDerived, Derive};
 ghost use Rattle.spec_translation.specs.Translation.{Clauses, IsTranslation};
+ghost use Rattle.spec_translation.specs.Otherwise.{choice_diffs};
 ghost use Rattle.spec_abstraction.specs.Trace.{trace_of};
-ghost use Rattle.spec_abstraction.specs.Naming.{abstracted, Names, naming};
+ghost use Rattle.spec_abstraction.specs.Naming.{abstracted, abstracted_binding, Names, naming};
 ghost use Rattle.spec_abstraction.specs.Taken.{IsTaken, HoldsAll};
 ghost use Rattle.spec_abstraction.specs.Derived.{IsDerived};
 ghost use Rattle.spec_abstraction.specs.OneToOne.{is_foreign, AreOnce, IsOneToOne};
@@ -38,8 +44,9 @@ pub fn runs_are_named()
         Names P (naming P (trace_of P steps).made) (trace_of P steps).made }
 {}
 
-/// Runs are derived: each value that the attacker knows has its `att` derived from the translation with the events
-/// that were performed, and each event its `ev` with those before it alone (Blanchet 2016, section 3.3.4).
+/// Runs are derived: each value that the attacker knows has its `att` of the phase, and of each later one, derived from the
+/// translation with the events that were performed, each entry of a table has its `tab`, and each event its `ev` with those
+/// before it alone (Blanchet 2016, section 3.3.4).
 pub fn runs_are_derived()
     ensures { (P : Protocol) (q : Query) (all : List (Clause Term)) (steps : List Step)
         (c : Configuration) →
@@ -59,6 +66,18 @@ pub fn names_of_runs_have_entries()
 pub fn restrictions_run_once()
     ensures { (P : Protocol) (steps : List Step) (c : Configuration) → run P steps ≡ Some c →
         AreOnce (trace_of P steps).made }
+{}
+
+/// Where in a run no choice of rules gives a `let` a value that matches its pattern, the terms of the thread's values meet the
+/// constraint of each choice: so those constraints are sound for the else branch, whether or not it is translated with them.
+pub fn constraints_of_choices_are_met()
+    ensures { (P : Protocol) (steps : List Step) (c : Configuration) (environment : Environment)
+        (pattern : Pattern) (expression : Expression) →
+        HasProperRules P → run P steps ≡ Some c →
+        EnvironmentLacks (is_foreign (trace_of P steps).made) environment →
+        list_any (λ v. is_some (matched environment pattern v)) (values_at P environment expression)
+        ≡ false → AreMetBy Leaf (choice_diffs P (map
+        (abstracted_binding P (naming P (trace_of P steps).made)) environment) pattern expression) }
 {}
 
 /// The abstraction of a run is one to one on values of its names, and so on what the attacker knows:

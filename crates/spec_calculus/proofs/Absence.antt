@@ -54,6 +54,7 @@ start_lacks P i private = record {
   known = public_names_lack i 1 P.frees (λ index d at public. private_is_not_public P.frees i index d private at public);
   threads = (tt, tt);
   events = tt;
+  entries = tt;
 }
 
 -- no number of a private name is 0
@@ -83,7 +84,7 @@ nat_eq-refl n = eq-eqb n n refl
 
 -- the law: what is absent is secret
 pub absent_is_secret : (P : Protocol) (q : Query) → IsAbsent P q → Holds P q
-absent_is_secret P (Secret message) h steps c is known =
+absent_is_secret P (Secret message phase) h steps c is (known, up_to) =
     let found = leaf_found (is_absent_name P) message h in go found.0 found.1 found.2
   where
     go : (x : Name) → is_absent_name P x ≡ true → ((q : Name → Bool) → q x ≡ true → some_leaf q message ≡ true) → ⊥

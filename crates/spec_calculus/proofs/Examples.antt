@@ -14,7 +14,8 @@ with_main main = record {
   constructors = [];
   destructors = [];
   events = [];
-  queries = Secret (Leaf (Free 2)) ∷ [];
+  tables = [];
+  queries = Secret (Leaf (Free 2)) 0 ∷ [];
   main = main;
 }
 
@@ -22,11 +23,11 @@ with_main main = record {
 abbrev pub gives_away : Protocol
 gives_away = with_main (Output (Leaf (Free 1)) (Leaf (Free 2)) Nil)
 
-pub heard : run gives_away (Hear 1 ∷ []) ≡ Some (record { threads = At 2 [] ∷ []; known = Leaf (FreeName 1) ∷ Leaf (FreeName 2) ∷ []; events = []; next = 0 })
+pub heard : run gives_away (Hear 1 ∷ []) ≡ Some (record { threads = At 2 [] ∷ []; known = Leaf (FreeName 1) ∷ Leaf (FreeName 2) ∷ []; events = []; next = 0; phase = 0; entries = [] })
 heard = refl
 
-pub given_away : ¬ Holds gives_away (Secret (Leaf (Free 2)))
-given_away holds = holds (Hear 1 ∷ []) (record { threads = At 2 [] ∷ []; known = Leaf (FreeName 1) ∷ Leaf (FreeName 2) ∷ []; events = []; next = 0 }) refl (1, lit< tt, refl)
+pub given_away : ¬ Holds gives_away (Secret (Leaf (Free 2)) 0)
+given_away holds = holds (Hear 1 ∷ []) (record { threads = At 2 [] ∷ []; known = Leaf (FreeName 1) ∷ Leaf (FreeName 2) ∷ []; events = []; next = 0; phase = 0; entries = [] }) refl ((1, lit< tt, refl), omega arith)
 
 -- `out(s,c)` sends on a channel that is never known
 pub not_heard : run (with_main (Output (Leaf (Free 2)) (Leaf (Free 1)) Nil)) (Hear 1 ∷ []) ≡ None
@@ -41,11 +42,13 @@ pub made : run hides (Fresh ∷ Make 1 ∷ Hear 1 ∷ []) ≡ Some (record {
   known = Leaf (FreeName 1) ∷ Leaf (AttackerName 0) ∷ Leaf (MadeName 1 1) ∷ [];
   events = [];
   next = 2;
+  phase = 0;
+  entries = [];
 })
 made = refl
 
-pub hidden : Holds hides (Secret (Leaf (Free 2)))
-hidden = absent_is_secret hides (Secret (Leaf (Free 2))) refl
+pub hidden : Holds hides (Secret (Leaf (Free 2)) 0)
+hidden = absent_is_secret hides (Secret (Leaf (Free 2)) 0) refl
 
 -- the restriction's name can't be heard before it is made, and a thread that is not there takes no step
 pub not_yet : run hides (Hear 1 ∷ []) ≡ None
@@ -65,6 +68,8 @@ pub not_equal : run compares (Make 1 ∷ Say 1 1 ∷ Fail 1 ∷ Hear 1 ∷ []) �
   known = Leaf (FreeName 1) ∷ Leaf (MadeName 1 0) ∷ [];
   events = [];
   next = 1;
+  phase = 0;
+  entries = [];
 })
 not_equal = refl
 
@@ -87,6 +92,7 @@ ends_too_soon = record {
     rules = record { left = node (Constructor 1) (Leaf (Variable 1) ∷ Leaf (Variable 2) ∷ []) ∷ Leaf (Variable 2) ∷ []; right = Leaf (Variable 1) } ∷ [];
   } ∷ [];
   events = record { word = 98 ∷ []; arity = 1; public = true; is_data = false } ∷ record { word = 101 ∷ []; arity = 1; public = true; is_data = false } ∷ [];
+  tables = [];
   queries = Correspondence (record { event = 2; arguments = Leaf (Variable 1) ∷ [] }) ((record { event = 1; arguments = Leaf (Variable 1) ∷ [] } ∷ []) ∷ []) ∷ [];
   main = Parallel
       (Replication (New (110 ∷ []) (Output (Leaf (Free 1)) (node (Constructor 1) (Leaf (Made 3) ∷ Leaf (Free 2) ∷ []))
@@ -111,6 +117,8 @@ after_eight = record {
   known = Leaf (FreeName 1) ∷ the_message ∷ [];
   events = record { event = 2; arguments = the_name ∷ [] } ∷ [];
   next = 1;
+  phase = 0;
+  entries = [];
 }
 
 pub ended : run ends_too_soon eight_steps ≡ Some after_eight
@@ -147,6 +155,8 @@ pub attacker_steps : run ends_too_soon (Fresh ∷ Build 1 (2 ∷ 1 ∷ []) ∷ R
       ∷ Leaf (AttackerName 0) ∷ node Tuple (Leaf (FreeName 1) ∷ Leaf (AttackerName 0) ∷ []) ∷ Leaf (AttackerName 0) ∷ [];
   events = [];
   next = 1;
+  phase = 0;
+  entries = [];
 })
 attacker_steps = refl
 
@@ -161,5 +171,5 @@ no_part = refl
 abbrev pub passes : Protocol
 passes = with_main (Parallel (Output (Leaf (Free 2)) (Leaf (Free 1)) Nil) (Input (Leaf (Free 2)) (node Tuple (Leaf (Bind 1) ∷ Leaf (Bind 2) ∷ [])) Nil))
 
-pub passed : run passes (Split 1 ∷ Pass 1 2 ∷ []) ≡ Some (record { threads = At 3 [] ∷ Ended ∷ []; known = Leaf (FreeName 1) ∷ []; events = []; next = 0 })
+pub passed : run passes (Split 1 ∷ Pass 1 2 ∷ []) ≡ Some (record { threads = At 3 [] ∷ Ended ∷ []; known = Leaf (FreeName 1) ∷ []; events = []; next = 0; phase = 0; entries = [] })
 passed = refl

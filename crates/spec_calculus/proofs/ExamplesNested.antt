@@ -1,5 +1,5 @@
 -- Destructors in one another, their runs worked out by hand: the definitions give them so.
-use Rattle.std.proofs.Common.{◌≡◌, true, false, [], ◌∷◌, None, Some, map, refl, lit<}
+use Rattle.std.proofs.Common.{◌≡◌, true, false, [], ◌∷◌, None, Some, map, refl, lit<, arith}
 use Rattle.spec_trees.specs.Tree.{Leaf, node}
 use Rattle.spec_calculus.specs.Syntax.{Free, Variable, Constructor, Tuple, Bind, Equal, Builds, Calls, Term, Expression, Rule, Process, Nil, Output, Input, Parallel, Let, Secret, Protocol}
 use Rattle.spec_calculus.specs.Values.{FreeName, Value}
@@ -34,7 +34,8 @@ twice_encrypted = record {
   constructors = record { word = 101 ∷ 110 ∷ 99 ∷ []; arity = 2; public = true; is_data = false } ∷ [];
   destructors = record { word = 100 ∷ 101 ∷ 99 ∷ []; rules = record { left = encrypted x y ∷ y ∷ []; right = x } ∷ [] } ∷ [];
   events = [];
-  queries = Secret (Leaf (Free 3)) ∷ [];
+  tables = [];
+  queries = Secret (Leaf (Free 3)) 0 ∷ [];
   main = Parallel
       (Output (Leaf (Free 1)) (encrypted (encrypted (Leaf (Free 3)) (Leaf (Free 2))) (Leaf (Free 2))) Nil)
       (Input (Leaf (Free 1)) (Leaf (Bind 1)) (Let (Leaf (Bind 2)) opened (Output (Leaf (Free 1)) y Nil) Nil));
@@ -53,6 +54,8 @@ received = record {
   known = Leaf (FreeName 1) ∷ [];
   events = [];
   next = 0;
+  phase = 0;
+  entries = [];
 }
 
 abbrev given_away : Configuration
@@ -61,6 +64,8 @@ given_away = record {
   known = Leaf (FreeName 1) ∷ Leaf (FreeName 3) ∷ [];
   events = [];
   next = 0;
+  phase = 0;
+  entries = [];
 }
 
 has_received : run twice_encrypted (Split 1 ∷ Pass 1 2 ∷ []) ≡ Some received
@@ -69,10 +74,10 @@ has_received = refl
 gives_away : run twice_encrypted (Split 1 ∷ Pass 1 2 ∷ Take 2 (1 ∷ 1 ∷ []) ∷ Hear 2 ∷ []) ≡ Some given_away
 gives_away = refl
 
-is_violated : IsViolated (Secret (Leaf (Free 3))) given_away
-is_violated = (1, lit< tt, refl)
+is_violated : IsViolated (Secret (Leaf (Free 3)) 0) given_away
+is_violated = ((1, lit< tt, refl), omega arith)
 
-not_secret : ¬ Holds twice_encrypted (Secret (Leaf (Free 3)))
+not_secret : ¬ Holds twice_encrypted (Secret (Leaf (Free 3)) 0)
 not_secret holds = holds (Split 1 ∷ Pass 1 2 ∷ Take 2 (1 ∷ 1 ∷ []) ∷ Hear 2 ∷ []) given_away gives_away is_violated
 
 -- a label has a number for each destructor: one alone, none, 0 and three are refused, and so is the number of no rule
@@ -118,6 +123,7 @@ with_process main = record {
   constructors = [];
   destructors = record { word = 100 ∷ []; rules = keeps ∷ doubles ∷ [] } ∷ [];
   events = [];
+  tables = [];
   queries = [];
   main = main;
 }
@@ -155,7 +161,7 @@ abbrev key : Term
 key = Leaf (Free 2)
 
 abbrev after_taking : Configuration
-after_taking = record { threads = At 2 (record { name = Variable 1; value = k } ∷ []) ∷ []; known = Leaf (FreeName 1) ∷ []; events = []; next = 0 }
+after_taking = record { threads = At 2 (record { name = Variable 1; value = k } ∷ []) ∷ []; known = Leaf (FreeName 1) ∷ []; events = []; next = 0; phase = 0; entries = [] }
 
 second_taken : run (compares key) (Take 1 (1 ∷ 2 ∷ []) ∷ []) ≡ Some after_taking
 second_taken = refl
@@ -172,7 +178,7 @@ fourth_refused = refl
 some_match : run (compares key) (Fail 1 ∷ []) ≡ None
 some_match = refl
 
-none_matches : run (compares (Leaf (Free 1))) (Fail 1 ∷ []) ≡ Some (record { threads = At 3 [] ∷ []; known = Leaf (FreeName 1) ∷ []; events = []; next = 0 })
+none_matches : run (compares (Leaf (Free 1))) (Fail 1 ∷ []) ≡ Some (record { threads = At 3 [] ∷ []; known = Leaf (FreeName 1) ∷ []; events = []; next = 0; phase = 0; entries = [] })
 none_matches = refl
 
 -- the label of a term is 0, and no other

@@ -4,11 +4,12 @@ use Rattle.std.proofs.lemmas.Bool.Decides.{nat_tests}
 use Rattle.std.specs.List.{AllByRecursion, cons_option, enumerate_from}
 use Rattle.spec_trees.specs.Tree.{Leaf, some_leaf}
 use Rattle.spec_trees.proofs.Occurrence.{some_leaf-never}
-use Rattle.spec_calculus.specs.Syntax.{Term, Hole, Bind, Equal, Expression, Process, Nil, Output, Input, Parallel, Replication, New, Let, Event, Declared, Protocol}
+use Rattle.spec_calculus.specs.Syntax.{Term, Hole, Bind, Equal, Expression, Process, Nil, Output, Input, Parallel, Replication, New, Let, Event, Phase, Insert, Get, Declared, Protocol}
 use Rattle.spec_calculus.specs.Values.{Atom, FreeName, MadeName, AttackerName, Value}
 use Rattle.spec_calculus.specs.Runs.{Thread, At, Ended, Configuration, Step, Fresh, Make, public_name, start, after_step, run}
-use Rattle.spec_calculus.specs.Absence.{some_term, some_hole, some_expression, some_name}
-use Rattle.spec_calculus.specs.Standing.{Lacks, ThreadLacks, EventLacks, IsLacking, is_numbered_from, NextIsNew, names_made}
+use Rattle.spec_calculus.specs.Tables.{row_pattern, sides}
+use Rattle.spec_calculus.specs.Absence.{some_term, some_hole, some_pattern, some_expression, some_name}
+use Rattle.spec_calculus.specs.Standing.{Lacks, ThreadLacks, EventLacks, EntryLacks, IsLacking, is_numbered_from, NextIsNew, names_made, phases_begun}
 use Rattle.spec_calculus.proofs.Items.{each-weaker, if_some-is, if_some-of}
 use Rattle.spec_calculus.proofs.Leaves.{some_leaf-weaker}
 use Rattle.spec_calculus.proofs.Steps.{steps_keep}
@@ -29,6 +30,7 @@ module _ (p q : Atom → Bool) (weaker : (x : Atom) → p x ≡ false → q x �
     known = each-weaker (Lacks p) (Lacks q) value_weaker c.known h.known;
     threads = each-weaker (ThreadLacks p) (ThreadLacks q) thread_weaker c.threads h.threads;
     events = each-weaker (EventLacks p) (EventLacks q) (λ e k. each-weaker (Lacks p) (Lacks q) value_weaker e.arguments k) c.events h.events;
+    entries = each-weaker (EntryLacks p) (EntryLacks q) (λ held k. each-weaker (Lacks p) (Lacks q) value_weaker held.arguments k) c.entries h.entries;
   }
 
 later_number : (n m number : ℕ) → n ≤ m → nat_le n number ≡ false → nat_le m number ≡ false
@@ -73,6 +75,13 @@ none_passes (Let pattern expression next otherwise) =
     let c = none_passes next in
     let d = none_passes otherwise in cc
 none_passes (Event performed next) = let a = none_among performed.arguments in let b = none_passes next in cc
+none_passes (Phase number next) = none_passes next
+none_passes (Insert table arguments next) = let a = none_among arguments in let b = none_passes next in cc
+none_passes (Get table patterns condition next otherwise) =
+    let a : some_pattern (λ x. false) (row_pattern patterns) ≡ false = some_leaf-never (some_hole (λ x. false)) none_in_hole (row_pattern patterns) in
+    let b = none_among (sides condition) in
+    let c = none_passes next in
+    let d = none_passes otherwise in cc
 
 -- a name that the step makes has a number below that of the next name after it
 makes_below : (c : Configuration) (n : ℕ) (step : Step) → n ≡ c.next + names_made step → MakesNone (is_numbered_from n) c step
@@ -82,7 +91,7 @@ makes_below c n step h = tt
 
 pub step_keeps_new : (P : Protocol) (c : Configuration) (step : Step) → NextIsNew c → IfSome (after_step P c step) NextIsNew
 step_keeps_new P c step h = if_some-of NextIsNew (after_step P c step) (λ d is.
-    let advance = if_some-is (Advances (names_made step) c) (after_step P c step) d (step_advances P c step) is in
+    let advance = if_some-is (Advances (names_made step) (phases_begun step) c) (after_step P c step) d (step_advances P c step) is in
     let next : d.next ≡ c.next + names_made step = advance.next in
     let before = lacking_weaker (is_numbered_from c.next) (is_numbered_from d.next) (later c.next d.next (omega (arith, next))) c h in
     if_some-is (IsLacking (is_numbered_from d.next)) (after_step P c step) d
@@ -100,4 +109,4 @@ public_are_free n k (d ∷ frees) = go d.public (public_are_free n (k + 1) frees
 pub next_is_new : (P : Protocol) (steps : List Step) (c : Configuration) → run P steps ≡ Some c → NextIsNew c
 next_is_new P steps c is =
     if_some-is NextIsNew (run P steps) c
-    (steps_keep P NextIsNew (step_keeps_new P) steps (start P) (record { known = public_are_free 0 1 P.frees; threads = (tt, tt); events = tt })) is
+    (steps_keep P NextIsNew (step_keeps_new P) steps (start P) (record { known = public_are_free 0 1 P.frees; threads = (tt, tt); events = tt; entries = tt })) is

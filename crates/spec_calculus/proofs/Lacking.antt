@@ -1,17 +1,18 @@
 -- Configurations in whose values no name passes a test.
-use Rattle.std.proofs.Common.{◌≡◌, ℕ, zero, suc, ◌+◌, Bool, true, false, ◌||◌, cond, List, [], ◌∷◌, ◌++◌, map, length, Option, None, Some, IfSome, option_and_then, option_map, is_some, refl, ◌∙◌}
+use Rattle.std.proofs.Common.{◌≡◌, ℕ, zero, suc, ◌+◌, Bool, true, false, ◌||◌, nat_eq, nat_lt, cond, List, [], ◌∷◌, ◌++◌, map, length, Option, None, Some, IfSome, option_and_then, option_map, is_some, refl, ◌∙◌}
 use Rattle.std.specs.List.{AllByRecursion, list_any}
 use Rattle.spec_trees.specs.Tree.{Trees, Leaf, Node, none, more, trees, items_of, some_leaf, some_leaves}
 use Rattle.spec_trees.proofs.Occurrence.{or_false, some_leaf-bind, some_leaf-never}
-use Rattle.spec_calculus.specs.Syntax.{Name, Free, Made, Variable, Symbol, Term, Hole, Bind, Equal, Pattern, Head, Builds, Calls, Expression, Rule, Ruled, Process, Nil, Output, Input, Parallel, Replication, New, Let, Event, Protocol}
-use Rattle.spec_calculus.specs.Points.{numbered, nodes, point_after}
+use Rattle.spec_calculus.specs.Syntax.{Name, Free, Made, Variable, Symbol, Term, Hole, Bind, Equal, Pattern, Head, Builds, Calls, Expression, Rule, Ruled, Process, Nil, Output, Input, Parallel, Replication, New, Let, Event, Phase, Insert, Get, Condition, Protocol}
+use Rattle.spec_calculus.specs.Points.{numbered, nodes, point_after, greatest_phase}
 use Rattle.spec_calculus.specs.Values.{Atom, FreeName, MadeName, AttackerName, Value, Environment, same_name, same_symbol, same_value, same_values, bound_to, value_of_bound, value_of_name, value_of, values_of}
 use Rattle.spec_calculus.specs.Matching.{matched, matched_row, places, places_row, instance_of, rule_value, rules_of}
+use Rattle.spec_calculus.specs.Tables.{Held, row_pattern, row_value, if_met, meets, row_matched, matched_entry}
 use Rattle.spec_calculus.specs.Choices.{choices, choice_at, same_label, label_of, head_value, ruled_value, ruled_values, value_at, values_at}
-use Rattle.spec_calculus.specs.Runs.{Thread, At, Ended, Configuration, Step, Build, Reduce, Part, Fresh, Split, Copy, Make, Pass, Hear, Say, Take, Fail, Mark, acts, acting, knows, learns, goes_on, begins, known_values, can_build, built, is_data, part_of, received, after_split, after_copy, after_make, after_receipt, after_pass, after_hear, after_say, after_take, after_fail, after_mark, after_step}
-use Rattle.spec_calculus.specs.Absence.{some_term, some_pattern, some_expression, some_name}
-use Rattle.spec_calculus.specs.Standing.{Lacks, EnvironmentLacks, ThreadLacks, EventLacks, IsLacking}
-use Rattle.spec_calculus.proofs.Items.{each-append, each-numbered, each-replaced, each-found, each-holds, if_some-is, if_some-choice, if_some-cond, if_some-unwrap, if_some-then, if_some-map}
+use Rattle.spec_calculus.specs.Runs.{Thread, At, Ended, Configuration, Step, Build, Reduce, Part, Fresh, Split, Copy, Make, Pass, Hear, Say, Take, Fail, Mark, Next, Put, Fetch, Miss, acts, acting, knows, learns, goes_on, begins, known_values, can_build, built, is_data, part_of, received, after_split, after_copy, after_make, after_receipt, after_pass, after_hear, after_say, after_take, after_fail, after_mark, after_put, after_fetch, after_miss, at_phase, enters, raised, after_step}
+use Rattle.spec_calculus.specs.Absence.{some_term, some_pattern, some_side, some_expression, some_name}
+use Rattle.spec_calculus.specs.Standing.{Lacks, EnvironmentLacks, ThreadLacks, EventLacks, EntryLacks, IsLacking}
+use Rattle.spec_calculus.proofs.Items.{each-append, each-numbered, each-map, each-weaker, each-replaced, each-found, each-holds, if_some-is, if_some-choice, if_some-cond, if_some-unwrap, if_some-then, if_some-map}
 use Rattle.spec_calculus.proofs.Leaves.{some_leaf-weaker}
 use Rattle.spec_calculus.proofs.Choices.{IsOver, IsRowOver, choices_over, each_leaf_fails}
 
@@ -32,6 +33,12 @@ nodes_lack test (Let pattern expression next otherwise) h =
     let front = or_false (some_pattern test pattern || some_expression test expression) (some_name test next) parts.0 in
     (h, each-append (λ node. some_name test node ≡ false) (nodes next) (nodes otherwise) (nodes_lack test next front.1) (nodes_lack test otherwise parts.1))
 nodes_lack test (Event performed next) h = (h, nodes_lack test next (or_false (some_term test performed.arguments) (some_name test next) h).1)
+nodes_lack test (Phase number next) h = (h, nodes_lack test next h)
+nodes_lack test (Insert table arguments next) h = (h, nodes_lack test next (or_false (some_term test arguments) (some_name test next) h).1)
+nodes_lack test (Get table patterns condition next otherwise) h =
+    let parts = or_false (some_pattern test (row_pattern patterns) || some_side test condition || some_name test next) (some_name test otherwise) h in
+    let front = or_false (some_pattern test (row_pattern patterns) || some_side test condition) (some_name test next) parts.0 in
+    (h, each-append (λ node. some_name test node ≡ false) (nodes next) (nodes otherwise) (nodes_lack test next front.1) (nodes_lack test otherwise parts.1))
 
 -- no name that the step makes passes the test
 abbrev pub MakesNone : (Atom → Bool) → Configuration → Step → Type 0
@@ -86,6 +93,17 @@ module _ (p : Atom → Bool) where
         (λ others is_too. each-append (λ b. Lacks p b.value) first others (if_some-is (EnvironmentLacks p) (matched environment q v) first front is)
         (if_some-is (EnvironmentLacks p) (matched_row environment qs vs) others back is_too)))
 
+  -- what a `get` binds are parts of an entry
+  entry_lacks : (environment : Environment) (table : ℕ) (patterns : List Pattern) (condition : Condition) (held : Held) → EntryLacks p held → IfSome (matched_entry environment table patterns condition held) (EnvironmentLacks p)
+  entry_lacks environment table patterns condition held h =
+      if_some-then (EnvironmentLacks p) (if_met environment condition) (row_matched environment table patterns held)
+      (λ bindings is. if_some-cond (EnvironmentLacks p) (meets (environment ++ bindings) condition) bindings
+      (if_some-is (EnvironmentLacks p) (row_matched environment table patterns held) bindings bound is))
+    where
+      bound : IfSome (row_matched environment table patterns held) (EnvironmentLacks p)
+      bound = if_some-choice (EnvironmentLacks p) (nat_eq held.table table) (matched environment (row_pattern patterns) (row_value held.arguments)) None
+          (matched_lacks environment (row_pattern patterns) (row_value held.arguments) (row_lacks held.arguments h)) tt
+
   -- and so is what a rule's variables stand for
   mutual
     places_lack : (t : Term) (v : Value) → Lacks p v → EnvironmentLacks p (places t v)
@@ -126,7 +144,7 @@ module _ (p : Atom → Bool) (test : Name → Bool) (free : (n : ℕ) → test (
       let parts = or_false (some_leaf test t) (some_term test ts) k in (value_lacks environment h t parts.0, values_lack environment h ts parts.1)
 
   -- a rule's value
-  instance_lacks : (s : Environment) (t : Term) → EnvironmentLacks p s → Lacks p (instance_of s t)
+  pub instance_lacks : (s : Environment) (t : Term) → EnvironmentLacks p s → Lacks p (instance_of s t)
   instance_lacks s t h = some_leaf-bind p (value_of_bound s) t ∙ some_leaf-never (λ x. some_leaf p (value_of_bound s x)) (λ x. bound_lacks s x h) t
 
   pub rule_value_lacks : (rule : Rule) (vs : List Value) → AllByRecursion (Lacks p) vs → IfSome (rule_value rule vs) (Lacks p)
@@ -180,13 +198,13 @@ module _ (p : Atom → Bool) (test : Name → Bool) (free : (n : ℕ) → test (
 
   -- what the parts of a step make of a configuration
   learns_lacks : (c : Configuration) (v : Value) → IsLacking p c → Lacks p v → IsLacking p (learns c v)
-  learns_lacks c v h k = record { known = each-append (Lacks p) c.known (v ∷ []) h.known (k, tt); threads = h.threads; events = h.events }
+  learns_lacks c v h k = record { known = each-append (Lacks p) c.known (v ∷ []) h.known (k, tt); threads = h.threads; events = h.events; entries = h.entries }
 
   goes_on_lacks : (c : Configuration) (i : ℕ) (thread : Thread) → IsLacking p c → ThreadLacks p thread → IsLacking p (goes_on c i thread)
-  goes_on_lacks c i thread h k = record { known = h.known; threads = each-replaced (ThreadLacks p) c.threads i thread k h.threads; events = h.events }
+  goes_on_lacks c i thread h k = record { known = h.known; threads = each-replaced (ThreadLacks p) c.threads i thread k h.threads; events = h.events; entries = h.entries }
 
   begins_lacks : (c : Configuration) (thread : Thread) → IsLacking p c → ThreadLacks p thread → IsLacking p (begins c thread)
-  begins_lacks c thread h k = record { known = h.known; threads = each-append (ThreadLacks p) c.threads (thread ∷ []) h.threads (k, tt); events = h.events }
+  begins_lacks c thread h k = record { known = h.known; threads = each-append (ThreadLacks p) c.threads (thread ∷ []) h.threads (k, tt); events = h.events; entries = h.entries }
 
   longer_lacks : (environment bindings : Environment) → EnvironmentLacks p environment → EnvironmentLacks p bindings → EnvironmentLacks p (environment ++ bindings)
   longer_lacks environment bindings h k = each-append (λ b. Lacks p b.value) environment bindings h k
@@ -225,7 +243,7 @@ module _ (p : Atom → Bool) (test : Name → Bool) (free : (n : ℕ) → test (
     make_lacks c i made h point environment (New word next) k l =
         let bindings : Environment = record { name = Made point; value = Leaf (MadeName point c.next) } ∷ [] in
         let kept = goes_on_lacks c i (At (point + 1) (environment ++ bindings)) h (longer_lacks environment bindings k (made point, tt)) in
-        record { known = kept.known; threads = kept.threads; events = kept.events }
+        record { known = kept.known; threads = kept.threads; events = kept.events; entries = kept.entries }
     make_lacks c i made h point environment other k l = tt
 
     receipt_lacks : (c : Configuration) (i j : ℕ) (sent : Thread) (channel message : Value) → IsLacking p c → ThreadLacks p sent → Lacks p message → Keeps (after_receipt c i j sent channel message)
@@ -295,8 +313,66 @@ module _ (p : Atom → Bool) (test : Name → Bool) (free : (n : ℕ) → test (
           threads = kept.threads;
           events = each-append (EventLacks p) c.events (record { event = performed.event; arguments = values_of environment performed.arguments } ∷ []) h.events
               (values_lack environment k performed.arguments parts.0, tt);
+          entries = kept.entries;
         }
     mark_lacks c i h point environment other k l = tt
+
+    put_lacks : (c : Configuration) (i : ℕ) → IsLacking p c → Keeps (after_put c i)
+    put_lacks c i h point environment (Insert table arguments next) k l =
+        let parts = or_false (some_term test arguments) (some_name test next) l in
+        let kept = goes_on_lacks c i (At (point + 1) environment) h k in
+        record {
+          known = kept.known;
+          threads = kept.threads;
+          events = kept.events;
+          entries = each-append (EntryLacks p) c.entries (record { table = table; arguments = values_of environment arguments } ∷ []) h.entries
+              (values_lack environment k arguments parts.0, tt);
+        }
+    put_lacks c i h point environment other k l = tt
+
+    fetch_lacks : (c : Configuration) (i e : ℕ) → IsLacking p c → Keeps (after_fetch c i e)
+    fetch_lacks c i e h point environment (Get table patterns condition next otherwise) k l =
+        let bound : IfSome (option_and_then (matched_entry environment table patterns condition) (numbered c.entries e)) (EnvironmentLacks p) =
+        if_some-then (EnvironmentLacks p) (matched_entry environment table patterns condition) (numbered c.entries e)
+        (λ held is. entry_lacks p environment table patterns condition held
+        (if_some-is (EntryLacks p) (numbered c.entries e) held (each-numbered (EntryLacks p) c.entries e h.entries) is)) in
+        if_some-map (IsLacking p) (λ bindings. goes_on c i (At (point + 1) (environment ++ bindings)))
+        (option_and_then (matched_entry environment table patterns condition) (numbered c.entries e))
+        (λ bindings is. goes_on_lacks c i (At (point + 1) (environment ++ bindings)) h (longer_lacks environment bindings k
+        (if_some-is (EnvironmentLacks p) (option_and_then (matched_entry environment table patterns condition) (numbered c.entries e)) bindings bound is)))
+    fetch_lacks c i e h point environment other k l = tt
+
+    miss_lacks : (c : Configuration) (i : ℕ) → IsLacking p c → Keeps (after_miss c i)
+    miss_lacks c i h point environment (Get table patterns condition next otherwise) k l =
+        kept (list_any (λ held. is_some (matched_entry environment table patterns condition held)) c.entries)
+      where
+        kept : (b : Bool) → IfSome (cond b None (Some (goes_on c i (At (point_after (point + 1) next) environment)))) (IsLacking p)
+        kept true = tt
+        kept false = goes_on_lacks c i (At (point_after (point + 1) next) environment) h k
+    miss_lacks c i h point environment other k l = tt
+
+    -- a thread takes nothing into a new phase that it had not
+    enters_lacks : (n : ℕ) (thread : Thread) → ThreadLacks p thread → ThreadLacks p (enters P n thread)
+    enters_lacks n Ended h = tt
+    enters_lacks n (At point environment) h = at_process (numbered (nodes P.main) point)
+      where
+        waiting : (a b : Bool) → ThreadLacks p (cond a (At (point + 1) environment) (cond b (At point environment) Ended))
+        waiting true b = h
+        waiting false true = h
+        waiting false false = tt
+
+        at_process : (o : Option Process) → ThreadLacks p (at_phase n point environment o)
+        at_process (Some (Phase number next)) = waiting (nat_eq number n) (nat_lt n number)
+        at_process other = tt
+
+    raised_lacks : (c : Configuration) → IsLacking p c → IsLacking p (raised P c)
+    raised_lacks c h = record {
+      known = h.known;
+      threads = each-map (ThreadLacks p) (enters P (c.phase + 1)) c.threads
+          (each-weaker (ThreadLacks p) (λ thread. ThreadLacks p (enters P (c.phase + 1) thread)) (enters_lacks (c.phase + 1)) c.threads h.threads);
+      events = h.events;
+      entries = h.entries;
+    }
 
     -- a step that makes no name that passes leads to no value in which one passes
     pub step_lacks : (c : Configuration) (step : Step) → MakesNone p c step → IsLacking p c → IfSome (after_step P c step) (IsLacking p)
@@ -317,7 +393,8 @@ module _ (p : Atom → Bool) (test : Name → Bool) (free : (n : ℕ) → test (
         (λ v found. learns_lacks c v h (if_some-is (Lacks p) (option_and_then (part_of P i) (numbered c.known k)) v
         (if_some-then (Lacks p) (part_of P i) (numbered c.known k) (λ w is. part_lacks p P i w
         (if_some-is (Lacks p) (numbered c.known k) w (each-numbered (Lacks p) c.known k h.known) is))) found))
-    step_lacks c Fresh made h = let kept = learns_lacks c (Leaf (AttackerName c.next)) h made in record { known = kept.known; threads = kept.threads; events = kept.events }
+    step_lacks c Fresh made h = let kept = learns_lacks c (Leaf (AttackerName c.next)) h made in
+        record { known = kept.known; threads = kept.threads; events = kept.events; entries = kept.entries }
     step_lacks c (Split i) made h = acting_lacks c i (after_split c i) h (split_lacks c i h)
     step_lacks c (Copy i) made h = acting_lacks c i (after_copy c) h (copy_lacks c h)
     step_lacks c (Make i) made h = acting_lacks c i (after_make c i) h (make_lacks c i made h)
@@ -329,3 +406,7 @@ module _ (p : Atom → Bool) (test : Name → Bool) (free : (n : ℕ) → test (
     step_lacks c (Take i label) made h = acting_lacks c i (after_take P c i label) h (take_lacks c i label h)
     step_lacks c (Fail i) made h = acting_lacks c i (after_fail P c i) h (fail_lacks c i h)
     step_lacks c (Mark i) made h = acting_lacks c i (after_mark c i) h (mark_lacks c i h)
+    step_lacks c Next made h = if_some-cond (IsLacking p) (nat_lt c.phase (greatest_phase P.main)) (raised P c) (raised_lacks c h)
+    step_lacks c (Put i) made h = acting_lacks c i (after_put c i) h (put_lacks c i h)
+    step_lacks c (Fetch i e) made h = acting_lacks c i (after_fetch c i e) h (fetch_lacks c i e h)
+    step_lacks c (Miss i) made h = acting_lacks c i (after_miss c i) h (miss_lacks c i h)

@@ -11,9 +11,12 @@ pub mod Lacking
 pub mod Absence
 pub mod Growth
 pub mod Freshness
+pub mod Phases
 pub mod Examples
 pub mod ExamplesNested
+pub mod ExamplesPhases
 pub mod Rules
 pub mod Closure
 pub mod Patterns
 pub mod Refusals
+pub mod Plain

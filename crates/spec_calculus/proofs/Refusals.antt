@@ -1,17 +1,18 @@
 -- A step is refused exactly where it is not possible.
-use Rattle.std.proofs.Common.{◌≡◌, ℕ, zero, suc, ◌+◌, Bool, true, false, not, ◌&&◌, ◌||◌, nat_le, nat_eq, cond, List, [], ◌∷◌, ◌++◌, length, slice_get, Option, None, Some, is_some, is_none, IsNone, IsSome, ◌↔◌, option_and_then, option_map, refl, sym, ap, ◌∙◌, subst}
+use Rattle.std.proofs.Common.{◌≡◌, ℕ, zero, suc, ◌+◌, Bool, true, false, not, ◌&&◌, ◌||◌, nat_le, nat_lt, nat_eq, cond, List, [], ◌∷◌, ◌++◌, length, slice_get, Option, None, Some, is_some, is_none, IsNone, IsSome, ◌↔◌, option_and_then, option_map, refl, sym, ap, ◌∙◌, subst}
 use Rattle.std.proofs.lemmas.Bool.{eq-eqb}
 use Rattle.std.proofs.lemmas.List.{length-map}
 use Rattle.std.specs.List.{list_any}
 use Rattle.std.specs.Option.{option_map_or}
 use Rattle.spec_calculus.specs.Bounds.{most_arguments}
-use Rattle.spec_calculus.specs.Syntax.{Process, Output, Input, Parallel, Replication, New, Let, Event, Declared, Rule, Protocol}
-use Rattle.spec_calculus.specs.Points.{numbered, nodes, point_after}
+use Rattle.spec_calculus.specs.Syntax.{Process, Output, Input, Parallel, Replication, New, Let, Event, Insert, Get, Declared, Rule, Protocol}
+use Rattle.spec_calculus.specs.Points.{numbered, nodes, point_after, greatest_phase}
 use Rattle.spec_calculus.specs.Values.{Value, Environment, same_value, value_of}
 use Rattle.spec_calculus.specs.Matching.{matched, instance_of, rule_value, rules_of}
+use Rattle.spec_calculus.specs.Tables.{matched_entry}
 use Rattle.spec_calculus.specs.Choices.{value_at, values_at}
-use Rattle.spec_calculus.specs.Runs.{Thread, At, Ended, Configuration, Step, Build, Reduce, Part, Fresh, Split, Copy, Make, Pass, Hear, Say, Take, Fail, Mark, acts, acting, knows, learns, goes_on, known_values, can_build, built, part_of, received, after_split, after_copy, after_make, after_receipt, after_pass, after_hear, after_say, after_take, after_fail, after_mark, after_step}
-use Rattle.spec_calculus.specs.Refusals.{Refusal, NoThread, WrongForm, UnknownChannel, ChannelsDiffer, NoKnowledge, NoRule, NotFailing, NotPublic, first_cause, where_true, takes, is_public_constructor, first_arity, reduces, at_split, at_copy, at_make, at_output, at_input, at_take, at_fail, at_mark, no_thread, refusal, AreUniform, IsUniform}
+use Rattle.spec_calculus.specs.Runs.{Thread, At, Ended, Configuration, Step, Build, Reduce, Part, Fresh, Split, Copy, Make, Pass, Hear, Say, Take, Fail, Mark, Next, Put, Fetch, Miss, acts, acting, knows, learns, goes_on, known_values, can_build, built, part_of, received, after_split, after_copy, after_make, after_receipt, after_pass, after_hear, after_say, after_take, after_fail, after_mark, after_put, after_fetch, after_miss, raised, after_step}
+use Rattle.spec_calculus.specs.Refusals.{Refusal, NoThread, WrongForm, UnknownChannel, ChannelsDiffer, NoKnowledge, NoRule, NotFailing, NotPublic, NoEntry, first_cause, where_true, takes, is_public_constructor, first_arity, reduces, at_split, at_copy, at_make, at_output, at_input, at_take, at_fail, at_mark, at_put, at_fetch, at_miss, no_thread, refusal, AreUniform, IsUniform}
 use Rattle.spec_calculus.proofs.Items.{each-slice_get, if_some-is}
 use Rattle.spec_calculus.proofs.Rules.{rule_value-sound}
 
@@ -142,6 +143,24 @@ module _ (P : Protocol) (c : Configuration) where
   fail_like i point environment (Let pattern expression next otherwise) =
       fail_cond (list_any (λ v. is_some (matched environment pattern v)) (values_at P environment expression)) (goes_on c i (At (point_after (point + 1) next) environment))
   fail_like i point environment other = refl
+
+  put_like : (i point : ℕ) (environment : Environment) (process : Process) → is_some (after_put c i point environment process) ≡ option_map_or (λ x. true) (at_put point environment process) false
+  put_like i point environment (Insert table arguments next) = refl
+  put_like i point environment other = refl
+
+  fetch_like : (i e point : ℕ) (environment : Environment) (process : Process) → is_some (after_fetch c i e point environment process) ≡ option_map_or (λ matches. matches) (at_fetch c e point environment process) false
+  fetch_like i e point environment (Get table patterns condition next otherwise) =
+      is_some-map (λ bindings. goes_on c i (At (point + 1) (environment ++ bindings))) (option_and_then (matched_entry environment table patterns condition) (numbered c.entries e))
+  fetch_like i e point environment other = refl
+
+  miss_like : (i point : ℕ) (environment : Environment) (process : Process) → is_some (after_miss c i point environment process) ≡ option_map_or (λ matches. not matches) (at_miss c point environment process) false
+  miss_like i point environment (Get table patterns condition next otherwise) =
+      fail_cond (list_any (λ held. is_some (matched_entry environment table patterns condition held)) c.entries) (goes_on c i (At (point_after (point + 1) next) environment))
+  miss_like i point environment other = refl
+
+  raising : (b : Bool) (d : Configuration) → is_none (first_cause (where_true WrongForm (not b) ∷ [])) ≡ is_some (cond b (Some d) None)
+  raising true d = refl
+  raising false d = refl
 
   -- both threads of a communication
   both : (i j : ℕ) (o p : Option Value) (ti tj : Bool) → (is_none o ≡ false → ti ≡ false) → (is_none p ≡ false → tj ≡ false) → is_none (first_cause (
@@ -282,6 +301,15 @@ module _ (P : Protocol) (c : Configuration) where
       failing (no_thread c i) (acting P c i (at_fail P)) (there i (at_fail P))
       ∙ sym (acting_like i (λ matches. not matches) (at_fail P) (after_fail P c i) (fail_like i))
   refused_exactly uniform (Mark i) = form i at_mark (after_mark c i) (mark_like i)
+  refused_exactly uniform Next = raising (nat_lt c.phase (greatest_phase P.main)) (raised P c)
+  refused_exactly uniform (Put i) = form i at_put (after_put c i) (put_like i)
+  refused_exactly uniform (Fetch i e) =
+      three NoThread WrongForm NoEntry (no_thread c i) (is_none (acting P c i (at_fetch c e))) (option_map_or (λ matches. matches) (acting P c i (at_fetch c e)) false)
+      (shows (λ matches. matches) (acting P c i (at_fetch c e))) (there i (at_fetch c e))
+      ∙ sym (acting_like i (λ matches. matches) (at_fetch c e) (after_fetch c i e) (fetch_like i e))
+  refused_exactly uniform (Miss i) =
+      failing (no_thread c i) (acting P c i (at_miss c)) (there i (at_miss c))
+      ∙ sym (acting_like i (λ matches. not matches) (at_miss c) (after_miss c i) (miss_like i))
 
 -- the same as a fact
 pub refusals_are_exact : (P : Protocol) (c : Configuration) (step : Step) → IsUniform P → IsNone (refusal P c step) ↔ IsSome (after_step P c step)

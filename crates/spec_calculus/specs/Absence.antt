@@ -2,8 +2,9 @@
 use Rattle.std.specs.Prelude.{ℕ, List, Bool, false, not, ◌&&◌, ◌||◌, nat_eq, IsTrue}
 use Rattle.std.specs.Option.{option_map_or}
 use Rattle.spec_trees.specs.Tree.{trees, some_leaf, some_leaves}
-use Rattle.spec_calculus.specs.Syntax.{Name, Free, Term, Hole, Bind, Equal, Pattern, Expression, Process, Nil, Output, Input, Parallel, Replication, New, Let, Event, Declared, Protocol, Query, Secret}
+use Rattle.spec_calculus.specs.Syntax.{Name, Free, Term, Hole, Bind, Equal, Pattern, Condition, Expression, Process, Nil, Output, Input, Parallel, Replication, New, Let, Event, Phase, Insert, Get, Declared, Protocol, Query, Secret}
 use Rattle.spec_calculus.specs.Points.{numbered}
+use Rattle.spec_calculus.specs.Tables.{row_pattern, sides}
 
 -- whether the leaf is the free name of that number
 abbrev pub is_free : ℕ → Name → Bool
@@ -25,6 +26,9 @@ some_pattern test pattern = some_leaf (some_hole test) pattern
 abbrev pub some_expression : (Name → Bool) → Expression → Bool
 some_expression test e = some_leaf (some_leaf test) e
 
+abbrev pub some_side : (Name → Bool) → Condition → Bool
+some_side test condition = some_term test (sides condition)
+
 -- whether one stands in a term or pattern of the process
 abbrev pub some_name : (Name → Bool) → Process → Bool
 some_name test Nil = false
@@ -36,6 +40,10 @@ some_name test (New word next) = some_name test next
 some_name test (Let pattern expression next otherwise) =
     some_pattern test pattern || some_expression test expression || some_name test next || some_name test otherwise
 some_name test (Event performed next) = some_term test performed.arguments || some_name test next
+some_name test (Phase number next) = some_name test next
+some_name test (Insert table arguments next) = some_term test arguments || some_name test next
+some_name test (Get table patterns condition next otherwise) =
+    some_pattern test (row_pattern patterns) || some_side test condition || some_name test next || some_name test otherwise
 
 -- whether the term holds the free name of that number
 abbrev pub term_holds : ℕ → Term → Bool
@@ -56,7 +64,7 @@ is_absent_name P x = false
 
 -- whether the query asks for a message with a private free name that no term of the main process holds
 abbrev pub is_absent : Protocol → Query → Bool
-is_absent P (Secret message) = some_leaf (is_absent_name P) message
+is_absent P (Secret message phase) = some_leaf (is_absent_name P) message
 is_absent P q = false
 
 abbrev pub IsAbsent : Protocol → Query → Type 0

@@ -57,6 +57,10 @@ most_written_symbols = 2000
 abbrev pub most_points : ℕ
 most_points = 4096
 
+-- the greatest phase
+abbrev pub most_phases : ℕ
+most_phases = 16
+
 -- points above a point
 abbrev pub most_points_above : ℕ
 most_points_above = 511

@@ -104,25 +104,25 @@ abbrev pub coded_alternatives : Coded (List (List EventTerm))
 coded_alternatives = coded_list coded_events
 
 abbrev pub QueryParts : Type 0
-QueryParts = Term ⊎ (ℕ ⊎ (EventTerm × List (List EventTerm)))
+QueryParts = (Term × ℕ) ⊎ ((ℕ × ℕ) ⊎ (EventTerm × List (List EventTerm)))
 
 abbrev query_parts : Query → QueryParts
-query_parts (Secret message) = inl message
-query_parts (SecretNew point) = inr (inl point)
+query_parts (Secret message phase) = inl (message, phase)
+query_parts (SecretNew point phase) = inr (inl (point, phase))
 query_parts (Correspondence left alternatives) = inr (inr (left, alternatives))
 
 abbrev parts_query : QueryParts → Query
-parts_query (inl message) = Secret message
-parts_query (inr (inl point)) = SecretNew point
+parts_query (inl (message, phase)) = Secret message phase
+parts_query (inr (inl (point, phase))) = SecretNew point phase
 parts_query (inr (inr (left, alternatives))) = Correspondence left alternatives
 
 pub parts_query-query_parts : (q : Query) → parts_query (query_parts q) ≡ q
-parts_query-query_parts (Secret message) = refl
-parts_query-query_parts (SecretNew point) = refl
+parts_query-query_parts (Secret message phase) = refl
+parts_query-query_parts (SecretNew point phase) = refl
 parts_query-query_parts (Correspondence left alternatives) = refl
 
 abbrev pub coded_query : Coded Query
-coded_query = code_by QueryParts (coded⊎ coded_term (coded⊎ coded_ℕ (coded× coded_event coded_alternatives))) query_parts parts_query parts_query-query_parts
+coded_query = code_by QueryParts (coded⊎ (coded× coded_term coded_ℕ) (coded⊎ (coded× coded_ℕ coded_ℕ) (coded× coded_event coded_alternatives))) query_parts parts_query parts_query-query_parts
 
 abbrev pub coded_queries : Coded (List Query)
 coded_queries = coded_list coded_query

@@ -2,6 +2,7 @@ pub mod Syntax
 pub mod Points
 pub mod Values
 pub mod Matching
+pub mod Tables
 pub mod Choices
 pub mod Labels
 pub mod Runs
@@ -9,6 +10,8 @@ pub mod Codes
 pub mod Secrecy
 pub mod Absence
 pub mod Standing
+pub mod Phases
 pub mod Refusals
+pub mod Plain
 pub mod Limits
 pub mod Bounds

@@ -1,19 +1,21 @@
 -- Why a step is not possible: of the causes that apply, the first in the order that is listed here.
-use Rattle.std.specs.Prelude.{◌≡◌, ℕ, zero, suc, Bool, true, false, not, ◌&&◌, ◌||◌, nat_le, nat_eq, List, [], ◌∷◌, length, cond, Option, None, Some, option_and_then, is_some, is_none}
+use Rattle.std.specs.Prelude.{◌≡◌, ℕ, zero, suc, Bool, true, false, not, ◌&&◌, ◌||◌, nat_le, nat_lt, nat_eq, List, [], ◌∷◌, length, cond, Option, None, Some, option_and_then, is_some, is_none}
 use Rattle.std.specs.List.{AllByRecursion, list_any}
 use Rattle.std.specs.Option.{option_map_or}
-use Rattle.spec_calculus.specs.Syntax.{Process, Output, Input, Parallel, Replication, New, Let, Event, Rule, Protocol}
+use Rattle.spec_calculus.specs.Syntax.{Process, Output, Input, Parallel, Replication, New, Let, Event, Insert, Get, Rule, Protocol}
 use Rattle.spec_calculus.specs.Bounds.{most_arguments}
-use Rattle.spec_calculus.specs.Points.{numbered}
+use Rattle.spec_calculus.specs.Points.{numbered, greatest_phase}
 use Rattle.spec_calculus.specs.Values.{Value, Environment, same_value, value_of}
 use Rattle.spec_calculus.specs.Matching.{matched, rule_value, rules_of}
+use Rattle.spec_calculus.specs.Tables.{matched_entry}
 use Rattle.spec_calculus.specs.Choices.{value_at, values_at}
-use Rattle.spec_calculus.specs.Runs.{Configuration, Step, Build, Reduce, Part, Fresh, Split, Copy, Make, Pass, Hear, Say, Take, Fail, Mark, acting, knows, known_values, part_of}
+use Rattle.spec_calculus.specs.Runs.{Configuration, Step, Build, Reduce, Part, Fresh, Split, Copy, Make, Pass, Hear, Say, Take, Fail, Mark, Next, Put, Fetch, Miss, acting, knows, known_values, part_of}
 
 pub data Refusal : Type 0 where
   -- no such thread
   NoThread : Refusal
-  -- the thread stands at another form or has ended; no such constructor, destructor or part; another number of arguments
+  -- the thread stands at another form or has ended; no such constructor, destructor or part; another number of arguments; no later
+  -- phase
   WrongForm : Refusal
   -- the channel is not known
   UnknownChannel : Refusal
@@ -23,10 +25,12 @@ pub data Refusal : Type 0 where
   NoKnowledge : Refusal
   -- no such rule, or no such choice of rules, or they do not all apply, or the value does not match
   NoRule : Refusal
-  -- a value matches
+  -- a value matches, or an entry may be taken
   NotFailing : Refusal
   -- the constructor is private
   NotPublic : Refusal
+  -- no such entry, or it is of another table, or its values do not match or do not meet the condition
+  NoEntry : Refusal
   -- the step is possible, and a value that it evaluates or makes is over the limit of size
   Large : Refusal
 
@@ -97,6 +101,22 @@ abbrev pub at_mark : ℕ → Environment → Process → Option Process
 at_mark point environment (Event performed next) = Some next
 at_mark point environment other = None
 
+abbrev pub at_put : ℕ → Environment → Process → Option Process
+at_put point environment (Insert table arguments next) = Some next
+at_put point environment other = None
+
+-- whether the `get` may take the entry of that number
+abbrev pub at_fetch : Configuration → ℕ → ℕ → Environment → Process → Option Bool
+at_fetch c e point environment (Get table patterns condition next otherwise) =
+    Some (is_some (option_and_then (matched_entry environment table patterns condition) (numbered c.entries e)))
+at_fetch c e point environment other = None
+
+-- whether it may take some entry
+abbrev pub at_miss : Configuration → ℕ → Environment → Process → Option Bool
+at_miss c point environment (Get table patterns condition next otherwise) =
+    Some (list_any (λ held. is_some (matched_entry environment table patterns condition held)) c.entries)
+at_miss c point environment other = None
+
 abbrev pub no_thread : Configuration → ℕ → Bool
 no_thread c i = is_none (numbered c.threads i)
 
@@ -129,6 +149,14 @@ refusal P c (Fail i) = first_cause (
     where_true NoThread (no_thread c i) ∷ where_true WrongForm (is_none (acting P c i (at_fail P)))
     ∷ where_true NotFailing (option_map_or (λ matches. matches) (acting P c i (at_fail P)) false) ∷ [])
 refusal P c (Mark i) = first_cause (where_true NoThread (no_thread c i) ∷ where_true WrongForm (is_none (acting P c i at_mark)) ∷ [])
+refusal P c Next = first_cause (where_true WrongForm (not (nat_lt c.phase (greatest_phase P.main))) ∷ [])
+refusal P c (Put i) = first_cause (where_true NoThread (no_thread c i) ∷ where_true WrongForm (is_none (acting P c i at_put)) ∷ [])
+refusal P c (Fetch i e) = first_cause (
+    where_true NoThread (no_thread c i) ∷ where_true WrongForm (is_none (acting P c i (at_fetch c e)))
+    ∷ where_true NoEntry (not (option_map_or (λ matches. matches) (acting P c i (at_fetch c e)) false)) ∷ [])
+refusal P c (Miss i) = first_cause (
+    where_true NoThread (no_thread c i) ∷ where_true WrongForm (is_none (acting P c i (at_miss c)))
+    ∷ where_true NotFailing (option_map_or (λ matches. matches) (acting P c i (at_miss c)) false) ∷ [])
 
 -- all rules of a destructor take as many arguments as its first
 abbrev pub AreUniform : List Rule → Type 0

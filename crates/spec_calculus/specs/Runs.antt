@@ -1,13 +1,14 @@
 -- Runs: threads of a protocol beside an attacker (Blanchet 2016, section 2.2, the reduction of configurations).
-use Rattle.std.specs.Prelude.{ℕ, zero, suc, ◌+◌, Bool, true, false, ◌&&◌, nat_le, nat_eq, List, [], ◌∷◌, ◌++◌, length, cond, Option, None, Some, option_and_then, option_map, is_some, filter_map}
+use Rattle.std.specs.Prelude.{ℕ, zero, suc, ◌+◌, Bool, true, false, ◌&&◌, nat_le, nat_lt, nat_eq, List, [], ◌∷◌, ◌++◌, length, cond, Option, None, Some, option_and_then, option_map, is_some, filter_map, map}
 use Rattle.std.specs.List.{list_any, enumerate_from}
 use Rattle.std.specs.Option.{option_map_or}
 use Rattle.spec_trees.specs.Tree.{Leaf, Node, trees, items_of}
 use Rattle.spec_calculus.specs.Bounds.{most_arguments}
-use Rattle.spec_calculus.specs.Syntax.{Made, Symbol, Constructor, Tuple, Process, Output, Input, Parallel, Replication, New, Let, Event, Declared, Protocol}
-use Rattle.spec_calculus.specs.Points.{numbered, replaced, nodes, point_after}
+use Rattle.spec_calculus.specs.Syntax.{Made, Symbol, Constructor, Tuple, Process, Output, Input, Parallel, Replication, New, Let, Event, Phase, Insert, Get, Declared, Protocol}
+use Rattle.spec_calculus.specs.Points.{numbered, replaced, nodes, point_after, greatest_phase}
 use Rattle.spec_calculus.specs.Values.{FreeName, MadeName, AttackerName, Value, Environment, same_value, value_of, values_of}
 use Rattle.spec_calculus.specs.Matching.{matched, rule_value, rules_of}
+use Rattle.spec_calculus.specs.Tables.{Held, matched_entry}
 use Rattle.spec_calculus.specs.Choices.{value_at, values_at}
 
 -- a thread: it stands at a point in an environment, or it has ended
@@ -20,27 +21,32 @@ pub record Performed : Type 0 where
   pub event : ℕ
   pub arguments : List Value
 
--- a configuration: the threads, the values that the attacker knows, the events in order, and the number of the next name
+-- a configuration: the threads, the values that the attacker knows, the events in order, the number of the next name, the phase,
+-- and the entries of tables in order
 pub record Configuration : Type 0 where
   pub threads : List Thread
   pub known : List Value
   pub events : List Performed
   pub next : ℕ
+  pub phase : ℕ
+  pub entries : List Held
 
 -- a free name, if it is public
 abbrev pub public_name : ℕ × Declared → Option Value
 public_name (number, declared) = cond declared.public (Some (Leaf (FreeName number))) None
 
--- the start: the main process with nothing bound, and the public free names known, in order of declaration
+-- the start: the main process with nothing bound in phase 0, and the public free names known, in order of declaration
 abbrev pub start : Protocol → Configuration
 start P = record {
   threads = At 1 [] ∷ [];
   known = filter_map public_name (enumerate_from 1 P.frees);
   events = [];
   next = 0;
+  phase = 0;
+  entries = [];
 }
 
--- a step; threads, known values, constructors, destructors, rules and parts are numbered from 1
+-- a step; threads, known values, constructors, destructors, rules, parts and entries are numbered from 1
 pub data Step : Type 0 where
   -- the attacker applies the constructor, 0 for the tuple, to known values
   Build : (constructor : ℕ) → (arguments : List ℕ) → Step
@@ -68,6 +74,14 @@ pub data Step : Type 0 where
   Fail : (thread : ℕ) → Step
   -- the thread performs its event
   Mark : (thread : ℕ) → Step
+  -- the next phase begins
+  Next : Step
+  -- the thread writes its entry
+  Put : (thread : ℕ) → Step
+  -- the thread at a `get` takes the entry
+  Fetch : (thread entry : ℕ) → Step
+  -- the thread at a `get` goes to its else branch
+  Miss : (thread : ℕ) → Step
 
 -- what an action gives at the point, the environment and the process of a thread that has not ended
 abbrev pub acts : {A : Type 0} → Protocol → Thread → (ℕ → Environment → Process → Option A) → Option A
@@ -95,6 +109,10 @@ names c = record c { next = c.next + 1 }
 
 abbrev pub performs : Configuration → Performed → Configuration
 performs c performed = record c { events = c.events ++ performed ∷ [] }
+
+-- one more entry
+abbrev pub writes : Configuration → Held → Configuration
+writes c held = record c { entries = c.entries ++ held ∷ [] }
 
 abbrev pub knows : Configuration → Value → Bool
 knows c v = list_any (same_value v) c.known
@@ -189,6 +207,41 @@ after_mark c i point environment (Event performed next) =
     Some (performs (goes_on c i (At (point + 1) environment)) (record { event = performed.event; arguments = values_of environment performed.arguments }))
 after_mark c i point environment other = None
 
+-- the terms are written into the table
+abbrev pub after_put : Configuration → ℕ → ℕ → Environment → Process → Option Configuration
+after_put c i point environment (Insert table arguments next) =
+    Some (writes (goes_on c i (At (point + 1) environment)) (record { table = table; arguments = values_of environment arguments }))
+after_put c i point environment other = None
+
+-- a `get` goes on with the entry of that number, where it may take it
+abbrev pub after_fetch : Configuration → ℕ → ℕ → ℕ → Environment → Process → Option Configuration
+after_fetch c i e point environment (Get table patterns condition next otherwise) =
+    option_map (λ bindings. goes_on c i (At (point + 1) (environment ++ bindings)))
+    (option_and_then (matched_entry environment table patterns condition) (numbered c.entries e))
+after_fetch c i e point environment other = None
+
+-- a `get` goes to its else branch where it may take no entry
+abbrev pub after_miss : Configuration → ℕ → ℕ → Environment → Process → Option Configuration
+after_miss c i point environment (Get table patterns condition next otherwise) =
+    cond (list_any (λ held. is_some (matched_entry environment table patterns condition held)) c.entries) None
+    (Some (goes_on c i (At (point_after (point + 1) next) environment)))
+after_miss c i point environment other = None
+
+-- a thread at this process when the phase of that number begins: it goes on where it waits for it, stays where it waits for a later
+-- one, and else it ends
+abbrev pub at_phase : ℕ → ℕ → Environment → Option Process → Thread
+at_phase n point environment (Some (Phase number next)) =
+    cond (nat_eq number n) (At (point + 1) environment) (cond (nat_lt n number) (At point environment) Ended)
+at_phase n point environment other = Ended
+
+abbrev pub enters : Protocol → ℕ → Thread → Thread
+enters P n (At point environment) = at_phase n point environment (numbered (nodes P.main) point)
+enters P n Ended = Ended
+
+-- the next phase, with all that is known, performed and written
+abbrev pub raised : Protocol → Configuration → Configuration
+raised P c = record c { phase = c.phase + 1; threads = map (enters P (c.phase + 1)) c.threads }
+
 -- the configuration after a step, where the step is possible
 abbrev pub after_step : Protocol → Configuration → Step → Option Configuration
 after_step P c (Build f ks) = cond (can_build P f (length ks)) (option_map (λ vs. learns c (built f vs)) (known_values c ks)) None
@@ -205,6 +258,10 @@ after_step P c (Say j k) = option_and_then (λ v. acting P c j (after_say c j v)
 after_step P c (Take i label) = acting P c i (after_take P c i label)
 after_step P c (Fail i) = acting P c i (after_fail P c i)
 after_step P c (Mark i) = acting P c i (after_mark c i)
+after_step P c Next = cond (nat_lt c.phase (greatest_phase P.main)) (Some (raised P c)) None
+after_step P c (Put i) = acting P c i (after_put c i)
+after_step P c (Fetch i e) = acting P c i (after_fetch c i e)
+after_step P c (Miss i) = acting P c i (after_miss c i)
 
 -- the configuration after steps, where each is possible where it stands
 abbrev pub after_steps : Protocol → Configuration → List Step → Option Configuration

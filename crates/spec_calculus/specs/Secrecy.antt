@@ -1,5 +1,5 @@
 -- Queries: secrecy and correspondences (Blanchet 2016, sections 2.3 and 3.2), and what it means that they hold.
-use Rattle.std.specs.Prelude.{◌≡◌, ℕ, List, [], take, Some, slice_get, Contains}
+use Rattle.std.specs.Prelude.{◌≡◌, ℕ, ◌≤◌, List, [], take, Some, slice_get, Contains}
 use Rattle.std.specs.List.{AllByRecursion}
 use Rattle.spec_trees.specs.Tree.{Leaf}
 use Rattle.spec_calculus.specs.Syntax.{EventTerm, Protocol, Query, Secret, SecretNew, Correspondence}
@@ -22,12 +22,18 @@ pub record IsUnpreceded (left : EventTerm) (alternatives : List (List EventTerm)
 
 -- the query is violated in the configuration
 abbrev pub IsViolated : Query → Configuration → Type 0
--- the attacker knows the message
-IsViolated (Secret message) c = Contains c.known (value_of [] message)
--- the attacker knows a name that the restriction made
-IsViolated (SecretNew point) c = (number : ℕ) × Contains c.known (Leaf (MadeName point number))
+-- the attacker knows the message, up to the phase
+IsViolated (Secret message phase) c = Contains c.known (value_of [] message) × (c.phase ≤ phase)
+-- the attacker knows a name that the restriction made, up to the phase
+IsViolated (SecretNew point phase) c = ((number : ℕ) × Contains c.known (Leaf (MadeName point number))) × (c.phase ≤ phase)
 -- an event is not preceded as it should be
 IsViolated (Correspondence left alternatives) c = (index : ℕ) × IsUnpreceded left alternatives c.events index
+
+-- the query can still be violated: its phase has not passed
+abbrev pub IsOpen : Query → Configuration → Type 0
+IsOpen (Secret message phase) c = c.phase ≤ phase
+IsOpen (SecretNew point phase) c = c.phase ≤ phase
+IsOpen (Correspondence left alternatives) c = Unit {0}
 
 -- no run of the protocol ends in a configuration that violates the query
 abbrev pub Holds : Protocol → Query → Type 0

@@ -1,5 +1,5 @@
 -- The syntax of protocols as plain data: terms, processes, queries (Blanchet 2016, section 2.1, untyped).
-use Rattle.std.specs.Prelude.{ℕ, List, Bool}
+use Rattle.std.specs.Prelude.{ℕ, List, Bool, Option}
 use Rattle.spec_trees.specs.Tree.{Tree}
 
 -- a leaf of a term
@@ -58,6 +58,10 @@ pub record EventTerm : Type 0 where
   pub event : ℕ
   pub arguments : List Term
 
+-- what a `get` asks of an entry besides its patterns: that the values of these two terms are equal
+abbrev pub Condition : Type 0
+Condition = Option (Term × Term)
+
 -- a process
 pub data Process : Type 0 where
   -- nothing
@@ -76,6 +80,12 @@ pub data Process : Type 0 where
   Let : (pattern : Pattern) → (expression : Expression) → (next otherwise : Process) → Process
   -- performs the event, and goes on
   Event : (performed : EventTerm) → (next : Process) → Process
+  -- waits for the phase of that number, and goes on in it
+  Phase : (number : ℕ) → (next : Process) → Process
+  -- writes the terms into the table of that number, from 1, as one more entry, and goes on
+  Insert : (table : ℕ) → (arguments : List Term) → (next : Process) → Process
+  -- goes on with an entry of the table that matches the patterns and meets the condition, or otherwise where there is none
+  Get : (table : ℕ) → (patterns : List Pattern) → (condition : Condition) → (next otherwise : Process) → Process
 
 -- a declared name, with the bytes of its word
 pub record Declared : Type 0 where
@@ -91,10 +101,10 @@ pub record Destructor : Type 0 where
 
 -- what is asked of a protocol
 pub data Query : Type 0 where
-  -- does the attacker never get to know the message?
-  Secret : (message : Term) → Query
-  -- does the attacker never get to know a name of the restriction at that point?
-  SecretNew : (point : ℕ) → Query
+  -- does the attacker not get to know the message up to the phase?
+  Secret : (message : Term) → (phase : ℕ) → Query
+  -- does the attacker not get to know a name of the restriction at that point up to the phase?
+  SecretNew : (point phase : ℕ) → Query
   -- is each event that is an instance of the left one preceded by all events of one of the alternatives?
   Correspondence : (left : EventTerm) → (alternatives : List (List EventTerm)) → Query
 
@@ -104,5 +114,6 @@ pub record Protocol : Type 0 where
   pub constructors : List Declared
   pub destructors : List Destructor
   pub events : List Declared
+  pub tables : List Declared
   pub queries : List Query
   pub main : Process

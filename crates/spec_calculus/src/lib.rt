@@ -3,17 +3,23 @@
 //! their contracts what holds of the definitions.
 #![tactic(auto)]
 
-ghost use Rattle.std.specs.Prelude.{◌≡◌, ◌↔◌, ℕ, Bool, List, [], ◌∷◌, Some, length, map, Contains};
+ghost use Rattle.std.specs.Prelude.{◌≡◌, ◌↔◌, ℕ, ◌+◌, ◌≤◌, Bool, List, [], ◌∷◌, Some, length, map, take, Contains};
 ghost use Rattle.std.specs.Prelude.{filter_map, flat_map};
 ghost use Rattle.std.specs.List.{AllByRecursion, list_any};
 ghost use Rattle.spec_trees.specs.Tree.{Trees, Leaf, Node, none, more, node};
-ghost use Rattle.spec_calculus.specs.Syntax.{Term, Symbol, Head, Builds, Calls, Expression, Ruled, Protocol};
+ghost use Rattle.spec_calculus.specs.Syntax.{Term, Symbol, Head, Builds, Calls, Expression, Ruled, Process, Protocol, Query};
 ghost use Rattle.spec_calculus.specs.Values.{Value, Environment, value_of};
 ghost use Rattle.spec_calculus.specs.Matching.{rule_value, rules_of};
 ghost use Rattle.spec_calculus.specs.Choices.{Choice, choices, label_of, choice_at, value_at};
 ghost use Rattle.spec_calculus.specs.Choices.{values_at, row_values_at, part_values, some_part_value, HasRules};
 ghost use Rattle.spec_calculus.specs.Choices.{applications, choice_count, AreInOrder};
 ghost use Rattle.spec_calculus.specs.Labels.{read_rules};
+ghost use Rattle.spec_calculus.specs.Points.{nodes, greatest_phase};
+ghost use Rattle.spec_calculus.specs.Runs.{Configuration, Step, Next, Put, Fetch, Miss, after_steps, run};
+ghost use Rattle.spec_calculus.specs.Refusals.{WrongForm, refusal};
+ghost use Rattle.spec_calculus.specs.Secrecy.{IsViolated, IsOpen};
+ghost use Rattle.spec_calculus.specs.Phases.{all_phases_begun, open_steps};
+ghost use Rattle.spec_calculus.specs.Plain.{IsPlain, nowhere};
 
 /// The choices of an expression: as many as the product of the numbers of rules of the destructors that it applies,
 /// each with a number for each of these, in dictionary order.
@@ -69,4 +75,38 @@ pub fn labels_tell_choices()
     ensures found { (P : Protocol) (e : Expression) (numbers : List ℕ) (ruled : Ruled) →
         read_rules P e numbers ≡ Some (ruled, []) →
         choice_at P e (label_of numbers) ≡ Some (record { rules = numbers; ruled = ruled }) }
+{}
+
+/// What is violated stays violated while the query is open: one of secrecy until its phase has passed, and a
+/// correspondence always.
+pub fn violations_stay()
+    ensures { (P : Protocol) (q : Query) (c d : Configuration) (steps : List Step) →
+        after_steps P c steps ≡ Some d → IsOpen q d → IsViolated q c → IsViolated q d }
+{}
+
+/// The steps tell the phase, and so at which ends of steps a query is open: these are the first so many, the query is
+/// open at the end of them all, and a violation is at the end of some of them.
+pub fn phases_are_told()
+    ensures counted { (P : Protocol) (c d : Configuration) (steps : List Step) →
+        after_steps P c steps ≡ Some d → d.phase ≡ c.phase + all_phases_begun steps }
+    ensures still_open { (P : Protocol) (q : Query) (steps : List Step) (d : Configuration) →
+        run P (open_steps q steps) ≡ Some d → IsOpen q d }
+    ensures violated { (P : Protocol) (q : Query) (k : ℕ) (steps : List Step) (d : Configuration) →
+        k ≤ length steps → run P (take k steps) ≡ Some d → IsViolated q d →
+        (k ≤ length (open_steps q steps)) × (take k (open_steps q steps) ≡ take k steps) }
+{}
+
+/// A process that waits for no phase and has no tables goes through phase 0 alone, with all its nodes: at the end of each
+/// run all queries are open, and no step of a phase or of a table is possible.
+pub fn plain_processes_have_one_phase()
+    ensures greatest { (process : Process) → IsPlain process → greatest_phase process ≡ 0 }
+    ensures nodes { (process : Process) → IsPlain process → AllByRecursion IsPlain (nodes process) }
+    ensures opened { (P : Protocol) (q : Query) (d : Configuration) (steps : List Step) →
+        IsPlain P.main → run P steps ≡ Some d → IsOpen q d }
+    ensures phases { (P : Protocol) (c : Configuration) → IsPlain P.main →
+        refusal P c Next ≡ Some WrongForm }
+    ensures writes { (P : Protocol) (c : Configuration) (i : ℕ) → IsPlain P.main →
+        refusal P c (Put i) ≡ nowhere c i }
+    ensures reads { (P : Protocol) (c : Configuration) (i e : ℕ) → IsPlain P.main →
+        (refusal P c (Fetch i e) ≡ nowhere c i) × (refusal P c (Miss i) ≡ nowhere c i) }
 {}

@@ -3,7 +3,7 @@ use Rattle.std.proofs.Common.{◌≡◌, ℕ, ◌+◌, ◌≤◌, ◌==◌, if�
 use Rattle.std.specs.List.{AllByRecursion}
 use Rattle.spec_calculus.specs.Syntax.{Protocol}
 use Rattle.spec_terms.specs.Term.{Term}
-use Rattle.spec_clauses.specs.Fact.{Fact, Att, Mess, Ev, Mev, Bad, Clause}
+use Rattle.spec_clauses.specs.Fact.{Fact, Att, Mess, Tab, Ev, Mev, Bad, Clause}
 use Rattle.spec_certificate_text.specs.OfProtocol.{HasNames}
 use Rattle.spec_certificate_text.specs.Written.{written_fact}
 use Rattle.spec_certificate_text.specs.Text.{fact_text, later_hypotheses, hypotheses_text, clause_text}
@@ -83,8 +83,9 @@ hypotheses_there P bytes at hs p r e =
     subst (λ gs. IsThere (front_text P) (AllByRecursion (IsHypothesisOf P)) bytes gs r) (sym all.is) there)
 
 no_arrow : (P : Protocol) (h : Fact Term) (k : List ℕ) → IsHypothesisOf P h → (front (fact_text P h k) == 61) ≡ false
-no_arrow P (Att t) k may = refl
-no_arrow P (Mess t u) k may = refl
+no_arrow P (Att phase t) k may = refl
+no_arrow P (Mess phase t u) k may = refl
+no_arrow P (Tab n ts) k may = refl
 no_arrow P (Ev e ts) k may = refl
 no_arrow P (Mev e ts) k may = refl
 no_arrow P (Bad ts) k may = absurd may
@@ -98,7 +99,7 @@ hypotheses_found P names (h ∷ hs) rest at each =
     (things_found (hypothesis_text P) (IsHypothesisOf P) (one_hypothesis P) (one_hypothesis_found P names) (length (things_text (hypothesis_text P) h hs rest)) [] h hs rest at (things_long (hypothesis_text P) (hypothesis_long P) h hs rest) each))
 
 abbrev conclude : List (Fact Term) → Fact Term → Clause Term
-conclude hs c = record { hypotheses = hs; conclusion = c }
+conclude hs c = record { hypotheses = hs; diffs = []; conclusion = c }
 
 pub clause_there : (P : Protocol) → Sound (clause_text P) (IsReadable P) (read_clause P)
 clause_there P bytes at c p r e =
@@ -110,11 +111,12 @@ clause_there P bytes at c p r e =
     let rests : end.rest ≡ r = cc in
     subst (λ d. IsThere (clause_text P) (IsReadable P) bytes d r) same record {
       text = hypotheses.text ∙ ap (front_text P begin.value) (conclusion.text ∙ ap (fact_text P end.value) rests);
-      is = record { hypotheses = hypotheses.is; conclusion = conclusion.is };
+      is = record { hypotheses = hypotheses.is; diffs = refl; conclusion = conclusion.is };
     }
 
 pub clause_found : (P : Protocol) → HasNames P → Complete (clause_text P) (IsReadable P) (read_clause P)
 clause_found P names c rest at is =
     joined (read_hypotheses P (clause_text P c rest) at) (λ hs p r. next (read_conclusion P r p) (λ f p r. Found (conclude hs f) p r)) c.hypotheses (fact_text P c.conclusion rest) c rest
     (hypotheses_found P names c.hypotheses (fact_text P c.conclusion rest) at is.hypotheses)
-    (λ p. joined (read_conclusion P (fact_text P c.conclusion rest) p) (λ f p r. Found (conclude c.hypotheses f) p r) c.conclusion rest c rest (conclusion_found P names c.conclusion rest p is.conclusion) (λ q. record { place = q; is = refl }))
+    (λ p. joined (read_conclusion P (fact_text P c.conclusion rest) p) (λ f p r. Found (conclude c.hypotheses f) p r) c.conclusion rest c rest (conclusion_found P names c.conclusion rest p is.conclusion)
+    (λ q. record { place = q; is = λ i. Found (record { hypotheses = c.hypotheses; diffs = sym is.diffs i; conclusion = c.conclusion }) q rest }))

@@ -1,12 +1,12 @@
 -- The texts of facts are read as these facts.
-use Rattle.std.proofs.Common.{◌≡◌, ℕ, ◌+◌, ◌≤◌, ◌==◌, if◌then◌else◌, Bool, true, false, List, [], ◌∷◌, ◌++◌, length, take, drop, Some, refl, sym, ◌∙◌, ap, subst, arith, codes}
+use Rattle.std.proofs.Common.{◌≡◌, ℕ, zero, suc, ◌+◌, ◌≤◌, ◌==◌, if◌then◌else◌, Bool, true, false, List, [], ◌∷◌, ◌++◌, length, take, drop, Some, refl, sym, ◌∙◌, ap, subst, arith, codes}
 use Rattle.std.proofs.Math.Seq.{drop-append_seam, take-append_seam}
 use Rattle.std.specs.List.{AllByRecursion, prefix_len}
 use Rattle.spec_trees.specs.Tree.{trees}
 use Rattle.spec_calculus.specs.Syntax.{Protocol}
 use Rattle.spec_protocol_tokens.specs.Bytes.{begins_word, is_in_word}
 use Rattle.spec_terms.specs.Term.{Term}
-use Rattle.spec_clauses.specs.Fact.{Att, Mess, Ev, Mev, Bad}
+use Rattle.spec_clauses.specs.Fact.{Att, Mess, Tab, Ev, Mev, Bad}
 use Rattle.spec_certificate_text.specs.Spelled.{IsWord, Stops, goes_on}
 use Rattle.spec_certificate_text.specs.Loose.{onto, row}
 use Rattle.spec_certificate_text.specs.OfProtocol.{HasNames}
@@ -114,19 +114,19 @@ event_found P names e k at is =
 
 -- Facts of each kind.
 
-att_found : (P : Protocol) → HasNames P → (t : Term) (k : List ℕ) (at : ℕ) → MayStand P t → Finds (read_att P (fact_text P (Att t) k) at) (Att t) k
+att_found : (P : Protocol) → HasNames P → (t : Term) (k : List ℕ) (at : ℕ) → MayStand P t → Finds (read_att P (fact_text P (Att 0 t) k) at) (Att 0 t) k
 att_found P names t k at may =
-    joined (read_fixed (codes "att(") (fact_text P (Att t) k) at) _ tt (term_text P t (41 ∷ k)) (Att t) k (fixed_found (codes "att(") (term_text P t (41 ∷ k)) at) (λ p.
-    joined (one_term P (term_text P t (41 ∷ k)) p) _ t (41 ∷ k) (Att t) k (term_found P names t may p 41 k refl) (λ q.
-    joined (read_fixed (codes ")") (41 ∷ k) q) _ tt k (Att t) k (fixed_found (codes ")") k q) (λ z. record { place = z; is = refl })))
+    joined (read_fixed (codes "att(") (fact_text P (Att 0 t) k) at) _ tt (term_text P t (41 ∷ k)) (Att 0 t) k (fixed_found (codes "att(") (term_text P t (41 ∷ k)) at) (λ p.
+    joined (one_term P (term_text P t (41 ∷ k)) p) _ t (41 ∷ k) (Att 0 t) k (term_found P names t may p 41 k refl) (λ q.
+    joined (read_fixed (codes ")") (41 ∷ k) q) _ tt k (Att 0 t) k (fixed_found (codes ")") k q) (λ z. record { place = z; is = refl })))
 
-mess_found : (P : Protocol) → HasNames P → (t u : Term) (k : List ℕ) (at : ℕ) → MayStand P t → MayStand P u → Finds (read_mess P (fact_text P (Mess t u) k) at) (Mess t u) k
+mess_found : (P : Protocol) → HasNames P → (t u : Term) (k : List ℕ) (at : ℕ) → MayStand P t → MayStand P u → Finds (read_mess P (fact_text P (Mess 0 t u) k) at) (Mess 0 t u) k
 mess_found P names t u k at may also =
-    joined (read_fixed (codes "mess(") (fact_text P (Mess t u) k) at) _ tt (term_text P t (44 ∷ term_text P u (41 ∷ k))) (Mess t u) k (fixed_found (codes "mess(") (term_text P t (44 ∷ term_text P u (41 ∷ k))) at) (λ p.
-    joined (one_term P (term_text P t (44 ∷ term_text P u (41 ∷ k))) p) _ t (44 ∷ term_text P u (41 ∷ k)) (Mess t u) k (term_found P names t may p 44 (term_text P u (41 ∷ k)) refl) (λ q.
-    joined (read_fixed (codes ",") (44 ∷ term_text P u (41 ∷ k)) q) _ tt (term_text P u (41 ∷ k)) (Mess t u) k (fixed_found (codes ",") (term_text P u (41 ∷ k)) q) (λ y.
-    joined (one_term P (term_text P u (41 ∷ k)) y) _ u (41 ∷ k) (Mess t u) k (term_found P names u also y 41 k refl) (λ x.
-    joined (read_fixed (codes ")") (41 ∷ k) x) _ tt k (Mess t u) k (fixed_found (codes ")") k x) (λ z. record { place = z; is = refl })))))
+    joined (read_fixed (codes "mess(") (fact_text P (Mess 0 t u) k) at) _ tt (term_text P t (44 ∷ term_text P u (41 ∷ k))) (Mess 0 t u) k (fixed_found (codes "mess(") (term_text P t (44 ∷ term_text P u (41 ∷ k))) at) (λ p.
+    joined (one_term P (term_text P t (44 ∷ term_text P u (41 ∷ k))) p) _ t (44 ∷ term_text P u (41 ∷ k)) (Mess 0 t u) k (term_found P names t may p 44 (term_text P u (41 ∷ k)) refl) (λ q.
+    joined (read_fixed (codes ",") (44 ∷ term_text P u (41 ∷ k)) q) _ tt (term_text P u (41 ∷ k)) (Mess 0 t u) k (fixed_found (codes ",") (term_text P u (41 ∷ k)) q) (λ y.
+    joined (one_term P (term_text P u (41 ∷ k)) y) _ u (41 ∷ k) (Mess 0 t u) k (term_found P names u also y 41 k refl) (λ x.
+    joined (read_fixed (codes ")") (41 ∷ k) x) _ tt k (Mess 0 t u) k (fixed_found (codes ")") k x) (λ z. record { place = z; is = refl })))))
 
 ev_found : (P : Protocol) → HasNames P → (e : Performed) (k : List ℕ) (at : ℕ) → IsPerformed P e → Finds (read_ev P (fact_text P (Ev e.event e.arguments) k) at) (Ev e.event e.arguments) k
 ev_found P names e k at is =
@@ -168,15 +168,21 @@ bad_found P names ts k at each =
     joined (bad_arguments P behind p) (λ us q s. Found (Bad us) q s) ts k (Bad ts) k (bad_arguments_found P names ts k p each) (λ q. record { place = q; is = refl }))
 
 pub hypothesis_found : (P : Protocol) → HasNames P → Complete (fact_text P) (IsHypothesisOf P) (read_hypothesis P)
-hypothesis_found P names (Att t) k at may = att_found P names t k at may
-hypothesis_found P names (Mess t u) k at may = mess_found P names t u k at may.0 may.1
+hypothesis_found P names (Att zero t) k at may = att_found P names t k at may
+hypothesis_found P names (Mess zero t u) k at may = mess_found P names t u k at may.0 may.1
+hypothesis_found P names (Att (suc n) t) k at may = absurd may
+hypothesis_found P names (Mess (suc n) t u) k at may = absurd may
+hypothesis_found P names (Tab n ts) k at may = absurd may
 hypothesis_found P names (Ev e ts) k at may = ev_found P names record { event = e; arguments = ts } k at record { event = may.0; each = may.1 }
 hypothesis_found P names (Mev e ts) k at may = mev_found P names record { event = e; arguments = ts } k at record { event = may.0; each = may.1 }
 hypothesis_found P names (Bad ts) k at may = absurd may
 
 pub conclusion_found : (P : Protocol) → HasNames P → Complete (fact_text P) (IsConclusionOf P) (read_conclusion P)
-conclusion_found P names (Att t) k at may = att_found P names t k at may
-conclusion_found P names (Mess t u) k at may = mess_found P names t u k at may.0 may.1
+conclusion_found P names (Att zero t) k at may = att_found P names t k at may
+conclusion_found P names (Mess zero t u) k at may = mess_found P names t u k at may.0 may.1
+conclusion_found P names (Att (suc n) t) k at may = absurd may
+conclusion_found P names (Mess (suc n) t u) k at may = absurd may
+conclusion_found P names (Tab n ts) k at may = absurd may
 conclusion_found P names (Ev e ts) k at may = ev_found P names record { event = e; arguments = ts } k at record { event = may.0; each = may.1 }
 conclusion_found P names (Mev e ts) k at may = absurd may
 conclusion_found P names (Bad ts) k at may = bad_found P names ts k at may

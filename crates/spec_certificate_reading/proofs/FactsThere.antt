@@ -156,17 +156,17 @@ record OfKind {X : Type 0} (P : Protocol) (of : X → Fact Term) (Is : X → Typ
 kind_there : {X : Type 0} (P : Protocol) (of : X → Fact Term) (Is : X → Type 0) (May : Fact Term → Type 0) (bytes : List ℕ) (f : Fact Term) (rest : List ℕ) → ((x : X) → Is x → May (of x)) → OfKind P of Is bytes f rest → IsThere (fact_text P) May bytes f rest
 kind_there P of Is May bytes f rest may kind = subst (λ g. IsThere (fact_text P) May bytes g rest) kind.made record { text = kind.text; is = may kind.value kind.is }
 
-att_there : (P : Protocol) (bytes : List ℕ) (at : ℕ) (f : Fact Term) (p : ℕ) (r : List ℕ) → read_att P bytes at ≡ Found f p r → OfKind P Att (MayStand P) bytes f r
+att_there : (P : Protocol) (bytes : List ℕ) (at : ℕ) (f : Fact Term) (p : ℕ) (r : List ℕ) → read_att P bytes at ≡ Found f p r → OfKind P (Att 0) (MayStand P) bytes f r
 att_there P bytes at f p r e =
     let begin = parts (read_fixed (codes "att(") bytes at) _ f p r e in
     let opens = fixed_there (codes "att(") bytes at begin.value begin.place begin.rest begin.first in
-    let one = term_then P 41 [] (λ t p r. Found (Att t) p r) begin.rest begin.place f p r begin.later in
-    let made : Att one.term ≡ f = cc in
+    let one = term_then P 41 [] (λ t p r. Found (Att 0 t) p r) begin.rest begin.place f p r begin.later in
+    let made : Att 0 one.term ≡ f = cc in
     let rests : one.rest ≡ r = cc in
     record { value = one.term; made = made; is = one.there.is; text = opens ∙ ap (λ k. codes "att(" ++ k) (one.there.text ∙ ap (λ k. term_text P one.term (41 ∷ k)) rests) }
 
 abbrev message : Term × Term → Fact Term
-message x = Mess x.0 x.1
+message x = Mess 0 x.0 x.1
 
 abbrev BothStand : Protocol → Term × Term → Type 0
 BothStand P x = MayStand P x.0 × MayStand P x.1
@@ -175,9 +175,9 @@ mess_there : (P : Protocol) (bytes : List ℕ) (at : ℕ) (f : Fact Term) (p : �
 mess_there P bytes at f p r e =
     let begin = parts (read_fixed (codes "mess(") bytes at) _ f p r e in
     let opens = fixed_there (codes "mess(") bytes at begin.value begin.place begin.rest begin.first in
-    let one = term_then P 44 [] (λ t p r. next (one_term P r p) (λ u p r. next (read_fixed (codes ")") r p) (λ _ p r. Found (Mess t u) p r))) begin.rest begin.place f p r begin.later in
-    let two = term_then P 41 [] (λ u p r. Found (Mess one.term u) p r) one.rest one.place f p r one.later in
-    let made : Mess one.term two.term ≡ f = cc in
+    let one = term_then P 44 [] (λ t p r. next (one_term P r p) (λ u p r. next (read_fixed (codes ")") r p) (λ _ p r. Found (Mess 0 t u) p r))) begin.rest begin.place f p r begin.later in
+    let two = term_then P 41 [] (λ u p r. Found (Mess 0 one.term u) p r) one.rest one.place f p r one.later in
+    let made : Mess 0 one.term two.term ≡ f = cc in
     let rests : two.rest ≡ r = cc in
     record {
       value = (one.term, two.term);
@@ -250,7 +250,7 @@ hypothesis_there P bytes at f p r e =
     (λ no_v mess. kind_there P message (BothStand P) (IsHypothesisOf P) bytes f r (λ x is. is) (mess_there P bytes at f p r mess)))
     (λ no_m other. chosen (front bytes == 101) (read_ev P bytes at) (read_att P bytes at) f p r (IsThere (fact_text P) (IsHypothesisOf P) bytes f r) other
     (λ v ev. kind_there P happened (IsPerformed P) (IsHypothesisOf P) bytes f r (λ x is. (is.event, is.each)) (ev_there P bytes at f p r ev))
-    (λ no_v att. kind_there P Att (MayStand P) (IsHypothesisOf P) bytes f r (λ x is. is) (att_there P bytes at f p r att)))
+    (λ no_v att. kind_there P (Att 0) (MayStand P) (IsHypothesisOf P) bytes f r (λ x is. is) (att_there P bytes at f p r att)))
 
 pub conclusion_there : (P : Protocol) → Sound (fact_text P) (IsConclusionOf P) (read_conclusion P)
 conclusion_there P bytes at f p r e =
@@ -260,4 +260,4 @@ conclusion_there P bytes at f p r e =
     (λ v ev. kind_there P happened (IsPerformed P) (IsConclusionOf P) bytes f r (λ x is. (is.event, is.each)) (ev_there P bytes at f p r ev))
     (λ no_v rest. chosen (front bytes == 98) (read_bad P bytes at) (read_att P bytes at) f p r (IsThere (fact_text P) (IsConclusionOf P) bytes f r) rest
     (λ b bad. kind_there P Bad (AllByRecursion (MayStand P)) (IsConclusionOf P) bytes f r (λ x is. is) (bad_there P bytes at f p r bad))
-    (λ no_b att. kind_there P Att (MayStand P) (IsConclusionOf P) bytes f r (λ x is. is) (att_there P bytes at f p r att))))
+    (λ no_b att. kind_there P (Att 0) (MayStand P) (IsConclusionOf P) bytes f r (λ x is. is) (att_there P bytes at f p r att))))

@@ -1,7 +1,7 @@
 -- What a word names has that word.
 use Rattle.std.proofs.Common.{◌≡◌, ℕ, suc, ◌+◌, Bool, true, false, List, [], ◌∷◌, Option, Some, None, slice_get, option_map, unwrap_or, refl, sym, ◌∙◌, ap, subst, arith}
 use Rattle.std.specs.Str.{bytes_eq}
-use Rattle.spec_calculus.specs.Syntax.{Declared, Process, Nil, Output, Input, Parallel, Replication, New, Let, Event, Protocol}
+use Rattle.spec_calculus.specs.Syntax.{Declared, Process, Nil, Output, Input, Parallel, Replication, New, Let, Event, Phase, Insert, Get, Protocol}
 use Rattle.spec_calculus.specs.Points.{numbered, nodes, name_arguments}
 use Rattle.spec_terms.specs.Term.{Sym, Ctor, Data, Free, Point}
 use Rattle.std.proofs.lemmas.Slice.Eq.{bytes_eq-Decides}
@@ -102,6 +102,9 @@ restriction_is word (Parallel l r) e = absurd (cc)
 restriction_is word (Replication p) e = absurd (cc)
 restriction_is word (Let p x next otherwise) e = absurd (cc)
 restriction_is word (Event x next) e = absurd (cc)
+restriction_is word (Phase n next) e = absurd (cc)
+restriction_is word (Insert n ts next) e = absurd (cc)
+restriction_is word (Get n ps condition next otherwise) e = absurd (cc)
 
 pub name_called_is : (P : Protocol) (word : List ℕ) (point : ℕ) (named : Named) → name_called P word point ≡ Some named → IsNameAt P word point named
 name_called_is P word point named e = by_node (numbered (nodes P.main) point) refl

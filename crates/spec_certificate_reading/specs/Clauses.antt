@@ -1,4 +1,4 @@
--- Reading clauses.
+-- Reading clauses: of constraints there are none.
 use Rattle.std.specs.Prelude.{◌==◌, if◌then◌else◌, Bool, true, false, List, [], codes}
 use Rattle.spec_calculus.specs.Syntax.{Protocol}
 use Rattle.spec_terms.specs.Term.{Term}
@@ -22,4 +22,4 @@ read_hypotheses P bytes at =
 abbrev pub read_clause : Protocol → Reader (Clause Term)
 read_clause P bytes at =
     next (read_hypotheses P bytes at) (λ hs p r.
-    next (read_conclusion P r p) (λ c p r. Found (record { hypotheses = hs; conclusion = c }) p r))
+    next (read_conclusion P r p) (λ c p r. Found (record { hypotheses = hs; diffs = []; conclusion = c }) p r))

@@ -1,4 +1,4 @@
--- Reading facts.
+-- Reading facts: of phase 0, and of no table.
 use Rattle.std.specs.Prelude.{ℕ, ◌+◌, ◌==◌, if◌then◌else◌, Bool, true, false, List, [], length, take, drop, Option, Some, None, codes}
 use Rattle.std.specs.List.{prefix_len}
 use Rattle.spec_calculus.specs.Syntax.{Protocol}
@@ -63,7 +63,7 @@ abbrev pub read_att : Protocol → Reader (Fact Term)
 read_att P bytes at =
     next (read_fixed (codes "att(") bytes at) (λ _ p r.
     next (one_term P r p) (λ t p r.
-    next (read_fixed (codes ")") r p) (λ _ p r. Found (Att t) p r)))
+    next (read_fixed (codes ")") r p) (λ _ p r. Found (Att 0 t) p r)))
 
 abbrev pub read_mess : Protocol → Reader (Fact Term)
 read_mess P bytes at =
@@ -71,7 +71,7 @@ read_mess P bytes at =
     next (one_term P r p) (λ t p r.
     next (read_fixed (codes ",") r p) (λ _ p r.
     next (one_term P r p) (λ u p r.
-    next (read_fixed (codes ")") r p) (λ _ p r. Found (Mess t u) p r)))))
+    next (read_fixed (codes ")") r p) (λ _ p r. Found (Mess 0 t u) p r)))))
 
 abbrev pub read_ev : Protocol → Reader (Fact Term)
 read_ev P bytes at =

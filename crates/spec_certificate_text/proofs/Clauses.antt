@@ -1,5 +1,5 @@
 -- Facts, clauses and certificates of a protocol are told apart by their texts, whatever follows.
-use Rattle.std.proofs.Common.{◌≡◌, ℕ, Bool, true, false, ◌==◌, List, [], ◌∷◌, ◌++◌, length, refl, sym, ◌∙◌, ap, subst, arith}
+use Rattle.std.proofs.Common.{◌≡◌, ℕ, zero, suc, Bool, true, false, ◌==◌, List, [], ◌∷◌, ◌++◌, length, refl, sym, ◌∙◌, ap, subst, arith}
 use Rattle.std.specs.Prelude.{codes}
 use Rattle.std.specs.Char.{is_ascii_digit}
 use Rattle.std.specs.Fmt.{decimal}
@@ -11,7 +11,7 @@ use Rattle.spec_trees.proofs.Rows.{trees-injective}
 use Rattle.spec_calculus.specs.Syntax.{Protocol}
 use Rattle.spec_well_formed.specs.Words as declared
 use Rattle.spec_terms.specs.Term.{Term}
-use Rattle.spec_clauses.specs.Fact.{Fact, Att, Mess, Ev, Mev, Bad, Clause}
+use Rattle.spec_clauses.specs.Fact.{Fact, Att, Mess, Tab, Ev, Mev, Bad, Clause}
 use Rattle.spec_certificates.specs.Certificate.{Certificate}
 use Rattle.spec_certificate_text.specs.Loose.{Applied, Tupled, Made, Attackers, Loose}
 use Rattle.spec_certificate_text.specs.Words.{event_word}
@@ -27,8 +27,11 @@ use Rattle.spec_certificate_text.proofs.Terms.{applied_is_loose, written_is_loos
 -- Facts.
 
 fact_is_loose : (P : Protocol) → HasNames P → (f : Fact Term) → IsFactOf P f → IsLoose (written_fact P f)
-fact_is_loose P names (Att t) is = (record { begins = refl; goes_on = refl }, (written_is_loose P names t is, tt))
-fact_is_loose P names (Mess t u) is = (record { begins = refl; goes_on = refl }, (written_is_loose P names t is.0, (written_is_loose P names u is.1, tt)))
+fact_is_loose P names (Att zero t) is = (record { begins = refl; goes_on = refl }, (written_is_loose P names t is, tt))
+fact_is_loose P names (Mess zero t u) is = (record { begins = refl; goes_on = refl }, (written_is_loose P names t is.0, (written_is_loose P names u is.1, tt)))
+fact_is_loose P names (Att (suc k) t) is = absurd is
+fact_is_loose P names (Mess (suc k) t u) is = absurd is
+fact_is_loose P names (Tab n ts) is = absurd is
 fact_is_loose P names (Ev e ts) is =
     (record { begins = refl; goes_on = refl }, (applied_is_loose (event_word P e) (written_row P (trees ts)) (event_word_is_word P e (length ts) names is.0) (written_are_loose P names (trees ts) is.1), tt))
 fact_is_loose P names (Mev e ts) is =
@@ -36,8 +39,9 @@ fact_is_loose P names (Mev e ts) is =
 fact_is_loose P names (Bad ts) is = (record { begins = refl; goes_on = refl }, written_are_loose P names (trees ts) is)
 
 fact_ends : (P : Protocol) (f : Fact Term) (k : List ℕ) → EndsBehind (written_fact P f) k
-fact_ends P (Att t) k = tt
-fact_ends P (Mess t u) k = tt
+fact_ends P (Att phase t) k = tt
+fact_ends P (Mess phase t u) k = tt
+fact_ends P (Tab n ts) k = tt
 fact_ends P (Ev e ts) k = tt
 fact_ends P (Mev e ts) k = tt
 fact_ends P (Bad ts) k = tt
@@ -62,11 +66,11 @@ is_called word (Node Attackers ts) = false
 
 written_facts_apart : (P : Protocol) → HasNames P → (f g : Fact Term) → IsFactOf P f → IsFactOf P g → written_fact P f ≡ written_fact P g → f ≡ g
 unfolding is_called
-written_facts_apart P names (Att t) (Att u) is_f is_g e = let same : written P t ≡ written P u = cc in ap Att (written_apart P names t u is_f is_g same)
-written_facts_apart P names (Mess t u) (Mess v w) is_f is_g e =
+written_facts_apart P names (Att zero t) (Att zero u) is_f is_g e = let same : written P t ≡ written P u = cc in ap (Att 0) (written_apart P names t u is_f is_g same)
+written_facts_apart P names (Mess zero t u) (Mess zero v w) is_f is_g e =
     let channels : written P t ≡ written P v = cc in
     let messages : written P u ≡ written P w = cc in
-    ap (λ x. Mess x u) (written_apart P names t v is_f.0 is_g.0 channels) ∙ ap (Mess v) (written_apart P names u w is_f.1 is_g.1 messages)
+    ap (λ x. Mess 0 x u) (written_apart P names t v is_f.0 is_g.0 channels) ∙ ap (Mess 0 v) (written_apart P names u w is_f.1 is_g.1 messages)
 written_facts_apart P names (Ev n ts) (Ev m us) is_f is_g e =
     let same : written_event P n ts ≡ written_event P m us = cc in
     let parts = events_apart P names n m ts us is_f.0 is_g.0 is_f.1 is_g.1 same in
@@ -78,8 +82,14 @@ written_facts_apart P names (Mev n ts) (Mev m us) is_f is_g e =
 written_facts_apart P names (Bad ts) (Bad us) is_f is_g e =
     let same : written_row P (trees ts) ≡ written_row P (trees us) = cc in
     ap Bad (trees-injective ts us (rows_apart P names (trees ts) (trees us) is_f is_g same))
-written_facts_apart P names (Att t) g is_f is_g e = let differ : true ≡ false = ap (is_called (codes "att")) e in absurd (cc)
-written_facts_apart P names (Mess t u) g is_f is_g e = let differ : true ≡ false = ap (is_called (codes "mess")) e in absurd (cc)
+written_facts_apart P names (Att (suc k) t) g is_f is_g e = absurd is_f
+written_facts_apart P names (Mess (suc k) t u) g is_f is_g e = absurd is_f
+written_facts_apart P names (Tab n ts) g is_f is_g e = absurd is_f
+written_facts_apart P names f (Att (suc k) t) is_f is_g e = absurd is_g
+written_facts_apart P names f (Mess (suc k) t u) is_f is_g e = absurd is_g
+written_facts_apart P names f (Tab n ts) is_f is_g e = absurd is_g
+written_facts_apart P names (Att zero t) g is_f is_g e = let differ : true ≡ false = ap (is_called (codes "att")) e in absurd (cc)
+written_facts_apart P names (Mess zero t u) g is_f is_g e = let differ : true ≡ false = ap (is_called (codes "mess")) e in absurd (cc)
 written_facts_apart P names (Ev n ts) g is_f is_g e = let differ : true ≡ false = ap (is_called (codes "ev")) e in absurd (cc)
 written_facts_apart P names (Mev n ts) g is_f is_g e = let differ : true ≡ false = ap (is_called (codes "mev")) e in absurd (cc)
 written_facts_apart P names (Bad ts) g is_f is_g e = let differ : true ≡ false = ap (is_called (codes "bad")) e in absurd (cc)
@@ -133,10 +143,8 @@ hypotheses_apart P names (h ∷ hs) (g ∷ gs) k l are_h are_g e =
     let later = later_apart P names hs gs (61 ∷ k) (61 ∷ l) are_h.1 are_g.1 first.rest in
     record { thing = ap (λ f. f ∷ hs) first.thing ∙ ap (λ fs. g ∷ fs) later.thing; rest = later_same 61 61 k l later.rest }
 
-clause_same : (c d : Clause Term) → c.hypotheses ≡ d.hypotheses → c.conclusion ≡ d.conclusion → c ≡ d
-clause_same c d hypotheses conclusions =
-    let of_parts : List (Fact Term) → Fact Term → Clause Term = λ hs f. record { hypotheses = hs; conclusion = f } in
-    ap (λ hs. of_parts hs c.conclusion) hypotheses ∙ ap (λ f. of_parts d.hypotheses f) conclusions
+clause_same : (c d : Clause Term) → c.hypotheses ≡ d.hypotheses → c.diffs ≡ d.diffs → c.conclusion ≡ d.conclusion → c ≡ d
+clause_same c d hypotheses diffs conclusions = λ i. record { hypotheses = hypotheses i; diffs = diffs i; conclusion = conclusions i }
 
 -- two clauses with rests are one clause and one rest, where the texts are one
 pub clause_apart : (P : Protocol) → HasNames P → (c d : Clause Term) (k l : List ℕ) → IsClauseOf P c → IsClauseOf P d → clause_text P c k ≡ clause_text P d l → Same c d k l
@@ -145,7 +153,7 @@ clause_apart P names c d k l is_c is_d e =
     let y = fact_text P d.conclusion l in
     let hypotheses = hypotheses_apart P names c.hypotheses d.hypotheses (62 ∷ 32 ∷ x) (62 ∷ 32 ∷ y) is_c.hypotheses is_d.hypotheses e in
     let conclusions = fact_apart P names c.conclusion d.conclusion k l is_c.conclusion is_d.conclusion (later_same 32 32 x y (later_same 62 62 (32 ∷ x) (32 ∷ y) hypotheses.rest)) in
-    record { thing = clause_same c d hypotheses.thing conclusions.thing; rest = conclusions.rest }
+    record { thing = clause_same c d hypotheses.thing (is_c.diffs ∙ sym is_d.diffs) conclusions.thing; rest = conclusions.rest }
 
 -- Certificates.
 

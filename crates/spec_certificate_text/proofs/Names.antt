@@ -8,7 +8,7 @@ use Rattle.std.specs.Fmt.{decimal}
 use Rattle.std.specs.List.{list_all, AllByRecursion}
 use Rattle.std.proofs.lemmas.Fmt.{digits_decimal, decimal_nonempty, decimal_injective}
 use Rattle.std.proofs.lemmas.Str.Parse.{IsNumeralModel, numerals_by_value, tells_all_ascii_digits}
-use Rattle.spec_calculus.specs.Syntax.{Declared, Process, Nil, Output, Input, Parallel, Replication, New, Let, Event, Protocol}
+use Rattle.spec_calculus.specs.Syntax.{Declared, Process, Nil, Output, Input, Parallel, Replication, New, Let, Event, Phase, Insert, Get, Protocol}
 use Rattle.spec_calculus.specs.Points.{numbered, nodes}
 use Rattle.spec_well_formed.specs.Signature.{signature_of}
 use Rattle.spec_well_formed.specs.Words as declared
@@ -73,6 +73,9 @@ nodes_have_words (Replication copied) each = (tt, nodes_have_words copied each)
 nodes_have_words (New word next) each = (each.0, nodes_have_words next each.1)
 nodes_have_words (Let pattern e next otherwise) each = (tt, both_all at_new (nodes next) (nodes otherwise) (nodes_have_words next each.0) (nodes_have_words otherwise each.1))
 nodes_have_words (Event performed next) each = (tt, nodes_have_words next each)
+nodes_have_words (Phase number next) each = (tt, nodes_have_words next each)
+nodes_have_words (Insert table arguments next) each = (tt, nodes_have_words next each)
+nodes_have_words (Get table patterns condition next otherwise) each = (tt, both_all at_new (nodes next) (nodes otherwise) (nodes_have_words next each.0) (nodes_have_words otherwise each.1))
 
 pub restriction_word_is_word : (P : Protocol) (point n : ℕ) → HasNames P → IsRestriction P point n → IsWord (word_at P point)
 unfolding at_new

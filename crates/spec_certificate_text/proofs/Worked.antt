@@ -9,25 +9,25 @@ use Rattle.spec_certificate_text.specs.OfProtocol.{IsTermOf, IsClauseOf, IsCerti
 use Rattle.spec_certificate_text.specs.Text.{clause_text, certificate_text}
 use Rattle.spec_certificate_text.specs.Examples.{channel, key, encryption, event_called, sending, answering, clause, v0, v1, c, k, enc, made, small}
 
-pub attacker_names : clause_text sending (clause [] (Att (node Attacker (v0 ∷ [])))) [] ≡ codes "=> att(@[v0])"
+pub attacker_names : clause_text sending (clause [] (Att 0 (node Attacker (v0 ∷ [])))) [] ≡ codes "=> att(@[v0])"
 attacker_names = rw (decimal_digit 0 (omega arith)) refl
 
-pub encrypts : clause_text sending (clause (Att v0 ∷ Att v1 ∷ []) (Att (enc v0 v1))) [] ≡ codes "att(v0), att(v1) => att(enc(v0,v1))"
+pub encrypts : clause_text sending (clause (Att 0 v0 ∷ Att 0 v1 ∷ []) (Att 0 (enc v0 v1))) [] ≡ codes "att(v0), att(v1) => att(enc(v0,v1))"
 encrypts = rw (decimal_digit 0 (omega arith), decimal_digit 1 (omega arith)) refl
 
-pub hears : clause_text sending (clause (Mess v1 v0 ∷ Att v1 ∷ []) (Att v0)) [] ≡ codes "mess(v1,v0), att(v1) => att(v0)"
+pub hears : clause_text sending (clause (Mess 0 v1 v0 ∷ Att 0 v1 ∷ []) (Att 0 v0)) [] ≡ codes "mess(v1,v0), att(v1) => att(v0)"
 hears = rw (decimal_digit 0 (omega arith), decimal_digit 1 (omega arith)) refl
 
-pub says : clause_text sending (clause (Att v0 ∷ Att v1 ∷ []) (Mess v0 v1)) [] ≡ codes "att(v0), att(v1) => mess(v0,v1)"
+pub says : clause_text sending (clause (Att 0 v0 ∷ Att 0 v1 ∷ []) (Mess 0 v0 v1)) [] ≡ codes "att(v0), att(v1) => mess(v0,v1)"
 says = rw (decimal_digit 0 (omega arith), decimal_digit 1 (omega arith)) refl
 
-pub sends : clause_text sending (clause [] (Att (enc (made 2) k))) [] ≡ codes "=> att(enc(n@2[v0],k))"
+pub sends : clause_text sending (clause [] (Att 0 (enc (made 2) k))) [] ≡ codes "=> att(enc(n@2[v0],k))"
 sends = rw (decimal_digit 0 (omega arith), decimal_digit 2 (omega arith)) refl
 
-pub asks : clause_text sending (clause (Att (made 2) ∷ []) (Bad [])) [] ≡ codes "att(n@2[v0]) => bad()"
+pub asks : clause_text sending (clause (Att 0 (made 2) ∷ []) (Bad [])) [] ≡ codes "att(n@2[v0]) => bad()"
 asks = rw (decimal_digit 0 (omega arith), decimal_digit 2 (omega arith)) refl
 
-pub begins : clause_text answering (clause (Mev 1 (made 3 ∷ []) ∷ []) (Att (enc (made 3) k))) [] ≡ codes "mev(begin(n@3[v0])) => att(enc(n@3[v0],k))"
+pub begins : clause_text answering (clause (Mev 1 (made 3 ∷ []) ∷ []) (Att 0 (enc (made 3) k))) [] ≡ codes "mev(begin(n@3[v0])) => att(enc(n@3[v0],k))"
 begins = rw (decimal_digit 0 (omega arith), decimal_digit 3 (omega arith)) refl
 
 pub ends : clause_text answering (clause (Ev 2 (v0 ∷ []) ∷ []) (Bad (v0 ∷ []))) [] ≡ codes "ev(end(v0)) => bad(v0)"
@@ -41,7 +41,7 @@ channel_is_one = ((record { declared = channel; there = refl }, refl), tt)
 
 pub small_is_one : IsCertificateOf sending small
 small_is_one = record {
-  clauses = (record { hypotheses = tt; conclusion = channel_is_one }, tt);
+  clauses = (record { hypotheses = tt; diffs = refl; conclusion = channel_is_one }, tt);
   rows = ((omega arith, tt), ((omega arith, (omega arith, tt)), tt));
   goals = ((omega arith, (omega arith, tt)), tt);
 }
@@ -52,8 +52,9 @@ made_is_one = ((record { word = codes "n"; next = _; there = refl; arity = refl 
 key_is_one : IsTermOf answering k
 key_is_one = ((record { declared = key; there = refl }, refl), tt)
 
-pub begins_is_one : IsClauseOf answering (clause (Mev 1 (made 3 ∷ []) ∷ []) (Att (enc (made 3) k)))
+pub begins_is_one : IsClauseOf answering (clause (Mev 1 (made 3 ∷ []) ∷ []) (Att 0 (enc (made 3) k)))
 begins_is_one = record {
   hypotheses = ((record { declared = event_called (codes "begin"); there = refl; arity = refl }, (made_is_one, tt)), tt);
+  diffs = refl;
   conclusion = (record { declared = encryption; there = refl; data_is = refl; arity = refl }, (made_is_one, (key_is_one, tt)));
 }

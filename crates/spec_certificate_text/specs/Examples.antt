@@ -29,7 +29,8 @@ sending = record {
   constructors = encryption ∷ [];
   destructors = [];
   events = [];
-  queries = SecretNew 2 ∷ [];
+  tables = [];
+  queries = SecretNew 2 0 ∷ [];
   main = Replication (New (codes "n") (Output (Leaf (calculus.Free 1)) (encrypted (Leaf (Made 2))) Nil));
 }
 
@@ -55,6 +56,7 @@ answering = record {
   constructors = encryption ∷ [];
   destructors = record { word = codes "dec"; rules = decryption ∷ [] } ∷ [];
   events = event_called (codes "begin") ∷ event_called (codes "end") ∷ [];
+  tables = [];
   queries = Correspondence (event 2 x) ((event 1 x ∷ []) ∷ []) ∷ [];
   main = Parallel
       (Replication (New (codes "n") (Event (event 1 (Leaf (Made 3))) (Output (Leaf (calculus.Free 1)) (encrypted (Leaf (Made 3))) Nil))))
@@ -62,7 +64,7 @@ answering = record {
 }
 
 abbrev pub clause : List (Fact Term) → Fact Term → Clause Term
-clause hypotheses conclusion = record { hypotheses = hypotheses; conclusion = conclusion }
+clause hypotheses conclusion = record { hypotheses = hypotheses; diffs = []; conclusion = conclusion }
 
 -- the terms of their clauses
 abbrev pub v0 : Term
@@ -85,4 +87,4 @@ made point = node (Point point) (v0 ∷ [])
 
 -- a certificate of one clause and one row of each kind
 abbrev pub small : Certificate
-small = record { clauses = clause [] (Att c) ∷ []; rows = (1 ∷ []) ∷ (3 ∷ 1 ∷ []) ∷ []; goals = (1 ∷ 1 ∷ []) ∷ [] }
+small = record { clauses = clause [] (Att 0 c) ∷ []; rows = (1 ∷ []) ∷ (3 ∷ 1 ∷ []) ∷ []; goals = (1 ∷ 1 ∷ []) ∷ [] }

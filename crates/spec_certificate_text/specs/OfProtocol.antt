@@ -1,12 +1,14 @@
--- What is of a protocol: each number in it is there, and each symbol has its number of arguments.
-use Rattle.std.specs.Prelude.{◌≡◌, ℕ, ◌<◌, ◌≤◌, ◌^◌, Bool, true, false, Some, List, length}
+-- What is of a protocol: each number in it is there, and each symbol has its number of arguments. Only what a text spells is:
+-- facts of phase 0, none of a table, and clauses without constraints. So are all clauses of a protocol without phases and
+-- tables.
+use Rattle.std.specs.Prelude.{◌≡◌, ℕ, zero, suc, ◌<◌, ◌≤◌, ◌^◌, Bool, true, false, Some, List, [], length}
 use Rattle.std.specs.List.{AllByRecursion}
 use Rattle.spec_trees.specs.Tree.{Trees, Leaf, Node, none, more, trees, items_of}
 use Rattle.spec_calculus.specs.Bounds.{most_digits, most_arguments}
 use Rattle.spec_calculus.specs.Syntax.{Declared, Process, New, Protocol}
 use Rattle.spec_calculus.specs.Points.{numbered, nodes, name_arguments}
 use Rattle.spec_terms.specs.Term.{Sym, Ctor, Data, Tuple, Free, Point, Attacker, Term}
-use Rattle.spec_clauses.specs.Fact.{Fact, Att, Mess, Ev, Mev, Bad, Clause}
+use Rattle.spec_clauses.specs.Fact.{Fact, Att, Mess, Tab, Ev, Mev, Bad, Clause}
 use Rattle.spec_well_formed.specs.Words.{HasDistinctWords}
 use Rattle.spec_protocol_scope.specs.Words.{HasWords}
 use Rattle.spec_certificates.specs.Certificate.{Certificate}
@@ -58,14 +60,18 @@ abbrev mutual
   AreTermsOf P (more t ts) = IsTermOf P t × AreTermsOf P ts
 
 abbrev pub IsFactOf : Protocol → Fact Term → Type 0
-IsFactOf P (Att t) = IsTermOf P t
-IsFactOf P (Mess t u) = IsTermOf P t × IsTermOf P u
+IsFactOf P (Att zero t) = IsTermOf P t
+IsFactOf P (Att (suc k) t) = ⊥
+IsFactOf P (Mess zero t u) = IsTermOf P t × IsTermOf P u
+IsFactOf P (Mess (suc k) t u) = ⊥
+IsFactOf P (Tab table arguments) = ⊥
 IsFactOf P (Ev event arguments) = IsEvent P event (length arguments) × AreTermsOf P (trees arguments)
 IsFactOf P (Mev event arguments) = IsEvent P event (length arguments) × AreTermsOf P (trees arguments)
 IsFactOf P (Bad arguments) = AreTermsOf P (trees arguments)
 
 pub record IsClauseOf (P : Protocol) (c : Clause Term) : Type 0 where
   pub hypotheses : AllByRecursion (IsFactOf P) c.hypotheses
+  pub diffs : c.diffs ≡ []
   pub conclusion : IsFactOf P c.conclusion
 
 -- its clauses are of the protocol, and its numbers are within the limit of digits

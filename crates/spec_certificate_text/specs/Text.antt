@@ -24,7 +24,7 @@ abbrev pub hypotheses_text : Protocol → List (Fact Term) → List ℕ → List
 hypotheses_text P [] rest = rest
 hypotheses_text P (h ∷ hs) rest = fact_text P h (later_hypotheses P hs rest)
 
--- a clause: its hypotheses, `=> `, and its conclusion
+-- a clause: its hypotheses, `=> `, and its conclusion; constraints aren't spelled yet
 abbrev pub clause_text : Protocol → Clause Term → List ℕ → List ℕ
 clause_text P c rest = hypotheses_text P c.hypotheses (61 ∷ 62 ∷ 32 ∷ fact_text P c.conclusion rest)
 

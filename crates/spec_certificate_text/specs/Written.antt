@@ -1,10 +1,11 @@
--- Terms and facts, written as loose trees with the words of a protocol.
+-- Terms and facts, written as loose trees with the words of a protocol. Neither a phase nor the word of a table is spelled yet: only
+-- facts of phase 0 and of no table are told apart by their texts.
 use Rattle.std.specs.Prelude.{ℕ, List, ◌∷◌, codes}
 use Rattle.std.specs.Fmt.{decimal}
 use Rattle.spec_trees.specs.Tree.{Trees, Leaf, Node, none, more, trees}
 use Rattle.spec_calculus.specs.Syntax.{Protocol}
 use Rattle.spec_terms.specs.Term.{Sym, Ctor, Data, Tuple, Free, Point, Attacker, Term}
-use Rattle.spec_clauses.specs.Fact.{Fact, Att, Mess, Ev, Mev, Bad}
+use Rattle.spec_clauses.specs.Fact.{Fact, Att, Mess, Tab, Ev, Mev, Bad}
 use Rattle.spec_certificate_text.specs.Loose.{Loose, LooseRow, Applied, Tupled, Made, Attackers}
 use Rattle.spec_certificate_text.specs.Words.{symbol_word, event_word}
 
@@ -38,8 +39,9 @@ written_event P event arguments = applied (event_word P event) (written_row P (t
 
 -- a fact is written as its predicate over what it speaks of
 abbrev pub written_fact : Protocol → Fact Term → Loose
-written_fact P (Att t) = Node (Applied (codes "att")) (more (written P t) none)
-written_fact P (Mess t u) = Node (Applied (codes "mess")) (more (written P t) (more (written P u) none))
+written_fact P (Att phase t) = Node (Applied (codes "att")) (more (written P t) none)
+written_fact P (Mess phase t u) = Node (Applied (codes "mess")) (more (written P t) (more (written P u) none))
+written_fact P (Tab table arguments) = Node (Applied (codes "tab")) (written_row P (trees arguments))
 written_fact P (Ev event arguments) = Node (Applied (codes "ev")) (more (written_event P event arguments) none)
 written_fact P (Mev event arguments) = Node (Applied (codes "mev")) (more (written_event P event arguments) none)
 written_fact P (Bad arguments) = Node (Applied (codes "bad")) (written_row P (trees arguments))

@@ -24,32 +24,32 @@ use spec_protocol_scope::{distinct_words, words};
 
 /// The texts of the seven clauses of a small protocol, which sends a new name encrypted.
 pub fn worked_clauses()
-    ensures channel { clause_text sending (clause [] (Att c)) [] ≡ codes "=> att(c)" }
-    ensures names { clause_text sending (clause [] (Att (node Attacker (v0 ∷ [])))) [] ≡
+    ensures channel { clause_text sending (clause [] (Att 0 c)) [] ≡ codes "=> att(c)" }
+    ensures names { clause_text sending (clause [] (Att 0 (node Attacker (v0 ∷ [])))) [] ≡
         codes "=> att(@[v0])" }
-    ensures encrypts { clause_text sending (clause (Att v0 ∷ Att v1 ∷ []) (Att (enc v0 v1))) [] ≡
+    ensures encrypts { clause_text sending (clause (Att 0 v0 ∷ Att 0 v1 ∷ []) (Att 0 (enc v0 v1))) [] ≡
         codes "att(v0), att(v1) => att(enc(v0,v1))" }
-    ensures hears { clause_text sending (clause (Mess v1 v0 ∷ Att v1 ∷ []) (Att v0)) [] ≡
+    ensures hears { clause_text sending (clause (Mess 0 v1 v0 ∷ Att 0 v1 ∷ []) (Att 0 v0)) [] ≡
         codes "mess(v1,v0), att(v1) => att(v0)" }
-    ensures says { clause_text sending (clause (Att v0 ∷ Att v1 ∷ []) (Mess v0 v1)) [] ≡
+    ensures says { clause_text sending (clause (Att 0 v0 ∷ Att 0 v1 ∷ []) (Mess 0 v0 v1)) [] ≡
         codes "att(v0), att(v1) => mess(v0,v1)" }
-    ensures sends { clause_text sending (clause [] (Att (enc (made 2) k))) [] ≡
+    ensures sends { clause_text sending (clause [] (Att 0 (enc (made 2) k))) [] ≡
         codes "=> att(enc(n@2[v0],k))" }
-    ensures asks { clause_text sending (clause (Att (made 2) ∷ []) (Bad [])) [] ≡
+    ensures asks { clause_text sending (clause (Att 0 (made 2) ∷ []) (Bad [])) [] ≡
         codes "att(n@2[v0]) => bad()" }
 {}
 
 /// The texts of clauses about events, and of a certificate of one clause, which is one of the protocol.
 pub fn worked_certificate()
     ensures begins { clause_text answering (clause (Mev 1 (made 3 ∷ []) ∷ [])
-        (Att (enc (made 3) k))) [] ≡ codes "mev(begin(n@3[v0])) => att(enc(n@3[v0],k))" }
+        (Att 0 (enc (made 3) k))) [] ≡ codes "mev(begin(n@3[v0])) => att(enc(n@3[v0],k))" }
     ensures ends { clause_text answering (clause (Ev 2 (v0 ∷ []) ∷ []) (Bad (v0 ∷ []))) [] ≡
         codes "ev(end(v0)) => bad(v0)" }
     ensures small { certificate_text sending small [] ≡
         codes "cert 1\nc => att(c)\nr 1\nr 3 1\ng 1 1\nend\n" }
     ensures is_one { IsCertificateOf sending small }
     ensures begins_is_one { IsClauseOf answering
-        (clause (Mev 1 (made 3 ∷ []) ∷ []) (Att (enc (made 3) k))) }
+        (clause (Mev 1 (made 3 ∷ []) ∷ []) (Att 0 (enc (made 3) k))) }
 {}
 
 /// Terms of a protocol are told apart by their texts, where what follows begins with nothing that a word alone could go on with.

@@ -16,10 +16,10 @@ use Rattle.spec_clauses.specs.Subsumption.{IsCovered, hypothesis_at}
 use Rattle.spec_clauses.proofs.Inclusion.{Has-append_left, Has-append_right, Has-flat_map, Has-filter}
 use Rattle.spec_clauses.proofs.Selection.{select-none}
 use Rattle.spec_clauses.proofs.Subsumption.{row_subsumes}
-use Rattle.spec_derivations.specs.Closed.{IsPairClosed}
+use Rattle.spec_derivations.specs.Closed.{IsPairClosed, Closes}
 use Rattle.spec_derivations.proofs.Closing.{none_closes, resolvents_close}
 use Rattle.spec_translation.specs.Goal.{required}
-use Rattle.spec_translation.specs.Satisfied.{is_bad, IsSatisfied}
+use Rattle.spec_translation.specs.Satisfied.{is_bad, IsSatisfied, AreSatisfied}
 use Rattle.spec_certificates.specs.Shown.{IsShown}
 use Rattle.spec_certificates.specs.Certificate.{Certificate, IsInShape, CoverRowHolds, GoalHolds, Numbered, numbered_from, Pair, pairs_with, pairs_of_solved, pairs_of}
 use Rattle.spec_certificates.specs.Ruling.{Ruling, Accepted, Shape, Cover, Closure, Goal, Rest, Or, Shapes, Covers, Answered, Closures, Goals, NoneLeft, bad_ones, Obliged, IsRuled}
@@ -131,8 +131,8 @@ alternative_listed alternatives zero alternative e = cc
 alternative_listed alternatives (suc k) alternative e = at_index alternatives k alternative e
 
 goal_satisfies : (P : Protocol) (q : Query) (row : List ℕ) (c : Clause Term) → GoalHolds P q row c → IsSatisfied P q c
-goal_satisfies P (Secret message) row c h = h
-goal_satisfies P (SecretNew point) row c h = h
+goal_satisfies P (Secret message phase) row c h = h
+goal_satisfies P (SecretNew point phase) row c h = h
 goal_satisfies P (Correspondence left alternatives) [] c h = absurd h
 goal_satisfies P (Correspondence left alternatives) (n ∷ positions) c h = record {
   by = h.by;
@@ -149,41 +149,44 @@ goals_accepted P q (c ∷ cs) R (row ∷ rows) x =
     let both = accepted_or (GoalHolds P q row c.clause) (Goals P q cs R rows Accepted) (Goal c.number) (λ e. cc) x in
     (goal_satisfies P q row c.clause both.0, goals_accepted P q cs R rows both.1)
 
+-- A list of clauses in shape whose rows cover the given ones and what its pairs give closes them, and its clauses are satisfied.
+module _ (P : Protocol) (q : Query) (cert : Certificate) where
+  -- the rows behind those of the given clauses
+  abbrev Behind : Rest
+  Behind = let all = numbered_from 1 cert.clauses in
+      Closures cert.clauses (pairs_of all all) (λ rows. Goals P q (bad_ones all) (λ goals. NoneLeft cert rows goals) cert.goals)
+
+  pub covers_close : (given : List (Clause Term)) → AllByRecursion (λ c. IsInShape q c.clause) (numbered_from 1 cert.clauses) → Covers cert.clauses Cover (numbered_from 1 given) Behind cert.rows Accepted → Closes given cert.clauses × AreSatisfied P q cert.clauses
+  covers_close given shapes x =
+      let all = numbered_from 1 cert.clauses in
+      let normal = all_numbered IsNormal cert.clauses 1 (normals q all shapes) in
+      let covered = covers_accepted cert.clauses normal Cover (λ k e. cc) (numbered_from 1 given) Behind cert.rows x in
+      let closed = closures_accepted cert.clauses normal (pairs_of all all) (λ rows. Goals P q (bad_ones all) (λ goals. NoneLeft cert rows goals) cert.goals) covered.1.0 covered.1.1 in
+      let goals = goals_accepted P q (bad_ones all) (λ goals. NoneLeft cert closed.1.0 goals) cert.goals closed.1.1 in (
+        record {
+          normal = normal;
+          covers = all_numbered (IsCovered cert.clauses) given 1 covered.0;
+          closed = λ i j at hi hj solved some.
+              let (k, ni) = has_numbered 1 cert.clauses i hi in
+              let (l, nj) = has_numbered 1 cert.clauses j hj in
+              all_of (λ p. IsPairClosed cert.clauses p.solved.clause p.unsolved.clause p.at) (pairs_of all all) (record { solved = record { number = k; clause = i }; unsolved = record { number = l; clause = j }; at = at }) closed.0
+              (pair_listed all all (record { number = k; clause = i }) (record { number = l; clause = j }) at ni nj ((select-none i.hypotheses).1 solved) some);
+        },
+        λ c hc solved bad.
+            let (k, nc) = has_numbered 1 cert.clauses c hc in
+            all_of (λ d. IsSatisfied P q d.clause) (bad_ones all) (record { number = k; clause = c }) goals
+            (Has-filter (λ d. is_solved d.clause.hypotheses && is_bad d.clause.conclusion) all (record { number = k; clause = c }) nc (rw solved (rw bad refl))),
+      )
+    where
+      normals : (q : Query) (cs : List Numbered) → AllByRecursion (λ c. IsInShape q c.clause) cs → AllByRecursion (λ c. IsNormal c.clause) cs
+      normals q [] a = tt
+      normals q (c ∷ cs) a = (a.0.normal, normals q cs a.1)
+
 -- An accepted certificate shows the query.
 pub accepted_shows : (P : Protocol) (q : Query) (cert : Certificate) → IsRuled P q cert Accepted → (given : List (Clause Term)) × IsShown P q given cert.clauses
 accepted_shows P q cert x =
-    let all = numbered_from 1 cert.clauses in
-    let shapes = shapes_accepted q all (Obliged P q cert) x in
-    let normal = all_numbered IsNormal cert.clauses 1 (normals q all shapes.0) in
-    go normal shapes.1
+    let (shapes, obliged) = shapes_accepted q (numbered_from 1 cert.clauses) (Obliged P q cert) x in go shapes obliged
   where
-    normals : (q : Query) (cs : List Numbered) → AllByRecursion (λ c. IsInShape q c.clause) cs → AllByRecursion (λ c. IsNormal c.clause) cs
-    normals q [] a = tt
-    normals q (c ∷ cs) a = (a.0.normal, normals q cs a.1)
-
-    go : ((c : Clause Term) → Has cert.clauses c → IsNormal c) → Obliged P q cert Accepted → (given : List (Clause Term)) × IsShown P q given cert.clauses
-    go normal (inl y) = cc
-    go normal (inr y) =
-        let all = numbered_from 1 cert.clauses in
-        let covered = covers_accepted cert.clauses normal Cover (λ k e. cc) (numbered_from 1 y.0)
-        (Closures cert.clauses (pairs_of all all) (λ rows. Goals P q (bad_ones all) (λ goals. NoneLeft cert rows goals) cert.goals)) cert.rows y.2 in
-        let closed = closures_accepted cert.clauses normal (pairs_of all all) (λ rows. Goals P q (bad_ones all) (λ goals. NoneLeft cert rows goals) cert.goals) covered.1.0 covered.1.1 in
-        let goals = goals_accepted P q (bad_ones all) (λ goals. NoneLeft cert closed.1.0 goals) cert.goals closed.1.1 in (
-          y.0,
-          record {
-            translation = y.1;
-            closes = record {
-              normal = normal;
-              covers = all_numbered (IsCovered cert.clauses) y.0 1 covered.0;
-              closed = λ i j at hi hj solved some.
-                  let (k, ni) = has_numbered 1 cert.clauses i hi in
-                  let (l, nj) = has_numbered 1 cert.clauses j hj in
-                  all_of (λ p. IsPairClosed cert.clauses p.solved.clause p.unsolved.clause p.at) (pairs_of all all) (record { solved = record { number = k; clause = i }; unsolved = record { number = l; clause = j }; at = at }) closed.0
-                  (pair_listed all all (record { number = k; clause = i }) (record { number = l; clause = j }) at ni nj ((select-none i.hypotheses).1 solved) some);
-            };
-            satisfied = λ c hc solved bad.
-                let (k, nc) = has_numbered 1 cert.clauses c hc in
-                all_of (λ d. IsSatisfied P q d.clause) (bad_ones all) (record { number = k; clause = c }) goals
-                (Has-filter (λ d. is_solved d.clause.hypotheses && is_bad d.clause.conclusion) all (record { number = k; clause = c }) nc (rw solved (rw bad refl)));
-          },
-        )
+    go : AllByRecursion (λ c. IsInShape q c.clause) (numbered_from 1 cert.clauses) → Obliged P q cert Accepted → (given : List (Clause Term)) × IsShown P q given cert.clauses
+    go shapes (inl y) = cc
+    go shapes (inr y) = let both = covers_close P q cert y.0 shapes y.2 in (y.0, record { translation = y.1; closes = both.0; satisfied = both.1 })

@@ -1,9 +1,8 @@
 -- The worked example: its translation, that nine clauses are closed and satisfied, and a run.
 use Rattle.std.proofs.Common.{◌≡◌, ◌∙◌, ℕ, zero, suc, Bool, true, false, cond, nat_eq, Some, None, List, [], ◌∷◌, refl, ap, sym, subst, eqb-true, arith}
 use Rattle.std.specs.Prelude.{Contains, slice_get}
-use Rattle.std.specs.List.{AllByRecursion, list_all}
+use Rattle.std.specs.List.{AllByRecursion}
 use Rattle.spec_trees.specs.Tree.{Leaf, node, bind, after}
-use Rattle.spec_trees.proofs.Equality.{and_true}
 use Rattle.spec_calculus.specs.Syntax.{Variable, EventTerm}
 use Rattle.spec_calculus.specs.Values.{MadeName, Environment}
 use Rattle.spec_calculus.specs.Runs.{Configuration, run}
@@ -14,7 +13,6 @@ use Rattle.spec_well_formed.specs.Rules.{IsProperRule}
 use Rattle.spec_terms.specs.Term.{Free, Attacker, Term, Subst}
 use Rattle.spec_terms.proofs.Replace.{some_same, some_none}
 use Rattle.spec_clauses.specs.Fact.{Att, Mess, Ev, Mev, Bad, Clause}
-use Rattle.spec_clauses.specs.Flat.{is_flat}
 use Rattle.spec_clauses.specs.Selection.{Selection, select, is_solved}
 use Rattle.spec_clauses.specs.Norm.{IsNormal}
 use Rattle.spec_clauses.specs.Resolvents.{IsRawResolvent}
@@ -51,7 +49,7 @@ abbrev pub begun : Clause Term
 begun = clause [] (Ev 1 (name ∷ []))
 
 abbrev pub heard_name : Clause Term
-heard_name = clause (Mev 1 (name ∷ []) ∷ []) (Att name)
+heard_name = clause (Mev 1 (name ∷ []) ∷ []) (Att 0 name)
 
 abbrev pub ended : Clause Term
 ended = clause (Mev 1 (name ∷ []) ∷ []) (Ev 2 (name ∷ []))
@@ -110,19 +108,19 @@ no_unifier : (i j : Clause Term) (at : Selection) → IsRawResolvent i j at None
 no_unifier i j at r = record { raw = None; is_raw = r; answered = tt }
 
 abbrev pub knows_channel : Clause Term
-knows_channel = clause [] (Att (node (Free 1) []))
+knows_channel = clause [] (Att 0 (node (Free 1) []))
 
 abbrev pub makes_names : Clause Term
-makes_names = clause [] (Att (node Attacker (Leaf 0 ∷ [])))
+makes_names = clause [] (Att 0 (node Attacker (Leaf 0 ∷ [])))
 
 abbrev pub listens : Clause Term
-listens = clause (Mess (Leaf 1) (Leaf 0) ∷ Att (Leaf 1) ∷ []) (Att (Leaf 0))
+listens = clause (Mess 0 (Leaf 1) (Leaf 0) ∷ Att 0 (Leaf 1) ∷ []) (Att 0 (Leaf 0))
 
 abbrev pub sends : Clause Term
-sends = clause (Att (Leaf 0) ∷ Att (Leaf 1) ∷ []) (Mess (Leaf 0) (Leaf 1))
+sends = clause (Att 0 (Leaf 0) ∷ Att 0 (Leaf 1) ∷ []) (Mess 0 (Leaf 0) (Leaf 1))
 
 abbrev pub listening : Selection
-listening = record { index = 0; fact = Mess (Leaf 1) (Leaf 0); others = Att (Leaf 1) ∷ [] }
+listening = record { index = 0; fact = Mess 0 (Leaf 1) (Leaf 0); others = Att 0 (Leaf 1) ∷ [] }
 
 abbrev pub asking : Selection
 asking = record { index = 0; fact = Ev 2 (Leaf 0 ∷ []); others = [] }
@@ -169,7 +167,7 @@ shown_asking = record { offset = 1; apart = ((omega arith, tt), ((omega arith, t
 
 -- What is sent and heard is known already: `att(v0), att(v1), att(v0) => att(v1)`.
 abbrev pub echo : Clause Term
-echo = clause (Att (Leaf 0) ∷ Att (Leaf 1) ∷ Att (Leaf 0) ∷ []) (Att (Leaf 1))
+echo = clause (Att 0 (Leaf 0) ∷ Att 0 (Leaf 1) ∷ Att 0 (Leaf 0) ∷ []) (Att 0 (Leaf 1))
 
 pub sends_listening : IsRawResolvent sends listens listening (Some echo)
 sends_listening = record {
@@ -219,8 +217,7 @@ all_normal = (record { flat = refl; own = refl }, (record { flat = refl; own = r
 
 covers_itself : (c : Clause Term) → Has nine_clauses c → IsCovered nine_clauses c
 covers_itself c h =
-    let n = all_has IsNormal nine_clauses c all_normal h in
-    (c, h, subsumes_itself c (and_true (is_flat c.conclusion) (list_all is_flat c.hypotheses) n.flat).1)
+    (c, h, subsumes_itself c (all_has IsNormal nine_clauses c all_normal h))
 
 shown_answered : IsAnswered nine_clauses (Some shown)
 shown_answered c h = covers_itself c (subst (Has nine_clauses) (sym (Has-one h)) (Has-append_right eight_clauses (clause (Mev 1 (name ∷ []) ∷ []) (Bad (name ∷ [])) ∷ []) (clause (Mev 1 (name ∷ []) ∷ []) (Bad (name ∷ []))) ([], here)))

@@ -53,20 +53,20 @@ all_shaped = (
 
 all_covered : AreCovered nine_clauses (numbered_from 1 eight_clauses) (announced_by [] []).rows
 all_covered = (
-  (_, refl, record { by = Leaf; distinct = refl; conclusion = refl; firmly = refl; loosely = tt }),
+  (_, refl, record { by = Leaf; distinct = refl; conclusion = refl; firmly = refl; loosely = tt; diffs = tt }),
   (
-    (_, refl, record { by = Leaf; distinct = refl; conclusion = refl; firmly = refl; loosely = tt }),
+    (_, refl, record { by = Leaf; distinct = refl; conclusion = refl; firmly = refl; loosely = tt; diffs = tt }),
     (
-      (_, refl, record { by = Leaf; distinct = refl; conclusion = refl; firmly = refl; loosely = (_, here, tt) }),
+      (_, refl, record { by = Leaf; distinct = refl; conclusion = refl; firmly = refl; loosely = (_, here, tt); diffs = tt }),
       (
-        (_, refl, record { by = Leaf; distinct = refl; conclusion = refl; firmly = refl; loosely = (_, here, (_, here, tt)) }),
+        (_, refl, record { by = Leaf; distinct = refl; conclusion = refl; firmly = refl; loosely = (_, here, (_, here, tt)); diffs = tt }),
         (
-          (_, refl, record { by = Leaf; distinct = refl; conclusion = refl; firmly = refl; loosely = tt }),
+          (_, refl, record { by = Leaf; distinct = refl; conclusion = refl; firmly = refl; loosely = tt; diffs = tt }),
           (
-            (_, refl, record { by = Leaf; distinct = refl; conclusion = refl; firmly = refl; loosely = tt }),
+            (_, refl, record { by = Leaf; distinct = refl; conclusion = refl; firmly = refl; loosely = tt; diffs = tt }),
             (
-              (_, refl, record { by = Leaf; distinct = refl; conclusion = refl; firmly = refl; loosely = tt }),
-              ((_, refl, record { by = Leaf; distinct = refl; conclusion = refl; firmly = refl; loosely = tt }), refl),
+              (_, refl, record { by = Leaf; distinct = refl; conclusion = refl; firmly = refl; loosely = tt; diffs = tt }),
+              ((_, refl, record { by = Leaf; distinct = refl; conclusion = refl; firmly = refl; loosely = tt; diffs = tt }), refl),
             ),
           ),
         ),
@@ -123,7 +123,7 @@ ruled more goals ruling x =
     ))
 
 shown_covered : CoverRowHolds nine_clauses (9 ∷ 1 ∷ []) shown
-shown_covered = (_, refl, record { by = Leaf; distinct = refl; conclusion = refl; firmly = refl; loosely = tt })
+shown_covered = (_, refl, record { by = Leaf; distinct = refl; conclusion = refl; firmly = refl; loosely = tt; diffs = tt })
 
 shown_goal : GoalHolds announcing announced (1 ∷ 1 ∷ []) shown
 shown_goal = record { by = λ x. name; conclusion = refl; alternative = _; numbered_so = refl; events = refl }

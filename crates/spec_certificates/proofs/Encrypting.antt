@@ -43,13 +43,13 @@ pub encrypting_proper : IsProper encrypting kept_key
 encrypting_proper = record {
   rules = record { proper = proper_rules; uniform = uniform_rules };
   patterns = ((tt, (tt, tt, λ i e. refl), λ i e. subst (λ j. (nat_eq 2 j || false) ≡ false) (eqb-true 1 i e) refl), tt);
-  query = ((omega arith, omega arith), tt);
+  query = (((omega arith, omega arith), tt), omega arith);
 }
 
 -- the translation: the message is the pair of the variables 1 and 2, and 0 is the number of the copy
 pub encrypting_translated : IsTranslation encrypting kept_key (Clauses eight)
 encrypting_translated = (
-  Done (clause (Att (Leaf 0) ∷ []) (Att (encrypted (Leaf 0) key)) ∷ []) 65532,
+  Done (clause (Att 0 (Leaf 0) ∷ []) (Att 0 (encrypted (Leaf 0) key)) ∷ []) 65532,
   (
     0,
     tt,
@@ -64,26 +64,26 @@ encrypting_translated = (
 
 -- the run, at the end of which enc(c,k) is known
 pub encrypting_tells : (c : Configuration) × (run encrypting one_answer ≡ Some c) × IsViolated told c
-encrypting_tells = (_, refl, (3, omega arith, refl))
+encrypting_tells = (_, refl, ((3, omega arith, refl), omega arith))
 
 -- What the pairs give: nothing, or a tautology.
 abbrev applying : Selection
-applying = record { index = 0; fact = Att (encrypted (Leaf 0) (Leaf 1)); others = Att (Leaf 1) ∷ [] }
+applying = record { index = 0; fact = Att 0 (encrypted (Leaf 0) (Leaf 1)); others = Att 0 (Leaf 1) ∷ [] }
 
 abbrev asking : Selection
-asking = record { index = 0; fact = Att key; others = [] }
+asking = record { index = 0; fact = Att 0 key; others = [] }
 
 abbrev encrypts : Clause Term
-encrypts = clause (Att (Leaf 0) ∷ Att (Leaf 1) ∷ []) (Att (encrypted (Leaf 0) (Leaf 1)))
+encrypts = clause (Att 0 (Leaf 0) ∷ Att 0 (Leaf 1) ∷ []) (Att 0 (encrypted (Leaf 0) (Leaf 1)))
 
 abbrev decrypts : Clause Term
-decrypts = clause (Att (encrypted (Leaf 0) (Leaf 1)) ∷ Att (Leaf 1) ∷ []) (Att (Leaf 0))
+decrypts = clause (Att 0 (encrypted (Leaf 0) (Leaf 1)) ∷ Att 0 (Leaf 1) ∷ []) (Att 0 (Leaf 0))
 
 abbrev answers : Clause Term
-answers = clause (Att (Leaf 0) ∷ []) (Att (encrypted (Leaf 0) key))
+answers = clause (Att 0 (Leaf 0) ∷ []) (Att 0 (encrypted (Leaf 0) key))
 
 abbrev asks : Clause Term
-asks = clause (Att key ∷ []) (Bad [])
+asks = clause (Att 0 key ∷ []) (Bad [])
 
 channel_applying : IsRawResolvent knows_channel decrypts applying None
 channel_applying = record { offset = 0; apart = (tt, tt); unified = λ s e. cc }
@@ -127,7 +127,7 @@ undone_most r messages keys x = go (nat_eq x 2) (nat_eq x 3) refl refl where
   go false true e f = keys ∙ ap r (sym (eqb-true x 3 f))
   go false false e f = refl
 
-encrypts_applying : IsRawResolvent encrypts decrypts applying (Some (clause (Att (Leaf 0) ∷ Att (Leaf 1) ∷ Att (Leaf 1) ∷ []) (Att (Leaf 0))))
+encrypts_applying : IsRawResolvent encrypts decrypts applying (Some (clause (Att 0 (Leaf 0) ∷ Att 0 (Leaf 1) ∷ Att 0 (Leaf 1) ∷ []) (Att 0 (Leaf 0))))
 unfolding undone
 encrypts_applying = record {
   offset = 2;
@@ -154,7 +154,7 @@ opened_most r messages keys x = go (nat_eq x 1) (nat_eq x 2) refl refl where
   go false true e f = keys ∙ ap r (sym (eqb-true x 2 f))
   go false false e f = refl
 
-answers_applying : IsRawResolvent answers decrypts applying (Some (clause (Att (Leaf 0) ∷ Att key ∷ []) (Att (Leaf 0))))
+answers_applying : IsRawResolvent answers decrypts applying (Some (clause (Att 0 (Leaf 0) ∷ Att 0 key ∷ []) (Att 0 (Leaf 0))))
 unfolding opened
 answers_applying = record {
   offset = 1;
@@ -217,20 +217,20 @@ all_shaped = (
 
 all_covered : AreCovered eight (numbered_from 1 eight) eight_rows.rows
 all_covered = (
-  (_, refl, record { by = Leaf; distinct = refl; conclusion = refl; firmly = refl; loosely = tt }),
+  (_, refl, record { by = Leaf; distinct = refl; conclusion = refl; firmly = refl; loosely = tt; diffs = tt }),
   (
-    (_, refl, record { by = Leaf; distinct = refl; conclusion = refl; firmly = refl; loosely = tt }),
+    (_, refl, record { by = Leaf; distinct = refl; conclusion = refl; firmly = refl; loosely = tt; diffs = tt }),
     (
-      (_, refl, record { by = Leaf; distinct = refl; conclusion = refl; firmly = refl; loosely = (_, here, (_, here, tt)) }),
+      (_, refl, record { by = Leaf; distinct = refl; conclusion = refl; firmly = refl; loosely = (_, here, (_, here, tt)); diffs = tt }),
       (
-        (_, refl, record { by = Leaf; distinct = refl; conclusion = refl; firmly = refl; loosely = (_, here, tt) }),
+        (_, refl, record { by = Leaf; distinct = refl; conclusion = refl; firmly = refl; loosely = (_, here, tt); diffs = tt }),
         (
-          (_, refl, record { by = Leaf; distinct = refl; conclusion = refl; firmly = refl; loosely = (_, here, tt) }),
+          (_, refl, record { by = Leaf; distinct = refl; conclusion = refl; firmly = refl; loosely = (_, here, tt); diffs = tt }),
           (
-            (_, refl, record { by = Leaf; distinct = refl; conclusion = refl; firmly = refl; loosely = (_, here, (_, here, tt)) }),
+            (_, refl, record { by = Leaf; distinct = refl; conclusion = refl; firmly = refl; loosely = (_, here, (_, here, tt)); diffs = tt }),
             (
-              (_, refl, record { by = Leaf; distinct = refl; conclusion = refl; firmly = refl; loosely = (_, here, tt) }),
-              ((_, refl, record { by = Leaf; distinct = refl; conclusion = refl; firmly = refl; loosely = tt }), refl),
+              (_, refl, record { by = Leaf; distinct = refl; conclusion = refl; firmly = refl; loosely = (_, here, tt); diffs = tt }),
+              ((_, refl, record { by = Leaf; distinct = refl; conclusion = refl; firmly = refl; loosely = tt; diffs = tt }), refl),
             ),
           ),
         ),

@@ -4,3 +4,4 @@ mod Ruled
 pub mod Announced
 mod Encrypting
 mod Announcing
+mod Remembering

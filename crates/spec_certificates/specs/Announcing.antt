@@ -30,6 +30,7 @@ announcing = record {
   constructors = [];
   destructors = [];
   events = record { word = 98 ∷ []; arity = 1; public = true; is_data = false } ∷ record { word = 101 ∷ []; arity = 1; public = true; is_data = false } ∷ [];
+  tables = [];
   queries = announced ∷ [];
   main = Replication (New (110 ∷ []) (Event (begins (Leaf (Made 2))) (Output (Leaf (calculus.Free 1)) (Leaf (Made 2)) (Event (ends (Leaf (Made 2))) Nil))));
 }
@@ -46,17 +47,17 @@ abbrev pub name : Term
 name = node (Point 2) (Leaf 0 ∷ [])
 
 abbrev pub clause : List (Fact Term) → Fact Term → Clause Term
-clause hypotheses conclusion = record { hypotheses = hypotheses; conclusion = conclusion }
+clause hypotheses conclusion = record { hypotheses = hypotheses; diffs = []; conclusion = conclusion }
 
 abbrev pub attacker_clauses : List (Clause Term)
-attacker_clauses = clause [] (Att (node (Free 1) []))
-    ∷ clause [] (Att (node Attacker (Leaf 0 ∷ [])))
-    ∷ clause (Mess (Leaf 1) (Leaf 0) ∷ Att (Leaf 1) ∷ []) (Att (Leaf 0))
-    ∷ clause (Att (Leaf 0) ∷ Att (Leaf 1) ∷ []) (Mess (Leaf 0) (Leaf 1)) ∷ []
+attacker_clauses = clause [] (Att 0 (node (Free 1) []))
+    ∷ clause [] (Att 0 (node Attacker (Leaf 0 ∷ [])))
+    ∷ clause (Mess 0 (Leaf 1) (Leaf 0) ∷ Att 0 (Leaf 1) ∷ []) (Att 0 (Leaf 0))
+    ∷ clause (Att 0 (Leaf 0) ∷ Att 0 (Leaf 1) ∷ []) (Mess 0 (Leaf 0) (Leaf 1)) ∷ []
 
 abbrev pub process_clauses : List (Clause Term)
 process_clauses = clause [] (Ev 1 (name ∷ []))
-    ∷ clause (Mev 1 (name ∷ []) ∷ []) (Att name)
+    ∷ clause (Mev 1 (name ∷ []) ∷ []) (Att 0 name)
     ∷ clause (Mev 1 (name ∷ []) ∷ []) (Ev 2 (name ∷ [])) ∷ []
 
 -- the clauses of the translation, and those of the closed list

@@ -20,8 +20,8 @@ pub record Certificate : Type 0 where
 
 -- how many arguments `bad` has for the query
 abbrev pub bad_arguments : Query → ℕ
-bad_arguments (Secret message) = 0
-bad_arguments (SecretNew point) = 0
+bad_arguments (Secret message phase) = 0
+bad_arguments (SecretNew point phase) = 0
 bad_arguments (Correspondence left alternatives) = length (event_variables left)
 
 -- where the fact is `bad`, it has so many arguments

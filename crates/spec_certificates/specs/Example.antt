@@ -19,7 +19,7 @@ decryption = record { left = enc (Leaf (Variable 1)) (Leaf (Variable 2)) ∷ Lea
 -- free c. private free k. fun enc/2. reduc dec(enc(x,y),y) -> x. query attacker(k).
 -- process !in(c,(x,y)); out(c,(x,enc(y,k)))
 abbrev pub kept_key : Query
-kept_key = Secret (Leaf (calculus.Free 2))
+kept_key = Secret (Leaf (calculus.Free 2)) 0
 
 abbrev pub encrypting : Protocol
 encrypting = record {
@@ -27,6 +27,7 @@ encrypting = record {
   constructors = record { word = 101 ∷ 110 ∷ 99 ∷ []; arity = 2; public = true; is_data = false } ∷ [];
   destructors = record { word = 100 ∷ 101 ∷ 99 ∷ []; rules = decryption ∷ [] } ∷ [];
   events = [];
+  tables = [];
   queries = kept_key ∷ [];
   main = Replication (Input (Leaf (calculus.Free 1)) (node Tuple (Leaf (Bind 1) ∷ Leaf (Bind 2) ∷ []))
       (Output (Leaf (calculus.Free 1)) (node Tuple (Leaf (Variable 1) ∷ enc (Leaf (Variable 2)) (Leaf (calculus.Free 2)) ∷ [])) Nil));
@@ -37,7 +38,7 @@ abbrev pub one_answer : List Step
 one_answer = Copy 1 ∷ Build 0 (1 ∷ 1 ∷ []) ∷ Say 2 2 ∷ Hear 2 ∷ Part 3 2 ∷ []
 
 abbrev pub told : Query
-told = Secret (enc (Leaf (calculus.Free 1)) (Leaf (calculus.Free 2)))
+told = Secret (enc (Leaf (calculus.Free 1)) (Leaf (calculus.Free 2))) 0
 
 -- the clauses of the translation, which are closed as they stand: what two of them give is a tautology
 abbrev pub encrypted : Term → Term → Term
@@ -47,14 +48,14 @@ abbrev pub key : Term
 key = node (Free 2) []
 
 abbrev pub eight : List (Clause Term)
-eight = clause [] (Att (node (Free 1) []))
-    ∷ clause [] (Att (node Attacker (Leaf 0 ∷ [])))
-    ∷ clause (Att (Leaf 0) ∷ Att (Leaf 1) ∷ []) (Att (encrypted (Leaf 0) (Leaf 1)))
-    ∷ clause (Att (encrypted (Leaf 0) (Leaf 1)) ∷ Att (Leaf 1) ∷ []) (Att (Leaf 0))
-    ∷ clause (Mess (Leaf 1) (Leaf 0) ∷ Att (Leaf 1) ∷ []) (Att (Leaf 0))
-    ∷ clause (Att (Leaf 0) ∷ Att (Leaf 1) ∷ []) (Mess (Leaf 0) (Leaf 1))
-    ∷ clause (Att (Leaf 0) ∷ []) (Att (encrypted (Leaf 0) key))
-    ∷ clause (Att key ∷ []) (Bad []) ∷ []
+eight = clause [] (Att 0 (node (Free 1) []))
+    ∷ clause [] (Att 0 (node Attacker (Leaf 0 ∷ [])))
+    ∷ clause (Att 0 (Leaf 0) ∷ Att 0 (Leaf 1) ∷ []) (Att 0 (encrypted (Leaf 0) (Leaf 1)))
+    ∷ clause (Att 0 (encrypted (Leaf 0) (Leaf 1)) ∷ Att 0 (Leaf 1) ∷ []) (Att 0 (Leaf 0))
+    ∷ clause (Mess 0 (Leaf 1) (Leaf 0) ∷ Att 0 (Leaf 1) ∷ []) (Att 0 (Leaf 0))
+    ∷ clause (Att 0 (Leaf 0) ∷ Att 0 (Leaf 1) ∷ []) (Mess 0 (Leaf 0) (Leaf 1))
+    ∷ clause (Att 0 (Leaf 0) ∷ []) (Att 0 (encrypted (Leaf 0) key))
+    ∷ clause (Att 0 key ∷ []) (Bad []) ∷ []
 
 -- each clause covers itself
 abbrev pub eight_rows : Certificate

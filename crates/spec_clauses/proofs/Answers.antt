@@ -6,8 +6,9 @@ use Rattle.std.proofs.lemmas.List.{map-append}
 use Rattle.spec_trees.specs.Tree.{Leaf, after}
 use Rattle.spec_terms.specs.Term.{Term, Subst}
 use Rattle.spec_terms.specs.Unifier.{moved}
-use Rattle.spec_clauses.specs.Fact.{Fact, Clause, clause_terms, fact_under, clause_under}
-use Rattle.spec_clauses.specs.Variables.{leaves, AreBelow}
+use Rattle.spec_clauses.specs.Fact.{Fact, Clause, fact_under, clause_under}
+use Rattle.spec_clauses.specs.Variables.{leaves, all_terms, AreBelow}
+use Rattle.spec_clauses.specs.Diff.{diff_under}
 use Rattle.spec_clauses.specs.Selection.{Selection}
 use Rattle.spec_clauses.specs.Renaming.{AreVariants}
 use Rattle.spec_clauses.specs.Norm.{norms}
@@ -16,7 +17,8 @@ use Rattle.spec_clauses.specs.Resolvents.{joined, IsRawResolvent, Answer, NoUnif
 use Rattle.spec_clauses.proofs.Lists.{all_weaker, all-from_flat_map}
 use Rattle.spec_clauses.proofs.FactUnifiers.{facts_unified}
 use Rattle.spec_clauses.proofs.Facts.{fact_under-fact_under, facts_under-facts_under, clause_under-clause_under, clause_under-Leaf}
-use Rattle.spec_clauses.proofs.Apart.{mix, mix-clause, mix-fact_moved, mix-facts_moved}
+use Rattle.spec_clauses.proofs.Apart.{mix, mix-clause, mix-fact_moved, mix-facts_moved, mix-diffs_moved}
+use Rattle.spec_clauses.proofs.Diffs.{diffs_under-diffs_under}
 use Rattle.spec_clauses.proofs.Unification.{Reaches, HaveSameInstances, AreAlike, one_unified}
 use Rattle.spec_clauses.proofs.Variants.{variants_norms, variants_large}
 
@@ -39,7 +41,7 @@ abbrev meeting_at : ℕ → Clause Term → Clause Term → Selection → Meetin
 meeting_at n solved unsolved at = record { left = solved.conclusion; right = fact_under (moved n) at.fact; clause = joined n solved unsolved at }
 
 -- each instance over one offset is an instance over another
-meetings_reach : (n m : ℕ) (solved unsolved : Clause Term) (at : Selection) → AreBelow n (clause_terms solved) → Reaches meeting_under (meeting_at n solved unsolved at) (meeting_at m solved unsolved at)
+meetings_reach : (n m : ℕ) (solved unsolved : Clause Term) (at : Selection) → AreBelow n (all_terms solved) → Reaches meeting_under (meeting_at n solved unsolved at) (meeting_at m solved unsolved at)
 meetings_reach n m solved unsolved at below u =
     let w = mix n u (after u (moved m)) in
     let low = mix-clause n u (after u (moved m)) solved below in
@@ -51,7 +53,9 @@ meetings_reach n m solved unsolved at below u =
     let second : map (fact_under u) (solved.hypotheses ++ map (fact_under (moved m)) at.others) ≡ map (fact_under u) solved.hypotheses ++ map (fact_under u) (map (fact_under (moved m)) at.others) =
     map-append (fact_under u) solved.hypotheses (map (fact_under (moved m)) at.others) in
     let hypotheses = first ∙ ((λ i. (low i).hypotheses ++ facts i) ∙ sym second) in
-    (w, λ i. record { left = (low i).conclusion; right = fact at.fact i; clause = record { hypotheses = hypotheses i; conclusion = fact unsolved.conclusion i } })
+    let moved_diffs = mix-diffs_moved n u (after u (moved m)) unsolved.diffs ∙ sym (diffs_under-diffs_under u (moved m) unsolved.diffs) in
+    let diffs = map-append (diff_under w) solved.diffs (map (diff_under (moved n)) unsolved.diffs) ∙ ((λ i. (low i).diffs ++ moved_diffs i) ∙ sym (map-append (diff_under u) solved.diffs (map (diff_under (moved m)) unsolved.diffs))) in
+    (w, λ i. record { left = (low i).conclusion; right = fact at.fact i; clause = record { hypotheses = hypotheses i; diffs = diffs i; conclusion = fact unsolved.conclusion i } })
 
 -- meetings with the same instances have clauses that are instances of each other
 meetings_vary : (x y : Meeting) → HaveSameInstances meeting_under x y → AreVariants x.clause y.clause
@@ -89,8 +93,8 @@ above (x ∷ xs) =
     (suc x + n, (omega arith, all_weaker (λ y. y < n) (λ y. y < suc x + n) (λ y l. omega arith) xs below))
 
 -- numbers set the variables of any clause apart
-pub an_offset : (c : Clause Term) → (n : ℕ) × AreBelow n (clause_terms c)
-an_offset c = let (n, below) = above (flat_map leaves (clause_terms c)) in (n, all-from_flat_map (λ x. x < n) leaves (clause_terms c) below)
+pub an_offset : (c : Clause Term) → (n : ℕ) × AreBelow n (all_terms c)
+an_offset c = let (n, below) = above (flat_map leaves (all_terms c)) in (n, all-from_flat_map (λ x. x < n) leaves (all_terms c) below)
 
 pub an_answer : (solved unsolved : Clause Term) (at : Selection) → (answer : Answer) × Resolves solved unsolved at answer
 an_answer solved unsolved at =

@@ -1,11 +1,11 @@
 -- Equality of symbols, terms, facts and clauses' parts is decided by the tests.
-use Rattle.std.proofs.Common.{◌≡◌, ◌↔◌, Bool, true, false, nat_eq, List, [], ◌∷◌, refl, ap, sym, subst, inl, inr, eqb-true, eq-eqb}
+use Rattle.std.proofs.Common.{◌≡◌, ◌↔◌, Bool, true, false, ◌&&◌, nat_eq, List, [], ◌∷◌, refl, ap, sym, subst, inl, inr, eqb-true, eq-eqb}
 use Rattle.spec_trees.proofs.Equality.{and_true, same_tree-decides}
 use Rattle.spec_trees.proofs.Occurrence.{or_true}
 use Rattle.spec_terms.specs.Term.{Sym, Ctor, Data, Tuple, Free, Point, Attacker, Term, same_symbol}
 use Rattle.std.proofs.lemmas.Bool.{or_left, or_right}
 use Rattle.spec_terms.proofs.Replace.{eqb_self}
-use Rattle.spec_clauses.specs.Fact.{Fact, Att, Mess, Ev, Mev, Bad, same_term, same_terms, same_fact, is_among}
+use Rattle.spec_clauses.specs.Fact.{Fact, Att, Mess, Tab, Ev, Mev, Bad, same_term, same_terms, same_fact, is_among}
 use Rattle.spec_clauses.specs.Inclusion.{Picks, here, there, Has}
 
 -- a test that passes exactly where a fact holds, on both sides the same fact, has one answer
@@ -57,10 +57,16 @@ pub same_terms-decides : (ts us : List Term) → (same_terms ts us ≡ true) ↔
 same_terms-decides ts us = (same_terms-sound ts us, λ e. subst (λ (vs : List Term). same_terms ts vs ≡ true) e (same_terms-refl ts))
 
 same_fact-sound : (f g : Fact Term) → same_fact f g ≡ true → f ≡ g
-same_fact-sound (Att t) (Att u) e = ap Att ((same_term-decides t u).0 e)
-same_fact-sound (Mess t u) (Mess v w) e =
-    let parts = and_true (same_term t v) (same_term u w) e in
-    cc ((same_term-decides t v).0 parts.0, (same_term-decides u w).0 parts.1)
+same_fact-sound (Att k t) (Att l u) e =
+    let parts = and_true (nat_eq k l) (same_term t u) e in
+    cc (eqb-true k l parts.0, (same_term-decides t u).0 parts.1)
+same_fact-sound (Mess k t u) (Mess l v w) e =
+    let phases = and_true (nat_eq k l) (same_term t v && same_term u w) e in
+    let parts = and_true (same_term t v) (same_term u w) phases.1 in
+    cc (eqb-true k l phases.0, (same_term-decides t v).0 parts.0, (same_term-decides u w).0 parts.1)
+same_fact-sound (Tab n ts) (Tab m us) same =
+    let parts = and_true (nat_eq n m) (same_terms ts us) same in
+    cc (eqb-true n m parts.0, same_terms-sound ts us parts.1)
 same_fact-sound (Ev e ts) (Ev g us) same =
     let parts = and_true (nat_eq e g) (same_terms ts us) same in
     cc (eqb-true e g parts.0, same_terms-sound ts us parts.1)
@@ -71,8 +77,9 @@ same_fact-sound (Bad ts) (Bad us) e = ap Bad (same_terms-sound ts us e)
 same_fact-sound _ _ e = cc
 
 same_fact-refl : (f : Fact Term) → same_fact f f ≡ true
-same_fact-refl (Att t) = same_term-refl t
-same_fact-refl (Mess t u) = let a = same_term-refl t in let b = same_term-refl u in cc
+same_fact-refl (Att k t) = let a = eqb_self k in let b = same_term-refl t in cc
+same_fact-refl (Mess k t u) = let a = eqb_self k in let b = same_term-refl t in let d = same_term-refl u in cc
+same_fact-refl (Tab e ts) = let a = eqb_self e in let b = same_terms-refl ts in cc
 same_fact-refl (Ev e ts) = let a = eqb_self e in let b = same_terms-refl ts in cc
 same_fact-refl (Mev e ts) = let a = eqb_self e in let b = same_terms-refl ts in cc
 same_fact-refl (Bad ts) = same_terms-refl ts

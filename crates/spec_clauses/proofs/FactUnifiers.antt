@@ -3,41 +3,45 @@ use Rattle.std.proofs.Common.{◌≡◌, ◌⊎◌, List, ◌∷◌, refl, sym, 
 use Rattle.std.specs.Prelude.{Option, Some, None}
 use Rattle.spec_trees.specs.Tree.{bind, node}
 use Rattle.spec_trees.proofs.Rows.{node-injective, bind-node}
-use Rattle.spec_terms.specs.Term.{Sym, Ctor, Data, Tuple, Free, Attacker, Term, Subst}
+use Rattle.spec_terms.specs.Term.{Sym, Ctor, Data, Tuple, Free, Point, Attacker, Term, Subst}
 use Rattle.spec_terms.specs.Unifier.{Unifies, IsMgu}
 use Rattle.spec_terms.proofs.Decision.{unification_decided}
-use Rattle.spec_clauses.specs.Fact.{Fact, Att, Mess, Ev, Mev, Bad, terms_of, fact_under}
+use Rattle.spec_clauses.specs.Fact.{Fact, Att, Mess, Tab, Ev, Mev, Bad, terms_of, fact_under}
 use Rattle.spec_clauses.specs.Unify.{MguGives}
 
--- a symbol for each predicate with its event, and a fact as a term with this symbol at its root
+-- a symbol for each predicate with its phase, its event or its table, and a fact as a term with this symbol at its root
 abbrev predicate : Fact Term → Sym
-predicate (Att t) = Attacker
-predicate (Mess t u) = Tuple 2
+predicate (Att k t) = Ctor k
+predicate (Mess k t u) = Tuple k
+predicate (Tab n ts) = Point n
 predicate (Ev e ts) = Free e
 predicate (Mev e ts) = Data e
-predicate (Bad ts) = Ctor 0
+predicate (Bad ts) = Attacker
 
 abbrev fact_term : Fact Term → Term
 fact_term f = node (predicate f) (terms_of f)
 
 fact_term-under : (s : Subst) (f : Fact Term) → fact_term (fact_under s f) ≡ bind s (fact_term f)
-fact_term-under s (Att t) = refl
-fact_term-under s (Mess t u) = refl
+fact_term-under s (Att phase t) = refl
+fact_term-under s (Mess phase t u) = refl
+fact_term-under s (Tab e ts) = sym (bind-node s (Point e) ts)
 fact_term-under s (Ev e ts) = sym (bind-node s (Free e) ts)
 fact_term-under s (Mev e ts) = sym (bind-node s (Data e) ts)
-fact_term-under s (Bad ts) = sym (bind-node s (Ctor 0) ts)
+fact_term-under s (Bad ts) = sym (bind-node s Attacker ts)
 
 -- what makes a fact of a symbol and terms
 abbrev read_fact : Sym → List Term → Fact Term
 read_fact (Free e) ts = Ev e ts
 read_fact (Data e) ts = Mev e ts
-read_fact Attacker (t ∷ ts) = Att t
-read_fact (Tuple n) (t ∷ u ∷ ts) = Mess t u
+read_fact (Point n) ts = Tab n ts
+read_fact (Ctor k) (t ∷ ts) = Att k t
+read_fact (Tuple k) (t ∷ u ∷ ts) = Mess k t u
 read_fact _ ts = Bad ts
 
 read_back : (f : Fact Term) → read_fact (predicate f) (terms_of f) ≡ f
-read_back (Att t) = refl
-read_back (Mess t u) = refl
+read_back (Att phase t) = refl
+read_back (Mess phase t u) = refl
+read_back (Tab e ts) = refl
 read_back (Ev e ts) = refl
 read_back (Mev e ts) = refl
 read_back (Bad ts) = refl

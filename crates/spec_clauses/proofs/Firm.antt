@@ -5,7 +5,7 @@ use Rattle.std.specs.List.{list_all}
 use Rattle.spec_trees.specs.Tree.{Leaf, Node}
 use Rattle.spec_trees.proofs.Equality.{and_true}
 use Rattle.spec_terms.specs.Term.{Term, Subst}
-use Rattle.spec_clauses.specs.Fact.{Fact, Att, Mess, Ev, Mev, Bad, fact_under, is_variable_known}
+use Rattle.spec_clauses.specs.Fact.{Fact, Att, Mess, Tab, Ev, Mev, Bad, fact_under, is_variable_known}
 use Rattle.spec_clauses.specs.Flat.{flat, flat_under, is_flat, is_data}
 use Rattle.spec_clauses.specs.Inclusion.{IsWithin}
 use Rattle.spec_clauses.specs.Subsumption.{firm}
@@ -42,9 +42,10 @@ alike-filters {X} {Y} f test (x ∷ xs) = go (test x) (alike-filters f test xs) 
 
 -- a flat fact that isn't `att` of a variable stays one flat fact under a substitution
 pub firm_stays : (s : Subst) (h : Fact Term) → is_flat h ≡ true → is_variable_known h ≡ false → flat (fact_under s h) ≡ fact_under s h ∷ []
-firm_stays s (Att (Leaf x)) a b = cc
-firm_stays s (Att (Node f args)) a b = rw (not_true (is_data f) a) refl
-firm_stays s (Mess t u) a b = refl
+firm_stays s (Att phase (Leaf x)) a b = cc
+firm_stays s (Att phase (Node f args)) a b = rw (not_true (is_data f) a) refl
+firm_stays s (Mess phase t u) a b = refl
+firm_stays s (Tab e ts) a b = refl
 firm_stays s (Ev e ts) a b = refl
 firm_stays s (Mev e ts) a b = refl
 firm_stays s (Bad ts) a b = refl
@@ -61,9 +62,10 @@ firms_stay s (h ∷ hs) flats =
 
 -- flat facts are their own flat
 pub flat_is_own : (h : Fact Term) → is_flat h ≡ true → flat h ≡ h ∷ []
-flat_is_own (Att (Leaf x)) e = refl
-flat_is_own (Att (Node f args)) e = rw (not_true (is_data f) e) refl
-flat_is_own (Mess t u) e = refl
+flat_is_own (Att phase (Leaf x)) e = refl
+flat_is_own (Att phase (Node f args)) e = rw (not_true (is_data f) e) refl
+flat_is_own (Mess phase t u) e = refl
+flat_is_own (Tab n ts) e = refl
 flat_is_own (Ev n ts) e = refl
 flat_is_own (Mev n ts) e = refl
 flat_is_own (Bad ts) e = refl

@@ -4,7 +4,8 @@ use Rattle.std.specs.Prelude.{flat_map}
 use Rattle.std.proofs.lemmas.List.{length-map}
 use Rattle.spec_trees.specs.Tree.{Trees, Leaf, Node, none, more, size, sizes}
 use Rattle.spec_terms.specs.Term.{Sym, Term}
-use Rattle.spec_clauses.specs.Fact.{Fact, Att, Mess, Ev, Mev, Bad, Clause, total, fact_size, clause_size}
+use Rattle.spec_clauses.specs.Diff.{diff_size}
+use Rattle.spec_clauses.specs.Fact.{Fact, Att, Mess, Tab, Ev, Mev, Bad, Clause, total, fact_size, clause_size}
 use Rattle.spec_clauses.specs.Flat.{is_data, parts, row_parts, flat, flat_parts}
 use Rattle.spec_clauses.specs.Inclusion.{Has}
 use Rattle.spec_clauses.proofs.Inclusion.{Has-map_source}
@@ -31,36 +32,39 @@ length-le-total [] = omega arith
 length-le-total (Leaf x ∷ ts) = omega (arith, length-le-total ts)
 length-le-total (Node f args ∷ ts) = omega (arith, length-le-total ts)
 
-known-size : (ts : List Term) → total fact_size (map Att ts) ≡ length ts + total size ts
-known-size [] = refl
-known-size (t ∷ ts) = omega (arith, known-size ts)
+known-size : (phase : ℕ) (ts : List Term) → total fact_size (map (Att phase) ts) ≡ length ts + total size ts
+known-size phase [] = refl
+known-size phase (t ∷ ts) = omega (arith, known-size phase ts)
 
 -- at most as many facts as the fact has symbols, and twice its size in all
 pub length-flat : (f : Fact Term) → length (flat f) ≤ fact_size f
-length-flat (Att t) = omega (arith, length-map (parts t) Att, length-le-total (parts t), parts-size t)
-length-flat (Mess t u) = omega arith
+length-flat (Att phase t) = omega (arith, length-map (parts t) (Att phase), length-le-total (parts t), parts-size t)
+length-flat (Mess phase t u) = omega arith
+length-flat (Tab e ts) = omega arith
 length-flat (Ev e ts) = omega arith
 length-flat (Mev e ts) = omega arith
 length-flat (Bad ts) = omega arith
 
 pub total-flat : (f : Fact Term) → total fact_size (flat f) ≤ 2 * fact_size f
-total-flat (Att t) = omega (arith, known-size (parts t), length-le-total (parts t), parts-size t)
-total-flat (Mess t u) = omega arith
+total-flat (Att phase t) = omega (arith, known-size phase (parts t), length-le-total (parts t), parts-size t)
+total-flat (Mess phase t u) = omega arith
+total-flat (Tab e ts) = omega arith
 total-flat (Ev e ts) = omega arith
 total-flat (Mev e ts) = omega arith
 total-flat (Bad ts) = omega arith
 
-known-each : (n : ℕ) (ts : List Term) → total size ts ≤ n → (p : Fact Term) → Has (map Att ts) p → fact_size p ≤ 1 + n
-known-each n ts fits p h =
-    let source = Has-map_source Att ts p h in
+known-each : (phase n : ℕ) (ts : List Term) → total size ts ≤ n → (p : Fact Term) → Has (map (Att phase) ts) p → fact_size p ≤ 1 + n
+known-each phase n ts fits p h =
+    let source = Has-map_source (Att phase) ts p h in
     let same : fact_size p ≡ 1 + size source.0 = ap fact_size source.2 in
     let here = source.1 in
     omega (arith, total-pick size here.1)
 
 -- and each is no larger than the fact
 pub flat-each : (f p : Fact Term) → Has (flat f) p → fact_size p ≤ fact_size f
-flat-each (Att t) p h = known-each (size t) (parts t) (parts-size t) p h
-flat-each (Mess t u) p h = omega (arith, total-pick fact_size h.1)
+flat-each (Att phase t) p h = known-each phase (size t) (parts t) (parts-size t) p h
+flat-each (Mess phase t u) p h = omega (arith, total-pick fact_size h.1)
+flat-each (Tab e ts) p h = omega (arith, total-pick fact_size h.1)
 flat-each (Ev e ts) p h = omega (arith, total-pick fact_size h.1)
 flat-each (Mev e ts) p h = omega (arith, total-pick fact_size h.1)
 flat-each (Bad ts) p h = omega (arith, total-pick fact_size h.1)
@@ -72,9 +76,9 @@ total-flats (f ∷ fs) = omega (arith, total-flat f, total-flats fs, total-appen
 -- so with the parts of a clause
 pub flat_parts-size : (c part : Clause Term) → Has (flat_parts c) part → clause_size part ≤ 2 * clause_size c
 flat_parts-size c part h =
-    let source = Has-map_source (λ f. record { hypotheses = flat_map flat c.hypotheses; conclusion = f }) (flat c.conclusion) part h in
-    let same : clause_size part ≡ fact_size source.0 + total fact_size (flat_map flat c.hypotheses) = ap clause_size source.2 in
+    let source = Has-map_source (λ f. record { hypotheses = flat_map flat c.hypotheses; diffs = c.diffs; conclusion = f }) (flat c.conclusion) part h in
+    let same : clause_size part ≡ (fact_size source.0 + total fact_size (flat_map flat c.hypotheses)) + total diff_size c.diffs = ap clause_size source.2 in
     omega (arith, flat-each c.conclusion source.0 source.1, total-flats c.hypotheses)
 
 pub length-flat_parts : (c : Clause Term) → length (flat_parts c) ≤ clause_size c
-length-flat_parts c = omega (arith, length-map {B = Clause Term} (flat c.conclusion) (λ f. record { hypotheses = flat_map flat c.hypotheses; conclusion = f }), length-flat c.conclusion)
+length-flat_parts c = omega (arith, length-map {B = Clause Term} (flat c.conclusion) (λ f. record { hypotheses = flat_map flat c.hypotheses; diffs = c.diffs; conclusion = f }), length-flat c.conclusion)

@@ -7,7 +7,7 @@ use Rattle.std.proofs.lemmas.List.Concat.{flat_map-append}
 use Rattle.spec_trees.specs.Tree.{Trees, Leaf, Node, none, more, bind, binds, after}
 use Rattle.spec_trees.proofs.Equality.{and_true}
 use Rattle.spec_terms.specs.Term.{Sym, Term, Subst}
-use Rattle.spec_clauses.specs.Fact.{Fact, Att, Mess, Ev, Mev, Bad, Clause, fact_under}
+use Rattle.spec_clauses.specs.Fact.{Fact, Att, Mess, Tab, Ev, Mev, Bad, Clause, fact_under}
 use Rattle.spec_clauses.specs.Flat.{flat, flat_under, parts, row_parts, is_data, flat_parts, is_flat, is_flat_clause}
 use Rattle.spec_clauses.specs.Inclusion.{Picks, here, there, Has}
 use Rattle.spec_clauses.proofs.Facts.{fact_under-fact_under, fact_under-Leaf}
@@ -22,20 +22,21 @@ all_pass_at p h (here {x = x} {xs = xs}) = (and_true (p x) (list_all p xs) h).0
 all_pass_at p h (there {y = y} {xs = xs} k) = all_pass_at p (and_true (p y) (list_all p xs) h).1 k
 
 mutual
-  parts-flat : (t : Term) → list_all is_flat (map Att (parts t)) ≡ true
-  parts-flat (Leaf x) = refl
-  parts-flat (Node f args) = go (is_data f) refl (row_parts-flat args) where
-    go : (b : Bool) → is_data f ≡ b → list_all is_flat (map Att (row_parts args)) ≡ true → list_all is_flat (map Att (cond (is_data f) (row_parts args) (Node f args ∷ []))) ≡ true
+  parts-flat : (phase : ℕ) (t : Term) → list_all is_flat (map (Att phase) (parts t)) ≡ true
+  parts-flat phase (Leaf x) = refl
+  parts-flat phase (Node f args) = go (is_data f) refl (row_parts-flat phase args) where
+    go : (b : Bool) → is_data f ≡ b → list_all is_flat (map (Att phase) (row_parts args)) ≡ true → list_all is_flat (map (Att phase) (cond (is_data f) (row_parts args) (Node f args ∷ []))) ≡ true
     go true e row = rw e row
     go false e row = rw e (rw e refl)
 
-  row_parts-flat : (ts : Trees ℕ Sym) → list_all is_flat (map Att (row_parts ts)) ≡ true
-  row_parts-flat none = refl
-  row_parts-flat (more t ts) = rw (map-append Att (parts t) (row_parts ts)) (all_pass_append is_flat (map Att (parts t)) (map Att (row_parts ts)) (parts-flat t) (row_parts-flat ts))
+  row_parts-flat : (phase : ℕ) (ts : Trees ℕ Sym) → list_all is_flat (map (Att phase) (row_parts ts)) ≡ true
+  row_parts-flat phase none = refl
+  row_parts-flat phase (more t ts) = rw (map-append (Att phase) (parts t) (row_parts ts)) (all_pass_append is_flat (map (Att phase) (parts t)) (map (Att phase) (row_parts ts)) (parts-flat phase t) (row_parts-flat phase ts))
 
 pub flat-flat : (f : Fact Term) → list_all is_flat (flat f) ≡ true
-flat-flat (Att t) = parts-flat t
-flat-flat (Mess t u) = refl
+flat-flat (Att phase t) = parts-flat phase t
+flat-flat (Mess phase t u) = refl
+flat-flat (Tab e ts) = refl
 flat-flat (Ev e ts) = refl
 flat-flat (Mev e ts) = refl
 flat-flat (Bad ts) = refl
@@ -46,7 +47,7 @@ flats-flat (f ∷ fs) = all_pass_append is_flat (flat f) (flat_map flat fs) (fla
 
 pub flat_parts-flat : (c part : Clause Term) → Has (flat_parts c) part → is_flat_clause part ≡ true
 flat_parts-flat c part h =
-    let (f, k, e) = Has-map_source (λ f. record { hypotheses = flat_map flat c.hypotheses; conclusion = f }) (flat c.conclusion) part h in
+    let (f, k, e) = Has-map_source (λ f. record { hypotheses = flat_map flat c.hypotheses; diffs = c.diffs; conclusion = f }) (flat c.conclusion) part h in
     rw e (rw (all_pass_at is_flat (flat-flat c.conclusion) k.1, flats-flat c.hypotheses) refl)
 
 -- the parts under s of a term's parts are the parts of the term under s
@@ -62,13 +63,14 @@ mutual
   row_parts-binds s none = refl
   row_parts-binds s (more t ts) = let joined = flat_map-append (λ u. parts (bind s u)) (parts t) (row_parts ts) in cc (parts-bind s t, row_parts-binds s ts)
 
-known-bind : (s : Subst) (ts : List Term) → flat_map (λ f. flat (fact_under s f)) (map Att ts) ≡ map Att (flat_map (λ u. parts (bind s u)) ts)
-known-bind s [] = refl
-known-bind s (t ∷ ts) = let joined = map-append Att (parts (bind s t)) (flat_map (λ u. parts (bind s u)) ts) in cc (known-bind s ts)
+known-bind : (phase : ℕ) (s : Subst) (ts : List Term) → flat_map (λ f. flat (fact_under s f)) (map (Att phase) ts) ≡ map (Att phase) (flat_map (λ u. parts (bind s u)) ts)
+known-bind phase s [] = refl
+known-bind phase s (t ∷ ts) = let joined = map-append (Att phase) (parts (bind s t)) (flat_map (λ u. parts (bind s u)) ts) in cc (known-bind phase s ts)
 
 pub flat_under-flat : (s : Subst) (f : Fact Term) → flat_under s (flat f) ≡ flat (fact_under s f)
-flat_under-flat s (Att t) = known-bind s (parts t) ∙ ap (map Att) (parts-bind s t)
-flat_under-flat s (Mess t u) = refl
+flat_under-flat s (Att phase t) = known-bind phase s (parts t) ∙ ap (map (Att phase)) (parts-bind s t)
+flat_under-flat s (Mess phase t u) = refl
+flat_under-flat s (Tab e ts) = refl
 flat_under-flat s (Ev e ts) = refl
 flat_under-flat s (Mev e ts) = refl
 flat_under-flat s (Bad ts) = refl

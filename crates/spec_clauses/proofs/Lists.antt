@@ -1,7 +1,8 @@
 -- Lists: what holds of each item, maps, filters and tests.
-use Rattle.std.proofs.Common.{◌≡◌, Bool, true, false, cond, List, [], ◌∷◌, ◌++◌, map, refl, ap}
+use Rattle.std.proofs.Common.{◌≡◌, Bool, true, false, ◌&&◌, ◌||◌, cond, List, [], ◌∷◌, ◌++◌, map, refl, ap}
 use Rattle.std.specs.Prelude.{filter, flat_map}
-use Rattle.std.specs.List.{AllByRecursion}
+use Rattle.std.specs.List.{AllByRecursion, list_any, list_all}
+use Rattle.spec_trees.proofs.Equality.{and_true}
 
 -- what holds of all items holds of those of both lists, and the other way round
 pub all_append : {X : Type 0} (P : X → Type 0) (xs ys : List X) → AllByRecursion P xs → AllByRecursion P ys → AllByRecursion P (xs ++ ys)
@@ -55,3 +56,33 @@ all-from_flat_map P f (x ∷ xs) a = (all_first P (f x) (flat_map f xs) a, all-f
 pub all_weaker : {X : Type 0} (P Q : X → Type 0) → ((x : X) → P x → Q x) → (xs : List X) → AllByRecursion P xs → AllByRecursion Q xs
 all_weaker P Q gives [] a = tt
 all_weaker P Q gives (x ∷ xs) a = (gives x a.0, all_weaker P Q gives xs a.1)
+
+-- what a test of all says of each
+pub all_of_test : {X : Type 0} (test : X → Bool) (xs : List X) → list_all test xs ≡ true → AllByRecursion (λ x. test x ≡ true) xs
+all_of_test test [] e = tt
+all_of_test test (x ∷ xs) e = let parts = and_true (test x) (list_all test xs) e in (parts.0, all_of_test test xs parts.1)
+
+-- tests that agree on all items, of any of them and of all
+pub any_same : {X Y : Type 0} (f : X → Y) (p : Y → Bool) (q : X → Bool) (xs : List X) → AllByRecursion (λ x. p (f x) ≡ q x) xs → list_any p (map f xs) ≡ list_any q xs
+any_same f p q [] a = refl
+any_same f p q (x ∷ xs) a = let first = a.0 in let others = any_same f p q xs a.1 in λ i. first i || others i
+
+pub all_same : {X Y : Type 0} (f : X → Y) (p : Y → Bool) (q : X → Bool) (xs : List X) → AllByRecursion (λ x. p (f x) ≡ q x) xs → list_all p (map f xs) ≡ list_all q xs
+all_same f p q [] a = refl
+all_same f p q (x ∷ xs) a = let first = a.0 in let others = all_same f p q xs a.1 in λ i. first i && others i
+
+-- what holds of each item
+pub all_each : {X : Type 0} (P : X → Type 0) → ((x : X) → P x) → (xs : List X) → AllByRecursion P xs
+all_each P each [] = tt
+all_each P each (x ∷ xs) = (each x, all_each P each xs)
+
+-- filters one after another may change places, and one that asks no more is needless
+pub filter-filter : {X : Type 0} (p q : X → Bool) (xs : List X) → filter p (filter q xs) ≡ filter q (filter p xs)
+filter-filter p q [] = refl
+filter-filter {X} p q (x ∷ xs) = go (p x) (q x) refl refl (filter-filter p q xs) where
+  go : (a b : Bool) → p x ≡ a → q x ≡ b → filter p (filter q xs) ≡ filter q (filter p xs)
+      → filter p (cond b (x ∷ filter q xs) (filter q xs)) ≡ filter q (cond a (x ∷ filter p xs) (filter p xs))
+  go true true e k others = rw e (rw k (ap (λ ys. x ∷ ys) others))
+  go true false e k others = rw k others
+  go false true e k others = rw e others
+  go false false e k others = others

@@ -1,82 +1,51 @@
 -- The laws of norm: it is its own norm, keeps what is flat, never grows, and numbers variables from 0 on.
-use Rattle.std.proofs.Common.{◌≡◌, ℕ, ◌+◌, Bool, true, false, not, ◌&&◌, cond, nat_eq, Some, None, List, [], ◌∷◌, ◌++◌, length, get_or, refl, ap, sym, ◌∙◌, eqb-true, arith}
-use Rattle.std.specs.Prelude.{flat_map, filter}
-use Rattle.std.specs.List.{IsDistinct, range_with_len}
-use Rattle.spec_trees.specs.Tree.{Leaf, Node, after}
+use Rattle.std.proofs.Common.{◌≡◌, ℕ, Bool, true, false, not, cond, ◌||◌, nat_eq, Some, None, List, [], ◌∷◌, length, get_or, refl, ap, sym, ◌∙◌}
+use Rattle.std.specs.Prelude.{filter}
+use Rattle.std.specs.List.{IsDistinct, list_any, range_with_len}
+use Rattle.spec_trees.specs.Tree.{Leaf, after}
 use Rattle.spec_trees.proofs.Occurrence.{or_false}
 use Rattle.spec_terms.specs.Term.{Term}
-use Rattle.spec_clauses.specs.Fact.{Fact, Att, Mess, Ev, Mev, Bad, Clause, clause_under, same_fact, is_among, is_variable_known}
-use Rattle.spec_clauses.specs.Variables.{fact_variables, clause_variables, times}
-use Rattle.spec_clauses.specs.Selection.{is_solved}
-use Rattle.spec_clauses.specs.Norm.{distinct, place_of, numbering, without_repeats, is_tautology, is_lonely, without_lonely, everything_known, generalized, numbered_anew, norm}
-use Rattle.spec_clauses.specs.Renaming.{renaming, AreVariants}
-use Rattle.spec_clauses.proofs.Lists.{all_weaker}
+use Rattle.spec_clauses.specs.Fact.{Fact, Clause, facts_of, clause_under, same_fact, is_among, phase_of}
+use Rattle.spec_clauses.specs.Diff.{Diff, diff_variables}
+use Rattle.spec_clauses.specs.DiffDecision.{is_never_met}
+use Rattle.spec_clauses.specs.Variables.{fact_variables, clause_variables, constrained_variables}
+use Rattle.spec_clauses.specs.Norm.{distinct, place_of, without_repeats, is_tautology, elsewhere, is_lonely, without_lonely, is_needed, without_needless, is_void, is_general, everything_known, generalized, numbered_anew, norm}
+use Rattle.spec_clauses.specs.Renaming.{renaming}
+use Rattle.spec_clauses.proofs.Lists.{all_weaker, all-from_flat_map}
 use Rattle.spec_clauses.proofs.Facts.{clause_under-clause_under, clause_under-agree, clause_under-Leaf}
 use Rattle.spec_clauses.proofs.Renaming.{clause_variables-renamed, variables_distinct-renamed}
-use Rattle.spec_clauses.proofs.Variants.{variants_norm}
-use Rattle.spec_clauses.proofs.Distinct.{all-filter_passes, filter-all, distinct-filter, distinct-distinct, distinct-fixed, at_places, places_of_distinct}
+use Rattle.spec_clauses.proofs.ClauseRenaming.{IsClauseLedBack, constrained_back}
+use Rattle.spec_clauses.proofs.Anchors.{elsewhere-left, few-needed, constrained_stand}
+use Rattle.spec_clauses.proofs.NormTidied.{norm-tidied}
+use Rattle.spec_clauses.proofs.NormRenaming.{norm-renamed}
+use Rattle.spec_clauses.proofs.Distinct.{all-filter_passes, filter-all, distinct-filter, distinct-distinct, distinct-fixed, number_back, at_places, places_of_distinct}
+
+-- the clause without needless constraints, repeats and lonely hypotheses
+abbrev pub few : Clause Term → Clause Term
+few c = without_lonely (without_repeats (without_needless c))
 
 -- the clause before its variables are numbered
 abbrev pub simplified : Clause Term → Clause Term
-simplified c = generalized (without_lonely (without_repeats c))
+simplified c = generalized (few c)
 
-pub norm_made : (c d : Clause Term) → norm c ≡ Some d → (is_tautology (without_repeats c) ≡ false) × (d ≡ numbered_anew (simplified c))
-norm_made c d e = go (is_tautology (without_repeats c)) refl e where
-  go : (b : Bool) → is_tautology (without_repeats c) ≡ b → cond b None (Some (numbered_anew (simplified c))) ≡ Some d → (is_tautology (without_repeats c) ≡ false) × (d ≡ numbered_anew (simplified c))
+-- whether the clause says nothing
+abbrev pub says_nothing : Clause Term → Bool
+says_nothing c = is_void c || is_tautology (without_repeats (without_needless c))
+
+pub norm_made : (c d : Clause Term) → norm c ≡ Some d → (says_nothing c ≡ false) × (d ≡ numbered_anew (simplified c))
+norm_made c d e = go (says_nothing c) refl e where
+  go : (b : Bool) → says_nothing c ≡ b → cond b None (Some (numbered_anew (simplified c))) ≡ Some d → (says_nothing c ≡ false) × (d ≡ numbered_anew (simplified c))
   go true k e = cc
   go false k e = (k, cc)
 
--- Variables that aren't lonely are as often in what is left.
-times-append : (x : ℕ) (xs ys : List ℕ) → times x (xs ++ ys) ≡ times x xs + times x ys
-times-append x [] ys = omega arith
-times-append x (y ∷ xs) ys = omega (arith, times-append x xs ys)
-
-lonely_elsewhere : (vs : List ℕ) (x : ℕ) (h : Fact Term) → is_lonely vs h ≡ true → nat_eq (times x vs) 1 ≡ false → times x (fact_variables h) ≡ 0
-lonely_elsewhere vs x (Att (Leaf y)) e k = go (nat_eq x y) refl where
-  go : (b : Bool) → nat_eq x y ≡ b → (cond b 1 0 + 0) ≡ 0
-  go true l = let clash : nat_eq (times x vs) 1 ≡ true = ap (λ z. nat_eq (times z vs) 1) (eqb-true x y l) ∙ e in cc
-  go false l = refl
-lonely_elsewhere vs x (Att (Node f args)) e k = cc
-lonely_elsewhere vs x (Mess t u) e k = cc
-lonely_elsewhere vs x (Ev n ts) e k = cc
-lonely_elsewhere vs x (Mev n ts) e k = cc
-lonely_elsewhere vs x (Bad ts) e k = cc
-
--- the hypotheses that aren't lonely
-abbrev left : List ℕ → List (Fact Term) → List (Fact Term)
-left vs hs = filter (λ h. not (is_lonely vs h)) hs
-
-times_left : (vs : List ℕ) (x : ℕ) (hs : List (Fact Term)) → nat_eq (times x vs) 1 ≡ false → times x (flat_map fact_variables (left vs hs)) ≡ times x (flat_map fact_variables hs)
-times_left vs x [] k = refl
-times_left vs x (h ∷ hs) k = go (is_lonely vs h) refl (left vs hs) (times_left vs x hs k) where
-  go : (b : Bool) → is_lonely vs h ≡ b → (ks : List (Fact Term)) → times x (flat_map fact_variables ks) ≡ times x (flat_map fact_variables hs) → times x (flat_map fact_variables (cond (not b) (h ∷ ks) ks)) ≡ times x (flat_map fact_variables (h ∷ hs))
-  go true e ks others = omega (arith, others, lonely_elsewhere vs x h e k, times-append x (fact_variables h) (flat_map fact_variables hs))
-  go false e ks others = omega (arith, others, times-append x (fact_variables h) (flat_map fact_variables hs), times-append x (fact_variables h) (flat_map fact_variables ks))
-
--- Once the lonely ones are dropped, none is lonely.
-stays : (c : Clause Term) (h : Fact Term) → not (is_lonely (clause_variables c) h) ≡ true → not (is_lonely (clause_variables (without_lonely c)) h) ≡ true
-stays c (Att (Leaf x)) e =
-    let vs = clause_variables c in
-    let few = clause_variables (without_lonely c) in
-    let often : nat_eq (times x vs) 1 ≡ false = of_not (nat_eq (times x vs) 1) e in
-    let same : times x few ≡ times x vs = omega (arith, times_left vs x c.hypotheses often, times-append x (fact_variables c.conclusion) (flat_map fact_variables c.hypotheses), times-append x (fact_variables c.conclusion) (flat_map fact_variables (without_lonely c).hypotheses)) in
-    ap (λ n. not (nat_eq n 1)) same ∙ e where
-      of_not : (b : Bool) → not b ≡ true → b ≡ false
-      of_not true e = cc
-      of_not false e = refl
-stays c (Att (Node f args)) e = refl
-stays c (Mess t u) e = refl
-stays c (Ev n ts) e = refl
-stays c (Mev n ts) e = refl
-stays c (Bad ts) e = refl
-
 without_lonely-fixed : (c : Clause Term) → without_lonely (without_lonely c) ≡ without_lonely c
 without_lonely-fixed c =
-    let few = without_lonely c in
-    let kept = all_weaker (λ h. not (is_lonely (clause_variables c) h) ≡ true) (λ h. not (is_lonely (clause_variables few) h) ≡ true) (stays c) few.hypotheses (all-filter_passes (λ h. not (is_lonely (clause_variables c) h)) c.hypotheses) in
-    λ i. record { hypotheses = filter-all (λ h. not (is_lonely (clause_variables few) h)) few.hypotheses kept i; conclusion = c.conclusion }
+    let rest = without_lonely c in
+    let same = ap (λ vs. filter (λ h. not (is_lonely vs h)) rest.hypotheses) (elsewhere-left c) in
+    let kept = filter-all (λ h. not (is_lonely (elsewhere c) h)) rest.hypotheses (all-filter_passes (λ h. not (is_lonely (elsewhere c) h)) c.hypotheses) in
+    λ i. record { hypotheses = (same ∙ kept) i; diffs = c.diffs; conclusion = c.conclusion }
 
-is_among-filter : (test : Fact Term → Bool) (hs : List (Fact Term)) (f : Fact Term) → is_among hs f ≡ false → is_among (filter test hs) f ≡ false
+pub is_among-filter : (test : Fact Term → Bool) (hs : List (Fact Term)) (f : Fact Term) → is_among hs f ≡ false → is_among (filter test hs) f ≡ false
 is_among-filter test [] f e = refl
 is_among-filter test (h ∷ hs) f e =
     let parts = or_false (same_fact f h) (is_among hs f) e in
@@ -86,35 +55,50 @@ is_among-filter test (h ∷ hs) f e =
       | false ↦ others
     ]
 
+any_left : (test : Diff → Bool) (needed : Diff → Bool) (ds : List Diff) → list_any test ds ≡ false → list_any test (filter needed ds) ≡ false
+any_left test needed [] e = refl
+any_left test needed (d ∷ ds) e =
+    let parts = or_false (test d) (list_any test ds) e in
+    let others = any_left test needed ds parts.1 in
+    elim (needed d) as (λ b. list_any test (cond b (d ∷ filter needed ds) (filter needed ds)) ≡ false) [
+      | true ↦ (let here = parts.0 in cc)
+      | false ↦ others
+    ]
+
 -- What is simplified stays as it is under each rule but the last.
 pub record IsSimple (e : Clause Term) : Type 0 where
+  pub none_void : is_void e ≡ false
+  pub none_needless : without_needless e ≡ e
   pub distinct : IsDistinct same_fact e.hypotheses
   pub says : is_among e.hypotheses e.conclusion ≡ false
   pub none_lonely : without_lonely e ≡ e
   pub general : generalized e ≡ e
 
-few-simple : (kept : Clause Term) → IsDistinct same_fact kept.hypotheses → is_tautology kept ≡ false → IsSimple (generalized (without_lonely kept))
+pub simplified-simple : (c : Clause Term) → says_nothing c ≡ false → IsSimple (simplified c)
 unfolding IsDistinct
-few-simple kept distinct says = go (is_solved (without_lonely kept).hypotheses && is_variable_known kept.conclusion) refl where
-  go : (b : Bool) → (is_solved (without_lonely kept).hypotheses && is_variable_known kept.conclusion) ≡ b → IsSimple (cond b everything_known (without_lonely kept))
-  go true e = record { distinct = tt; says = refl; none_lonely = refl; general = refl }
-  go false e = record {
-    distinct = distinct-filter same_fact (λ h. not (is_lonely (clause_variables kept) h)) kept.hypotheses distinct;
-    says = is_among-filter (λ h. not (is_lonely (clause_variables kept) h)) kept.hypotheses kept.conclusion says;
-    none_lonely = without_lonely-fixed kept;
-    general = ap (λ b. cond b everything_known (without_lonely kept)) e;
-  }
+simplified-simple c says = go (is_general (few c)) refl (or_false (is_void c) (is_tautology kept) says) where
+  kept : Clause Term
+  kept = without_repeats (without_needless c)
 
-pub simplified-simple : (c : Clause Term) → is_tautology (without_repeats c) ≡ false → IsSimple (simplified c)
-simplified-simple c says = few-simple (without_repeats c) (distinct-distinct same_fact c.hypotheses) says
+  go : (b : Bool) → is_general (few c) ≡ b → (is_void c ≡ false) × (is_tautology kept ≡ false) → IsSimple (cond b (everything_known (phase_of c.conclusion)) (few c))
+  go true e k = record { none_void = refl; none_needless = refl; distinct = tt; says = refl; none_lonely = refl; general = refl }
+  go false e k = record {
+    none_void = any_left is_never_met (is_needed c) c.diffs k.0;
+    none_needless = few-needed c;
+    distinct = distinct-filter same_fact (λ h. not (is_lonely (elsewhere kept) h)) kept.hypotheses (distinct-distinct same_fact c.hypotheses);
+    says = is_among-filter (λ h. not (is_lonely (elsewhere kept) h)) kept.hypotheses kept.conclusion k.1;
+    none_lonely = without_lonely-fixed kept;
+    general = ap (λ b. cond b (everything_known (phase_of c.conclusion)) (few c)) e;
+  }
 
 -- So its norm is itself, numbered.
 pub norm-simple : (e : Clause Term) → IsSimple e → norm e ≡ Some (numbered_anew e)
 norm-simple e s =
-    let once : without_repeats e ≡ e = λ i. record { hypotheses = distinct-fixed same_fact e.hypotheses s.distinct i; conclusion = e.conclusion } in
-    ap (λ d. cond (is_tautology d) None (Some (numbered_anew (generalized (without_lonely d))))) once
-    ∙ (ap (λ b. cond b None (Some (numbered_anew (generalized (without_lonely e))))) s.says
-    ∙ (ap (λ d. Some (numbered_anew (generalized d))) s.none_lonely ∙ ap (λ d. Some (numbered_anew d)) s.general))
+    let once : without_repeats e ≡ e = λ i. record { hypotheses = distinct-fixed same_fact e.hypotheses s.distinct i; diffs = e.diffs; conclusion = e.conclusion } in
+    ap (λ d. cond (is_void e || is_tautology (without_repeats d)) None (Some (numbered_anew (generalized (without_lonely (without_repeats d)))))) s.none_needless
+    ∙ (ap (λ d. cond (is_void e || is_tautology d) None (Some (numbered_anew (generalized (without_lonely d))))) once
+    ∙ ((λ i. cond (s.none_void i || s.says i) None (Some (numbered_anew (generalized (without_lonely e)))))
+    ∙ (ap (λ d. Some (numbered_anew (generalized d))) s.none_lonely ∙ ap (λ d. Some (numbered_anew d)) s.general)))
 
 -- the names that numbering gives, and the way back
 abbrev pub names_of : Clause Term → ℕ → ℕ
@@ -123,23 +107,33 @@ names_of e x = place_of x (distinct nat_eq (clause_variables e))
 abbrev pub back_of : Clause Term → ℕ → ℕ
 back_of e i = get_or (distinct nat_eq (clause_variables e)) i 0
 
--- A numbered clause is a variant of the clause.
-pub numbered-back : (e : Clause Term) → clause_under (renaming (back_of e)) (numbered_anew e) ≡ e
-numbered-back e =
-    let vs = clause_variables e in
-    let ds = distinct nat_eq vs in
-    let returns = all_weaker (λ x. get_or ds (place_of x ds) 0 ≡ x) (λ x. after (renaming (back_of e)) (numbering vs) x ≡ Leaf x) (λ x k. ap Leaf k) vs (at_places vs) in
-    clause_under-clause_under (renaming (back_of e)) (numbering vs) e ∙ (clause_under-agree (after (renaming (back_of e)) (numbering vs)) Leaf e returns ∙ clause_under-Leaf e)
+-- The names lead back where no constraint is needless, and so the clause with its new names has the norm that it had, and has it
+-- with its bound variables numbered.
+pub names-back : (e : Clause Term) → without_needless e ≡ e → IsClauseLedBack (back_of e) (names_of e) e
+names-back e needed = record {
+  facts = all-from_flat_map (λ x. back_of e (names_of e x) ≡ x) fact_variables (facts_of e) (at_places (clause_variables e));
+  diffs = all-from_flat_map (λ x. back_of e (names_of e x) ≡ x) diff_variables e.diffs (all_weaker (λ x. list_any (nat_eq x) (clause_variables e) ≡ true) (λ x. back_of e (names_of e x) ≡ x) (number_back (clause_variables e)) (constrained_variables e) (constrained_stand e needed));
+}
 
-pub numbered-variant : (e : Clause Term) → AreVariants e (numbered_anew e)
-numbered-variant e = record { by = numbering (clause_variables e); back = renaming (back_of e); there = refl; again = numbered-back e }
+pub renamed-back : (e : Clause Term) → without_needless e ≡ e → clause_under (renaming (back_of e)) (clause_under (renaming (names_of e)) e) ≡ e
+renamed-back e needed =
+    let q = back_of e in
+    let r = names_of e in
+    let undone = all_weaker (λ x. q (r x) ≡ x) (λ x. after (renaming q) (renaming r) x ≡ Leaf x) (λ x k. ap Leaf k) in
+    clause_under-clause_under (renaming q) (renaming r) e
+    ∙ (clause_under-agree (after (renaming q) (renaming r)) Leaf e (undone (clause_variables e) (at_places (clause_variables e))) (undone (constrained_variables e) (constrained_back q r e (names-back e needed)))
+    ∙ clause_under-Leaf e)
+
+pub norm-numbered : (e : Clause Term) → without_needless e ≡ e → norm (numbered_anew e) ≡ norm e
+norm-numbered e needed = norm-tidied (clause_under (renaming (names_of e)) e) ∙ norm-renamed (back_of e) (names_of e) e (names-back e needed)
 
 -- the norm is its own norm
 pub norm-norm : (c d : Clause Term) → norm c ≡ Some d → norm d ≡ Some d
 norm-norm c d e =
     let made = norm_made c d e in
     let plain = simplified c in
-    ap norm made.1 ∙ (sym (variants_norm plain (numbered_anew plain) (numbered-variant plain)) ∙ (norm-simple plain (simplified-simple c made.0) ∙ ap Some (sym made.1)))
+    let simple = simplified-simple c made.0 in
+    ap norm made.1 ∙ (norm-numbered plain simple.none_needless ∙ (norm-simple plain simple ∙ ap Some (sym made.1)))
 
 -- its variables are numbered from 0 on, by their first occurrence
 pub norm-variables : (c d : Clause Term) → norm c ≡ Some d → (n : ℕ) × (distinct nat_eq (clause_variables d) ≡ range_with_len 0 n)

@@ -1,13 +1,13 @@
 -- What a renaming of variables that has a way back does to variables, facts and clauses: it tells apart what was apart.
 use Rattle.std.proofs.Common.{◌≡◌, ℕ, ◌+◌, Bool, not, nat_eq, List, [], ◌∷◌, map, refl, ap, sym, ◌∙◌, eqb-true, eq-eqb}
 use Rattle.std.specs.Prelude.{flat_map, filter}
-use Rattle.std.specs.List.{AllByRecursion}
+use Rattle.std.specs.List.{AllByRecursion, list_any}
 use Rattle.std.proofs.lemmas.List.{map-append}
 use Rattle.spec_trees.specs.Tree.{Trees, Leaf, Node, none, more, bind, binds, after, size, sizes}
 use Rattle.spec_terms.specs.Term.{Sym, Term}
-use Rattle.spec_clauses.specs.Fact.{Fact, Att, Mess, Ev, Mev, Bad, Clause, facts_of, fact_under, clause_under, total, fact_size, clause_size, same_fact, is_among}
-use Rattle.spec_clauses.specs.Variables.{leaves, row_leaves, fact_variables, clause_variables, times}
-use Rattle.spec_clauses.specs.Norm.{distinct, place_of, is_lonely}
+use Rattle.spec_clauses.specs.Fact.{Fact, Att, Mess, Tab, Ev, Mev, Bad, Clause, facts_of, fact_under, clause_under, total, fact_size, same_fact, is_among}
+use Rattle.spec_clauses.specs.Variables.{leaves, row_leaves, fact_variables, clause_variables}
+use Rattle.spec_clauses.specs.Norm.{distinct, place_of, is_lonely, is_known}
 use Rattle.spec_clauses.specs.Renaming.{renaming}
 use Rattle.spec_clauses.proofs.Lists.{all_filter, filter_same, filter-map}
 use Rattle.spec_clauses.proofs.Facts.{fact_under-fact_under, fact_under-agree, fact_under-Leaf}
@@ -42,8 +42,9 @@ module _ (r : ℕ → ℕ) where
   terms_size-renamed (x ∷ xs) = cc (size-renamed x, terms_size-renamed xs)
 
   pub fact_variables-renamed : (h : Fact Term) → fact_variables (fact_under (renaming r) h) ≡ map r (fact_variables h)
-  fact_variables-renamed (Att t) = terms_leaves-renamed (t ∷ [])
-  fact_variables-renamed (Mess t u) = terms_leaves-renamed (t ∷ u ∷ [])
+  fact_variables-renamed (Att phase t) = terms_leaves-renamed (t ∷ [])
+  fact_variables-renamed (Mess phase t u) = terms_leaves-renamed (t ∷ u ∷ [])
+  fact_variables-renamed (Tab e ts) = terms_leaves-renamed ts
   fact_variables-renamed (Ev e ts) = terms_leaves-renamed ts
   fact_variables-renamed (Mev e ts) = terms_leaves-renamed ts
   fact_variables-renamed (Bad ts) = terms_leaves-renamed ts
@@ -56,8 +57,9 @@ module _ (r : ℕ → ℕ) where
   clause_variables-renamed c = facts_variables-renamed (facts_of c)
 
   pub fact_size-renamed : (h : Fact Term) → fact_size (fact_under (renaming r) h) ≡ fact_size h
-  fact_size-renamed (Att t) = ap (λ n. 1 + n) (size-renamed t)
-  fact_size-renamed (Mess t u) = cc (size-renamed t, size-renamed u)
+  fact_size-renamed (Att phase t) = ap (λ n. 1 + n) (size-renamed t)
+  fact_size-renamed (Mess phase t u) = cc (size-renamed t, size-renamed u)
+  fact_size-renamed (Tab e ts) = ap (λ n. 2 + n) (terms_size-renamed ts)
   fact_size-renamed (Ev e ts) = ap (λ n. 2 + n) (terms_size-renamed ts)
   fact_size-renamed (Mev e ts) = ap (λ n. 2 + n) (terms_size-renamed ts)
   fact_size-renamed (Bad ts) = ap (λ n. 1 + n) (terms_size-renamed ts)
@@ -65,9 +67,6 @@ module _ (r : ℕ → ℕ) where
   pub facts_size-renamed : (hs : List (Fact Term)) → total fact_size (map (fact_under (renaming r)) hs) ≡ total fact_size hs
   facts_size-renamed [] = refl
   facts_size-renamed (h ∷ hs) = cc (fact_size-renamed h, facts_size-renamed hs)
-
-  pub clause_size-renamed : (c : Clause Term) → clause_size (clause_under (renaming r) c) ≡ clause_size c
-  clause_size-renamed c = facts_size-renamed (facts_of c)
 
 -- of the images of distinct items, those of the distinct ones, where images are the same exactly where the items are
 module _ {X Y : Type 0} (same : X → X → Bool) (alike : Y → Y → Bool) (f : X → Y) (Good : X → Type 0) (tells : (x y : X) → Good x → Good y → alike (f x) (f y) ≡ same x y) where
@@ -95,9 +94,9 @@ module _ (q r : ℕ → ℕ) where
       (λ e. eq-eqb x y (sym a ∙ (ap q (eqb-true (r x) (r y) e) ∙ b)))
       (λ e. eq-eqb (r x) (r y) (ap r (eqb-true x y e)))
 
-  pub times-renamed : (x : ℕ) (ys : List ℕ) → q (r x) ≡ x → AllByRecursion (λ y. q (r y) ≡ y) ys → times (r x) (map r ys) ≡ times x ys
-  times-renamed x [] a b = refl
-  times-renamed x (y ∷ ys) a b = let same = nat_eq-renamed x y a b.0 in let others = times-renamed x ys a b.1 in cc
+  pub stands-renamed : (x : ℕ) (ys : List ℕ) → q (r x) ≡ x → AllByRecursion (λ y. q (r y) ≡ y) ys → list_any (nat_eq (r x)) (map r ys) ≡ list_any (nat_eq x) ys
+  stands-renamed x [] a b = refl
+  stands-renamed x (y ∷ ys) a b = let same = nat_eq-renamed x y a b.0 in let others = stands-renamed x ys a b.1 in cc
 
   pub place_of-renamed : (x : ℕ) (ys : List ℕ) → q (r x) ≡ x → AllByRecursion (λ y. q (r y) ≡ y) ys → place_of (r x) (map r ys) ≡ place_of x ys
   place_of-renamed x [] a b = refl
@@ -133,9 +132,23 @@ module _ (q r : ℕ → ℕ) where
   facts_distinct-renamed = distinct-mapped same_fact same_fact (fact_under (renaming r)) IsLedBack same_fact-renamed
 
   pub is_lonely-renamed : (xs : List ℕ) (h : Fact Term) → AllByRecursion (λ x. q (r x) ≡ x) xs → IsLedBack h → is_lonely (map r xs) (fact_under (renaming r) h) ≡ is_lonely xs h
-  is_lonely-renamed xs (Att (Leaf x)) a b = ap (λ n. nat_eq n 1) (times-renamed x xs b.0 a)
-  is_lonely-renamed xs (Att (Node f args)) a b = refl
-  is_lonely-renamed xs (Mess t u) a b = refl
+  is_lonely-renamed xs (Att phase (Leaf x)) a b = ap not (stands-renamed x xs b.0 a)
+  is_lonely-renamed xs (Att phase (Node f args)) a b = refl
+  is_lonely-renamed xs (Mess phase t u) a b = refl
+  is_lonely-renamed xs (Tab e ts) a b = refl
   is_lonely-renamed xs (Ev e ts) a b = refl
   is_lonely-renamed xs (Mev e ts) a b = refl
   is_lonely-renamed xs (Bad ts) a b = refl
+
+  pub is_known-renamed : (x : ℕ) (h : Fact Term) → q (r x) ≡ x → IsLedBack h → is_known (r x) (fact_under (renaming r) h) ≡ is_known x h
+  is_known-renamed x (Att phase (Leaf y)) a b = nat_eq-renamed x y a b.0
+  is_known-renamed x (Att phase (Node f args)) a b = refl
+  is_known-renamed x (Mess phase t u) a b = refl
+  is_known-renamed x (Tab n ts) a b = refl
+  is_known-renamed x (Ev e ts) a b = refl
+  is_known-renamed x (Mev e ts) a b = refl
+  is_known-renamed x (Bad ts) a b = refl
+
+  pub any_known-renamed : (x : ℕ) (hs : List (Fact Term)) → q (r x) ≡ x → AllByRecursion IsLedBack hs → list_any (is_known (r x)) (map (fact_under (renaming r)) hs) ≡ list_any (is_known x) hs
+  any_known-renamed x [] a b = refl
+  any_known-renamed x (h ∷ hs) a b = let same = is_known-renamed x h a b.0 in let others = any_known-renamed x hs a b.1 in cc

@@ -6,9 +6,11 @@ use Rattle.std.proofs.lemmas.List.{length-map}
 use Rattle.std.proofs.lemmas.Simd.{map-map}
 use Rattle.std.proofs.lemmas.Bool.{cases_order}
 use Rattle.spec_trees.specs.Tree.{Leaf, after}
+use Rattle.spec_trees.proofs.Equality.{and_true}
 use Rattle.spec_terms.specs.Term.{Term, Subst}
 use Rattle.spec_clauses.specs.Fact.{Fact, Clause, fact_under, is_variable_known}
 use Rattle.spec_clauses.specs.Flat.{flat, flat_under, is_flat}
+use Rattle.spec_clauses.specs.Norm.{IsNormal}
 use Rattle.spec_clauses.specs.Inclusion.{IsWithin, Has}
 use Rattle.spec_clauses.specs.Subsumption.{Subsumes, IsCovered, firm, loose, hypothesis_at, RowHolds, ComesBefore, IsFirstRow}
 use Rattle.spec_clauses.proofs.Facts.{fact_under-fact_under, fact_under-Leaf}
@@ -16,14 +18,19 @@ use Rattle.spec_clauses.proofs.FlatUnder.{flat_under-Leaf, flat_under-flat_under
 use Rattle.spec_clauses.proofs.Inclusion.{within_self, within-trans, within-flat_map}
 use Rattle.spec_clauses.proofs.Firm.{alike-filters, firms_stay, flats_are_own}
 use Rattle.spec_clauses.proofs.Rows.{takes_within, within_takes}
+use Rattle.spec_clauses.proofs.Kept.{kept_itself, kept_through}
+use Rattle.spec_clauses.proofs.NormKeeps.{normal-numbered}
 
--- A clause with flat hypotheses subsumes itself.
-pub subsumes_itself : (c : Clause Term) → list_all is_flat c.hypotheses ≡ true → Subsumes c c
-subsumes_itself c flats = record {
-  by = Leaf;
-  conclusion = fact_under-Leaf c.conclusion;
-  within = rw (flat_under-Leaf c.hypotheses ∙ flats_are_own c.hypotheses flats) (within_self c.hypotheses);
-}
+-- A clause that is flat and its own norm subsumes itself.
+pub subsumes_itself : (c : Clause Term) → IsNormal c → Subsumes c c
+subsumes_itself c normal =
+    let flats = (and_true (is_flat c.conclusion) (list_all is_flat c.hypotheses) normal.flat).1 in
+    record {
+      by = Leaf;
+      conclusion = fact_under-Leaf c.conclusion;
+      within = rw (flat_under-Leaf c.hypotheses ∙ flats_are_own c.hypotheses flats) (within_self c.hypotheses);
+      diffs = kept_itself c.diffs (normal-numbered c normal.own);
+    }
 
 pub subsumption-trans : (a b c : Clause Term) → Subsumes a b → Subsumes b c → Subsumes a c
 subsumption-trans a b c first second = record {
@@ -31,6 +38,7 @@ subsumption-trans a b c first second = record {
   conclusion = sym (fact_under-fact_under second.by first.by a.conclusion) ∙ (ap (fact_under second.by) first.conclusion ∙ second.conclusion);
   within = rw (← flat_under-flat_under second.by first.by a.hypotheses) (within-trans (flat_under second.by (flat_under first.by a.hypotheses)) (flat_under second.by b.hypotheses) c.hypotheses
       (within-flat_map (λ f. flat (fact_under second.by f)) (flat_under first.by a.hypotheses) b.hypotheses first.within) second.within);
+  diffs = kept_through a.diffs b.diffs c.diffs first.by second.by first.diffs second.diffs;
 }
 
 -- What a row that holds takes: the firm hypotheses as they are, and the flat of the loose ones.
@@ -52,6 +60,7 @@ row_subsumes general special row flats h =
       by = h.by;
       conclusion = h.conclusion;
       within = within-trans (flat_under h.by hs) (taken h.by hs) special.hypotheses (subst (λ (xs : List (Fact Term)). IsWithin (flat_under h.by hs) (xs ++ flat_under h.by (loose hs))) (firms_stay h.by hs flats) kinds.to) (row_takes general special row h);
+      diffs = h.diffs;
     }
 
 pub subsumes_by_row : (general special : Clause Term) → list_all is_flat general.hypotheses ≡ true → Subsumes general special → (row : List ℕ) × RowHolds general special row
@@ -67,6 +76,7 @@ subsumes_by_row general special flats h =
         conclusion = h.conclusion;
         firmly = sym (map-map Some (fact_under h.by) (firm hs)) ∙ t.firmly;
         loosely = t.loosely;
+        diffs = h.diffs;
       },
     )
 

@@ -6,16 +6,18 @@ use Rattle.spec_trees.specs.Tree.{Leaf, Node, bind, after}
 use Rattle.spec_terms.specs.Term.{Term, Subst}
 use Rattle.spec_calculus.specs.Bounds.{most_symbols}
 use Rattle.spec_clauses.specs.Fact.{Fact, Clause, facts_of, clause_under, clause_size}
-use Rattle.spec_clauses.specs.Variables.{fact_variables, clause_variables}
+use Rattle.spec_clauses.specs.Variables.{fact_variables, clause_variables, constrained_variables}
+use Rattle.spec_clauses.specs.Diff.{Diff, diff_variables}
 use Rattle.spec_clauses.specs.Flat.{flat, flat_parts}
 use Rattle.spec_clauses.specs.Norm.{norm, norms}
 use Rattle.spec_clauses.specs.Limits.{is_large_clause, is_large_raw}
 use Rattle.spec_clauses.specs.Renaming.{renaming, AreVariants}
 use Rattle.spec_clauses.proofs.Lists.{all_weaker, all-flat_map, all-from_flat_map}
-use Rattle.spec_clauses.proofs.Facts.{clause_under-clause_under, clause_under-agree, clause_under-fixed, clause_under-Leaf}
-use Rattle.spec_clauses.proofs.Renaming.{IsLedBack, clause_size-renamed}
+use Rattle.spec_clauses.proofs.Facts.{clause_under-clause_under, clause_under-agree, clause_under-fixed, constraints_under-fixed, clause_under-Leaf}
+use Rattle.spec_clauses.proofs.Renaming.{IsLedBack}
+use Rattle.spec_clauses.proofs.ClauseRenaming.{IsDiffLedBack, IsClauseLedBack, clause_size-renamed}
 use Rattle.spec_clauses.proofs.Flat.{fact_variables-flat, flat_parts-renamed}
-use Rattle.spec_clauses.proofs.NormRenaming.{IsClauseLedBack, norm-renamed}
+use Rattle.spec_clauses.proofs.NormRenaming.{norm-renamed}
 
 -- The flat parts of a clause that is led back are led back.
 module _ (q r : ℕ → ℕ) where
@@ -25,12 +27,13 @@ module _ (q r : ℕ → ℕ) where
   flats-back : (hs : List (Fact Term)) → AllByRecursion (IsLedBack q r) hs → AllByRecursion (IsLedBack q r) (flat_map flat hs)
   flats-back hs a = all-flat_map (IsLedBack q r) flat hs (all_weaker (IsLedBack q r) (λ h. AllByRecursion (IsLedBack q r) (flat h)) flat-back hs a)
 
-  parts_with-back : (hs fs : List (Fact Term)) → AllByRecursion (IsLedBack q r) hs → AllByRecursion (IsLedBack q r) fs → AllByRecursion (IsClauseLedBack q r) (map (λ f. record { hypotheses = hs; conclusion = f }) fs)
-  parts_with-back hs [] a b = tt
-  parts_with-back hs (f ∷ fs) a b = ((b.0, a), parts_with-back hs fs a b.1)
+  parts_with-back : (hs : List (Fact Term)) (ds : List Diff) (fs : List (Fact Term)) → AllByRecursion (IsLedBack q r) hs → AllByRecursion (IsDiffLedBack q r) ds → AllByRecursion (IsLedBack q r) fs
+      → AllByRecursion (IsClauseLedBack q r) (map (λ f. record { hypotheses = hs; diffs = ds; conclusion = f }) fs)
+  parts_with-back hs ds [] a b e = tt
+  parts_with-back hs ds (f ∷ fs) a b e = (record { facts = (e.0, a); diffs = b }, parts_with-back hs ds fs a b e.1)
 
   flat_parts-back : (c : Clause Term) → IsClauseLedBack q r c → AllByRecursion (IsClauseLedBack q r) (flat_parts c)
-  flat_parts-back c a = parts_with-back (flat_map flat c.hypotheses) (flat c.conclusion) (flats-back c.hypotheses a.1) (flat-back c.conclusion a.0)
+  flat_parts-back c a = parts_with-back (flat_map flat c.hypotheses) c.diffs (flat c.conclusion) (flats-back c.hypotheses a.facts.1) a.diffs (flat-back c.conclusion a.facts.0)
 
   norms_of-renamed : (cs : List (Clause Term)) → AllByRecursion (IsClauseLedBack q r) cs → filter_map norm (map (clause_under (renaming r)) cs) ≡ filter_map norm cs
   norms_of-renamed [] a = refl
@@ -75,14 +78,19 @@ variants_are_renamed c d v =
     let t = v.back in
     let r = λ (x : ℕ). number_of (s x) in
     let q = λ (x : ℕ). number_of (t x) in
-    let fixed : AllByRecursion (λ x. after t s x ≡ Leaf x) (clause_variables c) = clause_under-fixed (after t s) c (sym (clause_under-clause_under t s c) ∙ (ap (clause_under t) v.there ∙ v.again)) in
-    let renames = all_weaker (λ x. after t s x ≡ Leaf x) (λ x. s x ≡ renaming r x) (λ x e. leaf_number t (s x) x e) (clause_variables c) fixed in
-    let returns = all_weaker (λ x. after t s x ≡ Leaf x) (λ x. q (r x) ≡ x) (λ x e. ap (λ u. number_of (bind t u)) (sym (leaf_number t (s x) x e)) ∙ ap number_of e) (clause_variables c) fixed in
+    let whole : clause_under (after t s) c ≡ c = sym (clause_under-clause_under t s c) ∙ (ap (clause_under t) v.there ∙ v.again) in
+    let fixed : AllByRecursion (λ x. after t s x ≡ Leaf x) (clause_variables c) = clause_under-fixed (after t s) c whole in
+    let constrained : AllByRecursion (λ x. after t s x ≡ Leaf x) (constrained_variables c) = constraints_under-fixed (after t s) c whole in
+    let renames = all_weaker (λ x. after t s x ≡ Leaf x) (λ x. s x ≡ renaming r x) (λ x e. leaf_number t (s x) x e) in
+    let returns = all_weaker (λ x. after t s x ≡ Leaf x) (λ x. q (r x) ≡ x) (λ x e. ap (λ u. number_of (bind t u)) (sym (leaf_number t (s x) x e)) ∙ ap number_of e) in
     record {
       back = q;
       names = r;
-      is_back = all-from_flat_map (λ x. q (r x) ≡ x) fact_variables (facts_of c) returns;
-      is_renamed = sym v.there ∙ clause_under-agree s (renaming r) c renames;
+      is_back = record {
+        facts = all-from_flat_map (λ x. q (r x) ≡ x) fact_variables (facts_of c) (returns (clause_variables c) fixed);
+        diffs = all-from_flat_map (λ x. q (r x) ≡ x) diff_variables c.diffs (returns (constrained_variables c) constrained);
+      };
+      is_renamed = sym v.there ∙ clause_under-agree s (renaming r) c (renames (clause_variables c) fixed) (renames (constrained_variables c) constrained);
     }
 
 pub variants_norm : (c d : Clause Term) → AreVariants c d → norm c ≡ norm d

@@ -1,9 +1,9 @@
--- Flat facts: `att` of a data constructor or a tuple stands for the `att` of its parts (Blanchet 2016, section 3.3.1).
+-- Flat facts: `att` of a data constructor or a tuple stands for the `att` of its parts, in its phase (Blanchet 2016, section 3.3.1).
 use Rattle.std.specs.Prelude.{ℕ, Bool, true, false, not, ◌&&◌, cond, List, [], ◌∷◌, ◌++◌, map, flat_map}
 use Rattle.std.specs.List.{list_all}
 use Rattle.spec_trees.specs.Tree.{Trees, Leaf, Node, none, more}
 use Rattle.spec_terms.specs.Term.{Sym, Data, Tuple, Term, Subst}
-use Rattle.spec_clauses.specs.Fact.{Fact, Att, Mess, Ev, Mev, Bad, Clause, fact_under}
+use Rattle.spec_clauses.specs.Fact.{Fact, Att, Mess, Tab, Ev, Mev, Bad, Clause, fact_under}
 
 -- whether who has a term with the symbol at its root has its parts, and the other way round
 abbrev pub is_data : Sym → Bool
@@ -23,8 +23,9 @@ abbrev mutual
 
 -- the flat facts that a fact stands for
 abbrev pub flat : Fact Term → List (Fact Term)
-flat (Att t) = map Att (parts t)
-flat (Mess t u) = Mess t u ∷ []
+flat (Att k t) = map (Att k) (parts t)
+flat (Mess k t u) = Mess k t u ∷ []
+flat (Tab n ts) = Tab n ts ∷ []
 flat (Ev e ts) = Ev e ts ∷ []
 flat (Mev e ts) = Mev e ts ∷ []
 flat (Bad ts) = Bad ts ∷ []
@@ -33,13 +34,13 @@ flat (Bad ts) = Bad ts ∷ []
 abbrev pub flat_under : Subst → List (Fact Term) → List (Fact Term)
 flat_under s fs = flat_map (λ f. flat (fact_under s f)) fs
 
--- the flat parts of a clause: one for each flat fact of its conclusion
+-- the flat parts of a clause: one for each flat fact of its conclusion, with all constraints
 abbrev pub flat_parts : Clause Term → List (Clause Term)
-flat_parts c = map (λ f. record { hypotheses = flat_map flat c.hypotheses; conclusion = f }) (flat c.conclusion)
+flat_parts c = map (λ f. record { hypotheses = flat_map flat c.hypotheses; diffs = c.diffs; conclusion = f }) (flat c.conclusion)
 
 -- whether a fact, and a clause, is flat
 abbrev pub is_flat : Fact Term → Bool
-is_flat (Att (Node f args)) = not (is_data f)
+is_flat (Att k (Node f args)) = not (is_data f)
 is_flat _ = true
 
 abbrev pub is_flat_clause : Clause Term → Bool

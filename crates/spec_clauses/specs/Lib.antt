@@ -1,3 +1,6 @@
+pub mod Distinct
+pub mod Diff
+pub mod DiffDecision
 pub mod Fact
 pub mod Head
 pub mod Variables
@@ -5,8 +8,11 @@ pub mod Renaming
 pub mod Flat
 pub mod Selection
 pub mod Norm
+pub mod FirstPhase
 pub mod Limits
 pub mod Unify
 pub mod Resolvents
 pub mod Inclusion
+pub mod Kept
 pub mod Subsumption
+pub mod Shown

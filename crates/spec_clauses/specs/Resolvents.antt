@@ -3,21 +3,27 @@
 use Rattle.std.specs.Prelude.{◌≡◌, ℕ, cond, Option, Some, None, List, ◌++◌, map}
 use Rattle.spec_terms.specs.Term.{Term}
 use Rattle.spec_terms.specs.Unifier.{moved}
-use Rattle.spec_clauses.specs.Fact.{Clause, clause_terms, fact_under, clause_under}
-use Rattle.spec_clauses.specs.Variables.{AreBelow}
+use Rattle.spec_clauses.specs.Diff.{diff_under}
+use Rattle.spec_clauses.specs.Fact.{Clause, fact_under, clause_under}
+use Rattle.spec_clauses.specs.Variables.{AreBelow, all_terms}
 use Rattle.spec_clauses.specs.Selection.{Selection}
 use Rattle.spec_clauses.specs.Norm.{norms}
 use Rattle.spec_clauses.specs.Limits.{is_large_raw}
 use Rattle.spec_clauses.specs.Unify.{MguGives}
 
--- the hypotheses of both but the selected one, and the unsolved clause's conclusion: its variables are raised by n
+-- the hypotheses of both but the selected one, the constraints of both, and the unsolved clause's conclusion: its variables are raised
+-- by n
 abbrev pub joined : ℕ → Clause Term → Clause Term → Selection → Clause Term
-joined n solved unsolved at = record { hypotheses = solved.hypotheses ++ map (fact_under (moved n)) at.others; conclusion = fact_under (moved n) unsolved.conclusion }
+joined n solved unsolved at = record {
+  hypotheses = solved.hypotheses ++ map (fact_under (moved n)) at.others;
+  diffs = solved.diffs ++ map (diff_under (moved n)) unsolved.diffs;
+  conclusion = fact_under (moved n) unsolved.conclusion;
+}
 
 -- the raw resolvent, or None where the facts have no unifier: over any numbers that set the variables apart
 pub record IsRawResolvent (solved unsolved : Clause Term) (at : Selection) (raw : Option (Clause Term)) : Type 0 where
   pub offset : ℕ
-  pub apart : AreBelow offset (clause_terms solved)
+  pub apart : AreBelow offset (all_terms solved)
   pub unified : MguGives (λ s. fact_under s solved.conclusion ≡ fact_under s (fact_under (moved offset) at.fact)) (λ s. clause_under s (joined offset solved unsolved at)) raw
 
 -- what a pair of clauses gives

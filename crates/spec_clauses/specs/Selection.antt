@@ -8,7 +8,7 @@ use Rattle.spec_clauses.specs.Fact.{Fact, Att, Mev, fact_size, fact_under}
 -- whether a hypothesis can be selected: no `mev`, and no `att` of a variable
 abbrev pub is_selectable : Fact Term → Bool
 is_selectable (Mev e ts) = false
-is_selectable (Att (Leaf x)) = false
+is_selectable (Att k (Leaf x)) = false
 is_selectable _ = true
 
 -- whether none of the hypotheses can be selected

@@ -3,7 +3,7 @@
 //! holds of the definitions.
 #![tactic(auto)]
 
-ghost use Rattle.std.specs.Prelude.{◌≡◌, ◌↔◌, ◌⊎◌, ℕ, ◌+◌, ◌*◌, ◌≤◌, ◌&&◌, nat_eq, true, false, Some, None};
+ghost use Rattle.std.specs.Prelude.{◌≡◌, ◌↔◌, ◌⊎◌, ℕ, ◌+◌, ◌*◌, ◌<◌, ◌≤◌, ◌&&◌, nat_eq, true, false, Some, None};
 ghost use Rattle.std.specs.Prelude.{List, [], ◌∷◌, ◌++◌, length, map, flat_map, option_map, slice_get, Contains};
 ghost use Rattle.std.specs.List.{AllByRecursion, list_all, range_with_len};
 ghost use Rattle.spec_trees.specs.Tree.{Leaf, after, size};
@@ -12,15 +12,23 @@ ghost use Rattle.spec_clauses.specs.Fact.{Fact, Clause, terms_of, clause_terms, 
 ghost use Rattle.spec_clauses.specs.Fact.{clause_under, total, fact_size, clause_size, same_term, same_terms};
 ghost use Rattle.spec_clauses.specs.Fact.{same_fact, is_among};
 ghost use Rattle.spec_clauses.specs.Head.{Head, head_of, made_of, same_head, head_size};
-ghost use Rattle.spec_clauses.specs.Variables.{fact_variables, clause_variables, AreBelow};
+ghost use Rattle.spec_clauses.specs.Variables.{fact_variables, clause_variables, constrained_variables};
+ghost use Rattle.spec_clauses.specs.Variables.{all_terms, IsBelow, AreBelow};
 ghost use Rattle.spec_clauses.specs.Flat.{flat, flat_under, flat_parts, is_flat, is_flat_clause};
 ghost use Rattle.spec_clauses.specs.Selection.{Selection, is_solved, select, selection_under, IsFirstOfLargest};
 ghost use Rattle.spec_clauses.specs.Inclusion.{Picks, Has, IsWithin};
 ghost use Rattle.spec_clauses.specs.Subsumption.{Subsumes, IsCovered, firm, RowHolds, IsFirstRow};
+ghost use Rattle.spec_clauses.specs.Kept.{AreMetBy, AreKeptIn};
 ghost use Rattle.spec_clauses.specs.Resolvents.{Answer, NoUnifier, Large, Resolvents, IsRawResolvent, Resolves};
 ghost use Rattle.spec_clauses.specs.Norm.{norm, norms, distinct, IsNormal, EachRuleKeeps};
+ghost use Rattle.spec_clauses.specs.FirstPhase.{IsInFirstPhase, norm_by_counting, EachCountedRuleKeeps};
 ghost use Rattle.spec_clauses.specs.Limits.{is_large_clause, is_large_raw, IsWithinLimit};
-ghost use Rattle.spec_clauses.specs.Renaming.{renaming, AreVariants};
+ghost use Rattle.spec_clauses.specs.Renaming.{renaming, AreVariants, DifferInBound};
+ghost use Rattle.spec_clauses.specs.Shown.{Shown, diff_shown, shown_variables, shown_under, TellsApart};
+ghost use Rattle.spec_terms.specs.Unifier.{UnifiesAll, IsMostGeneral};
+ghost use Rattle.spec_clauses.specs.Diff.{Diff, diff_under, diff_variables, same_diff, IsMetBy, CanBeEqual, IsNeverMet};
+ghost use Rattle.spec_clauses.specs.Diff.{numbered_diff, diff_size};
+ghost use Rattle.spec_clauses.specs.DiffDecision.{can_be_equal, is_never_met};
 
 /// Equality of symbols, terms, lists of terms and facts is decided by the tests, and so is whether a fact is
 /// among others.
@@ -69,7 +77,9 @@ pub fn substitutions_act_on_clauses()
     ensures agree_fact { (s t : Subst) (h : Fact Term) →
         AllByRecursion (λ x. s x ≡ t x) (fact_variables h) → fact_under s h ≡ fact_under t h }
     ensures agree_clause { (s t : Subst) (c : Clause Term) →
-        AllByRecursion (λ x. s x ≡ t x) (clause_variables c) → clause_under s c ≡ clause_under t c }
+        AllByRecursion (λ x. s x ≡ t x) (clause_variables c) →
+        AllByRecursion (λ x. s x ≡ t x) (constrained_variables c) →
+        clause_under s c ≡ clause_under t c }
 {}
 
 /// A renaming of variables keeps sizes, and renames the variables in their places.
@@ -134,20 +144,34 @@ pub fn norms_are_normal()
         norm c ≡ Some c → norm d ≡ Some d → AreVariants c d → c ≡ d }
 {}
 
-/// A clause has no norm exactly where its conclusion is one of its hypotheses. Its norm is no larger, has a
-/// conclusion of the same outline, some of its hypotheses, renamed, and variables that are numbered from 0 on
-/// by their first occurrence, and so below its size.
+/// A clause has no norm exactly where its conclusion is one of its hypotheses, or no substitution meets one of its
+/// constraints. Its norm is no larger, has a conclusion of the same outline, some of its hypotheses, renamed, some of its
+/// constraints, renamed and numbered, and variables that are numbered from 0 on by their first occurrence in its facts, and
+/// so below its size.
 pub fn norms_keep_what_clauses_say()
-    ensures none { (c : Clause Term) → (norm c ≡ None) ↔ Has c.hypotheses c.conclusion }
+    ensures none { (c : Clause Term) → (norm c ≡ None) ↔
+        (Has c.hypotheses c.conclusion ⊎ ((d : Diff) × Has c.diffs d × IsNeverMet d)) }
     ensures size { (c d : Clause Term) → norm c ≡ Some d → clause_size d ≤ clause_size c }
     ensures conclusion { (c d : Clause Term) →
         norm c ≡ Some d → outline d.conclusion ≡ outline c.conclusion }
     ensures hypotheses { (c d : Clause Term) → norm c ≡ Some d →
         (r : ℕ → ℕ) × IsWithin d.hypotheses (map (fact_under (renaming r)) c.hypotheses) }
+    ensures constraints { (c d : Clause Term) → norm c ≡ Some d → (r : ℕ → ℕ) ×
+        IsWithin d.diffs (map (λ e. numbered_diff (diff_under (renaming r) e)) c.diffs) }
     ensures numbers { (c d : Clause Term) → norm c ≡ Some d →
         (n : ℕ) × (distinct nat_eq (clause_variables d) ≡ range_with_len 0 n) }
     ensures below { (c d : Clause Term) →
-        norm c ≡ Some d → AreBelow (clause_size d) (clause_terms d) }
+        norm c ≡ Some d → AreBelow (clause_size d) (all_terms d) }
+{}
+
+/// In the first phase, where there are no constraints, a hypothesis `att` of a variable is dropped exactly where that
+/// is the variable's one occurrence, and each solved clause that concludes `att` of a variable says that everything is
+/// known: the norm is the one that counts, and a clause is its own norm exactly where each of the rules that count leaves it
+/// as it is.
+pub fn clauses_of_the_first_phase_are_normed_by_counting()
+    ensures norm { (c : Clause Term) → IsInFirstPhase c → norm c ≡ norm_by_counting c }
+    ensures rules { (c : Clause Term) →
+        IsInFirstPhase c → (norm c ≡ Some c) ↔ EachCountedRuleKeeps c }
 {}
 
 /// Being instances of each other is an equivalence of clauses.
@@ -165,6 +189,80 @@ pub fn variants_have_the_same_norms()
     ensures norms { (c d : Clause Term) → AreVariants c d → norms c ≡ norms d }
     ensures size { (c d : Clause Term) → AreVariants c d → clause_size c ≡ clause_size d }
     ensures large { (c d : Clause Term) → AreVariants c d → is_large_raw c ≡ is_large_raw d }
+{}
+
+/// Whether the sides of a constraint can be equal, whether no substitution meets it, and whether two constraints are the
+/// same, is decided by the tests.
+pub fn constraints_are_tested()
+    ensures equal { (d : Diff) → (can_be_equal d ≡ true) ↔ CanBeEqual d }
+    ensures never { (d : Diff) → (is_never_met d ≡ true) ↔ IsNeverMet d }
+    ensures same { (d e : Diff) → (same_diff d e ≡ true) ↔ (d ≡ e) }
+{}
+
+/// Where the sides of a constraint can't be equal, each substitution meets it; where terms for its bound variables alone
+/// make them equal, none does.
+pub fn constraints_keep_sides_apart()
+    ensures apart { (d : Diff) (s : Subst) → can_be_equal d ≡ false → IsMetBy s d }
+    ensures never { (d : Diff) (s : Subst) → is_never_met d ≡ true → IsMetBy s d → ⊥ }
+{}
+
+/// Substitution in constraints: one after another is their composition, that of each variable by itself changes nothing,
+/// and only what it has for the clause's variables at hand counts. A constraint under a substitution is met by another
+/// exactly where it is met by both, one after the other.
+pub fn substitutions_act_on_constraints()
+    ensures composed { (s t : Subst) (d : Diff) →
+        diff_under s (diff_under t d) ≡ diff_under (after s t) d }
+    ensures same { (d : Diff) → diff_under Leaf d ≡ d }
+    ensures agree { (s t : Subst) (d : Diff) →
+        AllByRecursion (λ x. s x ≡ t x) (diff_variables d) → diff_under s d ≡ diff_under t d }
+    ensures met { (r s : Subst) (d : Diff) → IsMetBy r (diff_under s d) ↔ IsMetBy (after r s) d }
+{}
+
+/// The numbering of a constraint's bound variables: it keeps what the constraint says, done twice it is done once, it goes
+/// through substitutions, and neither size nor the clause's variables change.
+pub fn constraints_are_numbered()
+    ensures once { (d : Diff) → numbered_diff (numbered_diff d) ≡ numbered_diff d }
+    ensures under { (s : Subst) (d : Diff) →
+        numbered_diff (diff_under s d) ≡ diff_under s (numbered_diff d) }
+    ensures met { (s : Subst) (d : Diff) → IsMetBy s (numbered_diff d) ↔ IsMetBy s d }
+    ensures equal { (d : Diff) → can_be_equal (numbered_diff d) ≡ can_be_equal d }
+    ensures never { (d : Diff) → is_never_met (numbered_diff d) ≡ is_never_met d }
+    ensures size { (d : Diff) → diff_size (numbered_diff d) ≡ diff_size d }
+    ensures variables { (d : Diff) → diff_variables (numbered_diff d) ≡ diff_variables d }
+{}
+
+/// A renaming of the clause's variables that has a way back from those of a constraint: the tests answer the same, the size
+/// stays, and the variables are renamed in their places.
+pub fn renamings_keep_constraints()
+    ensures equal { (q r : ℕ → ℕ) (d : Diff) → AllByRecursion (λ x. q (r x) ≡ x)
+        (diff_variables d) → can_be_equal (diff_under (renaming r) d) ≡ can_be_equal d }
+    ensures never { (q r : ℕ → ℕ) (d : Diff) → AllByRecursion (λ x. q (r x) ≡ x)
+        (diff_variables d) → is_never_met (diff_under (renaming r) d) ≡ is_never_met d }
+    ensures size { (r : ℕ → ℕ) (d : Diff) → diff_size (diff_under (renaming r) d) ≡ diff_size d }
+    ensures variables { (r : ℕ → ℕ) (d : Diff) →
+        diff_variables (diff_under (renaming r) d) ≡ map r (diff_variables d) }
+{}
+
+/// Clauses that differ in the numbers of the variables that constraints bind alone have the same norm, and their flat parts
+/// have the same norms.
+pub fn norms_ignore_bound_numbers()
+    ensures norm { (c d : Clause Term) → DifferInBound c d → norm c ≡ norm d }
+    ensures norms { (c d : Clause Term) → DifferInBound c d → norms c ≡ norms d }
+{}
+
+/// Constraints written in terms, where from a number on variables are bound ones. Under a substitution, with bound variables
+/// above all that it puts in, such terms are the constraint under it; the sides can be equal exactly where the lists of terms
+/// unify; and the constraint is never met exactly where a most general unifier of these has a variable for each of the
+/// clause's variables, and different ones.
+pub fn constraints_are_written_in_terms()
+    ensures under { (s : Subst) (next : ℕ) (d : Shown) →
+        AllByRecursion (λ x. x < d.first → IsBelow next (s x)) (shown_variables d) →
+        diff_shown (shown_under s next d) ≡ diff_under s (diff_shown d) }
+    ensures equal { (d : Shown) →
+        CanBeEqual (diff_shown d) ↔ ((s : Subst) × UnifiesAll s d.left d.right) }
+    ensures never { (s : Subst) (d : Shown) →
+        IsMostGeneral (λ r. UnifiesAll r d.left d.right) s →
+        IsNeverMet (diff_shown d) ↔ TellsApart s d }
 {}
 
 /// Selection takes the first of the largest hypotheses that can be selected, and nothing exactly where none can.
@@ -213,10 +311,22 @@ pub fn lists_have_their_items<X, Y>()
     ensures included { (xs ys : List X) (x : X) → IsWithin xs ys → Has xs x → Has ys x }
 {}
 
-/// Subsumption is reflexive where hypotheses are flat, and transitive.
+/// Subsumption is reflexive on flat clauses that are their own norms, and transitive.
 pub fn subsumption_is_an_order()
-    ensures reflexive { (c : Clause Term) → list_all is_flat c.hypotheses ≡ true → Subsumes c c }
+    ensures reflexive { (c : Clause Term) → IsNormal c → Subsumes c c }
     ensures transitive { (a b c : Clause Term) → Subsumes a b → Subsumes b c → Subsumes a c }
+{}
+
+/// Constraints that are kept under a substitution are met by it and another one after it where those that keep them are
+/// met by that other. Numbered constraints keep themselves, and keeping is transitive.
+pub fn kept_constraints_are_met()
+    ensures met { (diffs general : List Diff) (r s : Subst) → AreMetBy r diffs →
+        AreKeptIn diffs s general → AreMetBy (after r s) general }
+    ensures reflexive { (diffs : List Diff) → AllByRecursion (λ d. numbered_diff d ≡ d) diffs →
+        AreKeptIn diffs Leaf diffs }
+    ensures transitive { (general middle diffs : List Diff) (s t : Subst) →
+        AreKeptIn middle s general → AreKeptIn diffs t middle →
+        AreKeptIn diffs (after t s) general }
 {}
 
 /// A clause with flat hypotheses subsumes another exactly where some row holds. A row that holds has a position

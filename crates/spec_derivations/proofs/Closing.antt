@@ -1,13 +1,11 @@
 -- Closed lists: what counts is what they have, and the worked example is one.
 use Rattle.std.proofs.Common.{◌≡◌, ◌↔◌, ℕ, Bool, true, false, cond, nat_eq, List, [], ◌∷◌, refl, sym, ap, ◌∙◌, subst, eqb-true, arith}
 use Rattle.std.specs.Prelude.{Option, Some, None}
-use Rattle.std.specs.List.{AllByRecursion, list_all}
+use Rattle.std.specs.List.{AllByRecursion}
 use Rattle.spec_trees.specs.Tree.{Leaf, node, bind, after}
-use Rattle.spec_trees.proofs.Equality.{and_true}
 use Rattle.spec_terms.specs.Term.{Term, Subst, Tuple}
 use Rattle.spec_terms.proofs.Replace.{some_same, some_none}
 use Rattle.spec_clauses.specs.Fact.{Clause, Att, Mess, Bad}
-use Rattle.spec_clauses.specs.Flat.{is_flat}
 use Rattle.spec_clauses.specs.Selection.{Selection, select, is_solved}
 use Rattle.spec_clauses.specs.Norm.{IsNormal, norms}
 use Rattle.spec_clauses.specs.Limits.{is_large_raw}
@@ -86,10 +84,10 @@ no_unifier : (i j : Clause Term) (at : Selection) → IsRawResolvent i j at None
 no_unifier i j at r = record { raw = None; is_raw = r; answered = tt }
 
 listening : Selection
-listening = record { index = 0; fact = Mess (Leaf 1) (Leaf 0); others = Att (Leaf 1) ∷ [] }
+listening = record { index = 0; fact = Mess 0 (Leaf 1) (Leaf 0); others = Att 0 (Leaf 1) ∷ [] }
 
 telling : Selection
-telling = record { index = 0; fact = Att secret; others = [] }
+telling = record { index = 0; fact = Att 0 secret; others = [] }
 
 -- A channel's name, or an attacker's, is no message and no secret.
 channel_listening : IsRawResolvent knows_channel listens listening None
@@ -117,7 +115,7 @@ abbrev pub heard : Subst
 heard x = cond (nat_eq x 3) (Leaf 0) (cond (nat_eq x 2) (Leaf 1) (Leaf x))
 
 echo : Clause Term
-echo = record { hypotheses = Att (Leaf 0) ∷ Att (Leaf 1) ∷ Att (Leaf 0) ∷ []; conclusion = Att (Leaf 1) }
+echo = record { hypotheses = Att 0 (Leaf 0) ∷ Att 0 (Leaf 1) ∷ Att 0 (Leaf 0) ∷ []; diffs = []; conclusion = Att 0 (Leaf 1) }
 
 pub heard_most : (r : Subst) → r 0 ≡ r 3 → r 1 ≡ r 2 → (x : ℕ) → after r heard x ≡ r x
 heard_most r channels messages x = go (nat_eq x 3) (nat_eq x 2) refl refl where
@@ -174,17 +172,17 @@ all_closed = (
 pub five_close : Closes five_clauses five_clauses
 five_close = record {
   normal = λ c h. all_has IsNormal all_normal h.1;
-  covers = λ c h. let n = all_has IsNormal all_normal h.1 in (c, h, subsumes_itself c (and_true (is_flat c.conclusion) (list_all is_flat c.hypotheses) n.flat).1);
+  covers = λ c h. (c, h, subsumes_itself c (all_has IsNormal all_normal h.1));
   closed = λ i j at h k. all_has (IsClosedPair i) (all_has (λ i. AllByRecursion (IsClosedPair i) five_clauses) all_closed h.1) k.1 at;
 }
 
 -- The attacker hears what it has sent: a derivation that uses a clause that isn't solved.
-pub channel_derived : Derive five_clauses [] (Att channel ∷ [])
+pub channel_derived : Derive five_clauses [] (Att 0 channel ∷ [])
 channel_derived =
-    let known : Derive five_clauses [] (Att channel ∷ []) = by_clause refl (_, here) (record { by = Leaf; premises_are = refl; concludes = (_, here) }) nothing nothing in
-    let both : Derive five_clauses [] (Att channel ∷ Att channel ∷ []) = by_clause refl (_, here) (record { by = Leaf; premises_are = refl; concludes = (_, here) }) nothing known in
-    let sent : Derive five_clauses [] (Mess channel channel ∷ Att channel ∷ []) = by_clause refl (_, there (there (there here))) (record { by = λ x. channel; premises_are = refl; concludes = (_, here) }) both known in
-    by_clause refl (_, there (there here)) (record { by = λ x. channel; premises_are = refl; concludes = (_, here) }) sent nothing
+    let known : Derive five_clauses [] (Att 0 channel ∷ []) = by_clause refl (_, here) (record { by = Leaf; met = tt; premises_are = refl; concludes = (_, here) }) nothing nothing in
+    let both : Derive five_clauses [] (Att 0 channel ∷ Att 0 channel ∷ []) = by_clause refl (_, here) (record { by = Leaf; met = tt; premises_are = refl; concludes = (_, here) }) nothing known in
+    let sent : Derive five_clauses [] (Mess 0 channel channel ∷ Att 0 channel ∷ []) = by_clause refl (_, there (there (there here))) (record { by = λ x. channel; met = tt; premises_are = refl; concludes = (_, here) }) both known in
+    by_clause refl (_, there (there here)) (record { by = λ x. channel; met = tt; premises_are = refl; concludes = (_, here) }) sent nothing
 
 -- A pair is heard on the channel: of its parts the channel is known already.
 pair : Term
@@ -204,7 +202,7 @@ pair_most r channels pairs x = go (nat_eq x 1) (nat_eq x 0) refl refl where
 pair_resolves : Resolves sends_pair listens listening (Resolvents (gives_message ∷ []))
 unfolding listening pair_heard pair
 pair_resolves = (
-  Some (record { hypotheses = Att channel ∷ []; conclusion = Att pair }),
+  Some (record { hypotheses = Att 0 channel ∷ []; diffs = []; conclusion = Att 0 pair }),
   record {
     offset = 0;
     apart = (tt, ((tt), tt));

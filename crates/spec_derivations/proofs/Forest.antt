@@ -2,7 +2,7 @@
 use Rattle.std.proofs.Common.{◌≡◌, ℕ, suc, ◌+◌, ◌≤◌, List, [], ◌∷◌, ◌++◌, false, refl, sym, ap, ◌∙◌, subst, arith}
 use Rattle.spec_trees.specs.Tree.{bind}
 use Rattle.spec_terms.specs.Term.{Term, Subst}
-use Rattle.spec_clauses.specs.Fact.{Fact, Att, Mess, Ev, Mev, Bad, Clause, fact_under}
+use Rattle.spec_clauses.specs.Fact.{Fact, Att, Mess, Tab, Ev, Mev, Bad, Clause, fact_under}
 use Rattle.spec_clauses.specs.Flat.{flat, parts}
 use Rattle.spec_clauses.specs.Inclusion.{Picks, here, there, Has, IsWithin}
 use Rattle.spec_clauses.proofs.Inclusion.{Has-map_source, Has-one}
@@ -57,8 +57,9 @@ module _ {IsRule IsOther : Clause Term → Type 0} (events more : List (Fact Ter
 
 -- What a fact that is no required event stands for under a substitution is none.
 pub flat_under-no_event : (s : Subst) (h g : Fact Term) → is_required_event h ≡ false → Has (flat (fact_under s h)) g → is_required_event g ≡ false
-flat_under-no_event s (Att t) g plain has = let (u, k, e) = Has-map_source Att (parts (bind s t)) g has in ap is_required_event e
-flat_under-no_event s (Mess t u) g plain has = ap is_required_event (Has-one has)
+flat_under-no_event s (Att phase t) g plain has = let (u, k, e) = Has-map_source (Att phase) (parts (bind s t)) g has in ap is_required_event e
+flat_under-no_event s (Mess phase t u) g plain has = ap is_required_event (Has-one has)
+flat_under-no_event s (Tab n us) g plain has = ap is_required_event (Has-one has)
 flat_under-no_event s (Ev n us) g plain has = ap is_required_event (Has-one has)
 flat_under-no_event s (Mev n us) g plain has = cc
 flat_under-no_event s (Bad us) g plain has = ap is_required_event (Has-one has)
@@ -78,23 +79,26 @@ root (by_clause n r i p nothing) e = record { clause = _; is_rule = r; above = _
 
 -- the predicate of a fact
 abbrev predicate : Fact Term → ℕ
-predicate (Att t) = 0
-predicate (Mess t u) = 1
-predicate (Ev e ts) = 2
-predicate (Mev e ts) = 3
-predicate (Bad ts) = 4
+predicate (Att phase t) = 0
+predicate (Mess phase t u) = 1
+predicate (Tab n ts) = 2
+predicate (Ev e ts) = 3
+predicate (Mev e ts) = 4
+predicate (Bad ts) = 5
 
 -- What a fact stands for under a substitution is of its predicate.
 flat_keeps_predicate : (s : Subst) (h g : Fact Term) → Has (flat (fact_under s h)) g → predicate g ≡ predicate h
-flat_keeps_predicate s (Att t) g has = let (u, k, e) = Has-map_source Att (parts (bind s t)) g has in ap predicate e
-flat_keeps_predicate s (Mess t u) g has = ap predicate (Has-one has)
+flat_keeps_predicate s (Att phase t) g has = let (u, k, e) = Has-map_source (Att phase) (parts (bind s t)) g has in ap predicate e
+flat_keeps_predicate s (Mess phase t u) g has = ap predicate (Has-one has)
+flat_keeps_predicate s (Tab n us) g has = ap predicate (Has-one has)
 flat_keeps_predicate s (Ev n us) g has = ap predicate (Has-one has)
 flat_keeps_predicate s (Mev n us) g has = ap predicate (Has-one has)
 flat_keeps_predicate s (Bad us) g has = ap predicate (Has-one has)
 
-is_bad : (h : Fact Term) → predicate h ≡ 4 → (us : List Term) × (h ≡ Bad us)
-is_bad (Att t) e = absurd (omega arith)
-is_bad (Mess t u) e = absurd (omega arith)
+is_bad : (h : Fact Term) → predicate h ≡ 5 → (us : List Term) × (h ≡ Bad us)
+is_bad (Att phase t) e = absurd (omega arith)
+is_bad (Mess phase t u) e = absurd (omega arith)
+is_bad (Tab n us) e = absurd (omega arith)
 is_bad (Ev n us) e = absurd (omega arith)
 is_bad (Mev n us) e = absurd (omega arith)
 is_bad (Bad us) e = (us, refl)

@@ -4,3 +4,4 @@ pub mod RowLaws
 pub mod Resolution
 pub mod NormLaw
 pub mod Closing
+pub mod Losing

@@ -4,11 +4,13 @@ use Rattle.spec_terms.specs.Term.{Term, Subst}
 use Rattle.spec_clauses.specs.Fact.{Fact, Mev, Clause, fact_under}
 use Rattle.spec_clauses.specs.Flat.{flat, flat_under}
 use Rattle.spec_clauses.specs.Inclusion.{Has}
+use Rattle.spec_clauses.specs.Kept.{AreMetBy}
 
--- An instance of a clause: from the flat of its hypotheses under a substitution follows a fact of the flat of its
--- conclusion. Variables that are left stand for themselves: in runs they are the numbers of sessions.
+-- An instance of a clause: from the flat of its hypotheses under a substitution that meets its constraints follows a fact of the
+-- flat of its conclusion. Variables that are left stand for themselves: in runs they are the numbers of sessions.
 pub record Instance (c : Clause Term) (premises : List (Fact Term)) (f : Fact Term) : Type 0 where
   pub by : Subst
+  pub met : AreMetBy by c.diffs
   pub premises_are : premises ≡ flat_under by c.hypotheses
   pub concludes : Has (flat (fact_under by c.conclusion)) f
 

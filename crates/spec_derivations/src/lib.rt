@@ -96,7 +96,7 @@ pub fn answers_close_pairs()
 /// isn't; and of a pair that is heard on a known channel, the part that isn't known makes the one resolvent.
 pub fn five_clauses_are_closed()
     ensures closed { Closes five_clauses five_clauses }
-    ensures known { Derive five_clauses [] (Att channel ∷ []) }
+    ensures known { Derive five_clauses [] (Att 0 channel ∷ []) }
     ensures kept { Derive five_clauses [] (Bad [] ∷ []) → ⊥ }
     ensures heard { (at : Selection) (answer : Answer) → select listens.hypotheses ≡ Some at →
         Resolves sends_pair listens at answer ↔ (answer ≡ Resolvents (gives_message ∷ [])) }

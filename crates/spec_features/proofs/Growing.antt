@@ -6,7 +6,7 @@ use Rattle.std.specs.List.{list_all}
 use Rattle.spec_trees.specs.Tree.{Trees, Leaf, Node, none, more, bind, binds}
 use Rattle.spec_trees.proofs.Equality.{and_true}
 use Rattle.spec_terms.specs.Term.{Sym, Term, Subst}
-use Rattle.spec_clauses.specs.Fact.{Fact, Att, Mess, Ev, Mev, Bad, Clause, fact_under, total, is_variable_known}
+use Rattle.spec_clauses.specs.Fact.{Fact, Att, Mess, Tab, Ev, Mev, Bad, Clause, fact_under, total, is_variable_known}
 use Rattle.spec_clauses.specs.Flat.{flat, flat_under, is_flat}
 use Rattle.spec_clauses.specs.Subsumption.{Subsumes, firm}
 use Rattle.spec_clauses.proofs.Firm.{firm_stays}
@@ -30,24 +30,27 @@ all_symbols_grow s (t ∷ ts) = omega (arith, symbols_grow s t, all_symbols_grow
 
 -- nor has a fact, whose predicate stays
 pub fact_symbols_grow : (s : Subst) (f : Fact Term) → fact_symbols f ≤ fact_symbols (fact_under s f)
-fact_symbols_grow s (Att t) = omega (arith, symbols_grow s t)
-fact_symbols_grow s (Mess t u) = omega (arith, symbols_grow s t, symbols_grow s u)
+fact_symbols_grow s (Att k t) = omega (arith, symbols_grow s t)
+fact_symbols_grow s (Mess k t u) = omega (arith, symbols_grow s t, symbols_grow s u)
+fact_symbols_grow s (Tab n ts) = all_symbols_grow s ts
 fact_symbols_grow s (Ev e ts) = all_symbols_grow s ts
 fact_symbols_grow s (Mev e ts) = all_symbols_grow s ts
 fact_symbols_grow s (Bad ts) = all_symbols_grow s ts
 
 predicate_stays : (s : Subst) (f : Fact Term) → predicate_of (fact_under s f) ≡ predicate_of f
-predicate_stays s (Att t) = refl
-predicate_stays s (Mess t u) = refl
+predicate_stays s (Att k t) = refl
+predicate_stays s (Mess k t u) = refl
+predicate_stays s (Tab n ts) = refl
 predicate_stays s (Ev e ts) = refl
 predicate_stays s (Mev e ts) = refl
 predicate_stays s (Bad ts) = refl
 
 -- what isn't `att` of a variable isn't so under a substitution
 firm_under : (s : Subst) (f : Fact Term) → is_variable_known f ≡ false → is_variable_known (fact_under s f) ≡ false
-firm_under s (Att (Leaf x)) h = cc
-firm_under s (Att (Node f args)) h = refl
-firm_under s (Mess t u) h = refl
+firm_under s (Att k (Leaf x)) h = cc
+firm_under s (Att k (Node f args)) h = refl
+firm_under s (Mess k t u) h = refl
+firm_under s (Tab n ts) h = refl
 firm_under s (Ev e ts) h = refl
 firm_under s (Mev e ts) h = refl
 firm_under s (Bad ts) h = refl
@@ -98,6 +101,8 @@ subsuming_at_most general special flats h =
     let concluded : fact_symbols (fact_under h.by general.conclusion) ≡ fact_symbols special.conclusion = ap fact_symbols h.conclusion in
     let symbols_below : fact_symbols general.conclusion ≤ fact_symbols special.conclusion = omega (arith, fact_symbols_grow h.by general.conclusion, concluded) in
     let below : d ≤ e = omega (arith, same) in
-    let above : 3 - d ≤ 3 - e = omega (arith, same) in
+    let above : 4 - d ≤ 4 - e = omega (arith, same) in
     let number : (p : Predicate) → nat_le (number_of p (firm general.hypotheses)) (number_of p (firm special.hypotheses)) ≡ true = λ p. le-leb _ _ (numbers_grow p general special flats h) in
-    rw (number features.Att, number features.Mess, number features.Ev, number features.Mev, le-leb _ _ (firm_totals_grow fact_symbols fact_symbols_grow general special flats h), le-leb _ _ symbols_below, le-leb d e below, le-leb (3 - d) (3 - e) above) refl
+    let messages : number_of features.Mess (firm general.hypotheses) + number_of features.Tab (firm general.hypotheses) ≤ number_of features.Mess (firm special.hypotheses) + number_of features.Tab (firm special.hypotheses) =
+    omega (arith, numbers_grow features.Mess general special flats h, numbers_grow features.Tab general special flats h) in
+    rw (number features.Att, le-leb _ _ messages, number features.Ev, number features.Mev, le-leb _ _ (firm_totals_grow fact_symbols fact_symbols_grow general special flats h), le-leb _ _ symbols_below, le-leb d e below, le-leb (4 - d) (4 - e) above) refl

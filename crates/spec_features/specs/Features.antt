@@ -7,17 +7,19 @@ use Rattle.spec_clauses.specs.Fact.{Fact, Clause, terms_of, total, is_variable_k
 use Rattle.spec_clauses.specs.Fact as fact
 use Rattle.spec_clauses.specs.Subsumption.{firm}
 
--- the predicates of facts
+-- the predicates of facts, of whatever phase, table or event
 pub data Predicate : Type 0 where
   Att : Predicate
   Mess : Predicate
+  Tab : Predicate
   Ev : Predicate
   Mev : Predicate
   Bad : Predicate
 
 abbrev pub predicate_of : {X : Type 0} → Fact X → Predicate
-predicate_of (fact.Att t) = Att
-predicate_of (fact.Mess t u) = Mess
+predicate_of (fact.Att k t) = Att
+predicate_of (fact.Mess k t u) = Mess
+predicate_of (fact.Tab n ts) = Tab
 predicate_of (fact.Ev e ts) = Ev
 predicate_of (fact.Mev e ts) = Mev
 predicate_of (fact.Bad ts) = Bad
@@ -26,6 +28,7 @@ predicate_of (fact.Bad ts) = Bad
 abbrev pub same_predicate : Predicate → Predicate → Bool
 same_predicate Att Att = true
 same_predicate Mess Mess = true
+same_predicate Tab Tab = true
 same_predicate Ev Ev = true
 same_predicate Mev Mev = true
 same_predicate Bad Bad = true
@@ -38,6 +41,7 @@ predicate_number Mess = 1
 predicate_number Ev = 2
 predicate_number Mev = 2
 predicate_number Bad = 3
+predicate_number Tab = 4
 
 -- how many of the facts have the predicate: each that has it is one
 abbrev pub one_if : {X : Type 0} → Predicate → Fact X → ℕ
@@ -64,13 +68,13 @@ fact_symbols f = total symbols (terms_of f)
 abbrev pub firm_weight : (Fact Term → ℕ) → Fact Term → ℕ
 firm_weight weight f = cond (is_variable_known f) 0 (weight f)
 
--- The lanes: the numbers of hypotheses `att`, `mess`, `ev` and `mev`, but for `att` of a variable; the symbols of these
+-- The lanes: the numbers of hypotheses `att`, `mess` or `tab`, `ev` and `mev`, but for `att` of a variable; the symbols of these
 -- together; those of the conclusion; the conclusion's predicate, from below and from above.
 abbrev pub features_of : Clause Term → List ℕ
 features_of c =
     let hs = firm c.hypotheses in
     let d = predicate_number (predicate_of c.conclusion) in
-    number_of Att hs ∷ number_of Mess hs ∷ number_of Ev hs ∷ number_of Mev hs ∷ total fact_symbols hs ∷ fact_symbols c.conclusion ∷ d ∷ (3 - d) ∷ []
+    number_of Att hs ∷ (number_of Mess hs + number_of Tab hs) ∷ number_of Ev hs ∷ number_of Mev hs ∷ total fact_symbols hs ∷ fact_symbols c.conclusion ∷ d ∷ (4 - d) ∷ []
 
 -- whether no lane of the first is greater than that of the second
 abbrev pub are_at_most : List ℕ → List ℕ → Bool

@@ -6,8 +6,8 @@ use Rattle.spec_clauses.specs.Fact.{Fact, Mess}
 
 -- mess(c, enc(v0, k)), with the key of that number
 abbrev pub encrypted : ℕ → Fact Term
-encrypted key = Mess (node (Free 0) []) (node (Ctor 1) (Leaf 0 ∷ node (Free key) [] ∷ []))
+encrypted key = Mess 0 (node (Free 0) []) (node (Ctor 1) (Leaf 0 ∷ node (Free key) [] ∷ []))
 
 -- and with a variable for a key
 abbrev pub encrypted_somehow : Fact Term
-encrypted_somehow = Mess (node (Free 0) []) (node (Ctor 1) (Leaf 0 ∷ Leaf 1 ∷ []))
+encrypted_somehow = Mess 0 (node (Free 0) []) (node (Ctor 1) (Leaf 0 ∷ Leaf 1 ∷ []))

@@ -97,7 +97,7 @@ positions =
     ∷ (1 ∷ 3 ∷ 1 ∷ [])
     ∷ []
 
--- the head of a fact, and at each position the least and the greatest number of what may stand there
+-- the head of a fact, with its phase, and at each position the least and the greatest number of what may stand there
 pub record Fingerprint : Type 0 where
   pub head : Head
   pub least : List ℕ

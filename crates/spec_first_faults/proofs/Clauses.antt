@@ -48,8 +48,8 @@ premises_tell P names =
 
 pub clauses_tell : (P : Protocol) → HasNames P → Tells ⊥ (clauses P) Anything Anything (read_clause P)
 clauses_tell P names =
-    both_tell (premises P) (conclusions P) Anything Anything Anything Anything (read_hypotheses P) (λ at hs. mapped (λ c. record { hypotheses = hs; conclusion = c }) (read_conclusion P)) (premises_tell P names)
-    (λ at hs. mapped_tells (conclusions P) Anything Anything (read_conclusion P) (λ c. record { hypotheses = hs; conclusion = c }) (conclusions_tell P names)) (conclusions_tell P names).forms (λ bs rest text. tt) (λ bs mid of text. tt)
+    both_tell (premises P) (conclusions P) Anything Anything Anything Anything (read_hypotheses P) (λ at hs. mapped (λ c. record { hypotheses = hs; diffs = []; conclusion = c }) (read_conclusion P)) (premises_tell P names)
+    (λ at hs. mapped_tells (conclusions P) Anything Anything (read_conclusion P) (λ c. record { hypotheses = hs; diffs = []; conclusion = c }) (conclusions_tell P names)) (conclusions_tell P names).forms (λ bs rest text. tt) (λ bs mid of text. tt)
 
 -- Lines.
 

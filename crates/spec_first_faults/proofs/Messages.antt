@@ -20,18 +20,18 @@ last_term P names f = closed_thing (terms P) EndsWord (codes ")") (one_term P) f
 
 pub known_tells : (P : Protocol) → HasNames P → Tells ⊥ (known P) Anything Anything (read_att P)
 known_tells P names =
-    behind_fixed (codes "att(") (behind (terms P) (fixed (codes ")"))) Anything (λ at u. then_read (one_term P) (λ at t. closed_by (codes ")") (Att t))) (λ at u. last_term P names Att)
+    behind_fixed (codes "att(") (behind (terms P) (fixed (codes ")"))) Anything (λ at u. then_read (one_term P) (λ at t. closed_by (codes ")") (Att 0 t))) (λ at u. last_term P names (Att 0))
 
-second_term : (P : Protocol) → HasNames P → (t : Term) → Tells ⊥ (behind (fixed (codes ",")) (behind (terms P) (fixed (codes ")")))) Anything Anything (then_read (read_fixed (codes ",")) (λ at u. then_read (one_term P) (λ at v. closed_by (codes ")") (Mess t v))))
-second_term P names t = behind_fixed (codes ",") (behind (terms P) (fixed (codes ")"))) Anything (λ at u. then_read (one_term P) (λ at v. closed_by (codes ")") (Mess t v))) (λ at u. last_term P names (Mess t))
+second_term : (P : Protocol) → HasNames P → (t : Term) → Tells ⊥ (behind (fixed (codes ",")) (behind (terms P) (fixed (codes ")")))) Anything Anything (then_read (read_fixed (codes ",")) (λ at u. then_read (one_term P) (λ at v. closed_by (codes ")") (Mess 0 t v))))
+second_term P names t = behind_fixed (codes ",") (behind (terms P) (fixed (codes ")"))) Anything (λ at u. then_read (one_term P) (λ at v. closed_by (codes ")") (Mess 0 t v))) (λ at u. last_term P names (Mess 0 t))
 
 pub sent_tells : (P : Protocol) → HasNames P → Tells ⊥ (sent P) Anything Anything (read_mess P)
 sent_tells P names =
     let later = behind (fixed (codes ",")) (behind (terms P) (fixed (codes ")"))) in
     behind_fixed (codes "mess(") (behind (terms P) later) Anything
-    (λ at u. then_read (one_term P) (λ at t. then_read (read_fixed (codes ",")) (λ at u. then_read (one_term P) (λ at v. closed_by (codes ")") (Mess t v)))))
+    (λ at u. then_read (one_term P) (λ at t. then_read (read_fixed (codes ",")) (λ at u. then_read (one_term P) (λ at v. closed_by (codes ")") (Mess 0 t v)))))
     (λ at u. both_tell (terms P) later Anything Anything EndsWord Anything (one_term P)
-    (λ at t. then_read (read_fixed (codes ",")) (λ at u. then_read (one_term P) (λ at v. closed_by (codes ")") (Mess t v))))
+    (λ at t. then_read (read_fixed (codes ",")) (λ at u. then_read (one_term P) (λ at v. closed_by (codes ")") (Mess 0 t v))))
     (terms_tell P names) (λ at t. second_term P names t)
     (behind_fixed-forms (codes ",") (behind (terms P) (fixed (codes ")"))) Anything (closed_forms (terms P) EndsWord (codes ")") (terms_forms P names) (λ rest. refl)))
     (λ bs rest text. subst EndsWord (sym text.1) refl) (λ bs mid of text. tt))

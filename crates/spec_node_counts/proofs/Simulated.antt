@@ -131,14 +131,14 @@ module _ (P : Protocol) (T : Table) (starts : HaveStarts T.terms T.starts) where
   att_alike : Go (kept.read_att P T.terms) (facts.read_att T)
   att_alike w v bytes at is = same_alike (Along T) (read_fixed (codes "att(") bytes at) _ _ (λ _ p r.
       then_alike _ _ _ _ (term_alike (walks.with_signs 1 w) (counts.with_symbols 1 v) r p (symbols_along T w v 1 is)) (λ t w v p r is.
-      same_alike (Along T) (read_fixed (codes ")") r p) _ _ (λ _ p r. found _ _ p r (along (Att t) w v is))))
+      same_alike (Along T) (read_fixed (codes ")") r p) _ _ (λ _ p r. found _ _ p r (along (Att 0 t) w v is))))
 
   mess_alike : Go (kept.read_mess P T.terms) (facts.read_mess T)
   mess_alike w v bytes at is = same_alike (Along T) (read_fixed (codes "mess(") bytes at) _ _ (λ _ p r.
       then_alike _ _ _ _ (term_alike (walks.with_signs 1 w) (counts.with_symbols 1 v) r p (symbols_along T w v 1 is)) (λ t w v p r is.
       same_alike (Along T) (read_fixed (codes ",") r p) _ _ (λ _ p r.
       then_alike _ _ _ _ (term_alike w v r p is) (λ u w v p r is.
-      same_alike (Along T) (read_fixed (codes ")") r p) _ _ (λ _ p r. found _ _ p r (along (Mess t u) w v is))))))
+      same_alike (Along T) (read_fixed (codes ")") r p) _ _ (λ _ p r. found _ _ p r (along (Mess 0 t u) w v is))))))
 
   ev_alike : Go (kept.read_performed P T.terms (codes "ev(") (λ e ts. Ev e ts)) (facts.read_ev P T)
   ev_alike w v bytes at is = same_alike (Along T) (read_fixed (codes "ev(") bytes at) _ _ (λ _ p r.
@@ -189,4 +189,4 @@ module _ (P : Protocol) (T : Table) (starts : HaveStarts T.terms T.starts) where
       within_alike (Along T) _ (facts.read_conclusion P T v r p) _ _
       (then_alike _ _ _ _ (conclusion_alike w v r p is) (λ f w v p r is.
       within_alike (Along T) _ (read_fixed (codes "\n") r p) _ _
-      (same_alike (Along T) (read_fixed (codes "\n") r p) _ _ (λ _ p r. found _ _ p r (along (cs ++ record { hypotheses = hs; conclusion = f } ∷ []) w v is))))))))))
+      (same_alike (Along T) (read_fixed (codes "\n") r p) _ _ (λ _ p r. found _ _ p r (along (cs ++ record { hypotheses = hs; diffs = []; conclusion = f } ∷ []) w v is))))))))))

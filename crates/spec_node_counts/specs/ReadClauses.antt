@@ -32,7 +32,7 @@ read_hypotheses P T w bytes at =
 abbrev pub read_clause : Protocol → Table → Walk (Clause Term)
 read_clause P T w bytes at =
     next (read_hypotheses P T w bytes at) (λ hs p r.
-    next (read_conclusion P T hs.1 r p) (λ c p r. Found (record { hypotheses = hs.0; conclusion = c.0 }, c.1) p r))
+    next (read_conclusion P T hs.1 r p) (λ c p r. Found (record { hypotheses = hs.0; diffs = []; conclusion = c.0 }, c.1) p r))
 
 -- `c `, a clause and the end of its line
 abbrev pub clause_line : Protocol → Table → Walk (Clause Term)

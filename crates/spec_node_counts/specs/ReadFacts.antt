@@ -47,7 +47,7 @@ abbrev pub read_att : Table → Walk (Fact Term)
 read_att T w bytes at =
     next (read_fixed (codes "att(") bytes at) (λ _ p r.
     next (read_term T (with_symbols 1 w) r p) (λ t p r.
-    next (read_fixed (codes ")") r p) (λ _ p r. Found (Att t.0, t.1) p r)))
+    next (read_fixed (codes ")") r p) (λ _ p r. Found (Att 0 t.0, t.1) p r)))
 
 abbrev pub read_mess : Table → Walk (Fact Term)
 read_mess T w bytes at =
@@ -55,7 +55,7 @@ read_mess T w bytes at =
     next (read_term T (with_symbols 1 w) r p) (λ t p r.
     next (read_fixed (codes ",") r p) (λ _ p r.
     next (read_term T t.1 r p) (λ u p r.
-    next (read_fixed (codes ")") r p) (λ _ p r. Found (Mess t.0 u.0, u.1) p r)))))
+    next (read_fixed (codes ")") r p) (λ _ p r. Found (Mess 0 t.0 u.0, u.1) p r)))))
 
 abbrev pub read_ev : Protocol → Table → Walk (Fact Term)
 read_ev P T w bytes at =

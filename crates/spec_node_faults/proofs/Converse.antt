@@ -1,42 +1,39 @@
 -- A certificate of the grammar without faults is the text of a certificate by its table.
-use Rattle.std.proofs.Common.{◌≡◌, ℕ, zero, suc, ◌+◌, ◌≤◌, ◌<◌, Bool, true, false, not, List, [], ◌∷◌, ◌++◌, map, length, refl, sym, ◌∙◌, ap, subst, arith, length-append}
+use Rattle.std.proofs.Common.{◌≡◌, ℕ, zero, suc, ◌+◌, ◌≤◌, Bool, true, false, not, List, [], ◌∷◌, ◌++◌, map, length, refl, sym, ◌∙◌, ap, subst, arith, length-append}
 use Rattle.std.specs.Prelude.{flat_map, take, drop}
 use Rattle.std.specs.Fmt.{decimal}
 use Rattle.std.specs.List.{AllByRecursion}
 use Rattle.std.proofs.lemmas.List.{length-map}
-use Rattle.spec_trees.specs.Tree.{Leaf, node, trees, items_of, size}
+use Rattle.spec_trees.specs.Tree.{trees, items_of, size}
 use Rattle.spec_trees.proofs.Rows.{items_of-trees}
 use Rattle.spec_calculus.specs.Bounds.{most_symbols, most_clauses}
 use Rattle.spec_calculus.specs.Syntax.{Protocol}
 use Rattle.spec_terms.specs.Term.{Term}
 use Rattle.spec_clauses.specs.Fact.{Fact, Clause, terms_of, map_fact, map_clause}
 use Rattle.spec_clauses.specs.Fact as fact
-use Rattle.spec_clauses.specs.Inclusion.{Has}
 use Rattle.spec_clauses.proofs.Inclusion.{all_has}
 use Rattle.spec_clauses.proofs.Lists.{all_append, all_weaker, all_first, all_second}
 use Rattle.spec_certificates.specs.Certificate.{Certificate}
-use Rattle.spec_certificate_text.specs.OfProtocol.{IsShort, IsEvent, IsSymbolOf, IsTermOf, AreTermsOf, IsFactOf, IsClauseOf, IsCertificateOf, HasNames}
+use Rattle.spec_certificate_text.specs.OfProtocol.{IsShort, IsEvent, IsSymbolOf, IsTermOf, AreTermsOf, IsFactOf, IsClauseOf, HasNames}
 use Rattle.spec_certificate_reading.specs.Terms.{Code, Number, Symbol, Arity, Count, NodeOrder, NodeLarge}
 use Rattle.spec_certificate_reading.specs.Readable.{IsRow}
 use Rattle.spec_node_tables.specs.Nodes.{TableNode, Variable, Over, NodeCertificate, with_nodes, term_at, term_of, terms_from, without_nodes}
 use Rattle.spec_node_tables.specs.Text.{text_with_nodes}
-use Rattle.spec_node_tables.specs.OfProtocol.{IsNodeOf, HasEvent, IsFactOver, IsClauseOver}
-use Rattle.spec_node_tables.specs.Large.{FitsInNodes}
+use Rattle.spec_node_tables.specs.OfProtocol.{IsNodeOf, HasPredicate, IsFactOver, IsClauseOver}
 use Rattle.spec_node_tables.specs.Order.{IsNumberOf, HasNumbersOf, StandInOrder, IsInOrder}
-use Rattle.spec_node_tables.specs.Table.{table}
 use Rattle.spec_node_tables.specs.Text as short
 use Rattle.spec_node_tables.proofs.Certificates.{mapped_all}
 use Rattle.spec_node_tables.proofs.Ordered.{has_number, ordered_again}
-use Rattle.spec_node_faults.specs.Loose.{LooseCertificate, lines, row_line, certificate_onto, written_clause, written_node, written}
+use Rattle.spec_node_faults.specs.Loose.{LooseCertificate, row_line, certificate_onto, written_clause, written}
 use Rattle.spec_node_faults.specs.Nodes.{Placed, placed, no_number, node_numbers, node_symbols, node_arities, node_orders, node_larges, place_if}
-use Rattle.spec_node_faults.specs.Clauses.{Item, Begins, item_begins, item_numbers, item_symbols, clause_items, clause_counts, item_orders, has_unreached, item_larges, item_arities, is_front, completed, item_terms}
+use Rattle.spec_node_faults.specs.Clauses.{Item, item_begins, item_symbols, clause_items, item_orders, has_unreached, item_larges, item_arities, is_front, completed, item_terms}
 use Rattle.spec_node_faults.specs.Faults.{nodes_place, clauses_place, rows_place, goals_place, table_of, all_nodes, all_items, row_numbers, clause_numbers, clause_orders, clause_larges, places}
 use Rattle.spec_node_faults.specs.Grammar.{IsNumberRow, IsInGrammar, StandsRight, IsNumberable}
 use Rattle.spec_node_faults.proofs.Items.{IsGood, item_values, in_order, clause_values, clause_begins}
 use Rattle.spec_node_faults.proofs.Orders.{InOrder, terms_values}
 use Rattle.spec_node_faults.proofs.Written.{certificate_same}
 use Rattle.spec_node_faults.proofs.OfGrammar.{clause_mapped}
-use Rattle.spec_node_faults.proofs.FoundNodes.{first_empty, second_empty, each_empty, not_wrong, IsDecimal, digits_are, HasNone, AreNodes, nodes_stand}
+use Rattle.spec_node_faults.proofs.FoundNodes.{first_empty, second_empty, each_empty, not_wrong, digits_are, HasNone, AreNodes, nodes_stand}
 use Rattle.spec_node_faults.proofs.FoundClauses.{items_good, ClausesFound, clauses_found}
 use Rattle.spec_node_faults.proofs.FoundOrders.{orders_told, order_told}
 use Rattle.spec_node_faults.proofs.FoundSums.{ClausesWithin, clauses_within}
@@ -76,9 +73,12 @@ pub as_many : (ns : List TableNode) → length (terms_from [] ns) ≡ length ns
 as_many ns = let same = as_many_terms [] ns in omega (arith, same)
 
 module _ (P : Protocol) (ts : List Term) (are : AllByRecursion (IsTermOf P) ts) where
-  fact_is : (f : Fact ℕ) → HasEvent P f → AllByRecursion (IsNumberOf (length ts)) (terms_of f) → IsFactOf P (map_fact (term_at ts) f)
-  fact_is (fact.Att n) has numbers = term_is P ts n are numbers.0
-  fact_is (fact.Mess m n) has numbers = (term_is P ts m are numbers.0, term_is P ts n are numbers.1.0)
+  fact_is : (f : Fact ℕ) → HasPredicate P f → AllByRecursion (IsNumberOf (length ts)) (terms_of f) → IsFactOf P (map_fact (term_at ts) f)
+  fact_is (fact.Att zero n) has numbers = term_is P ts n are numbers.0
+  fact_is (fact.Mess zero m n) has numbers = (term_is P ts m are numbers.0, term_is P ts n are numbers.1.0)
+  fact_is (fact.Att (suc k) n) has numbers = absurd has
+  fact_is (fact.Mess (suc k) m n) has numbers = absurd has
+  fact_is (fact.Tab n ns) has numbers = absurd has
   fact_is (fact.Ev e ns) has numbers = (subst (IsEvent P e) (sym (length-map ns (term_at ts))) has, row_is P (map (term_at ts) ns) (terms_are P ts ns are numbers))
   fact_is (fact.Mev e ns) has numbers = (subst (IsEvent P e) (sym (length-map ns (term_at ts))) has, row_is P (map (term_at ts) ns) (terms_are P ts ns are numbers))
   fact_is (fact.Bad ns) has numbers = row_is P (map (term_at ts) ns) (terms_are P ts ns are numbers)
@@ -93,6 +93,7 @@ module _ (P : Protocol) (ts : List Term) (are : AllByRecursion (IsTermOf P) ts) 
       let Numbers : Fact ℕ → Type 0 = λ f. AllByRecursion (IsNumberOf (length ts)) (terms_of f) in (
         record {
           hypotheses = facts_are c.hypotheses is.0.hypotheses (all_first Numbers c.hypotheses (c.conclusion ∷ []) numbers.0);
+          diffs = is.0.diffs;
           conclusion = fact_is c.conclusion is.0.conclusion.0 (all_second Numbers c.hypotheses (c.conclusion ∷ []) numbers.0).0;
         },
         clauses_are cs is.1 numbers.1,

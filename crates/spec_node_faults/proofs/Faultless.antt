@@ -10,7 +10,7 @@ use Rattle.spec_clauses.specs.Fact.{terms_of, map_clause}
 use Rattle.spec_clauses.specs.Inclusion.{Has}
 use Rattle.spec_clauses.proofs.Lists.{all_weaker, all-flat_map}
 use Rattle.spec_certificates.specs.Certificate.{Certificate}
-use Rattle.spec_certificate_text.specs.OfProtocol.{IsShort, IsCertificateOf, HasNames}
+use Rattle.spec_certificate_text.specs.OfProtocol.{IsShort, IsClauseOf, IsCertificateOf, HasNames}
 use Rattle.std.proofs.lemmas.List.{length-map}
 use Rattle.spec_node_tables.specs.Table.{facts_in_order, terms_in_order, table, number_in}
 use Rattle.spec_node_tables.specs.Nodes.{node_of, with_nodes}
@@ -93,7 +93,8 @@ module _ (P : Protocol) (names : HasNames P) (c : Certificate) (is : IsCertifica
   unfolding loose
   clause_larges_clear =
       ap (λ ts. item_larges ts 0 0 (all_items at loose)) table_is
-      ∙ clauses_summed (table c.clauses) P c.clauses 0 0 (clauses_place at (written P (with_nodes c))) counted fits.clauses fits.together
+      ∙ clauses_summed (table c.clauses) P c.clauses 0 0 (clauses_place at (written P (with_nodes c))) counted
+      (all_weaker (IsClauseOf P) (λ d. d.diffs ≡ []) (λ d one. one.diffs) c.clauses is.clauses) fits.clauses fits.together
 
   numbers_none : places P at loose Number ≡ []
   unfolding loose

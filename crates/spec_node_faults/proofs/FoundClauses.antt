@@ -1,5 +1,5 @@
 -- Clauses whose items are without faults by themselves are clauses of the protocol by numbers, written with its words.
-use Rattle.std.proofs.Common.{◌≡◌, ℕ, suc, ◌+◌, ◌≤◌, true, false, not, ◌&&◌, ◌||◌, ◌==◌, nat_le, Bool, List, [], ◌∷◌, ◌++◌, map, length, Option, Some, None, refl, sym, ◌∙◌, ap, subst, arith}
+use Rattle.std.proofs.Common.{◌≡◌, ℕ, ◌+◌, true, false, not, ◌&&◌, ◌==◌, Bool, List, [], ◌∷◌, map, length, Option, Some, None, refl, sym, ◌∙◌, ap, subst, arith}
 use Rattle.std.specs.Prelude.{flat_map, take}
 use Rattle.std.specs.Fmt.{decimal}
 use Rattle.std.specs.Option.{is_none, option_map_or}
@@ -14,10 +14,10 @@ use Rattle.spec_clauses.proofs.Lists.{all_first, all_second}
 use Rattle.spec_certificate_text.specs.OfProtocol.{IsShort, IsEvent}
 use Rattle.spec_certificate_reading.specs.Names.{CalledEvent, event_called}
 use Rattle.spec_certificate_reading.proofs.Called.{event_called_is}
-use Rattle.spec_node_tables.specs.OfProtocol.{HasEvent, IsFactOver, IsClauseOver}
-use Rattle.spec_node_faults.specs.Loose.{Predicate, Att, Mess, Ev, Mev, Bad, LooseFact, LooseClause, fact_onto, clause_line, written_fact, written_clause}
-use Rattle.spec_node_faults.specs.Nodes.{Placed, placed, place_if}
-use Rattle.spec_node_faults.specs.Clauses.{Item, Begins, Signs, Event, Number, number_items, event_items, fact_items, later_items, facts_items, clause_items, item_numbers, item_symbols, stands_at, item_arities}
+use Rattle.spec_node_tables.specs.OfProtocol.{IsFactOver, IsClauseOver}
+use Rattle.spec_node_faults.specs.Loose.{Predicate, Att, Mess, Tab, Ev, Mev, Bad, LooseFact, LooseClause, fact_onto, clause_line, written_fact, written_clause}
+use Rattle.spec_node_faults.specs.Nodes.{place_if}
+use Rattle.spec_node_faults.specs.Clauses.{Item, Begins, Signs, Event, Number, number_items, fact_items, later_items, facts_items, clause_items, item_numbers, item_symbols, stands_at, item_arities}
 use Rattle.spec_node_faults.specs.Grammar.{IsPredicateOf, MayBeSupposed, MayBeConcluded, IsHypothesis, IsConclusion, IsClause, MayBeHypothesis, MayBeConclusion, StandsRight}
 use Rattle.spec_node_faults.proofs.Items.{IsGood}
 use Rattle.spec_node_faults.proofs.FoundNodes.{first_empty, second_empty, not_wrong, some_number}
@@ -97,7 +97,7 @@ module _ (P : Protocol) where
   fact_found at Att (d ∷ []) one good =
       let so = numeral_some d good.1.0.0 good.1.0.1 in
       let text = sym so.0 in
-      record { found = fact.Att good.1.0.0; text = λ i. record { predicate = Att; numbers = text i ∷ [] }; is = (tt, (so.1, tt)) }
+      record { found = fact.Att 0 good.1.0.0; text = λ i. record { predicate = Att; numbers = text i ∷ [] }; is = (tt, (so.1, tt)) }
   fact_found at Att (d ∷ e ∷ ds) one good = absurd (omega (arith, one))
   fact_found at Mess [] two good = absurd (omega (arith, two))
   fact_found at Mess (d ∷ []) two good = absurd (omega (arith, two))
@@ -106,8 +106,9 @@ module _ (P : Protocol) where
       let second = numeral_some e good.1.1.0.0 good.1.1.0.1 in
       let text = sym first.0 in
       let later = sym second.0 in
-      record { found = fact.Mess good.1.0.0 good.1.1.0.0; text = λ i. record { predicate = Mess; numbers = text i ∷ later i ∷ [] }; is = (tt, (first.1, (second.1, tt))) }
+      record { found = fact.Mess 0 good.1.0.0 good.1.1.0.0; text = λ i. record { predicate = Mess; numbers = text i ∷ later i ∷ [] }; is = (tt, (first.1, (second.1, tt))) }
   fact_found at Mess (d ∷ e ∷ f ∷ ds) two good = absurd (omega (arith, two))
+  fact_found at Tab ds is good = absurd is
   fact_found at (Ev word) ds is good =
       let called = good.1.0 in
       let named = event_called_is P word called.0 called.1 in
@@ -136,15 +137,17 @@ module _ (P : Protocol) where
       record { found = fact.Bad low.found; text = λ i. record { predicate = Bad; numbers = text i }; is = (tt, low.short) }
 
   may_suppose : (g : Fact ℕ) (f : LooseFact) → written_fact P g ≡ f → MayBeSupposed f.predicate → MayBeHypothesis g
-  may_suppose (fact.Att n) f e may = tt
-  may_suppose (fact.Mess m n) f e may = tt
+  may_suppose (fact.Att phase n) f e may = tt
+  may_suppose (fact.Mess phase m n) f e may = tt
+  may_suppose (fact.Tab n ns) f e may = tt
   may_suppose (fact.Ev e ns) f same may = tt
   may_suppose (fact.Mev e ns) f same may = tt
   may_suppose (fact.Bad ns) f e may = subst (λ g. MayBeSupposed g.predicate) (sym e) may
 
   may_conclude : (g : Fact ℕ) (f : LooseFact) → written_fact P g ≡ f → MayBeConcluded f.predicate → MayBeConclusion g
-  may_conclude (fact.Att n) f e may = tt
-  may_conclude (fact.Mess m n) f e may = tt
+  may_conclude (fact.Att phase n) f e may = tt
+  may_conclude (fact.Mess phase m n) f e may = tt
+  may_conclude (fact.Tab n ns) f e may = tt
   may_conclude (fact.Ev e ns) f same may = tt
   may_conclude (fact.Mev e ns) f same may = subst (λ g. MayBeConcluded g.predicate) (sym same) may
   may_conclude (fact.Bad ns) f e may = tt
@@ -198,12 +201,12 @@ module _ (P : Protocol) where
       let others = clauses_found place cs are.1 (all_second (IsGood P) (facts_items (at + 2) c.hypotheses c.conclusion) (clause_items place cs) good.1) in
       let hs = one.hypotheses.text in
       let f = one.conclusion.text in
-      let found : Clause ℕ = record { hypotheses = one.hypotheses.found; conclusion = one.conclusion.found } in
+      let found : Clause ℕ = record { hypotheses = one.hypotheses.found; diffs = []; conclusion = one.conclusion.found } in
       let first : written_clause P found ≡ c = λ i. record { hypotheses = hs i; conclusion = f i } in
       let later = others.text in
       record {
         found = found ∷ others.found;
         text = ap (λ m. m ∷ map (written_clause P) others.found) first ∙ ap (λ ms. c ∷ ms) later;
-        are = (record { hypotheses = one.hypotheses.are; conclusion = one.conclusion.is }, others.are);
+        are = (record { hypotheses = one.hypotheses.are; diffs = refl; conclusion = one.conclusion.is }, others.are);
         stand = (record { hypotheses = one.hypotheses.supposed; conclusion = may_conclude one.conclusion.found c.conclusion f are.0.conclusion.concluded }, others.stand);
       }

@@ -1,5 +1,5 @@
 -- Nodes without faults are those of a table in its order, written with the words of the protocol.
-use Rattle.std.proofs.Common.{◌≡◌, ℕ, zero, suc, ◌+◌, ◌<◌, ◌≤◌, Bool, true, false, not, ◌&&◌, ◌||◌, ◌==◌, nat_le, cond, List, [], ◌∷◌, ◌++◌, map, length, drop, Option, Some, None, refl, sym, ◌∙◌, ap, subst, arith, length-append}
+use Rattle.std.proofs.Common.{◌≡◌, ℕ, suc, ◌+◌, ◌<◌, ◌≤◌, Bool, true, false, not, ◌&&◌, ◌||◌, ◌==◌, nat_le, List, [], ◌∷◌, ◌++◌, map, length, drop, Option, Some, None, refl, sym, ◌∙◌, ap, subst, arith, length-append}
 use Rattle.std.specs.Prelude.{flat_map, option_and_then}
 use Rattle.std.specs.Fmt.{decimal}
 use Rattle.std.specs.Option.{is_none, option_map_or}
@@ -16,7 +16,7 @@ use Rattle.spec_terms.specs.Term.{Sym, Ctor, Data, Tuple, Free, Point, Attacker,
 use Rattle.spec_clauses.specs.Fact.{same_term}
 use Rattle.spec_clauses.proofs.Lists.{all_append}
 use Rattle.spec_certificate_text.specs.Loose.{Head, Applied, Tupled, Made, Attackers}
-use Rattle.spec_certificate_text.specs.Words.{symbol_word, word_at}
+use Rattle.spec_certificate_text.specs.Words.{symbol_word}
 use Rattle.spec_certificate_text.specs.OfProtocol.{IsShort, IsSymbolOf, IsRestriction, HasNames}
 use Rattle.spec_certificate_reading.specs.Names.{Named, symbol_called, name_called}
 use Rattle.spec_certificate_reading.proofs.Named.{IsWorded, symbol_called_is, name_called_is}
@@ -28,7 +28,7 @@ use Rattle.spec_node_tables.specs.OfProtocol.{IsNodeOf}
 use Rattle.spec_node_tables.specs.Large.{is_over}
 use Rattle.spec_node_tables.specs.Order.{IsNumberOf, StandInOrder}
 use Rattle.spec_node_faults.specs.Loose.{LooseNode, node_line, written_node}
-use Rattle.spec_node_faults.specs.Nodes.{Placed, placed, place_if, no_number, NodeAt, nodes_at, is_variable_alone, named, head_digits, arguments_at, is_unknown, not_below, is_misapplied, is_empty, arguments_stand, is_whole, meant, node_numbers, node_symbols, node_arities, node_orders, node_larges, terms_meant}
+use Rattle.spec_node_faults.specs.Nodes.{Placed, placed, place_if, no_number, NodeAt, nodes_at, is_variable_alone, head_digits, arguments_at, is_unknown, not_below, is_misapplied, is_empty, arguments_stand, is_whole, meant, node_numbers, node_symbols, node_arities, node_orders, node_larges, terms_meant}
 use Rattle.spec_node_faults.proofs.Meant.{meant_is}
 
 -- Lists that are empty.

@@ -1,5 +1,5 @@
 -- Where numbers stand in the order of the walk, and all nodes are reached, the walk through what they mean completes just the table.
-use Rattle.std.proofs.Common.{◌≡◌, ℕ, zero, suc, ◌+◌, ◌≤◌, true, false, not, ◌&&◌, ◌||◌, ◌==◌, nat_le, Bool, List, [], ◌∷◌, ◌++◌, map, length, refl, sym, ◌∙◌, ap, subst, arith}
+use Rattle.std.proofs.Common.{◌≡◌, ℕ, true, false, not, ◌&&◌, ◌||◌, ◌==◌, nat_le, Bool, List, [], ◌∷◌, ◌++◌, map, length, refl, sym, ◌∙◌, ap, subst, arith}
 use Rattle.std.specs.Prelude.{flat_map}
 use Rattle.std.specs.Option.{option_map_or}
 use Rattle.std.specs.List.{AllByRecursion}
@@ -11,9 +11,9 @@ use Rattle.spec_clauses.specs.Fact.{Fact, Clause, terms_of, map_fact, map_clause
 use Rattle.spec_clauses.proofs.Equality.{same_term-decides}
 use Rattle.spec_clauses.proofs.Parts.{terms_of-map}
 use Rattle.spec_clauses.proofs.Lists.{all-from_flat_map}
-use Rattle.spec_node_tables.specs.Table.{facts_in_order, terms_in_order, table}
-use Rattle.spec_node_tables.specs.Nodes.{NodeCertificate, term_at, terms_from, without_nodes}
-use Rattle.spec_node_tables.specs.Order.{IsNumberOf, HasNumbersOf, StandInOrder, IsInOrder}
+use Rattle.spec_node_tables.specs.Table.{facts_in_order, terms_in_order}
+use Rattle.spec_node_tables.specs.Nodes.{NodeCertificate, term_at, terms_from}
+use Rattle.spec_node_tables.specs.Order.{IsNumberOf, StandInOrder, IsInOrder}
 use Rattle.spec_node_faults.specs.Nodes.{place_if}
 use Rattle.spec_node_faults.specs.Clauses.{Item, Begins, Signs, Event, Number, is_front, completed, is_out_of_order, item_orders}
 use Rattle.spec_node_faults.proofs.Items.{IsGood, item_values, in_order}

@@ -1,5 +1,5 @@
 -- Where no number of clauses is told too large, what they mean is within the limits.
-use Rattle.std.proofs.Common.{◌≡◌, ℕ, ◌+◌, ◌≤◌, Bool, true, false, ◌||◌, not, nat_le, List, [], ◌∷◌, ◌++◌, map, length, refl, sym, ◌∙◌, ap, subst, arith}
+use Rattle.std.proofs.Common.{◌≡◌, ℕ, ◌+◌, ◌≤◌, false, ◌||◌, List, [], ◌∷◌, ◌++◌, map, length, refl, sym, ◌∙◌, ap, subst, arith}
 use Rattle.std.specs.Fmt.{decimal}
 use Rattle.std.specs.Option.{option_map_or}
 use Rattle.std.specs.List.{AllByRecursion}
@@ -19,7 +19,7 @@ use Rattle.spec_node_tables.specs.Table.{facts_in_order}
 use Rattle.spec_node_tables.specs.Nodes.{term_at}
 use Rattle.spec_node_tables.specs.OfProtocol.{IsFactOver, IsClauseOver}
 use Rattle.spec_node_tables.specs.Large.{most_certificate_symbols, up_to_terms, up_to_fact, up_to_facts, up_to_clauses, AreUpTo, is_over}
-use Rattle.spec_node_tables.proofs.Sizes.{ordered_total}
+use Rattle.spec_node_tables.proofs.Sizes.{spelled_total}
 use Rattle.spec_node_faults.specs.Loose.{fact_onto, clause_line, written_fact, written_clause}
 use Rattle.spec_node_faults.specs.Nodes.{place_if}
 use Rattle.spec_node_faults.specs.Clauses.{Item, number_items, fact_items, later_items, facts_items, clause_items, item_larges}
@@ -61,16 +61,20 @@ module _ (table : List Term) (P : Protocol) where
     later : item_larges table (clause + fact_size f) (sum + fact_size f) k ≡ []
 
   fact_within : (f : Fact ℕ) (clause sum at : ℕ) (k : List Item) → AllByRecursion IsShort (terms_of f) → item_larges table clause sum (fact_items at (written_fact P f) ++ k) ≡ [] → FactWithin clause sum (meant f) k
-  fact_within (fact.Att n) clause sum at k short none =
+  fact_within (fact.Att phase n) clause sum at k short none =
       let so = numbers_within (n ∷ []) (clause + 1) (sum + 1) (at + 4) k short none in
       let sizes = total size (map (term_at table) (n ∷ [])) in
       record { small = so.0.small; together = so.0.together; later = same_sums table (clause + (1 + size (term_at table n))) (sum + (1 + size (term_at table n))) (clause + 1 + sizes) (sum + 1 + sizes) k (omega arith) (omega arith) ∙ so.1 }
-  fact_within (fact.Mess m n) clause sum at k short none =
+  fact_within (fact.Mess phase m n) clause sum at k short none =
       let so = numbers_within (m ∷ n ∷ []) (clause + 1) (sum + 1) (at + 5) k short none in
       let t = term_at table m in
       let u = term_at table n in
       let sizes = total size (map (term_at table) (m ∷ n ∷ [])) in
       record { small = so.0.small; together = so.0.together; later = same_sums table (clause + (1 + (size t + size u))) (sum + (1 + (size t + size u))) (clause + 1 + sizes) (sum + 1 + sizes) k (omega arith) (omega arith) ∙ so.1 }
+  fact_within (fact.Tab n ns) clause sum at k short none =
+      let so = numbers_within ns (clause + 2) (sum + 2) (at + 4) k short none in
+      let sizes = total size (map (term_at table) ns) in
+      record { small = so.0.small; together = so.0.together; later = same_sums table (clause + (2 + sizes)) (sum + (2 + sizes)) (clause + 2 + sizes) (sum + 2 + sizes) k (omega arith) (omega arith) ∙ so.1 }
   fact_within (fact.Ev e ns) clause sum at k short none =
       let so = numbers_within ns (clause + 2) (sum + 2) (at + 3 + length (event_word P e) + 1) k short none in
       let sizes = total size (map (term_at table) ns) in
@@ -135,7 +139,7 @@ module _ (table : List Term) (P : Protocol) where
       let rest = clause_items place (map (written_clause P) cs) in
       let d : Clause Term = map_clause (term_at table) c in
       let one = facts_within c.hypotheses c.conclusion 0 sum (at + 2) rest are.0.hypotheses are.0.conclusion none in
-      let whole = ordered_total d in
+      let whole = spelled_total d are.0.diffs in
       let sizes = total fact_size (facts_in_order d) in
       let others = clauses_within cs (0 + sizes) (sum + clause_size d) place are.1 (same_sums table (0 + sizes) (sum + clause_size d) (0 + sizes) (sum + sizes) rest refl (omega arith) ∙ one.later) in
       record { small = (one.small, others.small); together = all_append (λ n. n ≤ most_certificate_symbols) (up_to_facts sum (facts_in_order d)) (up_to_clauses (sum + clause_size d) (map (map_clause (term_at table)) cs)) one.together others.together }

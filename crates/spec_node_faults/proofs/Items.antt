@@ -44,8 +44,9 @@ module _ (P : Protocol) (names : HasNames P) where
 
   good_fact : (at : ℕ) (f : Fact ℕ) → IsFactOver IsShort P f → AllByRecursion (IsGood P) (fact_items at (written_fact P f))
   unfolding IsGood
-  good_fact at (fact.Att n) is = (tt, good_numbers (at + 4) (n ∷ []) is.1)
-  good_fact at (fact.Mess m n) is = (tt, good_numbers (at + 5) (m ∷ n ∷ []) is.1)
+  good_fact at (fact.Att phase n) is = (tt, good_numbers (at + 4) (n ∷ []) is.1)
+  good_fact at (fact.Mess phase m n) is = (tt, good_numbers (at + 5) (m ∷ n ∷ []) is.1)
+  good_fact at (fact.Tab n ns) is = absurd is.0
   good_fact at (fact.Ev e ns) is = good_event (at + 3) e ns is.0 is.1
   good_fact at (fact.Mev e ns) is = good_event (at + 4) e ns is.0 is.1
   good_fact at (fact.Bad ns) is = (tt, good_numbers (at + 4) ns is.1)
@@ -116,8 +117,9 @@ number_begins at (d ∷ ds) = number_begins (at + length d + 1) ds
 
 module _ (P : Protocol) where
   fact_begins : (at : ℕ) (f : Fact ℕ) → length (flat_map item_begins (fact_items at (written_fact P f))) ≡ 0
-  fact_begins at (fact.Att n) = refl
-  fact_begins at (fact.Mess m n) = refl
+  fact_begins at (fact.Att phase n) = refl
+  fact_begins at (fact.Mess phase m n) = refl
+  fact_begins at (fact.Tab n ns) = ap length (number_begins (at + 4) (map decimal ns))
   fact_begins at (fact.Ev e ns) = ap length (number_begins (at + 3 + length (event_word P e) + 1) (map decimal ns))
   fact_begins at (fact.Mev e ns) = ap length (number_begins (at + 4 + length (event_word P e) + 1) (map decimal ns))
   fact_begins at (fact.Bad ns) = ap length (number_begins (at + 4) (map decimal ns))
@@ -179,8 +181,9 @@ values_append xs ys ms ns first later = flat_map-append item_values xs ys ∙ (a
 
 module _ (P : Protocol) where
   fact_values : (at : ℕ) (f : Fact ℕ) → IsFactOver IsShort P f → flat_map item_values (fact_items at (written_fact P f)) ≡ terms_of f
-  fact_values at (fact.Att n) is = number_values (at + 4) (n ∷ []) is.1
-  fact_values at (fact.Mess m n) is = number_values (at + 5) (m ∷ n ∷ []) is.1
+  fact_values at (fact.Att phase n) is = number_values (at + 4) (n ∷ []) is.1
+  fact_values at (fact.Mess phase m n) is = number_values (at + 5) (m ∷ n ∷ []) is.1
+  fact_values at (fact.Tab n ns) is = number_values (at + 4) ns is.1
   fact_values at (fact.Ev e ns) is = number_values (at + 3 + length (event_word P e) + 1) ns is.1
   fact_values at (fact.Mev e ns) is = number_values (at + 4 + length (event_word P e) + 1) ns is.1
   fact_values at (fact.Bad ns) is = number_values (at + 4) ns is.1

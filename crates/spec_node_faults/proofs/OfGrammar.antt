@@ -1,16 +1,14 @@
 -- What is written with the words of a protocol is of the grammar.
-use Rattle.std.proofs.Common.{◌≡◌, ℕ, ◌+◌, ◌<◌, ◌≤◌, List, [], ◌∷◌, map, length, refl, sym, ◌∙◌, ap, subst, arith}
+use Rattle.std.proofs.Common.{ℕ, List, [], ◌∷◌, map, length, refl, ◌∙◌, arith}
 use Rattle.std.specs.Fmt.{decimal}
 use Rattle.std.specs.List.{AllByRecursion}
 use Rattle.std.proofs.lemmas.List.{length-map}
 use Rattle.std.proofs.lemmas.Fmt.{decimal_nonempty}
 use Rattle.spec_calculus.specs.Syntax.{Protocol}
-use Rattle.spec_terms.specs.Term.{Sym, Ctor, Data, Tuple, Free, Point, Attacker}
+use Rattle.spec_terms.specs.Term.{Ctor, Data, Tuple, Free, Point, Attacker}
 use Rattle.spec_clauses.specs.Fact.{Fact, Clause, terms_of}
 use Rattle.spec_clauses.specs.Fact as fact
 use Rattle.spec_certificates.specs.Certificate.{Certificate}
-use Rattle.spec_certificate_text.specs.Loose.{Head, Applied, Tupled, Made, Attackers}
-use Rattle.spec_certificate_text.specs.Spelled.{IsHead}
 use Rattle.spec_certificate_text.specs.OfProtocol.{IsShort, HasNames}
 use Rattle.spec_certificate_text.proofs.Names.{decimal_digits, event_word_is_word}
 use Rattle.spec_certificate_reading.specs.Readable.{IsRow}
@@ -22,7 +20,7 @@ use Rattle.spec_node_tables.specs.OfProtocol.{IsNodeOf, IsFactOver, IsClauseOver
 use Rattle.spec_node_tables.proofs.Lines.{node_head_is}
 use Rattle.spec_node_tables.proofs.Certificates.{mapped_all, with_nodes_is}
 use Rattle.spec_node_tables.proofs.Sizes.{few_nodes}
-use Rattle.spec_node_faults.specs.Loose.{written_node, predicate_of, written_fact, written_clause, written}
+use Rattle.spec_node_faults.specs.Loose.{written_node, written_fact, written_clause, written}
 use Rattle.spec_node_faults.specs.Grammar.{IsNumber, IsHeadOf, IsNode, IsHypothesis, IsConclusion, IsClause, IsNumberRow, IsInGrammar, MayBeHypothesis, MayBeConclusion, StandsRight, IsNumberable}
 
 number_is : (n : ℕ) → IsShort n → IsNumber (decimal n)
@@ -49,15 +47,17 @@ module _ (P : Protocol) (names : HasNames P) where
   node_is n is = record { head = head_is n is; numbers = numbers_are (short.node_numbers n) (short_numbers n is) }
 
   hypothesis_is : (f : Fact ℕ) → IsFactOver IsShort P f → MayBeHypothesis f → IsHypothesis (written_fact P f)
-  hypothesis_is (fact.Att n) is may = record { predicate = refl; numbers = numbers_are (n ∷ []) is.1; supposed = tt }
-  hypothesis_is (fact.Mess m n) is may = record { predicate = refl; numbers = numbers_are (m ∷ n ∷ []) is.1; supposed = tt }
+  hypothesis_is (fact.Att phase n) is may = record { predicate = refl; numbers = numbers_are (n ∷ []) is.1; supposed = tt }
+  hypothesis_is (fact.Mess phase m n) is may = record { predicate = refl; numbers = numbers_are (m ∷ n ∷ []) is.1; supposed = tt }
+  hypothesis_is (fact.Tab n ns) is may = absurd is.0
   hypothesis_is (fact.Ev e ns) is may = record { predicate = event_word_is_word P e (length ns) names is.0; numbers = numbers_are ns is.1; supposed = tt }
   hypothesis_is (fact.Mev e ns) is may = record { predicate = event_word_is_word P e (length ns) names is.0; numbers = numbers_are ns is.1; supposed = tt }
   hypothesis_is (fact.Bad ns) is may = absurd may
 
   conclusion_is : (f : Fact ℕ) → IsFactOver IsShort P f → MayBeConclusion f → IsConclusion (written_fact P f)
-  conclusion_is (fact.Att n) is may = record { predicate = refl; numbers = numbers_are (n ∷ []) is.1; concluded = tt }
-  conclusion_is (fact.Mess m n) is may = record { predicate = refl; numbers = numbers_are (m ∷ n ∷ []) is.1; concluded = tt }
+  conclusion_is (fact.Att phase n) is may = record { predicate = refl; numbers = numbers_are (n ∷ []) is.1; concluded = tt }
+  conclusion_is (fact.Mess phase m n) is may = record { predicate = refl; numbers = numbers_are (m ∷ n ∷ []) is.1; concluded = tt }
+  conclusion_is (fact.Tab n ns) is may = absurd is.0
   conclusion_is (fact.Ev e ns) is may = record { predicate = event_word_is_word P e (length ns) names is.0; numbers = numbers_are ns is.1; concluded = tt }
   conclusion_is (fact.Mev e ns) is may = absurd may
   conclusion_is (fact.Bad ns) is may = record { predicate = tt; numbers = numbers_are ns is.1; concluded = tt }
@@ -79,15 +79,17 @@ row_is (n ∷ ns) is = record { some = omega arith; numbers = numbers_are (n ∷
 
 module _ {X Y : Type 0} (f : X → Y) where
   hypothesis_mapped : (h : Fact X) → MayBeHypothesis h → MayBeHypothesis (fact.map_fact f h)
-  hypothesis_mapped (fact.Att t) may = tt
-  hypothesis_mapped (fact.Mess t u) may = tt
+  hypothesis_mapped (fact.Att phase t) may = tt
+  hypothesis_mapped (fact.Mess phase t u) may = tt
+  hypothesis_mapped (fact.Tab n ts) may = tt
   hypothesis_mapped (fact.Ev e ts) may = tt
   hypothesis_mapped (fact.Mev e ts) may = tt
   hypothesis_mapped (fact.Bad ts) may = may
 
   conclusion_mapped : (h : Fact X) → MayBeConclusion h → MayBeConclusion (fact.map_fact f h)
-  conclusion_mapped (fact.Att t) may = tt
-  conclusion_mapped (fact.Mess t u) may = tt
+  conclusion_mapped (fact.Att phase t) may = tt
+  conclusion_mapped (fact.Mess phase t u) may = tt
+  conclusion_mapped (fact.Tab n ts) may = tt
   conclusion_mapped (fact.Ev e ts) may = tt
   conclusion_mapped (fact.Mev e ts) may = may
   conclusion_mapped (fact.Bad ts) may = tt

@@ -10,7 +10,7 @@ use Rattle.spec_calculus.specs.Bounds.{most_symbols}
 use Rattle.spec_calculus.specs.Syntax.{Protocol}
 use Rattle.spec_run_text.proofs.Numbers.{numeral-decimal}
 use Rattle.spec_terms.specs.Term.{Term}
-use Rattle.spec_clauses.specs.Fact.{Fact, Att, Mess, Ev, Mev, Bad, Clause, terms_of, map_fact, map_clause, total, fact_size, clause_size}
+use Rattle.spec_clauses.specs.Fact.{Fact, Att, Mess, Tab, Ev, Mev, Bad, Clause, terms_of, map_fact, map_clause, total, fact_size, clause_size}
 use Rattle.spec_clauses.specs.Inclusion.{Has}
 use Rattle.spec_clauses.proofs.Lists.{all_first, all_second}
 use Rattle.spec_certificate_text.specs.Words.{event_word}
@@ -19,7 +19,7 @@ use Rattle.spec_node_tables.specs.Table.{facts_in_order, number_in}
 use Rattle.spec_node_tables.specs.Nodes.{term_at}
 use Rattle.spec_node_tables.specs.Large.{most_certificate_symbols, up_to_terms, up_to_fact, up_to_facts, up_to_clauses, AreUpTo, is_over}
 use Rattle.spec_node_tables.proofs.Numbers.{at_place}
-use Rattle.spec_node_tables.proofs.Sizes.{ordered_total}
+use Rattle.spec_node_tables.proofs.Sizes.{spelled_total}
 use Rattle.spec_node_faults.specs.Loose.{fact_onto, clause_line, written_fact, written_clause}
 use Rattle.spec_node_faults.specs.Nodes.{place_if}
 use Rattle.spec_node_faults.specs.Clauses.{Item, number_items, fact_items, later_items, facts_items, clause_items, item_larges}
@@ -54,12 +54,15 @@ module _ (all : List Term) where
 
   fact_summed : (P : Protocol) (f : Fact Term) (clause sum at : ℕ) (k : List Item) → AllByRecursion (IsCounted all) (terms_of f) → AreUpTo most_symbols (up_to_fact clause f) → AreUpTo most_certificate_symbols (up_to_fact sum f)
       → item_larges all clause sum (fact_items at (written_fact P (map_fact (number_in all) f)) ++ k) ≡ item_larges all (clause + fact_size f) (sum + fact_size f) k
-  fact_summed P (Att t) clause sum at k stand small together =
+  fact_summed P (Att phase t) clause sum at k stand small together =
       terms_summed (t ∷ []) (clause + 1) (sum + 1) (at + 4) k stand small together
       ∙ same_sums (clause + 1 + (size t + 0)) (sum + 1 + (size t + 0)) (clause + (1 + size t)) (sum + (1 + size t)) k (omega arith) (omega arith)
-  fact_summed P (Mess t u) clause sum at k stand small together =
+  fact_summed P (Mess phase t u) clause sum at k stand small together =
       terms_summed (t ∷ u ∷ []) (clause + 1) (sum + 1) (at + 5) k stand small together
       ∙ same_sums (clause + 1 + (size t + (size u + 0))) (sum + 1 + (size t + (size u + 0))) (clause + (1 + (size t + size u))) (sum + (1 + (size t + size u))) k (omega arith) (omega arith)
+  fact_summed P (Tab n ts) clause sum at k stand small together =
+      terms_summed ts (clause + 2) (sum + 2) (at + 4) k stand small together
+      ∙ same_sums (clause + 2 + total size ts) (sum + 2 + total size ts) (clause + (2 + total size ts)) (sum + (2 + total size ts)) k (omega arith) (omega arith)
   fact_summed P (Ev e ts) clause sum at k stand small together =
       terms_summed ts (clause + 2) (sum + 2) (at + 3 + length (event_word P e) + 1) k stand small together
       ∙ same_sums (clause + 2 + total size ts) (sum + 2 + total size ts) (clause + (2 + total size ts)) (sum + (2 + total size ts)) k (omega arith) (omega arith)
@@ -106,16 +109,16 @@ module _ (all : List Term) where
       ∙ same_sums (clause + fact_size h + total fact_size others) (sum + fact_size h + total fact_size others) (clause + (fact_size h + total fact_size others)) (sum + (fact_size h + total fact_size others)) k (omega arith) (omega arith)))
 
   pub clauses_summed : (P : Protocol) (cs : List (Clause Term)) (clause sum at : ℕ) → AllByRecursion (λ c. AllByRecursion (λ f. AllByRecursion (IsCounted all) (terms_of f)) (facts_in_order c)) cs
-      → AllByRecursion (λ c. AreUpTo most_symbols (up_to_facts 0 (facts_in_order c))) cs → AreUpTo most_certificate_symbols (up_to_clauses sum cs)
+      → AllByRecursion (λ c. c.diffs ≡ []) cs → AllByRecursion (λ c. AreUpTo most_symbols (up_to_facts 0 (facts_in_order c))) cs → AreUpTo most_certificate_symbols (up_to_clauses sum cs)
       → item_larges all clause sum (clause_items at (map (written_clause P) (map (map_clause (number_in all)) cs))) ≡ []
   unfolding AreCounted
-  clauses_summed P [] clause sum at stand small together = refl
-  clauses_summed P (c ∷ cs) clause sum at stand small together =
+  clauses_summed P [] clause sum at stand none small together = refl
+  clauses_summed P (c ∷ cs) clause sum at stand none small together =
       let place = at + length (clause_line (written_clause P (map_clause (number_in all) c)) []) in
-      let whole = ordered_total c in
+      let whole = spelled_total c none.0 in
       let first = up_to_facts sum (facts_in_order c) in
       let later = up_to_clauses (sum + clause_size c) cs in
       let rest = clause_items place (map (written_clause P) (map (map_clause (number_in all)) cs)) in
       facts_summed P c.hypotheses c.conclusion 0 sum (at + 2) rest stand.0 small.0 (all_first (λ n. n ≤ most_certificate_symbols) first later together)
       ∙ (same_sums (0 + total fact_size (facts_in_order c)) (sum + total fact_size (facts_in_order c)) (0 + total fact_size (facts_in_order c)) (sum + clause_size c) rest refl (omega arith)
-      ∙ clauses_summed P cs (0 + total fact_size (facts_in_order c)) (sum + clause_size c) place stand.1 small.1 (all_second (λ n. n ≤ most_certificate_symbols) first later together))
+      ∙ clauses_summed P cs (0 + total fact_size (facts_in_order c)) (sum + clause_size c) place stand.1 none.1 small.1 (all_second (λ n. n ≤ most_certificate_symbols) first later together))

@@ -3,7 +3,7 @@ use Rattle.std.proofs.Common.{◌≡◌, ℕ, List, [], ◌∷◌, ◌++◌, map
 use Rattle.std.specs.Prelude.{codes}
 use Rattle.std.specs.Fmt.{decimal}
 use Rattle.spec_calculus.specs.Syntax.{Protocol}
-use Rattle.spec_clauses.specs.Fact.{Fact, Att, Mess, Ev, Mev, Bad, Clause}
+use Rattle.spec_clauses.specs.Fact.{Fact, Att, Mess, Tab, Ev, Mev, Bad, Clause}
 use Rattle.spec_certificate_text.specs.Words.{event_word}
 use Rattle.spec_certificate_text.specs.Text.{numbers_text, row_lines}
 use Rattle.spec_node_tables.specs.Nodes.{TableNode, NodeCertificate}
@@ -29,8 +29,9 @@ module _ (P : Protocol) where
   event_same e (n ∷ ns) k = ap (λ r. event_word P e ++ (40 ∷ r)) (commas_same (n ∷ ns) (41 ∷ k))
 
   fact_same : (f : Fact ℕ) (k : List ℕ) → fact_onto (written_fact P f) k ≡ fact_over number_text P f k
-  fact_same (Att n) k = refl
-  fact_same (Mess m n) k = refl
+  fact_same (Att phase n) k = refl
+  fact_same (Mess phase m n) k = refl
+  fact_same (Tab n ns) k = ap (λ r. codes "tab(" ++ r) (commas_same ns (41 ∷ k))
   fact_same (Ev e ns) k = ap (λ r. codes "ev(" ++ r) (event_same e ns (41 ∷ k))
   fact_same (Mev e ns) k = ap (λ r. codes "mev(" ++ r) (event_same e ns (41 ∷ k))
   fact_same (Bad ns) k = ap (λ r. codes "bad(" ++ r) (commas_same ns (41 ∷ k))

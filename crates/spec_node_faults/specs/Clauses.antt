@@ -13,7 +13,7 @@ use Rattle.spec_certificate_reading.specs.Names.{event_called}
 use Rattle.spec_node_tables.specs.Table.{walk}
 use Rattle.spec_node_tables.specs.Nodes.{term_at}
 use Rattle.spec_node_tables.specs.Large.{is_over, most_certificate_symbols}
-use Rattle.spec_node_faults.specs.Loose.{Predicate, Att, Mess, Ev, Mev, Bad, LooseFact, LooseClause, fact_onto, clause_line}
+use Rattle.spec_node_faults.specs.Loose.{Predicate, Att, Mess, Tab, Ev, Mev, Bad, LooseFact, LooseClause, fact_onto, clause_line}
 use Rattle.spec_node_faults.specs.Nodes.{Placed, placed, place_if, no_number}
 
 -- What stands in clauses, in order, each with its place.
@@ -36,6 +36,7 @@ event_items at word ds = Signs 2 ∷ Event at word (length ds) ∷ number_items 
 abbrev pub predicate_items : ℕ → Predicate → List (List ℕ) → List Item
 predicate_items at Att ds = Signs 1 ∷ number_items (at + 4) ds
 predicate_items at Mess ds = Signs 1 ∷ number_items (at + 5) ds
+predicate_items at Tab ds = Signs 2 ∷ number_items (at + 4) ds
 predicate_items at (Ev word) ds = event_items (at + 3) word ds
 predicate_items at (Mev word) ds = event_items (at + 4) word ds
 predicate_items at Bad ds = Signs 1 ∷ number_items (at + 4) ds

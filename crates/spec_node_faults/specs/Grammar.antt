@@ -11,7 +11,7 @@ use Rattle.spec_certificate_text.specs.Spelled.{IsWord, AreDigits}
 use Rattle.spec_certificate_text.specs.OfProtocol.{IsCertificateOf}
 use Rattle.spec_certificate_reading.specs.Readable.{IsRow}
 use Rattle.spec_node_tables.specs.Large.{FitsInNodes}
-use Rattle.spec_node_faults.specs.Loose.{LooseNode, Predicate, Att, Mess, Ev, Mev, Bad, LooseFact, LooseClause, LooseCertificate}
+use Rattle.spec_node_faults.specs.Loose.{LooseNode, Predicate, Att, Mess, Tab, Ev, Mev, Bad, LooseFact, LooseClause, LooseCertificate}
 
 -- digits, one at least
 abbrev pub IsNumber : List ℕ → Type 0
@@ -32,6 +32,7 @@ pub record IsNode (n : LooseNode) : Type 0 where
 abbrev pub IsPredicateOf : Predicate → ℕ → Type 0
 IsPredicateOf Att n = n ≡ 1
 IsPredicateOf Mess n = n ≡ 2
+IsPredicateOf Tab n = ⊥
 IsPredicateOf (Ev word) n = IsWord word
 IsPredicateOf (Mev word) n = IsWord word
 IsPredicateOf Bad n = Unit {0}

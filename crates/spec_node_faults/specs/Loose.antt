@@ -14,10 +14,11 @@ pub record LooseNode : Type 0 where
   pub head : Head
   pub numbers : List (List ℕ)
 
--- a predicate; one of an event has the event's word
+-- a predicate; one of an event has the event's word; that of a table is of no text of the grammar yet
 pub data Predicate : Type 0 where
   Att : Predicate
   Mess : Predicate
+  Tab : Predicate
   Ev : (word : List ℕ) → Predicate
   Mev : (word : List ℕ) → Predicate
   Bad : Predicate
@@ -67,6 +68,7 @@ event_onto word (d ∷ ds) rest = word ++ (40 ∷ commas (d ∷ ds) (41 ∷ rest
 abbrev pub predicate_onto : Predicate → List (List ℕ) → List ℕ → List ℕ
 predicate_onto Att ds rest = codes "att(" ++ commas ds (41 ∷ rest)
 predicate_onto Mess ds rest = codes "mess(" ++ commas ds (41 ∷ rest)
+predicate_onto Tab ds rest = codes "tab(" ++ commas ds (41 ∷ rest)
 predicate_onto (Ev word) ds rest = codes "ev(" ++ event_onto word ds (41 ∷ rest)
 predicate_onto (Mev word) ds rest = codes "mev(" ++ event_onto word ds (41 ∷ rest)
 predicate_onto Bad ds rest = codes "bad(" ++ commas ds (41 ∷ rest)
@@ -98,14 +100,15 @@ abbrev pub certificate_onto : LooseCertificate → List ℕ → List ℕ
 certificate_onto c rest =
     codes "cert 2\n" ++ lines node_line c.nodes (lines clause_line c.clauses (lines (row_line 114) c.rows (lines (row_line 103) c.goals (codes "end\n" ++ rest))))
 
--- A certificate by numbers, written so with the words of a protocol.
+-- A certificate by numbers, written so with the words of a protocol: phases, words of tables and constraints aren't spelled yet.
 
 abbrev pub written_node : Protocol → TableNode → LooseNode
 written_node P n = record { head = node_head P n; numbers = map decimal (node_numbers n) }
 
 abbrev pub predicate_of : Protocol → Fact ℕ → Predicate
-predicate_of P (fact.Att n) = Att
-predicate_of P (fact.Mess m n) = Mess
+predicate_of P (fact.Att phase n) = Att
+predicate_of P (fact.Mess phase m n) = Mess
+predicate_of P (fact.Tab table ns) = Tab
 predicate_of P (fact.Ev e ns) = Ev (event_word P e)
 predicate_of P (fact.Mev e ns) = Mev (event_word P e)
 predicate_of P (fact.Bad ns) = Bad

@@ -69,7 +69,7 @@ module _ (P : Protocol) (names : HasNames P) (table : List Term) where
   line_forms = opened_forms (codes "c ") next_clause line_rest Anything rest_forms
 
   abbrev with_clause : Behind (List (Clause Term)) → Behind (List (Fact Term)) → Behind (Fact Term) → Behind (List (Clause Term))
-  with_clause before hs f = with (before.value ++ record { hypotheses = hs.value; conclusion = f.value } ∷ []) f.walked
+  with_clause before hs f = with (before.value ++ record { hypotheses = hs.value; diffs = []; conclusion = f.value } ∷ []) f.walked
 
   abbrev read_end : Behind (List (Clause Term)) → Behind (List (Fact Term)) → Reader (Behind (List (Clause Term)))
   read_end before hs = then_read (read_conclusion P table hs.walked) (λ at f. closed_by (codes "\n") (with_clause before hs f))

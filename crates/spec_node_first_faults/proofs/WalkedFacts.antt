@@ -82,10 +82,10 @@ module _ (P : Protocol) (names : HasNames P) (table : List Term) where
   number_closed f stays v = closed_thing-in (table_numbers table) v (EndsAt is_ascii_digit) (codes ")") walked_of walked_of (one_term P table v) f (number_tells table v P) (number_forms P table) (λ rest. refl) stays
 
   abbrev att_of : Behind Term → Behind (Fact Term)
-  att_of x = with (Att x.value) x.walked
+  att_of x = with (Att 0 x.value) x.walked
 
   abbrev mess_of : Term → Behind Term → Behind (Fact Term)
-  mess_of t y = with (Mess t y.value) y.walked
+  mess_of t y = with (Mess 0 t y.value) y.walked
 
   known_tells : (w : Walked) → TellsIn (known P table) w Anything Anything walked_of (read_att P table w)
   known_tells w = opened_tells (codes "att(") (with_signs 1) w second_number Anything walked_of (closed_number att_of (with_signs 1 w)) (number_closed att_of (λ x. refl) (with_signs 1 w)) second_forms

@@ -4,7 +4,7 @@ use Rattle.std.proofs.lemmas.List.{append-nil}
 use Rattle.spec_calculus.specs.Syntax.{Protocol}
 use Rattle.spec_terms.specs.Term.{Term}
 use Rattle.std.specs.Fmt.{decimal}
-use Rattle.spec_clauses.specs.Fact.{Fact, Att, Mess, Ev, Mev, Bad, Clause, map_fact, map_clause}
+use Rattle.spec_clauses.specs.Fact.{Fact, Att, Mess, Tab, Ev, Mev, Bad, Clause, map_fact, map_clause}
 use Rattle.spec_certificate_text.specs.OfProtocol.{HasNames}
 use Rattle.spec_certificate_reading.specs.Terms.{Count}
 use Rattle.spec_certificate_reading.specs.Outcomes.{Outcome, Found, Faulty, next, front, read_fixed}
@@ -12,7 +12,7 @@ use Rattle.spec_certificate_reading.proofs.Parts.{Finds, joined, when_false, fix
 use Rattle.spec_node_tables.specs.Nodes.{term_at}
 use Rattle.spec_certificate_text.specs.Words.{event_word}
 use Rattle.spec_node_tables.specs.Text.{number_text, later_terms, terms_text, event_over, later_hypotheses, hypotheses_over, fact_over, clause_over, clause_lines_over}
-use Rattle.spec_node_tables.specs.OfProtocol.{HasEvent}
+use Rattle.spec_node_tables.specs.OfProtocol.{HasPredicate}
 use Rattle.spec_node_faults.specs.Grammar.{MayBeHypothesis, MayBeConclusion}
 use Rattle.spec_node_reading.specs.Walked.{Walked, next_clause}
 use Rattle.spec_node_reading.specs.Loops.{Behind, with, row_from, lines_through}
@@ -26,7 +26,7 @@ module _ (P : Protocol) (names : HasNames P) (table : List Term) where
   -- the walk may go through these facts, one after the other
   abbrev pub FactsGo : Walked → List (Fact ℕ) → Type 0
   FactsGo w [] = Unit {0}
-  FactsGo w (g ∷ gs) = HasEvent P g × MayGo P names table w g × FactsGo (past_fact P names table w g) gs
+  FactsGo w (g ∷ gs) = HasPredicate P g × MayGo P names table w g × FactsGo (past_fact P names table w g) gs
 
   abbrev pub past_facts : Walked → List (Fact ℕ) → Walked
   past_facts w [] = w
@@ -87,8 +87,9 @@ module _ (P : Protocol) (names : HasNames P) (table : List Term) where
       let more = terms_long (n ∷ ns) (41 ∷ k) in omega (arith, more, length-append (event_word P e) (40 ∷ terms_text number_text P (n ∷ ns) (41 ∷ k)))
 
   fact_long : (g : Fact ℕ) (k : List ℕ) → length k + 1 ≤ length (fact_over number_text P g k)
-  fact_long (Att n) k = omega (arith, length-append (decimal n) (41 ∷ k))
-  fact_long (Mess m n) k = omega (arith, length-append (decimal m) (44 ∷ (decimal n ++ 41 ∷ k)), length-append (decimal n) (41 ∷ k))
+  fact_long (Att phase n) k = omega (arith, length-append (decimal n) (41 ∷ k))
+  fact_long (Mess phase m n) k = omega (arith, length-append (decimal m) (44 ∷ (decimal n ++ 41 ∷ k)), length-append (decimal n) (41 ∷ k))
+  fact_long (Tab n ns) k = let more = terms_long ns (41 ∷ k) in omega (arith, more)
   fact_long (Ev e ns) k = let more = event_long e ns (41 ∷ k) in omega (arith, more)
   fact_long (Mev e ns) k = let more = event_long e ns (41 ∷ k) in omega (arith, more)
   fact_long (Bad ns) k = let more = terms_long ns (41 ∷ k) in omega (arith, more)
@@ -102,8 +103,9 @@ module _ (P : Protocol) (names : HasNames P) (table : List Term) where
 
   -- no fact begins with `=`
   fact_front : (g : Fact ℕ) (rest : List ℕ) → (front (fact_over number_text P g rest) == 61) ≡ false
-  fact_front (Att n) rest = refl
-  fact_front (Mess m n) rest = refl
+  fact_front (Att phase n) rest = refl
+  fact_front (Mess phase m n) rest = refl
+  fact_front (Tab n ns) rest = refl
   fact_front (Ev e ns) rest = refl
   fact_front (Mev e ns) rest = refl
   fact_front (Bad ns) rest = refl
@@ -128,9 +130,10 @@ module _ (P : Protocol) (names : HasNames P) (table : List Term) where
   pub record ClauseGoes (w : Walked) (c : Clause ℕ) : Type 0 where
     pub hypotheses : FactsGo (next_clause w) c.hypotheses
     pub are : AreHypotheses c.hypotheses
-    pub event : HasEvent P c.conclusion
+    pub event : HasPredicate P c.conclusion
     pub conclusion : MayGo P names table (past_facts (next_clause w) c.hypotheses) c.conclusion
     pub is : MayBeConclusion c.conclusion
+    pub diffs : c.diffs ≡ []
 
   clause_found : (before : Behind (List (Clause Term))) (c : Clause ℕ) (rest : List ℕ) (at : ℕ) → ClauseGoes before.walked c
       → Finds (read_clause_line P table before (99 ∷ 32 ∷ clause_over number_text P c (10 ∷ rest)) at) (with (before.value ++ clause_meant c ∷ []) (past_clause before.walked c)) rest
@@ -143,14 +146,16 @@ module _ (P : Protocol) (names : HasNames P) (table : List Term) where
       let last = fact_over number_text P c.conclusion (10 ∷ rest) in
       let inner = hypotheses_over number_text P c.hypotheses (61 ∷ 62 ∷ 32 ∷ last) in
       let end = with (before.value ++ clause_meant c ∷ []) u in
+      let none = goes.diffs in
       joined (read_fixed (codes "c ") (99 ∷ 32 ∷ inner) at)
-      (λ _ p r. next (read_premises P table w r p) (λ hs p r. next (read_conclusion P table hs.walked r p) (λ f p r. next (read_fixed (codes "\n") r p) (λ _ p r. Found (with (before.value ++ record { hypotheses = hs.value; conclusion = f.value } ∷ []) f.walked) p r))))
+      (λ _ p r. next (read_premises P table w r p) (λ hs p r. next (read_conclusion P table hs.walked r p) (λ f p r. next (read_fixed (codes "\n") r p) (λ _ p r. Found (with (before.value ++ record { hypotheses = hs.value; diffs = []; conclusion = f.value } ∷ []) f.walked) p r))))
       tt inner end rest (fixed_found (codes "c ") inner at)
-      (λ p. joined (read_premises P table w inner p) (λ hs p r. next (read_conclusion P table hs.walked r p) (λ f p r. next (read_fixed (codes "\n") r p) (λ _ p r. Found (with (before.value ++ record { hypotheses = hs.value; conclusion = f.value } ∷ []) f.walked) p r)))
+      (λ p. joined (read_premises P table w inner p) (λ hs p r. next (read_conclusion P table hs.walked r p) (λ f p r. next (read_fixed (codes "\n") r p) (λ _ p r. Found (with (before.value ++ record { hypotheses = hs.value; diffs = []; conclusion = f.value } ∷ []) f.walked) p r)))
       (with hs v) last end rest (premises_found w c.hypotheses last p goes.hypotheses goes.are)
-      (λ q. joined (read_conclusion P table v last q) (λ f p r. next (read_fixed (codes "\n") r p) (λ _ p r. Found (with (before.value ++ record { hypotheses = hs; conclusion = f.value } ∷ []) f.walked) p r))
+      (λ q. joined (read_conclusion P table v last q) (λ f p r. next (read_fixed (codes "\n") r p) (λ _ p r. Found (with (before.value ++ record { hypotheses = hs; diffs = []; conclusion = f.value } ∷ []) f.walked) p r))
       (with f u) (10 ∷ rest) end rest (conclusion_found P names table v c.conclusion (10 ∷ rest) q goes.event goes.is goes.conclusion)
-      (λ i. joined (read_fixed (codes "\n") (10 ∷ rest) i) (λ _ p r. Found end p r) tt rest end rest (fixed_found (codes "\n") rest i) (λ j. record { place = j; is = refl }))))
+      (λ i. joined (read_fixed (codes "\n") (10 ∷ rest) i) (λ _ p r. Found (with (before.value ++ record { hypotheses = hs; diffs = []; conclusion = f } ∷ []) u) p r) tt rest end rest (fixed_found (codes "\n") rest i)
+      (λ j. record { place = j; is = λ k. Found (with (before.value ++ record { hypotheses = hs; diffs = sym none k; conclusion = f } ∷ []) u) j rest }))))
 
   -- All clauses.
 

@@ -18,7 +18,7 @@ use Rattle.spec_node_tables.specs.Nodes.{term_at}
 use Rattle.spec_node_tables.specs.Text.{number_text, hypotheses_over, fact_over, clause_over, clause_lines_over}
 use Rattle.spec_node_tables.specs.OfProtocol.{IsFactOver, IsClauseOver}
 use Rattle.spec_node_tables.specs.Large.{most_certificate_symbols, up_to_fact, up_to_facts, up_to_clauses, AreUpTo}
-use Rattle.spec_node_tables.proofs.Sizes.{ordered_total}
+use Rattle.spec_node_tables.proofs.Sizes.{spelled_total}
 use Rattle.spec_node_faults.specs.Grammar.{MayBeHypothesis, MayBeConclusion, StandsRight}
 use Rattle.spec_node_faults.proofs.Items.{in_order}
 use Rattle.spec_node_faults.proofs.Orders.{InOrder}
@@ -231,18 +231,18 @@ module _ (P : Protocol) (table : List Term) where
       let one = conclusion_there P table cut.value.walked cut.rest cut.place again.value again.place again.rest again.first in
       let end = parts (read_fixed (codes "\n") again.rest again.place) _ x p r again.later in
       let closes = fixed_there (codes "\n") again.rest again.place end.value end.place end.rest end.first in
-      let made : Clause Term = record { hypotheses = cut.value.value; conclusion = again.value.value } in
+      let made : Clause Term = record { hypotheses = cut.value.value; diffs = []; conclusion = again.value.value } in
       let last : with (before.value ++ made ∷ []) again.value.walked ≡ x = cc in
       let rests : end.rest ≡ r = cc in
-      let numbered : Clause ℕ = record { hypotheses = hs.hypotheses; conclusion = one.numbered } in
+      let numbered : Clause ℕ = record { hypotheses = hs.hypotheses; diffs = []; conclusion = one.numbered } in
       let first = hs.value in
       let second = one.meant in
-      let means : made ≡ clause_meant numbered = λ i. record { hypotheses = first i; conclusion = sym second i } in
+      let means : made ≡ clause_meant numbered = λ i. record { hypotheses = first i; diffs = []; conclusion = sym second i } in
       let walked = gone_append (next_clause before.walked) cut.value.walked again.value.walked hs.hypotheses (one.numbered ∷ []) hs.gone (gone_more MayBeConclusion cut.value.walked again.value.walked cut.rest again.value again.rest [] one (gone_none again.value.walked)) in
       record {
         numbered = numbered;
         value = ap (λ z. z.value) (sym last) ∙ ap (λ c. before.value ++ c ∷ []) means;
-        is = record { hypotheses = hs.are; conclusion = one.is };
+        is = record { hypotheses = hs.are; diffs = refl; conclusion = one.is };
         right = record { hypotheses = hs.may; conclusion = subst MayBeConclusion (sym second) one.may };
         text = opens ∙ ap (λ s. 99 ∷ 32 ∷ s) (hs.text ∙ ap (λ s. hypotheses_over number_text P hs.hypotheses (61 ∷ 62 ∷ 32 ∷ s)) (one.text ∙ ap (fact_over number_text P one.numbered) (closes ∙ ap (λ s. 10 ∷ s) rests)));
         gone = subst (λ z. Gone (next_clause before.walked) (in_order numbered) z.walked) last walked;
@@ -305,7 +305,7 @@ module _ (P : Protocol) (table : List Term) where
       let later = numbers_of (flat_map in_order ds) in
       let numbers : numbers_of (in_order c ++ flat_map in_order ds) ≡ ns ++ later = flat_map-append terms_of (in_order c) (flat_map in_order ds) in
       let in_table : map meant (in_order c) ≡ facts_in_order (clause_meant c) = map-append meant c.hypotheses (c.conclusion ∷ []) in
-      let whole = ordered_total (clause_meant c) in
+      let whole = spelled_total (clause_meant c) one.is.diffs in
       let all_is = first.all in
       let counted : total fact_size (map meant (in_order c)) ≡ clause_size (clause_meant c) = ap (total fact_size) in_table ∙ whole in
       let sums : cut.value.walked.all ≡ xs.walked.all + clause_size (clause_meant c) = omega (arith, all_is, counted) in

@@ -12,7 +12,7 @@ use Rattle.spec_calculus.specs.Bounds.{most_symbols}
 use Rattle.spec_calculus.specs.Syntax.{Protocol}
 use Rattle.spec_protocol_tokens.specs.Bytes.{begins_word, is_in_word}
 use Rattle.spec_terms.specs.Term.{Term}
-use Rattle.spec_clauses.specs.Fact.{Fact, Att, Mess, Ev, Mev, Bad, terms_of, map_fact}
+use Rattle.spec_clauses.specs.Fact.{Fact, Att, Mess, Tab, Ev, Mev, Bad, terms_of, map_fact}
 use Rattle.spec_certificate_text.specs.Words.{event_word}
 use Rattle.spec_certificate_text.specs.Spelled.{IsWord, Stops}
 use Rattle.spec_certificate_text.specs.OfProtocol.{IsShort, IsEvent, HasNames}
@@ -26,7 +26,7 @@ use Rattle.spec_certificate_reading.proofs.Parts.{Finds, joined, when_true, when
 use Rattle.spec_certificate_reading.proofs.Called.{event_word_called}
 use Rattle.spec_node_tables.specs.Nodes.{term_at}
 use Rattle.spec_node_tables.specs.Text.{number_text, later_terms, terms_text, event_over, fact_over}
-use Rattle.spec_node_tables.specs.OfProtocol.{HasEvent}
+use Rattle.spec_node_tables.specs.OfProtocol.{HasPredicate}
 use Rattle.spec_node_tables.specs.Large.{most_certificate_symbols, is_over}
 use Rattle.spec_node_faults.specs.Clauses.{is_out_of_order}
 use Rattle.spec_node_faults.specs.Grammar.{MayBeHypothesis, MayBeConclusion}
@@ -156,8 +156,9 @@ module _ (P : Protocol) (names : HasNames P) (table : List Term) where
 
   -- symbols that stand before the terms of a fact
   abbrev pub signs : {X : Type 0} → Fact X → ℕ
-  signs (Att t) = 1
-  signs (Mess t u) = 1
+  signs (Att phase t) = 1
+  signs (Mess phase t u) = 1
+  signs (Tab n ts) = 2
   signs (Ev e ts) = 2
   signs (Mev e ts) = 2
   signs (Bad ts) = 1
@@ -172,16 +173,16 @@ module _ (P : Protocol) (names : HasNames P) (table : List Term) where
   abbrev pub read_as : Walked → Fact ℕ → Behind (Fact Term)
   read_as w f = with (map_fact (term_at table) f) (past_fact w f)
 
-  att_found : (w : Walked) (n : ℕ) (rest : List ℕ) (at : ℕ) → MayGo w (Att n) → Finds (read_att P table w (fact_over number_text P (Att n) rest) at) (read_as w (Att n)) rest
+  att_found : (w : Walked) (n : ℕ) (rest : List ℕ) (at : ℕ) → MayGo w (Att 0 n) → Finds (read_att P table w (fact_over number_text P (Att 0 n) rest) at) (read_as w (Att 0 n)) rest
   att_found w n rest at may =
       let v = with_signs 1 w in
       let t = term_at table n in
       let inner = decimal n ++ 41 ∷ rest in
-      joined (read_fixed (codes "att(") (codes "att(" ++ inner) at) (λ _ p r. next (one_term P table v r p) (λ x p r. next (read_fixed (codes ")") r p) (λ _ p r. Found (with (Att x.value) x.walked) p r))) tt inner (read_as w (Att n)) rest (fixed_found (codes "att(") inner at)
-      (λ p. joined (one_term P table v inner p) (λ x p r. next (read_fixed (codes ")") r p) (λ _ p r. Found (with (Att x.value) x.walked) p r)) (with t (with_term t v)) (41 ∷ rest) (read_as w (Att n)) rest (one_found v n 41 rest p may.0 may.1 refl)
-      (λ q. joined (read_fixed (codes ")") (41 ∷ rest) q) (λ _ p r. Found (with (Att t) (with_term t v)) p r) tt rest (read_as w (Att n)) rest (fixed_found (codes ")") rest q) (λ s. record { place = s; is = refl })))
+      joined (read_fixed (codes "att(") (codes "att(" ++ inner) at) (λ _ p r. next (one_term P table v r p) (λ x p r. next (read_fixed (codes ")") r p) (λ _ p r. Found (with (Att 0 x.value) x.walked) p r))) tt inner (read_as w (Att 0 n)) rest (fixed_found (codes "att(") inner at)
+      (λ p. joined (one_term P table v inner p) (λ x p r. next (read_fixed (codes ")") r p) (λ _ p r. Found (with (Att 0 x.value) x.walked) p r)) (with t (with_term t v)) (41 ∷ rest) (read_as w (Att 0 n)) rest (one_found v n 41 rest p may.0 may.1 refl)
+      (λ q. joined (read_fixed (codes ")") (41 ∷ rest) q) (λ _ p r. Found (with (Att 0 t) (with_term t v)) p r) tt rest (read_as w (Att 0 n)) rest (fixed_found (codes ")") rest q) (λ s. record { place = s; is = refl })))
 
-  mess_found : (w : Walked) (m n : ℕ) (rest : List ℕ) (at : ℕ) → MayGo w (Mess m n) → Finds (read_mess P table w (fact_over number_text P (Mess m n) rest) at) (read_as w (Mess m n)) rest
+  mess_found : (w : Walked) (m n : ℕ) (rest : List ℕ) (at : ℕ) → MayGo w (Mess 0 m n) → Finds (read_mess P table w (fact_over number_text P (Mess 0 m n) rest) at) (read_as w (Mess 0 m n)) rest
   mess_found w m n rest at may =
       let v = with_signs 1 w in
       let t = term_at table m in
@@ -190,14 +191,14 @@ module _ (P : Protocol) (names : HasNames P) (table : List Term) where
       let y = with_term u x in
       let second = decimal n ++ 41 ∷ rest in
       let first = decimal m ++ 44 ∷ second in
-      joined (read_fixed (codes "mess(") (codes "mess(" ++ first) at) (λ _ p r. next (one_term P table v r p) (λ a p r. next (read_fixed (codes ",") r p) (λ _ p r. next (one_term P table a.walked r p) (λ b p r. next (read_fixed (codes ")") r p) (λ _ p r. Found (with (Mess a.value b.value) b.walked) p r)))))
-      tt first (read_as w (Mess m n)) rest (fixed_found (codes "mess(") first at)
-      (λ p. joined (one_term P table v first p) (λ a p r. next (read_fixed (codes ",") r p) (λ _ p r. next (one_term P table a.walked r p) (λ b p r. next (read_fixed (codes ")") r p) (λ _ p r. Found (with (Mess a.value b.value) b.walked) p r))))
-      (with t x) (44 ∷ second) (read_as w (Mess m n)) rest (one_found v m 44 second p may.0 may.1 refl)
-      (λ q. joined (read_fixed (codes ",") (44 ∷ second) q) (λ _ p r. next (one_term P table x r p) (λ b p r. next (read_fixed (codes ")") r p) (λ _ p r. Found (with (Mess t b.value) b.walked) p r)))
-      tt second (read_as w (Mess m n)) rest (fixed_found (codes ",") second q)
-      (λ s. joined (one_term P table x second s) (λ b p r. next (read_fixed (codes ")") r p) (λ _ p r. Found (with (Mess t b.value) b.walked) p r)) (with u y) (41 ∷ rest) (read_as w (Mess m n)) rest (one_found x n 41 rest s may.2.0 may.2.1 refl)
-      (λ i. joined (read_fixed (codes ")") (41 ∷ rest) i) (λ _ p r. Found (with (Mess t u) y) p r) tt rest (read_as w (Mess m n)) rest (fixed_found (codes ")") rest i) (λ j. record { place = j; is = refl })))))
+      joined (read_fixed (codes "mess(") (codes "mess(" ++ first) at) (λ _ p r. next (one_term P table v r p) (λ a p r. next (read_fixed (codes ",") r p) (λ _ p r. next (one_term P table a.walked r p) (λ b p r. next (read_fixed (codes ")") r p) (λ _ p r. Found (with (Mess 0 a.value b.value) b.walked) p r)))))
+      tt first (read_as w (Mess 0 m n)) rest (fixed_found (codes "mess(") first at)
+      (λ p. joined (one_term P table v first p) (λ a p r. next (read_fixed (codes ",") r p) (λ _ p r. next (one_term P table a.walked r p) (λ b p r. next (read_fixed (codes ")") r p) (λ _ p r. Found (with (Mess 0 a.value b.value) b.walked) p r))))
+      (with t x) (44 ∷ second) (read_as w (Mess 0 m n)) rest (one_found v m 44 second p may.0 may.1 refl)
+      (λ q. joined (read_fixed (codes ",") (44 ∷ second) q) (λ _ p r. next (one_term P table x r p) (λ b p r. next (read_fixed (codes ")") r p) (λ _ p r. Found (with (Mess 0 t b.value) b.walked) p r)))
+      tt second (read_as w (Mess 0 m n)) rest (fixed_found (codes ",") second q)
+      (λ s. joined (one_term P table x second s) (λ b p r. next (read_fixed (codes ")") r p) (λ _ p r. Found (with (Mess 0 t b.value) b.walked) p r)) (with u y) (41 ∷ rest) (read_as w (Mess 0 m n)) rest (one_found x n 41 rest s may.2.0 may.2.1 refl)
+      (λ i. joined (read_fixed (codes ")") (41 ∷ rest) i) (λ _ p r. Found (with (Mess 0 t u) y) p r) tt rest (read_as w (Mess 0 m n)) rest (fixed_found (codes ")") rest i) (λ j. record { place = j; is = refl })))))
 
   performed_found : (word : List ℕ) (fact : ℕ → List Term → Fact Term) (w : Walked) (e : ℕ) (ns rest : List ℕ) (at : ℕ) → IsEvent P e (length ns) → MayFollowAll table (with_signs 2 w) ns
       → Finds (read_performed P table word fact w (word ++ event_over number_text P e ns (41 ∷ rest)) at) (with (fact e (map (term_at table) ns)) (past_all (with_signs 2 w) ns)) rest
@@ -235,16 +236,22 @@ module _ (P : Protocol) (names : HasNames P) (table : List Term) where
       (λ p. when_false (front inner == 41) (next (read_fixed (codes ")") inner p) (λ _ p r. Found (with (Bad []) v) p r)) (next (read_terms P table v inner p) (λ x p r. Found (with (Bad x.value) x.walked) p r)) (read_as w (Bad (n ∷ ns))) rest (number_front n (later_terms number_text P ns (41 ∷ rest)) may.0)
       (joined (read_terms P table v inner p) (λ x p r. Found (with (Bad x.value) x.walked) p r) (with (map (term_at table) (n ∷ ns)) (past_all v (n ∷ ns))) rest (read_as w (Bad (n ∷ ns))) rest (terms_found v n ns rest p may) (λ q. record { place = q; is = refl })))
 
-  pub hypothesis_found : (w : Walked) (f : Fact ℕ) (rest : List ℕ) (at : ℕ) → HasEvent P f → MayBeHypothesis f → MayGo w f → Finds (read_hypothesis P table w (fact_over number_text P f rest) at) (read_as w f) rest
-  hypothesis_found w (Att n) rest at has may go = att_found w n rest at go
-  hypothesis_found w (Mess m n) rest at has may go = mess_found w m n rest at go
+  pub hypothesis_found : (w : Walked) (f : Fact ℕ) (rest : List ℕ) (at : ℕ) → HasPredicate P f → MayBeHypothesis f → MayGo w f → Finds (read_hypothesis P table w (fact_over number_text P f rest) at) (read_as w f) rest
+  hypothesis_found w (Att zero n) rest at has may go = att_found w n rest at go
+  hypothesis_found w (Mess zero m n) rest at has may go = mess_found w m n rest at go
+  hypothesis_found w (Att (suc k) n) rest at has may go = absurd has
+  hypothesis_found w (Mess (suc k) m n) rest at has may go = absurd has
+  hypothesis_found w (Tab n ns) rest at has may go = absurd has
   hypothesis_found w (Ev e ns) rest at has may go = performed_found (codes "ev(") (λ e ts. Ev e ts) w e ns rest at has go
   hypothesis_found w (Mev e ns) rest at has may go = performed_found (codes "mev(") (λ e ts. Mev e ts) w e ns rest at has go
   hypothesis_found w (Bad ns) rest at has may go = absurd may
 
-  pub conclusion_found : (w : Walked) (f : Fact ℕ) (rest : List ℕ) (at : ℕ) → HasEvent P f → MayBeConclusion f → MayGo w f → Finds (read_conclusion P table w (fact_over number_text P f rest) at) (read_as w f) rest
-  conclusion_found w (Att n) rest at has may go = att_found w n rest at go
-  conclusion_found w (Mess m n) rest at has may go = mess_found w m n rest at go
+  pub conclusion_found : (w : Walked) (f : Fact ℕ) (rest : List ℕ) (at : ℕ) → HasPredicate P f → MayBeConclusion f → MayGo w f → Finds (read_conclusion P table w (fact_over number_text P f rest) at) (read_as w f) rest
+  conclusion_found w (Att zero n) rest at has may go = att_found w n rest at go
+  conclusion_found w (Mess zero m n) rest at has may go = mess_found w m n rest at go
+  conclusion_found w (Att (suc k) n) rest at has may go = absurd has
+  conclusion_found w (Mess (suc k) m n) rest at has may go = absurd has
+  conclusion_found w (Tab n ns) rest at has may go = absurd has
   conclusion_found w (Ev e ns) rest at has may go = performed_found (codes "ev(") (λ e ts. Ev e ts) w e ns rest at has go
   conclusion_found w (Mev e ns) rest at has may go = absurd may
   conclusion_found w (Bad ns) rest at has may go = bad_found w ns rest at go

@@ -266,7 +266,7 @@ module _ (P : Protocol) (table : List Term) where
     pub all : x.walked.all ≡ w.all + fact_size x.value
     pub may : May x.value
 
-  att_there : (May : Fact Term → Type 0) → ((t : Term) → May (Att t)) → (w : Walked) (bytes : List ℕ) (at : ℕ) (x : Behind (Fact Term)) (p : ℕ) (r : List ℕ) → read_att P table w bytes at ≡ Found x p r → FactThere May w bytes x r
+  att_there : (May : Fact Term → Type 0) → ((t : Term) → May (Att 0 t)) → (w : Walked) (bytes : List ℕ) (at : ℕ) (x : Behind (Fact Term)) (p : ℕ) (r : List ℕ) → read_att P table w bytes at ≡ Found x p r → FactThere May w bytes x r
   att_there May may w bytes at x p r e =
       let begin = parts (read_fixed (codes "att(") bytes at) _ x p r e in
       let opens = fixed_there (codes "att(") bytes at begin.value begin.place begin.rest begin.first in
@@ -274,15 +274,15 @@ module _ (P : Protocol) (table : List Term) where
       let one = one_there (with_signs 1 w) begin.rest begin.place cut.value cut.place cut.rest cut.first in
       let end = parts (read_fixed (codes ")") cut.rest cut.place) _ x p r cut.later in
       let closes = fixed_there (codes ")") cut.rest cut.place end.value end.place end.rest end.first in
-      let last : with (Att cut.value.value) cut.value.walked ≡ x = cc in
+      let last : with (Att 0 cut.value.value) cut.value.walked ≡ x = cc in
       let rests : end.rest ≡ r = cc in
       let n = one.number in
       let t = term_at table n in
       let so = one.is in
-      let whole : with (Att t) (with_term t (with_signs 1 w)) ≡ x = ap (λ y. with (Att y.value) y.walked) so ∙ last in
+      let whole : with (Att 0 t) (with_term t (with_signs 1 w)) ≡ x = ap (λ y. with (Att 0 y.value) y.walked) so ∙ last in
       let through = through_more (with_signs 1 w) (with_term t (with_signs 1 w)) n [] one.order one.small one.together (through_none (with_term t (with_signs 1 w))) in
       subst (λ y. FactThere May w bytes y r) whole record {
-        numbered = Att n;
+        numbered = Att 0 n;
         meant = refl;
         is = (tt, (one.short, tt));
         text = opens ∙ ap (λ s. codes "att(" ++ s) (one.text ∙ ap (λ s. decimal n ++ s) (closes ∙ ap (λ s. 41 ∷ s) rests));
@@ -296,10 +296,10 @@ module _ (P : Protocol) (table : List Term) where
       }
 
   -- two numbers that may follow one another
-  mess_of : (May : Fact Term → Type 0) → ((t u : Term) → May (Mess t u)) → (w : Walked) (bytes : List ℕ) (x : Behind (Fact Term)) (r : List ℕ)
+  mess_of : (May : Fact Term → Type 0) → ((t u : Term) → May (Mess 0 t u)) → (w : Walked) (bytes : List ℕ) (x : Behind (Fact Term)) (r : List ℕ)
       → (m : ℕ) → IsShort m → is_out_of_order table w.seen m ≡ false → w.clause + 1 + size (term_at table m) ≤ most_symbols → w.all + 1 + size (term_at table m) ≤ most_certificate_symbols
       → (y z : Behind Term) (n : ℕ) → IsShort n → with (term_at table m) (with_term (term_at table m) (with_signs 1 w)) ≡ y → is_out_of_order table y.walked.seen n ≡ false → y.walked.clause + size (term_at table n) ≤ most_symbols → y.walked.all + size (term_at table n) ≤ most_certificate_symbols
-      → with (term_at table n) (with_term (term_at table n) y.walked) ≡ z → bytes ≡ codes "mess(" ++ (decimal m ++ (44 ∷ (decimal n ++ (41 ∷ r)))) → with (Mess y.value z.value) z.walked ≡ x → FactThere May w bytes x r
+      → with (term_at table n) (with_term (term_at table n) y.walked) ≡ z → bytes ≡ codes "mess(" ++ (decimal m ++ (44 ∷ (decimal n ++ (41 ∷ r)))) → with (Mess 0 y.value z.value) z.walked ≡ x → FactThere May w bytes x r
   mess_of May may w bytes x r m short order small together y z n short_n first order_n small_n together_n second text last =
       let t = term_at table m in
       let u = term_at table n in
@@ -309,9 +309,9 @@ module _ (P : Protocol) (table : List Term) where
       let fits : v.clause + size u ≤ most_symbols = subst (λ b. b.walked.clause + size u ≤ most_symbols) (sym first) small_n in
       let all_fit : v.all + size u ≤ most_certificate_symbols = subst (λ b. b.walked.all + size u ≤ most_certificate_symbols) (sym first) together_n in
       let through = through_more (with_signs 1 w) end m (n ∷ []) order small together (through_more v end n [] ordered fits all_fit (through_none end)) in
-      let whole : with (Mess t u) end ≡ x = ap (λ b. with (Mess b.value u) (with_term u b.walked)) first ∙ (ap (λ b. with (Mess y.value b.value) b.walked) second ∙ last) in
+      let whole : with (Mess 0 t u) end ≡ x = ap (λ b. with (Mess 0 b.value u) (with_term u b.walked)) first ∙ (ap (λ b. with (Mess 0 y.value b.value) b.walked) second ∙ last) in
       subst (λ b. FactThere May w bytes b r) whole record {
-        numbered = Mess m n;
+        numbered = Mess 0 m n;
         meant = refl;
         is = (tt, (short, (short_n, tt)));
         text = text;
@@ -324,7 +324,7 @@ module _ (P : Protocol) (table : List Term) where
         may = may t u;
       }
 
-  mess_there : (May : Fact Term → Type 0) → ((t u : Term) → May (Mess t u)) → (w : Walked) (bytes : List ℕ) (at : ℕ) (x : Behind (Fact Term)) (p : ℕ) (r : List ℕ) → read_mess P table w bytes at ≡ Found x p r → FactThere May w bytes x r
+  mess_there : (May : Fact Term → Type 0) → ((t u : Term) → May (Mess 0 t u)) → (w : Walked) (bytes : List ℕ) (at : ℕ) (x : Behind (Fact Term)) (p : ℕ) (r : List ℕ) → read_mess P table w bytes at ≡ Found x p r → FactThere May w bytes x r
   mess_there May may w bytes at x p r e =
       let begin = parts (read_fixed (codes "mess(") bytes at) _ x p r e in
       let opens = fixed_there (codes "mess(") bytes at begin.value begin.place begin.rest begin.first in
@@ -336,8 +336,8 @@ module _ (P : Protocol) (table : List Term) where
       let two = one_there cut.value.walked comma.rest comma.place again.value again.place again.rest again.first in
       let end = parts (read_fixed (codes ")") again.rest again.place) _ x p r again.later in
       let closes = fixed_there (codes ")") again.rest again.place end.value end.place end.rest end.first in
-      let last = found_value (with (Mess cut.value.value again.value.value) again.value.walked) x end.place p end.rest r end.later in
-      let rests = found_rest (with (Mess cut.value.value again.value.value) again.value.walked) x end.place p end.rest r end.later in
+      let last = found_value (with (Mess 0 cut.value.value again.value.value) again.value.walked) x end.place p end.rest r end.later in
+      let rests = found_rest (with (Mess 0 cut.value.value again.value.value) again.value.walked) x end.place p end.rest r end.later in
       let text = opens ∙ ap (λ s. codes "mess(" ++ s) (one.text ∙ ap (λ s. decimal one.number ++ s) (commas ∙ ap (λ s. 44 ∷ s) (two.text ∙ ap (λ s. decimal two.number ++ s) (closes ∙ ap (λ s. 41 ∷ s) rests)))) in
       mess_of May may w bytes x r one.number one.short one.order one.small one.together cut.value again.value two.number two.short one.is two.order two.small two.together two.is text last
 

@@ -8,14 +8,14 @@ use Rattle.spec_trees.specs.Tree.{size}
 use Rattle.spec_calculus.specs.Bounds.{most_symbols}
 use Rattle.spec_calculus.specs.Syntax.{Protocol}
 use Rattle.spec_terms.specs.Term.{Term}
-use Rattle.spec_clauses.specs.Fact.{Fact, Att, Mess, Ev, Mev, Bad, Clause, terms_of, map_fact, map_clause, total, fact_size, clause_size}
+use Rattle.spec_clauses.specs.Fact.{Fact, Att, Mess, Tab, Ev, Mev, Bad, Clause, terms_of, map_fact, map_clause, total, fact_size, clause_size}
 use Rattle.spec_clauses.proofs.Lists.{all_append, all_first, all_second}
 use Rattle.spec_certificate_text.specs.OfProtocol.{IsShort, HasNames}
 use Rattle.spec_node_tables.specs.Table.{facts_in_order}
 use Rattle.spec_node_tables.specs.Nodes.{term_at}
 use Rattle.spec_node_tables.specs.OfProtocol.{IsFactOver, IsClauseOver}
 use Rattle.spec_node_tables.specs.Large.{most_certificate_symbols, up_to_terms, up_to_fact, up_to_facts, up_to_clauses, AreUpTo}
-use Rattle.spec_node_tables.proofs.Sizes.{ordered_total}
+use Rattle.spec_node_tables.proofs.Sizes.{spelled_total}
 use Rattle.spec_node_faults.specs.Grammar.{MayBeHypothesis, MayBeConclusion, StandsRight}
 use Rattle.spec_node_faults.proofs.Items.{in_order}
 use Rattle.spec_node_faults.proofs.Orders.{InOrder}
@@ -63,8 +63,9 @@ module _ (P : Protocol) (names : HasNames P) (table : List Term) where
   -- Facts.
 
   fact_goes : (w : Walked) (g : Fact ℕ) → AllByRecursion IsShort (terms_of g) → InOrder table w.seen (terms_of g) → AreUpTo most_symbols (up_to_fact w.clause (meant g)) → AreUpTo most_certificate_symbols (up_to_fact w.all (meant g)) → MayGo P names table w g
-  fact_goes w (Att n) short order small together = numbers_go (with_signs 1 w) (n ∷ []) short order small together
-  fact_goes w (Mess m n) short order small together = numbers_go (with_signs 1 w) (m ∷ n ∷ []) short order small together
+  fact_goes w (Att phase n) short order small together = numbers_go (with_signs 1 w) (n ∷ []) short order small together
+  fact_goes w (Mess phase m n) short order small together = numbers_go (with_signs 1 w) (m ∷ n ∷ []) short order small together
+  fact_goes w (Tab n ns) short order small together = numbers_go (with_signs 2 w) ns short order small together
   fact_goes w (Ev e ns) short order small together = numbers_go (with_signs 2 w) ns short order small together
   fact_goes w (Mev e ns) short order small together = numbers_go (with_signs 2 w) ns short order small together
   fact_goes w (Bad ns) short order small together = numbers_go (with_signs 1 w) ns short order small together
@@ -73,8 +74,9 @@ module _ (P : Protocol) (names : HasNames P) (table : List Term) where
   fact_seen w g = all_seen (with_signs (signs P names table g) w) (terms_of g)
 
   sized : (g : Fact ℕ) → signs P names table g + total size (terms_at (terms_of g)) ≡ fact_size (meant g)
-  sized (Att n) = omega arith
-  sized (Mess m n) = omega arith
+  sized (Att phase n) = omega arith
+  sized (Mess phase m n) = omega arith
+  sized (Tab n ns) = refl
   sized (Ev e ns) = refl
   sized (Mev e ns) = refl
   sized (Bad ns) = refl
@@ -136,15 +138,17 @@ module _ (P : Protocol) (names : HasNames P) (table : List Term) where
 
   supposed : (gs : List (Fact ℕ)) → AllByRecursion MayBeHypothesis (map meant gs) → AreHypotheses P names table gs
   supposed [] may = tt
-  supposed (Att n ∷ gs) may = (tt, supposed gs may.1)
-  supposed (Mess m n ∷ gs) may = (tt, supposed gs may.1)
+  supposed (Att phase n ∷ gs) may = (tt, supposed gs may.1)
+  supposed (Mess phase m n ∷ gs) may = (tt, supposed gs may.1)
+  supposed (Tab n ns ∷ gs) may = (tt, supposed gs may.1)
   supposed (Ev e ns ∷ gs) may = (tt, supposed gs may.1)
   supposed (Mev e ns ∷ gs) may = (tt, supposed gs may.1)
   supposed (Bad ns ∷ gs) may = absurd may.0
 
   concluded : (g : Fact ℕ) → MayBeConclusion (meant g) → MayBeConclusion g
-  concluded (Att n) may = tt
-  concluded (Mess m n) may = tt
+  concluded (Att phase n) may = tt
+  concluded (Mess phase m n) may = tt
+  concluded (Tab n ns) may = tt
   concluded (Ev e ns) may = tt
   concluded (Mev e ns) may = absurd may
   concluded (Bad ns) may = tt
@@ -161,6 +165,7 @@ module _ (P : Protocol) (names : HasNames P) (table : List Term) where
         event = last.0;
         conclusion = last.1;
         is = concluded c.conclusion right.conclusion;
+        diffs = is.diffs;
       }
 
   clause_past : (w : Walked) (c : Clause ℕ) → past_clause P names table w c ≡ past_facts P names table (next_clause w) (in_order c)
@@ -169,8 +174,8 @@ module _ (P : Protocol) (names : HasNames P) (table : List Term) where
   clause_seen : (w : Walked) (c : Clause ℕ) → (past_clause P names table w c).seen ≡ w.seen ++ terms_at (numbers_of (in_order c))
   clause_seen w c = ap (λ v. v.seen) (clause_past w c) ∙ facts_seen (next_clause w) (in_order c)
 
-  clause_symbols : (w : Walked) (c : Clause ℕ) → (past_clause P names table w c).all ≡ w.all + clause_size (clause_meant c)
-  clause_symbols w c = ap (λ v. v.all) (clause_past w c) ∙ (facts_symbols (next_clause w) (in_order c) ∙ (ap (λ fs. w.all + total fact_size fs) (all_facts c) ∙ ap (λ n. w.all + n) (ordered_total (clause_meant c))))
+  clause_symbols : (w : Walked) (c : Clause ℕ) → c.diffs ≡ [] → (past_clause P names table w c).all ≡ w.all + clause_size (clause_meant c)
+  clause_symbols w c none = ap (λ v. v.all) (clause_past w c) ∙ (facts_symbols (next_clause w) (in_order c) ∙ (ap (λ fs. w.all + total fact_size fs) (all_facts c) ∙ ap (λ n. w.all + n) (spelled_total (clause_meant c) none)))
 
   pub clauses_go : (w : Walked) (cs : List (Clause ℕ)) → AllByRecursion (IsClauseOver IsShort P) cs → AllByRecursion StandsRight (map clause_meant cs) → InOrder table w.seen (numbers_of (flat_map in_order cs))
       → AllByRecursion (λ c. AreUpTo most_symbols (up_to_facts 0 (facts_in_order c))) (map clause_meant cs) → AreUpTo most_certificate_symbols (up_to_clauses w.all (map clause_meant cs)) → ClausesGo P names table w cs
@@ -184,7 +189,7 @@ module _ (P : Protocol) (names : HasNames P) (table : List Term) where
         clause_goes w c are.0 right.0 (order_first w.seen ms ns parted) small.0 (all_first (λ n. n ≤ most_certificate_symbols) first later together),
         clauses_go (past_clause P names table w c) cs are.1 right.1
             (subst (λ us. InOrder table us ns) (sym (clause_seen w c)) (order_second w.seen ms ns parted)) small.1
-            (subst (λ n. AreUpTo most_certificate_symbols (up_to_clauses n (map clause_meant cs))) (sym (clause_symbols w c)) (all_second (λ n. n ≤ most_certificate_symbols) first later together)),
+            (subst (λ n. AreUpTo most_certificate_symbols (up_to_clauses n (map clause_meant cs))) (sym (clause_symbols w c are.0.diffs)) (all_second (λ n. n ≤ most_certificate_symbols) first later together)),
       )
 
   pub clauses_seen : (w : Walked) (cs : List (Clause ℕ)) → (past_clauses P names table w cs).seen ≡ w.seen ++ terms_at (numbers_of (flat_map in_order cs))

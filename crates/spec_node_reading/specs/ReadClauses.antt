@@ -1,4 +1,4 @@
--- Reading clauses by numbers, where the table has these terms.
+-- Reading clauses by numbers, where the table has these terms: facts of phase 0 and of no table, and no constraints.
 use Rattle.std.specs.Prelude.{ℕ, suc, ◌+◌, ◌==◌, ◌||◌, if◌then◌else◌, List, [], ◌∷◌, ◌++◌, length, take, drop, Option, Some, None, codes}
 use Rattle.std.specs.List.{prefix_len}
 use Rattle.spec_trees.specs.Tree.{size}
@@ -58,7 +58,7 @@ module _ (P : Protocol) (table : List Term) where
   read_att w bytes at =
       next (read_fixed (codes "att(") bytes at) (λ _ p r.
       next (one_term (with_signs 1 w) r p) (λ x p r.
-      next (read_fixed (codes ")") r p) (λ _ p r. Found (with (Att x.value) x.walked) p r)))
+      next (read_fixed (codes ")") r p) (λ _ p r. Found (with (Att 0 x.value) x.walked) p r)))
 
   abbrev pub read_mess : Walked → Reader (Behind (Fact Term))
   read_mess w bytes at =
@@ -66,7 +66,7 @@ module _ (P : Protocol) (table : List Term) where
       next (one_term (with_signs 1 w) r p) (λ x p r.
       next (read_fixed (codes ",") r p) (λ _ p r.
       next (one_term x.walked r p) (λ y p r.
-      next (read_fixed (codes ")") r p) (λ _ p r. Found (with (Mess x.value y.value) y.walked) p r)))))
+      next (read_fixed (codes ")") r p) (λ _ p r. Found (with (Mess 0 x.value y.value) y.walked) p r)))))
 
   abbrev pub read_performed : List ℕ → (ℕ → List Term → Fact Term) → Walked → Reader (Behind (Fact Term))
   read_performed word fact w bytes at =
@@ -110,4 +110,4 @@ module _ (P : Protocol) (table : List Term) where
       next (read_premises (next_clause before.walked) r p) (λ hs p r.
       next (read_conclusion hs.walked r p) (λ f p r.
       next (read_fixed (codes "\n") r p) (λ _ p r.
-      Found (with (before.value ++ record { hypotheses = hs.value; conclusion = f.value } ∷ []) f.walked) p r))))
+      Found (with (before.value ++ record { hypotheses = hs.value; diffs = []; conclusion = f.value } ∷ []) f.walked) p r))))

@@ -4,7 +4,7 @@ use Rattle.std.specs.Prelude.{codes}
 use Rattle.spec_trees.specs.Tree.{trees}
 use Rattle.spec_calculus.specs.Syntax.{Protocol}
 use Rattle.spec_terms.specs.Term.{Term}
-use Rattle.spec_clauses.specs.Fact.{Fact, Att, Mess, Ev, Mev, Bad, Clause}
+use Rattle.spec_clauses.specs.Fact.{Fact, Att, Mess, Tab, Ev, Mev, Bad, Clause}
 use Rattle.spec_certificate_text.specs.Loose.{row, behind}
 use Rattle.spec_certificate_text.specs.Words.{event_word}
 use Rattle.spec_certificate_text.specs.Written.{written_row}
@@ -22,8 +22,9 @@ module _ (P : Protocol) where
   terms_alike (t ∷ ts) k = ap (λ r. term_text P t r) (later_alike ts k)
 
   pub fact_alike : (f : Fact Term) (k : List ℕ) → fact_text P f k ≡ fact_over (term_text P) P f k
-  fact_alike (Att t) k = refl
-  fact_alike (Mess t u) k = refl
+  fact_alike (Att phase t) k = refl
+  fact_alike (Mess phase t u) k = refl
+  fact_alike (Tab n ts) k = ap (λ r. codes "tab(" ++ r) (terms_alike ts (41 ∷ k))
   fact_alike (Ev e []) k = refl
   fact_alike (Ev e (t ∷ ts)) k = ap (λ r. codes "ev(" ++ (event_word P e ++ (40 ∷ r))) (terms_alike (t ∷ ts) (41 ∷ 41 ∷ k))
   fact_alike (Mev e []) k = refl

@@ -67,7 +67,7 @@ module _ (ts : List Term) where
   clause_back c stand =
       let hypotheses = facts_back c.hypotheses (all_first (λ f. AllByRecursion (Has ts) (terms_of f)) c.hypotheses (c.conclusion ∷ []) stand) in
       let conclusion = fact_back c.conclusion (all_second (λ f. AllByRecursion (Has ts) (terms_of f)) c.hypotheses (c.conclusion ∷ []) stand).0 in
-      λ i. record { hypotheses = hypotheses i; conclusion = conclusion i }
+      λ i. record { hypotheses = hypotheses i; diffs = c.diffs; conclusion = conclusion i }
 
   clauses_back : (cs : List (Clause Term)) → AllByRecursion (λ c. AllByRecursion (λ f. AllByRecursion (Has ts) (terms_of f)) (facts_in_order c)) cs → map (map_clause (term_at ts)) (map (map_clause (number_in ts)) cs) ≡ cs
   clauses_back cs stand = mapped_back (map_clause (term_at ts)) (map_clause (number_in ts)) cs

@@ -1,5 +1,5 @@
 -- Certificates by numbers are told apart by their texts, and so are the certificates that they are made of.
-use Rattle.std.proofs.Common.{◌≡◌, ℕ, ◌<◌, Bool, true, false, ◌||◌, ◌==◌, List, [], ◌∷◌, ◌++◌, map, length, refl, sym, ◌∙◌, ap, subst, arith}
+use Rattle.std.proofs.Common.{◌≡◌, ℕ, zero, suc, ◌<◌, Bool, true, false, ◌||◌, ◌==◌, List, [], ◌∷◌, ◌++◌, map, length, refl, sym, ◌∙◌, ap, subst, arith}
 use Rattle.std.specs.Prelude.{codes}
 use Rattle.std.specs.Char.{is_ascii_digit}
 use Rattle.std.specs.Int.{is_in_range}
@@ -11,7 +11,7 @@ use Rattle.spec_trees.specs.Tree.{Trees, Leaf, Node, none, more, trees, items_of
 use Rattle.spec_trees.proofs.Rows.{items_of-trees}
 use Rattle.spec_calculus.specs.Syntax.{Protocol}
 use Rattle.spec_terms.specs.Term.{Sym, Term}
-use Rattle.spec_clauses.specs.Fact.{Fact, Att, Mess, Ev, Mev, Bad, Clause, terms_of, map_fact, map_clause}
+use Rattle.spec_clauses.specs.Fact.{Fact, Att, Mess, Tab, Ev, Mev, Bad, Clause, terms_of, map_fact, map_clause}
 use Rattle.spec_clauses.specs.Inclusion.{Has}
 use Rattle.spec_clauses.proofs.Lists.{all_append, all_first, all_second, all_weaker, all-flat_map}
 use Rattle.spec_clauses.proofs.Inclusion.{all_has}
@@ -26,7 +26,7 @@ use Rattle.spec_certificate_text.proofs.Clauses.{Same, certificate_apart}
 use Rattle.spec_node_tables.specs.Table.{facts_in_order, terms_in_order, table, number_in, arguments_of, IsSubterm, itself, of_argument}
 use Rattle.spec_node_tables.specs.Nodes.{NodeCertificate, node_of, with_nodes, without_nodes}
 use Rattle.spec_node_tables.specs.Text.{number_text, clause_lines_over, node_lines, numbered_text, text_with_nodes}
-use Rattle.spec_node_tables.specs.OfProtocol.{IsNodeOf, HasEvent, IsFactOver, IsClauseOver, IsNodeCertificateOf}
+use Rattle.spec_node_tables.specs.OfProtocol.{IsNodeOf, HasPredicate, IsFactOver, IsClauseOver, IsNodeCertificateOf}
 use Rattle.spec_node_tables.proofs.Walks.{table_has}
 use Rattle.spec_node_tables.proofs.Numbers.{place_within}
 use Rattle.spec_node_tables.proofs.Back.{all_there, terms_stand, certificate_back}
@@ -127,8 +127,11 @@ subterm_is P itself is = is
 subterm_is P (of_argument {u = u} {v = v} has within) is = subterm_is P within (all_has (IsTermOf P) (arguments_of v) u (arguments_are P v is) has)
 
 fact_terms_are : (P : Protocol) (f : Fact Term) → IsFactOf P f → AllByRecursion (IsTermOf P) (terms_of f)
-fact_terms_are P (Att t) is = (is, tt)
-fact_terms_are P (Mess t u) is = (is.0, (is.1, tt))
+fact_terms_are P (Att zero t) is = (is, tt)
+fact_terms_are P (Att (suc k) t) is = absurd is
+fact_terms_are P (Mess zero t u) is = (is.0, (is.1, tt))
+fact_terms_are P (Mess (suc k) t u) is = absurd is
+fact_terms_are P (Tab n ts) is = absurd is
 fact_terms_are P (Ev e ts) is = terms_are P ts is.1
 fact_terms_are P (Mev e ts) is = terms_are P ts is.1
 fact_terms_are P (Bad ts) is = terms_are P ts is
@@ -169,16 +172,19 @@ module _ (P : Protocol) (cs : List (Clause Term)) (are : AllByRecursion (IsClaus
         mapped_all (Has (table cs)) IsShort (number_in (table cs)) number_short (items_of args) stand,
       )
 
-  event_is : (f : Fact Term) → IsFactOf P f → HasEvent P (map_fact (number_in (table cs)) f)
-  event_is (Att t) is = tt
-  event_is (Mess t u) is = tt
-  event_is (Ev e ts) is = subst (IsEvent P e) (sym (length-map ts (number_in (table cs)))) is.0
-  event_is (Mev e ts) is = subst (IsEvent P e) (sym (length-map ts (number_in (table cs)))) is.0
-  event_is (Bad ts) is = tt
+  predicate_is : (f : Fact Term) → IsFactOf P f → HasPredicate P (map_fact (number_in (table cs)) f)
+  predicate_is (Att zero t) is = tt
+  predicate_is (Att (suc k) t) is = absurd is
+  predicate_is (Mess zero t u) is = tt
+  predicate_is (Mess (suc k) t u) is = absurd is
+  predicate_is (Tab n ts) is = absurd is
+  predicate_is (Ev e ts) is = subst (IsEvent P e) (sym (length-map ts (number_in (table cs)))) is.0
+  predicate_is (Mev e ts) is = subst (IsEvent P e) (sym (length-map ts (number_in (table cs)))) is.0
+  predicate_is (Bad ts) is = tt
 
   fact_is : (f : Fact Term) → IsFactOf P f → AllByRecursion (Has (table cs)) (terms_of f) → IsFactOver IsShort P (map_fact (number_in (table cs)) f)
   fact_is f is stand =
-      (event_is f is, subst (AllByRecursion IsShort) (sym (terms_of-map (number_in (table cs)) f)) (mapped_all (Has (table cs)) IsShort (number_in (table cs)) number_short (terms_of f) stand))
+      (predicate_is f is, subst (AllByRecursion IsShort) (sym (terms_of-map (number_in (table cs)) f)) (mapped_all (Has (table cs)) IsShort (number_in (table cs)) number_short (terms_of f) stand))
 
   facts_are : (fs : List (Fact Term)) → AllByRecursion (IsFactOf P) fs → AllByRecursion (λ f. AllByRecursion (Has (table cs)) (terms_of f)) fs → AllByRecursion (IsFactOver IsShort P) (map (map_fact (number_in (table cs))) fs)
   facts_are [] is stand = tt
@@ -189,6 +195,7 @@ module _ (P : Protocol) (cs : List (Clause Term)) (are : AllByRecursion (IsClaus
   clauses_are (d ∷ ds) is stand = (
     record {
       hypotheses = facts_are d.hypotheses is.0.hypotheses (all_first (λ f. AllByRecursion (Has (table cs)) (terms_of f)) d.hypotheses (d.conclusion ∷ []) stand.0);
+      diffs = is.0.diffs;
       conclusion = fact_is d.conclusion is.0.conclusion (all_second (λ f. AllByRecursion (Has (table cs)) (terms_of f)) d.hypotheses (d.conclusion ∷ []) stand.0).0;
     },
     clauses_are ds is.1 stand.1,

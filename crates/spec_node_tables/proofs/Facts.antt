@@ -1,12 +1,12 @@
 -- Facts and clauses are told apart by their texts, where their terms are: terms with texts of their own, or numbers.
-use Rattle.std.proofs.Common.{◌≡◌, ℕ, false, List, [], ◌∷◌, ◌++◌, length, get_or, refl, sym, ◌∙◌, ap, arith}
+use Rattle.std.proofs.Common.{◌≡◌, ℕ, zero, suc, false, List, [], ◌∷◌, ◌++◌, length, get_or, refl, sym, ◌∙◌, ap, arith}
 use Rattle.std.specs.Prelude.{codes}
 use Rattle.std.specs.List.{AllByRecursion}
 use Rattle.std.proofs.lemmas.List.{append_cancel_left}
 use Rattle.spec_calculus.specs.Syntax.{Protocol}
 use Rattle.spec_protocol_tokens.specs.Bytes.{is_in_word}
 use Rattle.spec_well_formed.specs.Words as declared
-use Rattle.spec_clauses.specs.Fact.{Fact, Att, Mess, Ev, Mev, Bad, Clause}
+use Rattle.spec_clauses.specs.Fact.{Fact, Att, Mess, Tab, Ev, Mev, Bad, Clause}
 use Rattle.spec_certificate_text.specs.Words.{event_word}
 use Rattle.spec_certificate_text.specs.Spelled.{Stops, goes_on}
 use Rattle.spec_certificate_text.specs.OfProtocol.{IsEvent, HasNames}
@@ -22,10 +22,11 @@ pub record TellsTerms {X : Type 0} (one : X → List ℕ → List ℕ) (Is : X �
   pub apart : (x y : X) (k l : List ℕ) → Is x → Is y → Stops goes_on k → Stops goes_on l → one x k ≡ one y l → Same x y k l
   pub begins : (x : X) (k : List ℕ) (b : ℕ) (rest : List ℕ) → Is x → goes_on b ≡ false → one x k ≡ b ∷ rest → ⊥
 
--- a fact's predicate by the third byte of its text: `t` of `att`, `s` of `mess`, `(` of `ev`, `v` of `mev`, `d` of `bad`
+-- a fact's predicate by the third byte of its text: `t` of `att`, `s` of `mess`, `b` of `tab`, `(` of `ev`, `v` of `mev`, `d` of `bad`
 third : {X : Type 0} → Fact X → ℕ
-third (Att t) = 116
-third (Mess t u) = 115
+third (Att phase t) = 116
+third (Mess phase t u) = 115
+third (Tab n ts) = 98
 third (Ev e ts) = 40
 third (Mev e ts) = 118
 third (Bad ts) = 100
@@ -100,19 +101,20 @@ module _ {X : Type 0} (one : X → List ℕ → List ℕ) (Is : X → Type 0) (t
 
   third_byte : (f : Fact X) (k : List ℕ) → get_or (fact_over one P f k) 2 0 ≡ third f
   unfolding third
-  third_byte (Att t) k = refl
-  third_byte (Mess t u) k = refl
+  third_byte (Att phase t) k = refl
+  third_byte (Mess phase t u) k = refl
+  third_byte (Tab n ts) k = refl
   third_byte (Ev e ts) k = refl
   third_byte (Mev e ts) k = refl
   third_byte (Bad ts) k = refl
 
   facts_apart : (f g : Fact X) (k l : List ℕ) → third f ≡ third g → IsFactOver Is P f → IsFactOver Is P g → fact_over one P f k ≡ fact_over one P g l → Same f g k l
   unfolding third
-  facts_apart (Att t) (Att u) k l thirds is_f is_g e =
+  facts_apart (Att zero t) (Att zero u) k l thirds is_f is_g e =
       let inside = terms_apart (t ∷ []) (u ∷ []) k l is_f.1 is_g.1 (append_cancel_left (codes "att(") (terms_text one P (t ∷ []) (41 ∷ k)) (terms_text one P (u ∷ []) (41 ∷ l)) e) in
       let items : t ∷ [] ≡ u ∷ [] = inside.thing in
       record { thing = cc; rest = inside.rest }
-  facts_apart (Mess t u) (Mess v w) k l thirds is_f is_g e =
+  facts_apart (Mess zero t u) (Mess zero v w) k l thirds is_f is_g e =
       let inside = terms_apart (t ∷ u ∷ []) (v ∷ w ∷ []) k l is_f.1 is_g.1 (append_cancel_left (codes "mess(") (terms_text one P (t ∷ u ∷ []) (41 ∷ k)) (terms_text one P (v ∷ w ∷ []) (41 ∷ l)) e) in
       let items : t ∷ u ∷ [] ≡ v ∷ w ∷ [] = inside.thing in
       record { thing = cc; rest = inside.rest }
@@ -125,14 +127,21 @@ module _ {X : Type 0} (one : X → List ℕ → List ℕ) (Is : X → Type 0) (t
   facts_apart (Bad ts) (Bad us) k l thirds is_f is_g e =
       let inside = terms_apart ts us k l is_f.1 is_g.1 (append_cancel_left (codes "bad(") (terms_text one P ts (41 ∷ k)) (terms_text one P us (41 ∷ l)) e) in
       record { thing = ap Bad inside.thing; rest = inside.rest }
+  facts_apart (Att (suc n) t) g k l thirds is_f is_g e = absurd is_f.0
+  facts_apart (Mess (suc n) t u) g k l thirds is_f is_g e = absurd is_f.0
+  facts_apart (Tab n ts) g k l thirds is_f is_g e = absurd is_f.0
+  facts_apart f (Att (suc n) t) k l thirds is_f is_g e = absurd is_g.0
+  facts_apart f (Mess (suc n) t u) k l thirds is_f is_g e = absurd is_g.0
+  facts_apart f (Tab n ts) k l thirds is_f is_g e = absurd is_g.0
   facts_apart _ _ k l thirds is_f is_g e = absurd (omega (arith, thirds))
 
   fact_apart : (f g : Fact X) (k l : List ℕ) → IsFactOver Is P f → IsFactOver Is P g → fact_over one P f k ≡ fact_over one P g l → Same f g k l
   fact_apart f g k l is_f is_g e = facts_apart f g k l (sym (third_byte f k) ∙ (ap (λ bytes. get_or bytes 2 0) e ∙ third_byte g l)) is_f is_g e
 
   no_fact_begins : (f : Fact X) (x y : List ℕ) → fact_over one P f x ≡ 61 ∷ y → ⊥
-  no_fact_begins (Att t) x y e = differ 97 61 _ y refl e
-  no_fact_begins (Mess t u) x y e = differ 109 61 _ y refl e
+  no_fact_begins (Att phase t) x y e = differ 97 61 _ y refl e
+  no_fact_begins (Mess phase t u) x y e = differ 109 61 _ y refl e
+  no_fact_begins (Tab n ts) x y e = differ 116 61 _ y refl e
   no_fact_begins (Ev n ts) x y e = differ 101 61 _ y refl e
   no_fact_begins (Mev n ts) x y e = differ 109 61 _ y refl e
   no_fact_begins (Bad ts) x y e = differ 98 61 _ y refl e
@@ -167,7 +176,8 @@ module _ {X : Type 0} (one : X → List ℕ → List ℕ) (Is : X → Type 0) (t
       let conclusions = fact_apart c.conclusion d.conclusion k l is_c.conclusion is_d.conclusion (later_same 32 32 x y (later_same 62 62 (32 ∷ x) (32 ∷ y) hypotheses.rest)) in
       let first = hypotheses.thing in
       let last = conclusions.thing in
-      record { thing = λ i. record { hypotheses = first i; conclusion = last i }; rest = conclusions.rest }
+      let none = is_c.diffs ∙ sym is_d.diffs in
+      record { thing = λ i. record { hypotheses = first i; diffs = none i; conclusion = last i }; rest = conclusions.rest }
 
   pub clause_lines_apart : (cs ds : List (Clause X)) (k l : List ℕ) → AllByRecursion (IsClauseOver Is P) cs → AllByRecursion (IsClauseOver Is P) ds → Stops (is_letter 99) k → Stops (is_letter 99) l → clause_lines_over one P cs k ≡ clause_lines_over one P ds l → Same cs ds k l
   clause_lines_apart [] [] k l are_c are_d stops_k stops_l e = record { thing = refl; rest = e }

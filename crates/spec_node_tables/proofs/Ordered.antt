@@ -127,7 +127,7 @@ module _ (ts : List Term) (counts : Counts ts) where
   clause_again c are =
       let hypotheses = facts_again c.hypotheses (all_first (λ f. AllByRecursion (IsNumberOf (length ts)) (terms_of f)) c.hypotheses (c.conclusion ∷ []) are) in
       let conclusion = fact_again c.conclusion (all_second (λ f. AllByRecursion (IsNumberOf (length ts)) (terms_of f)) c.hypotheses (c.conclusion ∷ []) are).0 in
-      λ i. record { hypotheses = hypotheses i; conclusion = conclusion i }
+      λ i. record { hypotheses = hypotheses i; diffs = c.diffs; conclusion = conclusion i }
 
   clauses_again : (cs : List (Clause ℕ)) → AllByRecursion (HasNumbersOf (length ts)) cs → map (map_clause (number_in ts)) (map (map_clause (term_at ts)) cs) ≡ cs
   clauses_again cs are = mapped_back (map_clause (number_in ts)) (map_clause (term_at ts)) cs (all_weaker (HasNumbersOf (length ts)) (λ c. map_clause (number_in ts) (map_clause (term_at ts) c) ≡ c) clause_again cs are)

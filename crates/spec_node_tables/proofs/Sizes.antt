@@ -9,6 +9,7 @@ use Rattle.spec_trees.proofs.Occurrence.{or_false}
 use Rattle.spec_calculus.specs.Bounds.{most_symbols}
 use Rattle.spec_terms.specs.Term.{Sym, Term}
 use Rattle.spec_clauses.specs.Fact.{Fact, Clause, terms_of, total, fact_size, clause_size, same_term}
+use Rattle.spec_clauses.specs.Diff.{diff_size}
 use Rattle.spec_clauses.specs.Head.{head_of, head_size}
 use Rattle.spec_clauses.specs.Limits.{IsWithinLimit}
 use Rattle.spec_clauses.specs.Norm.{distinct}
@@ -35,8 +36,13 @@ terms_total : (fs : List (Fact Term)) → total size (flat_map terms_of fs) ≤ 
 terms_total [] = omega arith
 terms_total (f ∷ fs) = omega (arith, total-append size (terms_of f) (flat_map terms_of fs), terms_total fs, fact_size-parts f)
 
-pub ordered_total : (c : Clause Term) → total fact_size (facts_in_order c) ≡ clause_size c
+pub ordered_total : (c : Clause Term) → total fact_size (facts_in_order c) + total diff_size c.diffs ≡ clause_size c
 ordered_total c = omega (arith, total-append fact_size c.hypotheses (c.conclusion ∷ []))
+
+pub spelled_total : (c : Clause Term) → c.diffs ≡ [] → total fact_size (facts_in_order c) ≡ clause_size c
+spelled_total c empty =
+    let whole = ordered_total c in
+    let nothing : total diff_size c.diffs ≡ 0 = ap (total diff_size) empty in omega (arith, whole, nothing)
 
 -- Few nodes.
 

@@ -15,7 +15,8 @@ silent = record {
   constructors = [];
   destructors = [];
   events = [];
-  queries = Secret (Leaf (calculus.Free 2)) ∷ [];
+  tables = [];
+  queries = Secret (Leaf (calculus.Free 2)) 0 ∷ [];
   main = Nil;
 }
 
@@ -24,11 +25,11 @@ s = node (Free 2) []
 
 -- the clauses of its translation, which are closed as they stand
 abbrev pub silent_clauses : List (Clause Term)
-silent_clauses = clause [] (Att c)
-    ∷ clause [] (Att (node Attacker (v0 ∷ [])))
-    ∷ clause (Mess v1 v0 ∷ Att v1 ∷ []) (Att v0)
-    ∷ clause (Att v0 ∷ Att v1 ∷ []) (Mess v0 v1)
-    ∷ clause (Att s ∷ []) (Bad []) ∷ []
+silent_clauses = clause [] (Att 0 c)
+    ∷ clause [] (Att 0 (node Attacker (v0 ∷ [])))
+    ∷ clause (Mess 0 v1 v0 ∷ Att 0 v1 ∷ []) (Att 0 v0)
+    ∷ clause (Att 0 v0 ∷ Att 0 v1 ∷ []) (Mess 0 v0 v1)
+    ∷ clause (Att 0 s ∷ []) (Bad []) ∷ []
 
 abbrev pub silent_certificate : Certificate
 silent_certificate = record {
@@ -40,7 +41,7 @@ silent_certificate = record {
 -- a clause with an event, a restricted name that stands in it three times, and a tuple
 abbrev pub paired : Certificate
 paired = record {
-  clauses = clause (Mev 1 (made 3 ∷ []) ∷ []) (Att (node (Tuple 2) (made 3 ∷ enc (made 3) k ∷ []))) ∷ [];
+  clauses = clause (Mev 1 (made 3 ∷ []) ∷ []) (Att 0 (node (Tuple 2) (made 3 ∷ enc (made 3) k ∷ []))) ∷ [];
   rows = (1 ∷ 1 ∷ []) ∷ [];
   goals = (1 ∷ 1 ∷ []) ∷ [];
 }

@@ -1,9 +1,9 @@
 -- What is of a protocol, by numbers: each symbol and event is there and has its number of arguments, and each number is within the limit
 -- of digits.
-use Rattle.std.specs.Prelude.{length}
+use Rattle.std.specs.Prelude.{◌≡◌, zero, suc, [], length}
 use Rattle.std.specs.List.{AllByRecursion}
 use Rattle.spec_calculus.specs.Syntax.{Protocol}
-use Rattle.spec_clauses.specs.Fact.{Fact, Ev, Mev, Clause, terms_of}
+use Rattle.spec_clauses.specs.Fact.{Fact, Att, Mess, Tab, Ev, Mev, Bad, Clause, terms_of}
 use Rattle.spec_certificate_text.specs.OfProtocol.{IsShort, IsSymbolOf, IsEvent}
 use Rattle.spec_node_tables.specs.Nodes.{TableNode, Variable, Over, NodeCertificate}
 
@@ -11,17 +11,23 @@ abbrev pub IsNodeOf : Protocol → TableNode → Type 0
 IsNodeOf P (Variable x) = IsShort x
 IsNodeOf P (Over f ns) = IsSymbolOf P f (length ns) × AllByRecursion IsShort ns
 
--- the event of a fact, where it speaks of one, takes as many arguments
-abbrev pub HasEvent : {X : Type 0} → Protocol → Fact X → Type 0
-HasEvent P (Ev e ts) = IsEvent P e (length ts)
-HasEvent P (Mev e ts) = IsEvent P e (length ts)
-HasEvent P _ = Unit {0}
+-- the predicate of a fact is spelled: that of a fact of phase 0, and of no table; its event, where it speaks of one, takes as many arguments
+abbrev pub HasPredicate : {X : Type 0} → Protocol → Fact X → Type 0
+HasPredicate P (Att zero t) = Unit {0}
+HasPredicate P (Att (suc k) t) = ⊥
+HasPredicate P (Mess zero t u) = Unit {0}
+HasPredicate P (Mess (suc k) t u) = ⊥
+HasPredicate P (Tab table ts) = ⊥
+HasPredicate P (Ev e ts) = IsEvent P e (length ts)
+HasPredicate P (Mev e ts) = IsEvent P e (length ts)
+HasPredicate P (Bad ts) = Unit {0}
 
 abbrev pub IsFactOver : {X : Type 0} → (X → Type 0) → Protocol → Fact X → Type 0
-IsFactOver Is P f = HasEvent P f × AllByRecursion Is (terms_of f)
+IsFactOver Is P f = HasPredicate P f × AllByRecursion Is (terms_of f)
 
 pub record IsClauseOver {X : Type 0} (Is : X → Type 0) (P : Protocol) (c : Clause X) : Type 0 where
   pub hypotheses : AllByRecursion (IsFactOver Is P) c.hypotheses
+  pub diffs : c.diffs ≡ []
   pub conclusion : IsFactOver Is P c.conclusion
 
 pub record IsNodeCertificateOf (P : Protocol) (c : NodeCertificate) : Type 0 where

@@ -4,7 +4,7 @@ use Rattle.std.specs.Prelude.{ℕ, List, [], ◌∷◌, ◌++◌, codes}
 use Rattle.std.specs.Fmt.{decimal}
 use Rattle.spec_calculus.specs.Syntax.{Protocol}
 use Rattle.spec_terms.specs.Term.{Sym, Ctor, Data, Tuple, Free, Point, Attacker}
-use Rattle.spec_clauses.specs.Fact.{Fact, Att, Mess, Ev, Mev, Bad, Clause}
+use Rattle.spec_clauses.specs.Fact.{Fact, Att, Mess, Tab, Ev, Mev, Bad, Clause}
 use Rattle.spec_certificates.specs.Certificate.{Certificate}
 use Rattle.spec_certificate_text.specs.Loose.{Head, Applied, Tupled, Made, Attackers}
 use Rattle.spec_certificate_text.specs.Words.{symbol_word, event_word}
@@ -27,10 +27,11 @@ module _ {X : Type 0} (one : X → List ℕ → List ℕ) (P : Protocol) where
   event_over e [] rest = event_word P e ++ rest
   event_over e (t ∷ ts) rest = event_word P e ++ (40 ∷ terms_text (t ∷ ts) (41 ∷ rest))
 
-  -- a predicate over what it speaks of
+  -- a predicate over what it speaks of; neither a phase nor the word of a table is spelled yet
   abbrev pub fact_over : Fact X → List ℕ → List ℕ
-  fact_over (Att t) rest = codes "att(" ++ terms_text (t ∷ []) (41 ∷ rest)
-  fact_over (Mess t u) rest = codes "mess(" ++ terms_text (t ∷ u ∷ []) (41 ∷ rest)
+  fact_over (Att phase t) rest = codes "att(" ++ terms_text (t ∷ []) (41 ∷ rest)
+  fact_over (Mess phase t u) rest = codes "mess(" ++ terms_text (t ∷ u ∷ []) (41 ∷ rest)
+  fact_over (Tab table ts) rest = codes "tab(" ++ terms_text ts (41 ∷ rest)
   fact_over (Ev e ts) rest = codes "ev(" ++ event_over e ts (41 ∷ rest)
   fact_over (Mev e ts) rest = codes "mev(" ++ event_over e ts (41 ∷ rest)
   fact_over (Bad ts) rest = codes "bad(" ++ terms_text ts (41 ∷ rest)
@@ -45,7 +46,7 @@ module _ {X : Type 0} (one : X → List ℕ → List ℕ) (P : Protocol) where
   hypotheses_over [] rest = rest
   hypotheses_over (h ∷ hs) rest = fact_over h (later_hypotheses hs rest)
 
-  -- a clause: its hypotheses, `=> `, and its conclusion
+  -- a clause: its hypotheses, `=> `, and its conclusion; constraints aren't spelled yet
   abbrev pub clause_over : Clause X → List ℕ → List ℕ
   clause_over c rest = hypotheses_over c.hypotheses (61 ∷ 62 ∷ 32 ∷ fact_over c.conclusion rest)
 

@@ -12,7 +12,7 @@ use Rattle.spec_clauses.specs.Inclusion.{IsWithin}
 use Rattle.spec_clauses.proofs.Lists.{all_append, all_weaker}
 use Rattle.spec_clauses.proofs.Inclusion.{within_self, within-trans, within-map, within-append, within-more_right}
 use Rattle.spec_placements.specs.Takes.{left, Takes}
-use Rattle.spec_placements.specs.Placing.{all_known, CanPlace}
+use Rattle.spec_placements.specs.Placing.{Ending, all_known, CanPlace}
 use Rattle.spec_placements.specs.Crowds.{room, IsConfined, AreConfined}
 use Rattle.spec_placements.proofs.TakenRows.{free_later}
 use Rattle.spec_placements.proofs.Standing.{within_takes}
@@ -54,10 +54,10 @@ module _ (bs : List Binding) (s : Subst) (agrees : Agrees s bs) (hs : List (Fact
       (all_weaker (IsConfined bs flags hs area) (IsConfined bs (set flags p true) hs (set area p false)) (still_confined flags area p l) cs confined.1) t.2 in
       omega arith
 
-pub crowded : (bs : List Binding) (taken : List Bool) (hs unplaced : List (Fact Term)) (loose : List ℕ) (area : List Bool) (n : ℕ) → length taken ≡ length hs → AreConfined bs taken hs area unplaced n → room area < n → CanPlace bs taken hs unplaced loose → ⊥
-crowded bs taken hs unplaced loose area n e crowd less c =
+pub crowded : (bs : List Binding) (taken : List Bool) (hs unplaced : List (Fact Term)) (ending : Ending) (area : List Bool) (n : ℕ) → length taken ≡ length hs → AreConfined bs taken hs area unplaced n → room area < n → CanPlace bs taken hs unplaced ending → ⊥
+crowded bs taken hs unplaced ending area n e crowd less c =
     let f = fact_under c.by in
-    let parts = flat_under c.by (all_known loose) in
+    let parts = flat_under c.by (all_known ending.loose) in
     let some : IsWithin (map f crowd.these) (map f unplaced) = within-map f crowd.these unplaced crowd.among in
     let within = within-trans (map f crowd.these) (map f unplaced ++ parts) (left taken hs) (within-more_right (map f crowd.these) (map f unplaced) parts some) c.within in
     let front : IsWithin (map f crowd.these ++ []) (left taken hs) = subst (λ fs. IsWithin fs (left taken hs)) (sym (append-nil (map f crowd.these))) within in

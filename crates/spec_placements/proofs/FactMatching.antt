@@ -6,28 +6,31 @@ use Rattle.spec_trees.specs.Tree.{bind}
 use Rattle.spec_terms.specs.Term.{Term, Subst, has_var}
 use Rattle.spec_terms.specs.Unifier.{MatchesAll}
 use Rattle.spec_terms.specs.Binding.{Binding, bound_to, Agrees}
-use Rattle.spec_clauses.specs.Fact.{Fact, Att, Mess, Ev, Mev, Bad, terms_of, outline, fact_under}
+use Rattle.spec_clauses.specs.Fact.{Fact, Att, Mess, Tab, Ev, Mev, Bad, terms_of, outline, fact_under}
 use Rattle.spec_clauses.proofs.Facts.{map_fact-map_fact}
 use Rattle.spec_placements.specs.Placing.{FactMatched, NoFactMatch}
 
 -- a fact is made again of its outline and its terms
 abbrev remade : Fact (Unit {0}) → List Term → Fact Term
-remade (Att u) (t ∷ ts) = Att t
-remade (Mess u v) (t ∷ w ∷ ts) = Mess t w
+remade (Att k u) (t ∷ ts) = Att k t
+remade (Mess k u v) (t ∷ w ∷ ts) = Mess k t w
+remade (Tab n us) ts = Tab n ts
 remade (Ev e us) ts = Ev e ts
 remade (Mev e us) ts = Mev e ts
 remade _ ts = Bad ts
 
 made_again : (f : Fact Term) → remade (outline f) (terms_of f) ≡ f
-made_again (Att t) = refl
-made_again (Mess t u) = refl
+made_again (Att k t) = refl
+made_again (Mess k t u) = refl
+made_again (Tab n ts) = refl
 made_again (Ev e ts) = refl
 made_again (Mev e ts) = refl
 made_again (Bad ts) = refl
 
 terms_under : (s : Subst) (f : Fact Term) → terms_of (fact_under s f) ≡ map (bind s) (terms_of f)
-terms_under s (Att t) = refl
-terms_under s (Mess t u) = refl
+terms_under s (Att k t) = refl
+terms_under s (Mess k t u) = refl
+terms_under s (Tab n ts) = refl
 terms_under s (Ev e ts) = refl
 terms_under s (Mev e ts) = refl
 terms_under s (Bad ts) = refl
@@ -49,8 +52,9 @@ facts_match s g h same m =
 
 -- facts of one outline have as many terms
 outline_long : (f : Fact Term) → length (terms_of (outline f)) ≡ length (terms_of f)
-outline_long (Att t) = refl
-outline_long (Mess t u) = refl
+outline_long (Att k t) = refl
+outline_long (Mess k t u) = refl
+outline_long (Tab n ts) = length-map ts (λ t. tt)
 outline_long (Ev e ts) = length-map ts (λ t. tt)
 outline_long (Mev e ts) = length-map ts (λ t. tt)
 outline_long (Bad ts) = length-map ts (λ t. tt)

@@ -9,7 +9,7 @@ use Rattle.spec_clauses.specs.Fact.{Fact, Clause, fact_under}
 use Rattle.spec_clauses.specs.Flat.{flat_under}
 use Rattle.spec_clauses.specs.Inclusion.{IsWithin}
 use Rattle.spec_clauses.specs.Subsumption.{firm, hypothesis_at, RowHolds, ComesBefore, IsFirstRow, others}
-use Rattle.spec_placements.specs.Placing.{loose_variables, all_known, FactMatched, HoldsFrom, IsFirstFrom, CanPlace}
+use Rattle.spec_placements.specs.Placing.{loose_variables, all_known, ending_of, FactMatched, HoldsFrom, IsFirstFrom, CanPlace}
 use Rattle.spec_placements.proofs.Loose.{loose_is_known}
 use Rattle.spec_placements.proofs.Standing.{row_placed}
 use Rattle.spec_placements.proofs.TakenRows.{takes_all, all_takes}
@@ -32,12 +32,13 @@ module _ (bs : List Binding) (general special : Clause Term) (m : FactMatched []
   abbrev none : List Bool
   none = replicate (length special.hypotheses) false
 
-  pub holds_from : (row : List ℕ) → RowHolds general special (map suc row) → HoldsFrom bs none special.hypotheses (firm general.hypotheses) (loose_variables general.hypotheses) row
+  pub holds_from : (row : List ℕ) → RowHolds general special (map suc row) → HoldsFrom bs none special.hypotheses (firm general.hypotheses) (ending_of general special) row
   holds_from row h =
       let loosely = subst (λ fs. IsWithin (flat_under h.by fs) (others (map suc row) 1 special.hypotheses)) (loose_is_known general.hypotheses) h.loosely in
       record {
         by = h.by;
         agrees = (m.only h.by).1 (tt, h.conclusion);
+        kept = h.diffs;
         takes = all_takes special.hypotheses (map (fact_under h.by) (firm general.hypotheses)) row (flat_under h.by (all_known (loose_variables general.hypotheses))) (record {
           distinct = h.distinct;
           firmly = map-map Some (fact_under h.by) (firm general.hypotheses) ∙ h.firmly;
@@ -45,7 +46,7 @@ module _ (bs : List Binding) (general special : Clause Term) (m : FactMatched []
         });
       }
 
-  pub from_holds : (row : List ℕ) → HoldsFrom bs none special.hypotheses (firm general.hypotheses) (loose_variables general.hypotheses) row → RowHolds general special (map suc row)
+  pub from_holds : (row : List ℕ) → HoldsFrom bs none special.hypotheses (firm general.hypotheses) (ending_of general special) row → RowHolds general special (map suc row)
   from_holds row h =
       let a = takes_all special.hypotheses (map (fact_under h.by) (firm general.hypotheses)) row (flat_under h.by (all_known (loose_variables general.hypotheses))) h.takes in
       record {
@@ -54,6 +55,7 @@ module _ (bs : List Binding) (general special : Clause Term) (m : FactMatched []
         conclusion = ((m.only h.by).0 h.agrees).1;
         firmly = sym (map-map Some (fact_under h.by) (firm general.hypotheses)) ∙ a.firmly;
         loosely = subst (λ fs. IsWithin (flat_under h.by fs) (others (map suc row) 1 special.hypotheses)) (sym (loose_is_known general.hypotheses)) a.loosely;
+        diffs = h.kept;
       }
 
 -- the order of rows doesn't depend on where positions count from
@@ -73,13 +75,13 @@ module _ (bs : List Binding) (general special : Clause Term) (m : FactMatched []
   abbrev nothing : List Bool
   nothing = replicate (length special.hypotheses) false
 
-  pub first_from : (row : List ℕ) → IsFirstRow general special (map suc row) → IsFirstFrom bs nothing special.hypotheses (firm general.hypotheses) (loose_variables general.hypotheses) row
+  pub first_from : (row : List ℕ) → IsFirstRow general special (map suc row) → IsFirstFrom bs nothing special.hypotheses (firm general.hypotheses) (ending_of general special) row
   first_from row h = record {
     holds = holds_from bs general special m row h.holds;
     first = λ other held before. h.first (map suc other) (from_holds bs general special m other held) (before_suc other row before);
   }
 
-  pub from_first : (row : List ℕ) → IsFirstFrom bs nothing special.hypotheses (firm general.hypotheses) (loose_variables general.hypotheses) row → IsFirstRow general special (map suc row)
+  pub from_first : (row : List ℕ) → IsFirstFrom bs nothing special.hypotheses (firm general.hypotheses) (ending_of general special) row → IsFirstRow general special (map suc row)
   from_first row h = record {
     holds = from_holds bs general special m row h.holds;
     first = λ other held before.
@@ -87,8 +89,8 @@ module _ (bs : List Binding) (general special : Clause Term) (m : FactMatched []
         h.first inner (holds_from bs general special m inner (subst (RowHolds general special) same held)) (suc_before inner row (subst (λ ps. ComesBefore ps (map suc row)) same before));
   }
 
-  pub no_row : (row : List ℕ) → (CanPlace bs nothing special.hypotheses (firm general.hypotheses) (loose_variables general.hypotheses) → ⊥) → RowHolds general special row → ⊥
+  pub no_row : (row : List ℕ) → (CanPlace bs nothing special.hypotheses (firm general.hypotheses) (ending_of general special) → ⊥) → RowHolds general special row → ⊥
   no_row row never held =
       let (inner, same) = inner_row general special row held in
       let from = holds_from bs general special m inner (subst (RowHolds general special) same held) in
-      never (row_placed special.hypotheses nothing (loose_variables general.hypotheses) bs (firm general.hypotheses) inner (length-replicate (length special.hypotheses) false) from)
+      never (row_placed special.hypotheses nothing (ending_of general special) bs (firm general.hypotheses) inner (length-replicate (length special.hypotheses) false) from)

@@ -1,144 +1,74 @@
--- Why each loose variable of a normal clause stands elsewhere too: by counting how often it occurs.
-use Rattle.std.proofs.Common.{◌≡◌, ℕ, ◌+◌, ◌≤◌, Bool, true, false, not, ◌||◌, cond, nat_eq, List, [], ◌∷◌, ◌++◌, refl, sym, ap, ◌∙◌, subst, arith, eqb-true, eq-eqb, is_some}
+-- Why each variable of a loose hypothesis or a constraint of a normal clause stands elsewhere too.
+use Rattle.std.proofs.Common.{◌≡◌, ℕ, Bool, true, false, not, ◌||◌, nat_eq, List, [], ◌∷◌, ◌++◌, refl, sym, ap, ◌∙◌, subst, is_some}
 use Rattle.std.specs.Prelude.{flat_map}
-use Rattle.std.specs.List.{AllByRecursion, IsDistinct, list_any}
+use Rattle.std.specs.List.{AllByRecursion, list_any}
 use Rattle.std.proofs.Math.Bool.{or_assoc}
+use Rattle.std.proofs.lemmas.List.Folds.{list_any-append}
 use Rattle.spec_trees.specs.Tree.{Trees, Leaf, Node, none, more, some_leaves}
 use Rattle.spec_terms.specs.Term.{Sym, Term, has_var}
 use Rattle.spec_terms.specs.Binding.{Binding, bound_to}
-use Rattle.spec_terms.proofs.Replace.{eqb_self}
-use Rattle.spec_terms.proofs.Decision.{true_false}
-use Rattle.spec_clauses.specs.Fact.{Fact, Att, Mess, Ev, Mev, Bad, Clause, terms_of, same_fact}
-use Rattle.spec_clauses.specs.Variables.{leaves, row_leaves, fact_variables, clause_variables, times}
-use Rattle.spec_clauses.specs.Norm.{is_lonely, EachRuleKeeps}
+use Rattle.spec_clauses.specs.Fact.{Fact, Att, Mess, Tab, Ev, Mev, Bad, Clause, terms_of}
+use Rattle.spec_clauses.specs.Variables.{leaves, row_leaves, fact_variables, constrained_variables, firm, firm_variables}
+use Rattle.spec_clauses.specs.Diff.{Diff, diff_variables}
+use Rattle.spec_clauses.specs.Norm.{elsewhere, is_lonely, EachRuleKeeps}
 use Rattle.spec_clauses.specs.Inclusion.{Picks, here, there}
-use Rattle.spec_clauses.specs.Subsumption.{firm}
-use Rattle.spec_clauses.proofs.Distinct.{all-filter_passes, distinct-distinct}
-use Rattle.spec_clauses.proofs.Lists.{all_weaker}
-use Rattle.spec_placements.specs.Placing.{loose_variables, fact_has, some_fact_has, FactMatched, AreLinked, IsLinked}
+use Rattle.spec_clauses.proofs.Distinct.{all-filter_passes}
+use Rattle.spec_clauses.proofs.Lists.{all_append, all_first, all_second, all_weaker}
+use Rattle.spec_clauses.proofs.Anchors.{constrained_elsewhere}
+use Rattle.spec_placements.specs.Placing.{Loose, loose_variables, variables_of, linked_variables, fact_has, some_fact_has, FactMatched, AreLinked, IsLinked}
 
-times-both : (x : ℕ) (xs ys : List ℕ) → times x (xs ++ ys) ≡ times x xs + times x ys
-times-both x [] ys = omega arith
-times-both x (y ∷ xs) ys = omega (arith, times-both x xs ys)
+-- Whether a variable stands in a term, in terms, in a fact or in facts is told by their variables.
+or_end : (b : Bool) → (b || false) ≡ b
+or_end true = refl
+or_end false = refl
 
-or_none : (a b : Bool) → (a || b) ≡ false → (a ≡ false) × (b ≡ false)
-or_none true b e = absurd (true_false e)
-or_none false b e = (refl, e)
-
--- A variable that doesn't stand in a term, in terms, in a fact, occurs there no times.
 mutual
-  absent_times : (x : ℕ) (t : Term) → has_var x t ≡ false → times x (leaves t) ≡ 0
-  absent_times x (Leaf y) e = rw e refl
-  absent_times x (Node f args) e = absent_row_times x args e
+  leaves_have : (x : ℕ) (t : Term) → list_any (nat_eq x) (leaves t) ≡ has_var x t
+  leaves_have x (Leaf y) = or_end (nat_eq x y)
+  leaves_have x (Node f args) = row_leaves_have x args
 
-  absent_row_times : (x : ℕ) (ts : Trees ℕ Sym) → some_leaves (nat_eq x) ts ≡ false → times x (row_leaves ts) ≡ 0
-  absent_row_times x none e = refl
-  absent_row_times x (more t ts) e =
-      let parts = or_none (has_var x t) (some_leaves (nat_eq x) ts) e in
-      omega (arith, times-both x (leaves t) (row_leaves ts), absent_times x t parts.0, absent_row_times x ts parts.1)
+  row_leaves_have : (x : ℕ) (ts : Trees ℕ Sym) → list_any (nat_eq x) (row_leaves ts) ≡ some_leaves (nat_eq x) ts
+  row_leaves_have x none = refl
+  row_leaves_have x (more t ts) = list_any-append (nat_eq x) (leaves t) (row_leaves ts) ∙ (λ i. leaves_have x t i || row_leaves_have x ts i)
 
-absent_all_times : (x : ℕ) (ts : List Term) → list_any (has_var x) ts ≡ false → times x (flat_map leaves ts) ≡ 0
-absent_all_times x [] e = refl
-absent_all_times x (t ∷ ts) e =
-    let parts = or_none (has_var x t) (list_any (has_var x) ts) e in
-    omega (arith, times-both x (leaves t) (flat_map leaves ts), absent_times x t parts.0, absent_all_times x ts parts.1)
+all_have : {X : Type 0} (x : ℕ) (f : X → List ℕ) (has : X → Bool) → ((y : X) → list_any (nat_eq x) (f y) ≡ has y) → (ys : List X) → list_any (nat_eq x) (flat_map f ys) ≡ list_any has ys
+all_have x f has same [] = refl
+all_have x f has same (y ∷ ys) = list_any-append (nat_eq x) (f y) (flat_map f ys) ∙ (λ i. same y i || all_have x f has same ys i)
 
-absent_fact_times : (x : ℕ) (f : Fact Term) → fact_has x f ≡ false → times x (fact_variables f) ≡ 0
-absent_fact_times x f e = absent_all_times x (terms_of f) e
+variables_have : (x : ℕ) (f : Fact Term) → list_any (nat_eq x) (fact_variables f) ≡ fact_has x f
+variables_have x f = all_have x leaves (has_var x) (leaves_have x) (terms_of f)
 
-firm_first : (x : ℕ) (h : Fact Term) (hs : List (Fact Term)) → (some_fact_has x (firm hs) ≡ false → times x (flat_map fact_variables hs) ≡ times x (loose_variables hs)) → some_fact_has x (h ∷ firm hs) ≡ false → times x (fact_variables h ++ flat_map fact_variables hs) ≡ times x (loose_variables hs)
-firm_first x h hs below e =
-    let parts = or_none (fact_has x h) (some_fact_has x (firm hs)) e in
-    omega (arith, times-both x (fact_variables h) (flat_map fact_variables hs), absent_fact_times x h parts.0, below parts.1)
+elsewhere_has : (x : ℕ) (c : Clause Term) → list_any (nat_eq x) (elsewhere c) ≡ (fact_has x c.conclusion || some_fact_has x (firm c.hypotheses))
+elsewhere_has x c =
+    list_any-append (nat_eq x) (fact_variables c.conclusion) (firm_variables c.hypotheses)
+    ∙ (λ i. variables_have x c.conclusion i || all_have x fact_variables (fact_has x) (variables_have x) (firm c.hypotheses) i)
 
--- Where it stands in no firm hypothesis, it occurs as often as it is loose.
-only_loose_times : (x : ℕ) (hs : List (Fact Term)) → some_fact_has x (firm hs) ≡ false → times x (flat_map fact_variables hs) ≡ times x (loose_variables hs)
-only_loose_times x [] e = refl
-only_loose_times x (Att (Leaf y) ∷ hs) e = ap (λ n. cond (nat_eq x y) 1 0 + n) (only_loose_times x hs e)
-only_loose_times x (Att (Node f args) ∷ hs) e = firm_first x (Att (Node f args)) hs (only_loose_times x hs) e
-only_loose_times x (Mess t u ∷ hs) e = firm_first x (Mess t u) hs (only_loose_times x hs) e
-only_loose_times x (Ev n ts ∷ hs) e = firm_first x (Ev n ts) hs (only_loose_times x hs) e
-only_loose_times x (Mev n ts ∷ hs) e = firm_first x (Mev n ts) hs (only_loose_times x hs) e
-only_loose_times x (Bad ts ∷ hs) e = firm_first x (Bad ts) hs (only_loose_times x hs) e
+-- A loose hypothesis that isn't lonely has its variable elsewhere.
+of_not : (b : Bool) → not (not b) ≡ true → b ≡ true
+of_not true e = refl
+of_not false e = e
 
--- Among distinct hypotheses it is loose once at most.
-not_again : (x : ℕ) (hs : List (Fact Term)) → AllByRecursion (λ h. same_fact (Att (Leaf x)) h ≡ false) hs → times x (loose_variables hs) ≡ 0
-not_again x [] a = refl
-not_again x (Att (Leaf y) ∷ hs) a = rw (a.0) (ap (λ n. 0 + n) (not_again x hs a.1))
-not_again x (Att (Node f args) ∷ hs) a = not_again x hs a.1
-not_again x (Mess t u ∷ hs) a = not_again x hs a.1
-not_again x (Ev n ts ∷ hs) a = not_again x hs a.1
-not_again x (Mev n ts ∷ hs) a = not_again x hs a.1
-not_again x (Bad ts ∷ hs) a = not_again x hs a.1
-
-once : (x : ℕ) (hs : List (Fact Term)) → IsDistinct same_fact hs → times x (loose_variables hs) ≤ 1
-unfolding IsDistinct
-once x [] d = omega arith
-once x (Att (Leaf y) ∷ hs) d = go (nat_eq x y) refl (once x hs d.1) where
-  go : (b : Bool) → nat_eq x y ≡ b → times x (loose_variables hs) ≤ 1 → cond b 1 0 + times x (loose_variables hs) ≤ 1
-  go true e below = let none = not_again x hs (subst (λ z. AllByRecursion (λ h. same_fact (Att (Leaf z)) h ≡ false) hs) (sym (eqb-true x y e)) d.0) in omega arith
-  go false e below = omega arith
-once x (Att (Node f args) ∷ hs) d = once x hs d.1
-once x (Mess t u ∷ hs) d = once x hs d.1
-once x (Ev n ts ∷ hs) d = once x hs d.1
-once x (Mev n ts ∷ hs) d = once x hs d.1
-once x (Bad ts ∷ hs) d = once x hs d.1
-
--- A loose variable that isn't lonely doesn't occur just once.
-not_lonely : (vs : List ℕ) (x : ℕ) (hs : List (Fact Term)) → AllByRecursion (λ h. not (is_lonely vs h) ≡ true) hs → 1 ≤ times x (loose_variables hs) → nat_eq (times x vs) 1 ≡ false
-not_lonely vs x [] a l = absurd (omega arith)
-not_lonely vs x (Att (Leaf y) ∷ hs) a l = go (nat_eq x y) refl (not_lonely vs x hs a.1) l where
-  of_not : (b : Bool) → not b ≡ true → b ≡ false
-  of_not true e = cc
-  of_not false e = refl
-
-  go : (b : Bool) → nat_eq x y ≡ b → (1 ≤ times x (loose_variables hs) → nat_eq (times x vs) 1 ≡ false) → 1 ≤ cond b 1 0 + times x (loose_variables hs) → nat_eq (times x vs) 1 ≡ false
-  go true e below l = ap (λ z. nat_eq (times z vs) 1) (eqb-true x y e) ∙ of_not (nat_eq (times y vs) 1) a.0
-  go false e below l = below (omega arith)
-not_lonely vs x (Att (Node f args) ∷ hs) a l = not_lonely vs x hs a.1 l
-not_lonely vs x (Mess t u ∷ hs) a l = not_lonely vs x hs a.1 l
-not_lonely vs x (Ev n ts ∷ hs) a l = not_lonely vs x hs a.1 l
-not_lonely vs x (Mev n ts ∷ hs) a l = not_lonely vs x hs a.1 l
-not_lonely vs x (Bad ts ∷ hs) a l = not_lonely vs x hs a.1 l
-
--- what holds of all that occurs
-all_occurring : (P : ℕ → Type 0) (xs : List ℕ) → ((x : ℕ) → 1 ≤ times x xs → P x) → AllByRecursion P xs
-all_occurring P [] f = tt
-all_occurring P (x ∷ xs) f = (
-  f x (let self = eqb_self x in rw self (omega arith)),
-  all_occurring P xs (λ y l. f y (omega arith)),
-)
+not_lonely : (vs : List ℕ) (hs : List (Fact Term)) → AllByRecursion (λ h. not (is_lonely vs h) ≡ true) hs → AllByRecursion (λ x. list_any (nat_eq x) vs ≡ true) (variables_of (loose_variables hs))
+not_lonely vs [] a = tt
+not_lonely vs (Att k (Leaf x) ∷ hs) a = (of_not (list_any (nat_eq x) vs) a.0, not_lonely vs hs a.1)
+not_lonely vs (Att k (Node f args) ∷ hs) a = not_lonely vs hs a.1
+not_lonely vs (Mess k t u ∷ hs) a = not_lonely vs hs a.1
+not_lonely vs (Tab n ts ∷ hs) a = not_lonely vs hs a.1
+not_lonely vs (Ev n ts ∷ hs) a = not_lonely vs hs a.1
+not_lonely vs (Mev n ts ∷ hs) a = not_lonely vs hs a.1
+not_lonely vs (Bad ts ∷ hs) a = not_lonely vs hs a.1
 
 pub rules_link : (c : Clause Term) → EachRuleKeeps c → IsLinked c
-rules_link c keeps = all_occurring (λ x. (fact_has x c.conclusion || some_fact_has x (firm c.hypotheses)) ≡ true) (loose_variables c.hypotheses) linked where
-  vs : List ℕ
-  vs = clause_variables c
-
-  distinct_all : IsDistinct same_fact c.hypotheses
-  distinct_all = subst (IsDistinct same_fact) (ap (λ (d : Clause Term). d.hypotheses) keeps.no_repeats) (distinct-distinct same_fact c.hypotheses)
-
-  test : Fact Term → Bool
-  test h = not (is_lonely (clause_variables c) h)
-
-  none_lonely : AllByRecursion (λ h. not (is_lonely (clause_variables c) h) ≡ true) c.hypotheses
-  none_lonely = subst (AllByRecursion (λ h. not (is_lonely (clause_variables c) h) ≡ true)) (ap (λ (d : Clause Term). d.hypotheses) keeps.none_lonely) (all-filter_passes (λ h. not (is_lonely (clause_variables c) h)) c.hypotheses)
-
-  linked : (x : ℕ) → 1 ≤ times x (loose_variables c.hypotheses) → (fact_has x c.conclusion || some_fact_has x (firm c.hypotheses)) ≡ true
-  linked x l = go (fact_has x c.conclusion || some_fact_has x (firm c.hypotheses)) refl where
-    go : (b : Bool) → (fact_has x c.conclusion || some_fact_has x (firm c.hypotheses)) ≡ b → b ≡ true
-    go true e = refl
-    go false e =
-        let parts = or_none (fact_has x c.conclusion) (some_fact_has x (firm c.hypotheses)) e in
-        let whole = times-both x (fact_variables c.conclusion) (flat_map fact_variables c.hypotheses) in
-        let first = absent_fact_times x c.conclusion parts.0 in
-        let others = only_loose_times x c.hypotheses parts.1 in
-        let few = once x c.hypotheses distinct_all in
-        let lone : times x (clause_variables c) ≡ 1 = omega arith in
-        absurd (true_false (sym (eq-eqb (times x (clause_variables c)) 1 lone) ∙ not_lonely (clause_variables c) x c.hypotheses none_lonely l))
+rules_link c keeps =
+    let vs = elsewhere c in
+    let loose = variables_of (loose_variables c.hypotheses) in
+    let kept = subst (AllByRecursion (λ h. not (is_lonely vs h) ≡ true)) (ap (λ (d : Clause Term). d.hypotheses) keeps.none_lonely) (all-filter_passes (λ h. not (is_lonely vs h)) c.hypotheses) in
+    let stand = all_append (λ x. list_any (nat_eq x) vs ≡ true) loose (constrained_variables c) (not_lonely vs c.hypotheses kept) (constrained_elsewhere c keeps.none_needless) in
+    all_weaker (λ x. list_any (nat_eq x) vs ≡ true) (λ x. (fact_has x c.conclusion || some_fact_has x (firm c.hypotheses)) ≡ true) (λ x e. sym (elsewhere_has x c) ∙ e) (loose ++ constrained_variables c) stand
 
 -- What is linked by the conclusion is bound once that is matched, and what is linked by a fact once that is placed.
-pub linked_first : (bs : List Binding) (c : Clause Term) (h : Fact Term) → IsLinked c → FactMatched [] bs c.conclusion h → AreLinked bs (loose_variables c.hypotheses) (firm c.hypotheses)
-linked_first bs c h linked m = all_weaker (λ x. (fact_has x c.conclusion || some_fact_has x (firm c.hypotheses)) ≡ true) (λ x. (is_some (bound_to bs x) || some_fact_has x (firm c.hypotheses)) ≡ true) (λ x e. ap (λ b. b || some_fact_has x (firm c.hypotheses)) (m.exactly x) ∙ e) (loose_variables c.hypotheses) linked
+pub linked_first : (bs : List Binding) (c : Clause Term) (h : Fact Term) → IsLinked c → FactMatched [] bs c.conclusion h → AreLinked bs (linked_variables (loose_variables c.hypotheses) c.diffs) (firm c.hypotheses)
+linked_first bs c h linked m = all_weaker (λ x. (fact_has x c.conclusion || some_fact_has x (firm c.hypotheses)) ≡ true) (λ x. (is_some (bound_to bs x) || some_fact_has x (firm c.hypotheses)) ≡ true) (λ x e. ap (λ b. b || some_fact_has x (firm c.hypotheses)) (m.exactly x) ∙ e) (linked_variables (loose_variables c.hypotheses) c.diffs) linked
 
 or_swap : (a b c : Bool) → (a || (b || c)) ≡ (b || (a || c))
 or_swap true true c = refl
@@ -150,6 +80,20 @@ picked_has : (x : ℕ) {facts rest : List (Fact Term)} {g : Fact Term} → Picks
 picked_has x here = refl
 picked_has x (there {x = g} {y = f} {rest = rest} p) = ap (λ b. fact_has x f || b) (picked_has x p) ∙ or_swap (fact_has x f) (fact_has x g) (some_fact_has x rest)
 
-pub linked_next : (old new : List Binding) (loose : List ℕ) (facts rest : List (Fact Term)) (g h : Fact Term) → Picks facts g rest → FactMatched old new g h → AreLinked old loose facts → AreLinked new loose rest
-linked_next old new loose facts rest g h p m linked = all_weaker (λ x. (is_some (bound_to old x) || some_fact_has x facts) ≡ true) (λ x. (is_some (bound_to new x) || some_fact_has x rest) ≡ true) (λ x e.
-    ap (λ b. b || some_fact_has x rest) (m.exactly x) ∙ (or_assoc (is_some (bound_to old x)) (fact_has x g) (some_fact_has x rest) ∙ (ap (λ b. is_some (bound_to old x) || b) (sym (picked_has x p)) ∙ e))) loose linked
+pub linked_next : (old new : List Binding) (variables : List ℕ) (facts rest : List (Fact Term)) (g h : Fact Term) → Picks facts g rest → FactMatched old new g h → AreLinked old variables facts → AreLinked new variables rest
+linked_next old new variables facts rest g h p m linked = all_weaker (λ x. (is_some (bound_to old x) || some_fact_has x facts) ≡ true) (λ x. (is_some (bound_to new x) || some_fact_has x rest) ≡ true) (λ x e.
+    ap (λ b. b || some_fact_has x rest) (m.exactly x) ∙ (or_assoc (is_some (bound_to old x)) (fact_has x g) (some_fact_has x rest) ∙ (ap (λ b. is_some (bound_to old x) || b) (sym (picked_has x p)) ∙ e))) variables linked
+
+-- The variables of both are those of the loose hypotheses and those of the constraints.
+module _ (bs : List Binding) (loose : List Loose) (diffs : List Diff) (facts : List (Fact Term)) where
+  abbrev IsOneLinked : ℕ → Type 0
+  IsOneLinked x = (is_some (bound_to bs x) || some_fact_has x facts) ≡ true
+
+  pub linked_loose : AreLinked bs (linked_variables loose diffs) facts → AreLinked bs (variables_of loose) facts
+  linked_loose a = all_first IsOneLinked (variables_of loose) (flat_map diff_variables diffs) a
+
+  pub linked_diffs : AreLinked bs (linked_variables loose diffs) facts → AreLinked bs (flat_map diff_variables diffs) facts
+  linked_diffs a = all_second IsOneLinked (variables_of loose) (flat_map diff_variables diffs) a
+
+  pub linked_both : AreLinked bs (variables_of loose) facts → AreLinked bs (flat_map diff_variables diffs) facts → AreLinked bs (linked_variables loose diffs) facts
+  linked_both a b = all_append IsOneLinked (variables_of loose) (flat_map diff_variables diffs) a b

@@ -1,15 +1,18 @@
 -- Removal of facts from free positions: it doesn't matter which of equal ones goes.
 use Rattle.std.proofs.Common.{◌≡◌, ℕ, Bool, true, false, ◌||◌, List, [], ◌∷◌, ◌++◌, map, length, get_or, set, refl, sym, ap, ◌∙◌, subst, is_some, append_assoc, append-nil}
-use Rattle.std.specs.Prelude.{Option, Some, None, slice_get}
+use Rattle.std.specs.Prelude.{Option, Some, None, slice_get, flat_map}
+use Rattle.std.specs.List.{AllByRecursion}
 use Rattle.spec_terms.specs.Term.{Term, Subst}
 use Rattle.spec_terms.specs.Binding.{Binding, bound_to, AreDistinct, Agrees, replaced_once}
 use Rattle.spec_terms.proofs.Matches.{Agrees-at, replaced-agrees}
 use Rattle.spec_clauses.specs.Fact.{Fact, Att, fact_under}
+use Rattle.spec_clauses.specs.Diff.{diff_variables}
 use Rattle.spec_clauses.specs.Flat.{flat, flat_under}
 use Rattle.spec_clauses.specs.Inclusion.{Picks, here, there, IsWithin}
 use Rattle.spec_clauses.proofs.Inclusion.{within_self, within-trans, within-picked, pick-within, within-more_left, within-more_right, within-append}
+use Rattle.spec_clauses.proofs.Kept.{kept-agree}
 use Rattle.spec_placements.specs.Takes.{left}
-use Rattle.spec_placements.specs.Placing.{all_known, CanPlace, AreLinked}
+use Rattle.spec_placements.specs.Placing.{Loose, all_known, Ending, AreKept, CanPlace, AreLinked, variables_of}
 use Rattle.spec_placements.specs.LooseParts.{flat_of, bound_parts, Removes, Lacks, HasNoRoom}
 use Rattle.spec_placements.proofs.Flags.{pick_left, place_of_left}
 
@@ -73,46 +76,60 @@ module _ (hs : List (Fact Term)) where
   no_room_later before now ys zs r none w = none ((r zs).0 w)
 
 -- The parts of the variables that are bound are parts of all, under each substitution that has the bindings.
-parts_of : (s : Subst) (bs : List Binding) (x : ℕ) → Agrees s bs → (o : Option Term) → bound_to bs x ≡ o → is_some o ≡ true → flat (Att (s x)) ≡ flat_of o
-parts_of s bs x agrees None e is = absurd (let clash : false ≡ true = is in cc)
-parts_of s bs x agrees (Some t) e is = ap (λ u. flat (Att u)) (Agrees-at s bs x t agrees e)
+parts_of : (s : Subst) (bs : List Binding) (phase x : ℕ) → Agrees s bs → (o : Option Term) → bound_to bs x ≡ o → is_some o ≡ true → flat (Att phase (s x)) ≡ flat_of phase o
+parts_of s bs phase x agrees None e is = absurd (let clash : false ≡ true = is in cc)
+parts_of s bs phase x agrees (Some t) e is = ap (λ u. flat (Att phase u)) (Agrees-at s bs x t agrees e)
 
-part_within : (s : Subst) (bs : List Binding) (x : ℕ) → Agrees s bs → (o : Option Term) → bound_to bs x ≡ o → IsWithin (flat_of o) (flat (Att (s x)))
-part_within s bs x agrees None e = tt
-part_within s bs x agrees (Some t) e = subst (IsWithin (flat (Att t))) (ap (λ u. flat (Att u)) (sym (Agrees-at s bs x t agrees e))) (within_self (flat (Att t)))
+part_within : (s : Subst) (bs : List Binding) (phase x : ℕ) → Agrees s bs → (o : Option Term) → bound_to bs x ≡ o → IsWithin (flat_of phase o) (flat (Att phase (s x)))
+part_within s bs phase x agrees None e = tt
+part_within s bs phase x agrees (Some t) e = subst (IsWithin (flat (Att phase t))) (ap (λ u. flat (Att phase u)) (sym (Agrees-at s bs x t agrees e))) (within_self (flat (Att phase t)))
 
-pub parts_within : (s : Subst) (bs : List Binding) (xs : List ℕ) → Agrees s bs → IsWithin (bound_parts bs xs) (flat_under s (all_known xs))
+pub parts_within : (s : Subst) (bs : List Binding) (loose : List Loose) → Agrees s bs → IsWithin (bound_parts bs loose) (flat_under s (all_known loose))
 parts_within s bs [] agrees = tt
-parts_within s bs (x ∷ xs) agrees = within-append (flat_of (bound_to bs x)) (bound_parts bs xs) (flat (Att (s x))) (flat_under s (all_known xs)) (part_within s bs x agrees (bound_to bs x) refl) (parts_within s bs xs agrees)
+parts_within s bs (l ∷ loose) agrees = within-append (flat_of l.phase (bound_to bs l.variable)) (bound_parts bs loose) (flat (Att l.phase (s l.variable))) (flat_under s (all_known loose)) (part_within s bs l.phase l.variable agrees (bound_to bs l.variable) refl) (parts_within s bs loose agrees)
 
 or_false : (b : Bool) → (b || false) ≡ true → b ≡ true
 or_false true e = refl
 or_false false e = e
 
 -- and all of them where all variables are bound
-pub parts_are_all : (s : Subst) (bs : List Binding) (xs : List ℕ) → Agrees s bs → AreLinked bs xs [] → flat_under s (all_known xs) ≡ bound_parts bs xs
+pub parts_are_all : (s : Subst) (bs : List Binding) (loose : List Loose) → Agrees s bs → AreLinked bs (variables_of loose) [] → flat_under s (all_known loose) ≡ bound_parts bs loose
 parts_are_all s bs [] agrees linked = refl
-parts_are_all s bs (x ∷ xs) agrees linked =
-    let first = parts_of s bs x agrees (bound_to bs x) refl (or_false (is_some (bound_to bs x)) linked.0) in
-    let others = parts_are_all s bs xs agrees linked.1 in λ i. first i ++ others i
+parts_are_all s bs (l ∷ loose) agrees linked =
+    let first = parts_of s bs l.phase l.variable agrees (bound_to bs l.variable) refl (or_false (is_some (bound_to bs l.variable)) linked.0) in
+    let others = parts_are_all s bs loose agrees linked.1 in λ i. first i ++ others i
 
--- So with no fact left the loose variables can be placed where their parts have room.
-pub loose_placed : (bs : List Binding) (taken : List Bool) (hs : List (Fact Term)) (loose : List ℕ) → AreDistinct bs → AreLinked bs loose [] → IsWithin (bound_parts bs loose) (left taken hs) → CanPlace bs taken hs [] loose
-loose_placed bs taken hs loose once linked w =
+-- So with no fact left the loose variables can be placed where their parts have room and the constraints are kept.
+pub loose_placed : (bs : List Binding) (taken : List Bool) (hs : List (Fact Term)) (ending : Ending) → AreDistinct bs → AreLinked bs (variables_of ending.loose) [] → IsWithin (bound_parts bs ending.loose) (left taken hs) → AreKept ending (replaced_once bs) → CanPlace bs taken hs [] ending
+loose_placed bs taken hs ending once linked w kept =
     let agrees = replaced-agrees bs once in
     record {
       by = replaced_once bs;
       agrees = agrees;
-      within = subst (λ fs. IsWithin fs (left taken hs)) (sym (parts_are_all (replaced_once bs) bs loose agrees linked)) w;
+      kept = kept;
+      within = subst (λ fs. IsWithin fs (left taken hs)) (sym (parts_are_all (replaced_once bs) bs ending.loose agrees linked)) w;
     }
 
--- and where the parts of those that are bound have none, nothing can be placed.
-pub loose_unplaced : (bs : List Binding) (taken : List Bool) (hs unplaced : List (Fact Term)) (loose : List ℕ) → HasNoRoom hs taken (bound_parts bs loose) → CanPlace bs taken hs unplaced loose → ⊥
-loose_unplaced bs taken hs unplaced loose none c =
-    let parts = flat_under c.by (all_known loose) in
+-- Where the parts of those that are bound have none, nothing can be placed,
+pub loose_unplaced : (bs : List Binding) (taken : List Bool) (hs unplaced : List (Fact Term)) (ending : Ending) → HasNoRoom hs taken (bound_parts bs ending.loose) → CanPlace bs taken hs unplaced ending → ⊥
+loose_unplaced bs taken hs unplaced ending none c =
+    let parts = flat_under c.by (all_known ending.loose) in
     let placed = map (fact_under c.by) unplaced in
-    none (within-trans (bound_parts bs loose) (placed ++ parts) (left taken hs) (within-more_left (bound_parts bs loose) placed parts (parts_within c.by bs loose c.agrees)) c.within)
+    none (within-trans (bound_parts bs ending.loose) (placed ++ parts) (left taken hs) (within-more_left (bound_parts bs ending.loose) placed parts (parts_within c.by bs ending.loose c.agrees)) c.within)
 
-pub parts_joined : (bs : List Binding) (xs ys : List ℕ) → bound_parts bs (xs ++ ys) ≡ bound_parts bs xs ++ bound_parts bs ys
+-- nor where all variables of the constraints are bound, and some constraint isn't kept.
+bound_agree : (s t : Subst) (bs : List Binding) → Agrees s bs → Agrees t bs → (x : ℕ) (o : Option Term) → bound_to bs x ≡ o → is_some o ≡ true → s x ≡ t x
+bound_agree s t bs first second x None e is = absurd (let clash : false ≡ true = is in cc)
+bound_agree s t bs first second x (Some u) e is = Agrees-at s bs x u first e ∙ sym (Agrees-at t bs x u second e)
+
+all_bound_agree : (s t : Subst) (bs : List Binding) → Agrees s bs → Agrees t bs → (xs : List ℕ) → AreLinked bs xs [] → AllByRecursion (λ x. s x ≡ t x) xs
+all_bound_agree s t bs first second [] linked = tt
+all_bound_agree s t bs first second (x ∷ xs) linked = (bound_agree s t bs first second x (bound_to bs x) refl (or_false (is_some (bound_to bs x)) linked.0), all_bound_agree s t bs first second xs linked.1)
+
+pub unkept_unplaced : (bs : List Binding) (taken : List Bool) (hs unplaced : List (Fact Term)) (ending : Ending) → AreDistinct bs → AreLinked bs (flat_map diff_variables ending.diffs) [] → (AreKept ending (replaced_once bs) → ⊥) → CanPlace bs taken hs unplaced ending → ⊥
+unkept_unplaced bs taken hs unplaced ending once linked never c =
+    never (kept-agree ending.kept_in c.by (replaced_once bs) ending.diffs (all_bound_agree c.by (replaced_once bs) bs c.agrees (replaced-agrees bs once) (flat_map diff_variables ending.diffs) linked) c.kept)
+
+pub parts_joined : (bs : List Binding) (xs ys : List Loose) → bound_parts bs (xs ++ ys) ≡ bound_parts bs xs ++ bound_parts bs ys
 parts_joined bs [] ys = refl
-parts_joined bs (x ∷ xs) ys = ap (λ fs. flat_of (bound_to bs x) ++ fs) (parts_joined bs xs ys) ∙ sym (append_assoc (flat_of (bound_to bs x)) (bound_parts bs xs) (bound_parts bs ys))
+parts_joined bs (l ∷ xs) ys = ap (λ fs. flat_of l.phase (bound_to bs l.variable) ++ fs) (parts_joined bs xs ys) ∙ sym (append_assoc (flat_of l.phase (bound_to bs l.variable)) (bound_parts bs xs) (bound_parts bs ys))

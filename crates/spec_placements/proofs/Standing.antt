@@ -13,7 +13,7 @@ use Rattle.spec_clauses.specs.Inclusion.{Picks, here, there, IsWithin}
 use Rattle.spec_clauses.specs.Subsumption.{ComesBefore}
 use Rattle.spec_clauses.proofs.Inclusion.{pick-append_left, pick-map, within-pick, within-trans, within-picked, within-more_left, within_self}
 use Rattle.spec_placements.specs.Takes.{left, Takes}
-use Rattle.spec_placements.specs.Placing.{all_known, FactMatched, NoFactMatch, CanPlace, CanStand, HoldsFrom, IsFirstFrom}
+use Rattle.spec_placements.specs.Placing.{Ending, all_known, FactMatched, NoFactMatch, CanPlace, CanStand, HoldsFrom, IsFirstFrom}
 use Rattle.spec_placements.proofs.Flags.{pick_left, place_of_left}
 use Rattle.spec_placements.proofs.TakenRows.{free_later, free_before}
 
@@ -88,40 +88,42 @@ removed-mapped f [] (suc at) = refl
 removed-mapped f (y ∷ xs) zero = refl
 removed-mapped f (y ∷ xs) (suc at) = ap (λ ys. f y ∷ ys) (removed-mapped f xs at)
 
-module _ (hs : List (Fact Term)) (taken : List Bool) (loose : List ℕ) where
+module _ (hs : List (Fact Term)) (taken : List Bool) (ending : Ending) where
   -- a fact that was matched with what stands at a free position can stand there where the others can be placed then
-  pub stand_placed : (old new : List Binding) (g h : Fact Term) (rest : List (Fact Term)) (p : ℕ) → slice_get hs p ≡ Some h → FactMatched old new g h → CanStand old taken hs g rest loose p → CanPlace new (set taken p true) hs rest loose
+  pub stand_placed : (old new : List Binding) (g h : Fact Term) (rest : List (Fact Term)) (p : ℕ) → slice_get hs p ≡ Some h → FactMatched old new g h → CanStand old taken hs g rest ending p → CanPlace new (set taken p true) hs rest ending
   stand_placed old new g h rest p found m c = record {
     by = c.by;
     agrees = (m.only c.by).1 (c.agrees, some_same (sym c.stands ∙ found));
+    kept = c.kept;
     within = c.within;
   }
 
-  pub placed_stand : (old new : List Binding) (g h : Fact Term) (rest : List (Fact Term)) (p : ℕ) → get_or taken p false ≡ false → slice_get hs p ≡ Some h → FactMatched old new g h → CanPlace new (set taken p true) hs rest loose → CanStand old taken hs g rest loose p
+  pub placed_stand : (old new : List Binding) (g h : Fact Term) (rest : List (Fact Term)) (p : ℕ) → get_or taken p false ≡ false → slice_get hs p ≡ Some h → FactMatched old new g h → CanPlace new (set taken p true) hs rest ending → CanStand old taken hs g rest ending p
   placed_stand old new g h rest p free found m c =
       let agree = (m.only c.by).0 c.agrees in
-      record { by = c.by; agrees = agree.0; free = free; stands = found ∙ ap Some (sym agree.1); within = c.within }
+      record { by = c.by; agrees = agree.0; kept = c.kept; free = free; stands = found ∙ ap Some (sym agree.1); within = c.within }
 
   -- where one can't stand
-  pub unmatched : (bs : List Binding) (g h : Fact Term) (rest : List (Fact Term)) (p : ℕ) → slice_get hs p ≡ Some h → NoFactMatch bs g h → CanStand bs taken hs g rest loose p → ⊥
+  pub unmatched : (bs : List Binding) (g h : Fact Term) (rest : List (Fact Term)) (p : ℕ) → slice_get hs p ≡ Some h → NoFactMatch bs g h → CanStand bs taken hs g rest ending p → ⊥
   unmatched bs g h rest p found none c = none c.by c.agrees (some_same (sym c.stands ∙ found))
 
-  pub occupied : (bs : List Binding) (g : Fact Term) (rest : List (Fact Term)) (p : ℕ) → get_or taken p false ≡ true → CanStand bs taken hs g rest loose p → ⊥
+  pub occupied : (bs : List Binding) (g : Fact Term) (rest : List (Fact Term)) (p : ℕ) → get_or taken p false ≡ true → CanStand bs taken hs g rest ending p → ⊥
   occupied bs g rest p full c = true_false (sym full ∙ c.free)
 
-  pub in_range : (bs : List Binding) (g : Fact Term) (rest : List (Fact Term)) (p : ℕ) → CanStand bs taken hs g rest loose p → p < length hs
+  pub in_range : (bs : List Binding) (g : Fact Term) (rest : List (Fact Term)) (p : ℕ) → CanStand bs taken hs g rest ending p → p < length hs
   in_range bs g rest p c = slice_get_within hs p (fact_under c.by g) c.stands
 
   -- where facts can be placed, each of them can stand somewhere
-  pub some_stand : (bs : List Binding) (unplaced rest : List (Fact Term)) (g : Fact Term) → length taken ≡ length hs → Picks unplaced g rest → CanPlace bs taken hs unplaced loose → (p : ℕ) × CanStand bs taken hs g rest loose p
+  pub some_stand : (bs : List Binding) (unplaced rest : List (Fact Term)) (g : Fact Term) → length taken ≡ length hs → Picks unplaced g rest → CanPlace bs taken hs unplaced ending → (p : ℕ) × CanStand bs taken hs g rest ending p
   some_stand bs unplaced rest g e picks c =
-      let parts = flat_under c.by (all_known loose) in
+      let parts = flat_under c.by (all_known ending.loose) in
       let (others, q, w) = within-pick (left taken hs) (pick-append_left (pick-map (fact_under c.by) picks) parts) c.within in
       let at = place_of_left taken hs e q in (
         at.place,
         record {
           by = c.by;
           agrees = c.agrees;
+          kept = c.kept;
           free = at.free;
           stands = at.found;
           within = subst (IsWithin (map (fact_under c.by) rest ++ parts)) at.rest_left w;
@@ -129,41 +131,44 @@ module _ (hs : List (Fact Term)) (taken : List Bool) (loose : List ℕ) where
       )
 
   -- and where one can stand, all can be placed
-  pub all_placed : (bs : List Binding) (unplaced rest : List (Fact Term)) (g : Fact Term) (p : ℕ) → length taken ≡ length hs → Picks unplaced g rest → CanStand bs taken hs g rest loose p → CanPlace bs taken hs unplaced loose
+  pub all_placed : (bs : List Binding) (unplaced rest : List (Fact Term)) (g : Fact Term) (p : ℕ) → length taken ≡ length hs → Picks unplaced g rest → CanStand bs taken hs g rest ending p → CanPlace bs taken hs unplaced ending
   all_placed bs unplaced rest g p e picks c =
       let f = fact_under c.by in
-      let parts = flat_under c.by (all_known loose) in
+      let parts = flat_under c.by (all_known ending.loose) in
       record {
         by = c.by;
         agrees = c.agrees;
+        kept = c.kept;
         within = within-trans (map f unplaced ++ parts) (f g ∷ (map f rest ++ parts)) (left taken hs)
             (within-picked (pick-append_left (pick-map f picks) parts))
             (left (set taken p true) hs, pick_left taken hs p (f g) e c.free c.stands, c.within);
       }
 
   -- facts can be placed exactly where some row of positions holds them
-  pub row_placed : (bs : List Binding) (unplaced : List (Fact Term)) (row : List ℕ) → length taken ≡ length hs → HoldsFrom bs taken hs unplaced loose row → CanPlace bs taken hs unplaced loose
+  pub row_placed : (bs : List Binding) (unplaced : List (Fact Term)) (row : List ℕ) → length taken ≡ length hs → HoldsFrom bs taken hs unplaced ending row → CanPlace bs taken hs unplaced ending
   row_placed bs unplaced row e h = record {
     by = h.by;
     agrees = h.agrees;
-    within = takes_within hs taken (map (fact_under h.by) unplaced) row (flat_under h.by (all_known loose)) e h.takes;
+    kept = h.kept;
+    within = takes_within hs taken (map (fact_under h.by) unplaced) row (flat_under h.by (all_known ending.loose)) e h.takes;
   }
 
-  pub placed_row : (bs : List Binding) (unplaced : List (Fact Term)) → length taken ≡ length hs → CanPlace bs taken hs unplaced loose → (row : List ℕ) × HoldsFrom bs taken hs unplaced loose row
+  pub placed_row : (bs : List Binding) (unplaced : List (Fact Term)) → length taken ≡ length hs → CanPlace bs taken hs unplaced ending → (row : List ℕ) × HoldsFrom bs taken hs unplaced ending row
   placed_row bs unplaced e c =
-      let (row, t) = within_takes hs taken (map (fact_under c.by) unplaced) (flat_under c.by (all_known loose)) e c.within in
-      (row, record { by = c.by; agrees = c.agrees; takes = t })
+      let (row, t) = within_takes hs taken (map (fact_under c.by) unplaced) (flat_under c.by (all_known ending.loose)) e c.within in
+      (row, record { by = c.by; agrees = c.agrees; kept = c.kept; takes = t })
 
   -- the first fact of a row stands at its first position
-  pub row_stands : (bs : List Binding) (g : Fact Term) (rest : List (Fact Term)) (p : ℕ) (row : List ℕ) → length taken ≡ length hs → HoldsFrom bs taken hs (g ∷ rest) loose (p ∷ row) → CanStand bs taken hs g rest loose p
+  pub row_stands : (bs : List Binding) (g : Fact Term) (rest : List (Fact Term)) (p : ℕ) (row : List ℕ) → length taken ≡ length hs → HoldsFrom bs taken hs (g ∷ rest) ending (p ∷ row) → CanStand bs taken hs g rest ending p
   row_stands bs g rest p row e h =
       let long : length (set taken p true) ≡ length hs = length-set taken p true ∙ e in
       record {
         by = h.by;
         agrees = h.agrees;
+        kept = h.kept;
         free = h.takes.0;
         stands = h.takes.1;
-        within = takes_within hs (set taken p true) (map (fact_under h.by) rest) row (flat_under h.by (all_known loose)) long h.takes.2;
+        within = takes_within hs (set taken p true) (map (fact_under h.by) rest) row (flat_under h.by (all_known ending.loose)) long h.takes.2;
       }
 
   -- a row has a position for each fact
@@ -173,81 +178,85 @@ module _ (hs : List (Fact Term)) (taken : List Bool) (loose : List ℕ) where
   takes_length flags f (y ∷ ys) [] more t = absurd t
   takes_length flags f (y ∷ ys) (p ∷ row) more t = ap suc (takes_length (set flags p true) f ys row more t.2)
 
-  pub row_long : (bs : List Binding) (unplaced : List (Fact Term)) (row : List ℕ) → HoldsFrom bs taken hs unplaced loose row → length row ≡ length unplaced
-  row_long bs unplaced row h = takes_length taken (fact_under h.by) unplaced row (flat_under h.by (all_known loose)) h.takes
+  pub row_long : (bs : List Binding) (unplaced : List (Fact Term)) (row : List ℕ) → HoldsFrom bs taken hs unplaced ending row → length row ≡ length unplaced
+  row_long bs unplaced row h = takes_length taken (fact_under h.by) unplaced row (flat_under h.by (all_known ending.loose)) h.takes
 
   -- with no fact left no position is
-  pub holds_nothing : (bs : List Binding) → CanPlace bs taken hs [] loose → HoldsFrom bs taken hs [] loose []
-  holds_nothing bs c = record { by = c.by; agrees = c.agrees; takes = c.within }
+  pub holds_nothing : (bs : List Binding) → CanPlace bs taken hs [] ending → HoldsFrom bs taken hs [] ending []
+  holds_nothing bs c = record { by = c.by; agrees = c.agrees; kept = c.kept; takes = c.within }
 
   before_none : (row : List ℕ) → ComesBefore row [] → ⊥
   before_none [] b = b
   before_none (p ∷ row) b = b
 
-  pub first_nothing : (bs : List Binding) → CanPlace bs taken hs [] loose → IsFirstFrom bs taken hs [] loose []
+  pub first_nothing : (bs : List Binding) → CanPlace bs taken hs [] ending → IsFirstFrom bs taken hs [] ending []
   first_nothing bs c = record { holds = holds_nothing bs c; first = λ other held before. before_none other before }
 
   module _ (old new : List Binding) (g h : Fact Term) (p : ℕ) (found : slice_get hs p ≡ Some h) (m : FactMatched old new g h) where
     -- a row of one more fact, which stands at p
-    pub holds_one : (rest : List (Fact Term)) (row : List ℕ) → get_or taken p false ≡ false → HoldsFrom new (set taken p true) hs rest loose row → HoldsFrom old taken hs (g ∷ rest) loose (p ∷ row)
+    pub holds_one : (rest : List (Fact Term)) (row : List ℕ) → get_or taken p false ≡ false → HoldsFrom new (set taken p true) hs rest ending row → HoldsFrom old taken hs (g ∷ rest) ending (p ∷ row)
     holds_one rest row free held =
         let agree = (m.only held.by).0 held.agrees in
-        record { by = held.by; agrees = agree.0; takes = (free, found ∙ ap Some (sym agree.1), held.takes) }
+        record { by = held.by; agrees = agree.0; kept = held.kept; takes = (free, found ∙ ap Some (sym agree.1), held.takes) }
 
-    pub one_holds : (rest : List (Fact Term)) (row : List ℕ) → HoldsFrom old taken hs (g ∷ rest) loose (p ∷ row) → HoldsFrom new (set taken p true) hs rest loose row
+    pub one_holds : (rest : List (Fact Term)) (row : List ℕ) → HoldsFrom old taken hs (g ∷ rest) ending (p ∷ row) → HoldsFrom new (set taken p true) hs rest ending row
     one_holds rest row held = record {
       by = held.by;
       agrees = (m.only held.by).1 (held.agrees, some_same (sym held.takes.1 ∙ found));
+      kept = held.kept;
       takes = held.takes.2;
     }
 
     -- and at any place of it
-    pub holds_inserted : (unplaced : List (Fact Term)) (row : List ℕ) (at : ℕ) → length taken ≡ length hs → slice_get unplaced at ≡ Some g → get_or taken p false ≡ false → HoldsFrom new (set taken p true) hs (remove unplaced at) loose row → HoldsFrom old taken hs unplaced loose (insert row at p)
+    pub holds_inserted : (unplaced : List (Fact Term)) (row : List ℕ) (at : ℕ) → length taken ≡ length hs → slice_get unplaced at ≡ Some g → get_or taken p false ≡ false → HoldsFrom new (set taken p true) hs (remove unplaced at) ending row → HoldsFrom old taken hs unplaced ending (insert row at p)
     holds_inserted unplaced row at e which free held =
         let agree = (m.only held.by).0 held.agrees in
         let f = fact_under held.by in
-        let parts = flat_under held.by (all_known loose) in
+        let parts = flat_under held.by (all_known ending.loose) in
         let within = slice_get_within hs p h found in
         record {
           by = held.by;
           agrees = agree.0;
+          kept = held.kept;
           takes = takes_insert hs taken (map f unplaced) row parts at p (f g) (omega arith) (slice_get-mapped f unplaced at g which) free (found ∙ ap Some (sym agree.1)) (subst (λ ys. Takes hs (set taken p true) ys row parts) (removed-mapped f unplaced at) held.takes);
         }
 
     -- the first position at which the first fact can stand, and the first row of the others from there
-    pub first_one : (rest : List (Fact Term)) (row : List ℕ) → length taken ≡ length hs → get_or taken p false ≡ false → ((q : ℕ) → q < p → CanStand old taken hs g rest loose q → ⊥) → IsFirstFrom new (set taken p true) hs rest loose row → IsFirstFrom old taken hs (g ∷ rest) loose (p ∷ row)
+    pub first_one : (rest : List (Fact Term)) (row : List ℕ) → length taken ≡ length hs → get_or taken p false ≡ false → ((q : ℕ) → q < p → CanStand old taken hs g rest ending q → ⊥) → IsFirstFrom new (set taken p true) hs rest ending row → IsFirstFrom old taken hs (g ∷ rest) ending (p ∷ row)
     first_one rest row e free least is = record {
       holds = holds_one rest row free is.holds;
       first = earlier;
     } where
-      earlier : (other : List ℕ) → HoldsFrom old taken hs (g ∷ rest) loose other → ComesBefore other (p ∷ row) → ⊥
+      earlier : (other : List ℕ) → HoldsFrom old taken hs (g ∷ rest) ending other → ComesBefore other (p ∷ row) → ⊥
       earlier [] held before = before
       earlier (q ∷ other) held (inl less) = least q less (row_stands old g rest q other e held)
-      earlier (q ∷ other) held (inr same) = is.first other (one_holds rest other (subst (λ n. HoldsFrom old taken hs (g ∷ rest) loose (n ∷ other)) same.0 held)) same.1
+      earlier (q ∷ other) held (inr same) = is.first other (one_holds rest other (subst (λ n. HoldsFrom old taken hs (g ∷ rest) ending (n ∷ other)) same.0 held)) same.1
 
-module _ (hs : List (Fact Term)) (taken : List Bool) (loose : List ℕ) (bs : List Binding) (e : length taken ≡ length hs) where
+module _ (hs : List (Fact Term)) (taken : List Bool) (ending : Ending) (bs : List Binding) (e : length taken ≡ length hs) where
   -- One of the facts may be put in front of a row's facts, with its position in front of the others, and back.
-  pub front_holds : (unplaced : List (Fact Term)) (row : List ℕ) (at : ℕ) (g : Fact Term) → slice_get unplaced at ≡ Some g → HoldsFrom bs taken hs unplaced loose row → (p : ℕ) × (slice_get row at ≡ Some p) × HoldsFrom bs taken hs (g ∷ remove unplaced at) loose (p ∷ remove row at)
+  pub front_holds : (unplaced : List (Fact Term)) (row : List ℕ) (at : ℕ) (g : Fact Term) → slice_get unplaced at ≡ Some g → HoldsFrom bs taken hs unplaced ending row → (p : ℕ) × (slice_get row at ≡ Some p) × HoldsFrom bs taken hs (g ∷ remove unplaced at) ending (p ∷ remove row at)
   front_holds unplaced row at g which held =
       let f = fact_under held.by in
-      let parts = flat_under held.by (all_known loose) in
+      let parts = flat_under held.by (all_known ending.loose) in
       let (p, found, t) = takes_removed hs taken (map f unplaced) row parts at (f g) e (slice_get-mapped f unplaced at g which) held.takes in (
         p,
         found,
         record {
           by = held.by;
           agrees = held.agrees;
+          kept = held.kept;
           takes = subst (λ ys. Takes hs taken (f g ∷ ys) (p ∷ remove row at) parts) (sym (removed-mapped f unplaced at)) t;
         },
       )
 
-  pub back_holds : (unplaced : List (Fact Term)) (row : List ℕ) (at p : ℕ) (g : Fact Term) → slice_get unplaced at ≡ Some g → HoldsFrom bs taken hs (g ∷ remove unplaced at) loose (p ∷ row) → HoldsFrom bs taken hs unplaced loose (insert row at p)
+  pub back_holds : (unplaced : List (Fact Term)) (row : List ℕ) (at p : ℕ) (g : Fact Term) → slice_get unplaced at ≡ Some g → HoldsFrom bs taken hs (g ∷ remove unplaced at) ending (p ∷ row) → HoldsFrom bs taken hs unplaced ending (insert row at p)
   back_holds unplaced row at p g which held =
       let f = fact_under held.by in
-      let parts = flat_under held.by (all_known loose) in
+      let parts = flat_under held.by (all_known ending.loose) in
       let inside = slice_get_within hs p (f g) held.takes.1 in
       record {
         by = held.by;
         agrees = held.agrees;
+        kept = held.kept;
         takes = takes_insert hs taken (map f unplaced) row parts at p (f g) (omega arith) (slice_get-mapped f unplaced at g which) held.takes.0 held.takes.1 (subst (λ ys. Takes hs (set taken p true) ys row parts) (removed-mapped f unplaced at) held.takes.2);
       }

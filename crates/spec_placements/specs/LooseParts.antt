@@ -5,15 +5,16 @@ use Rattle.spec_terms.specs.Binding.{Binding, bound_to}
 use Rattle.spec_clauses.specs.Fact.{Fact, Att}
 use Rattle.spec_clauses.specs.Flat.{flat}
 use Rattle.spec_clauses.specs.Inclusion.{IsWithin}
+use Rattle.spec_placements.specs.Placing.{Loose}
 use Rattle.spec_placements.specs.Takes.{left}
 
--- the flat facts that `att` of a variable stands for where it is bound
-abbrev pub flat_of : Option Term → List (Fact Term)
-flat_of None = []
-flat_of (Some t) = flat (Att t)
+-- the flat facts that `att` of a variable stands for in a phase, where it is bound
+abbrev pub flat_of : ℕ → Option Term → List (Fact Term)
+flat_of phase None = []
+flat_of phase (Some t) = flat (Att phase t)
 
-abbrev pub bound_parts : List Binding → List ℕ → List (Fact Term)
-bound_parts bs xs = flat_map (λ x. flat_of (bound_to bs x)) xs
+abbrev pub bound_parts : List Binding → List Loose → List (Fact Term)
+bound_parts bs loose = flat_map (λ l. flat_of l.phase (bound_to bs l.variable)) loose
 
 -- The facts were removed: with more of them there is room for them at first exactly where there is room for the others now.
 abbrev pub Removes : List (Fact Term) → List Bool → List Bool → List (Fact Term) → Type 0

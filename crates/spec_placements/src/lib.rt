@@ -5,17 +5,19 @@
 
 ghost use Rattle.std.specs.Prelude.{◌≡◌, ◌↔◌, ℕ, suc, ◌+◌, ◌<◌, Bool, true, false, ◌||◌, cond};
 ghost use Rattle.std.specs.Prelude.{is_some, Some, get_or, set, slice_get};
-ghost use Rattle.std.specs.Prelude.{List, [], ◌∷◌, ◌++◌, length, map, replicate, remove, insert};
+ghost use Rattle.std.specs.Prelude.{List, [], ◌∷◌, ◌++◌, length, map, flat_map, replicate, remove, insert};
 ghost use Rattle.std.specs.List.{list_any};
 ghost use Rattle.spec_terms.specs.Term.{Term, Subst, has_var};
 ghost use Rattle.spec_terms.specs.Unifier.{MatchesAll};
-ghost use Rattle.spec_terms.specs.Binding.{Binding, bound_to, AreDistinct, Agrees};
+ghost use Rattle.spec_terms.specs.Binding.{Binding, bound_to, AreDistinct, Agrees, replaced_once};
 ghost use Rattle.spec_clauses.specs.Fact.{Fact, Clause, terms_of, outline, fact_under};
+ghost use Rattle.spec_clauses.specs.Diff.{Diff, diff_variables};
 ghost use Rattle.spec_clauses.specs.Norm.{norm, IsNormal};
 ghost use Rattle.spec_clauses.specs.Inclusion.{Picks, IsWithin};
 ghost use Rattle.spec_clauses.specs.Subsumption.{firm, loose, RowHolds, IsFirstRow};
 ghost use Rattle.spec_placements.specs.Takes.{left, Takes};
-ghost use Rattle.spec_placements.specs.Placing.{loose_variables, all_known, FactMatched, NoFactMatch};
+ghost use Rattle.spec_placements.specs.Placing.{Loose, loose_variables, all_known, variables_of, linked_variables};
+ghost use Rattle.spec_placements.specs.Placing.{Ending, ending_of, AreKept, FactMatched, NoFactMatch};
 ghost use Rattle.spec_placements.specs.Placing.{CanPlace, CanStand, HoldsFrom, IsFirstFrom};
 ghost use Rattle.spec_placements.specs.Placing.{AreLinked, IsLinked};
 ghost use Rattle.spec_placements.specs.Stages.{Stage, PlacesOn, PlacesFirst};
@@ -59,18 +61,18 @@ pub fn rows_are_placed()
         FactMatched [] bs general.conclusion special.conclusion →
         RowHolds general special (map suc row) ↔
         HoldsFrom bs (replicate (length special.hypotheses) false) special.hypotheses
-        (firm general.hypotheses) (loose_variables general.hypotheses) row }
+        (firm general.hypotheses) (ending_of general special) row }
     ensures first { (bs : List Binding) (general special : Clause Term) (row : List ℕ) →
         FactMatched [] bs general.conclusion special.conclusion →
         IsFirstRow general special (map suc row) ↔
         IsFirstFrom bs (replicate (length special.hypotheses) false) special.hypotheses
-        (firm general.hypotheses) (loose_variables general.hypotheses) row }
+        (firm general.hypotheses) (ending_of general special) row }
     ensures unmatched { (general special : Clause Term) (row : List ℕ) →
         NoFactMatch [] general.conclusion special.conclusion → RowHolds general special row → ⊥ }
     ensures unplaced { (bs : List Binding) (general special : Clause Term) (row : List ℕ) →
         FactMatched [] bs general.conclusion special.conclusion →
         (CanPlace bs (replicate (length special.hypotheses) false) special.hypotheses
-        (firm general.hypotheses) (loose_variables general.hypotheses) → ⊥) →
+        (firm general.hypotheses) (ending_of general special) → ⊥) →
         RowHolds general special row → ⊥ }
 {}
 
@@ -79,29 +81,30 @@ pub fn rows_are_placed()
 /// can be placed exactly where one of them, whichever it is, can stand somewhere.
 pub fn all_are_placed_where_one_stands()
     ensures matched { (old new : List Binding) (taken : List Bool) (hs rest : List (Fact Term))
-        (g h : Fact Term) (loose : List ℕ) (p : ℕ) → get_or taken p false ≡ false →
+        (g h : Fact Term) (ending : Ending) (p : ℕ) → get_or taken p false ≡ false →
         slice_get hs p ≡ Some h → FactMatched old new g h →
-        CanStand old taken hs g rest loose p ↔ CanPlace new (set taken p true) hs rest loose }
+        CanStand old taken hs g rest ending p ↔ CanPlace new (set taken p true) hs rest ending }
     ensures unmatched { (bs : List Binding) (taken : List Bool) (hs rest : List (Fact Term))
-        (g h : Fact Term) (loose : List ℕ) (p : ℕ) → slice_get hs p ≡ Some h → NoFactMatch bs g h →
-        CanStand bs taken hs g rest loose p → ⊥ }
+        (g h : Fact Term) (ending : Ending) (p : ℕ) → slice_get hs p ≡ Some h →
+        NoFactMatch bs g h →
+        CanStand bs taken hs g rest ending p → ⊥ }
     ensures occupied { (bs : List Binding) (taken : List Bool) (hs rest : List (Fact Term))
-        (g : Fact Term) (loose : List ℕ) (p : ℕ) → get_or taken p false ≡ true →
-        CanStand bs taken hs g rest loose p → ⊥ }
+        (g : Fact Term) (ending : Ending) (p : ℕ) → get_or taken p false ≡ true →
+        CanStand bs taken hs g rest ending p → ⊥ }
     ensures range { (bs : List Binding) (taken : List Bool) (hs rest : List (Fact Term))
-        (g : Fact Term) (loose : List ℕ) (p : ℕ) →
-        CanStand bs taken hs g rest loose p → p < length hs }
+        (g : Fact Term) (ending : Ending) (p : ℕ) →
+        CanStand bs taken hs g rest ending p → p < length hs }
     ensures some { (bs : List Binding) (taken : List Bool) (hs unplaced rest : List (Fact Term))
-        (g : Fact Term) (loose : List ℕ) → length taken ≡ length hs → Picks unplaced g rest →
-        CanPlace bs taken hs unplaced loose → (p : ℕ) × CanStand bs taken hs g rest loose p }
+        (g : Fact Term) (ending : Ending) → length taken ≡ length hs → Picks unplaced g rest →
+        CanPlace bs taken hs unplaced ending → (p : ℕ) × CanStand bs taken hs g rest ending p }
     ensures none { (bs : List Binding) (taken : List Bool) (hs unplaced rest : List (Fact Term))
-        (g : Fact Term) (loose : List ℕ) → length taken ≡ length hs → Picks unplaced g rest →
-        ((p : ℕ) → p < length hs → CanStand bs taken hs g rest loose p → ⊥) →
-        CanPlace bs taken hs unplaced loose → ⊥ }
+        (g : Fact Term) (ending : Ending) → length taken ≡ length hs → Picks unplaced g rest →
+        ((p : ℕ) → p < length hs → CanStand bs taken hs g rest ending p → ⊥) →
+        CanPlace bs taken hs unplaced ending → ⊥ }
     ensures placed { (bs : List Binding) (taken : List Bool) (hs unplaced rest : List (Fact Term))
-        (g : Fact Term) (loose : List ℕ) (p : ℕ) → length taken ≡ length hs →
-        Picks unplaced g rest → CanStand bs taken hs g rest loose p →
-        CanPlace bs taken hs unplaced loose }
+        (g : Fact Term) (ending : Ending) (p : ℕ) → length taken ≡ length hs →
+        Picks unplaced g rest → CanStand bs taken hs g rest ending p →
+        CanPlace bs taken hs unplaced ending }
     ensures removed { (unplaced : List (Fact Term)) (at : ℕ) (g : Fact Term) →
         slice_get unplaced at ≡ Some g → Picks unplaced g (remove unplaced at) }
 {}
@@ -128,107 +131,117 @@ pub fn facts_match_term_by_term()
 /// there is the empty one; and one more fact, at the front or at any place, has its position there.
 pub fn rows_hold_what_is_placed()
     ensures some { (bs : List Binding) (taken : List Bool) (hs unplaced : List (Fact Term))
-        (loose : List ℕ) → length taken ≡ length hs → CanPlace bs taken hs unplaced loose →
-        (row : List ℕ) × HoldsFrom bs taken hs unplaced loose row }
+        (ending : Ending) → length taken ≡ length hs → CanPlace bs taken hs unplaced ending →
+        (row : List ℕ) × HoldsFrom bs taken hs unplaced ending row }
     ensures placed { (bs : List Binding) (taken : List Bool) (hs unplaced : List (Fact Term))
-        (loose row : List ℕ) → length taken ≡ length hs → HoldsFrom bs taken hs unplaced loose row →
-        CanPlace bs taken hs unplaced loose }
+        (ending : Ending) (row : List ℕ) → length taken ≡ length hs →
+        HoldsFrom bs taken hs unplaced ending row →
+        CanPlace bs taken hs unplaced ending }
     ensures stands { (bs : List Binding) (taken : List Bool) (hs rest : List (Fact Term))
-        (g : Fact Term) (loose row : List ℕ) (p : ℕ) → length taken ≡ length hs →
-        HoldsFrom bs taken hs (g ∷ rest) loose (p ∷ row) → CanStand bs taken hs g rest loose p }
+        (g : Fact Term) (ending : Ending) (row : List ℕ) (p : ℕ) → length taken ≡ length hs →
+        HoldsFrom bs taken hs (g ∷ rest) ending (p ∷ row) → CanStand bs taken hs g rest ending p }
     ensures positions { (bs : List Binding) (taken : List Bool) (hs unplaced : List (Fact Term))
-        (loose row : List ℕ) → HoldsFrom bs taken hs unplaced loose row →
+        (ending : Ending) (row : List ℕ) → HoldsFrom bs taken hs unplaced ending row →
         length row ≡ length unplaced }
     ensures nothing { (bs : List Binding) (taken : List Bool) (hs : List (Fact Term))
-        (loose : List ℕ) → CanPlace bs taken hs [] loose → HoldsFrom bs taken hs [] loose [] }
+        (ending : Ending) → CanPlace bs taken hs [] ending → HoldsFrom bs taken hs [] ending [] }
     ensures one { (old new : List Binding) (taken : List Bool) (hs rest : List (Fact Term))
-        (g h : Fact Term) (loose row : List ℕ) (p : ℕ) → get_or taken p false ≡ false →
+        (g h : Fact Term) (ending : Ending) (row : List ℕ) (p : ℕ) →
+        get_or taken p false ≡ false →
         slice_get hs p ≡ Some h → FactMatched old new g h →
-        HoldsFrom old taken hs (g ∷ rest) loose (p ∷ row) ↔
-        HoldsFrom new (set taken p true) hs rest loose row }
+        HoldsFrom old taken hs (g ∷ rest) ending (p ∷ row) ↔
+        HoldsFrom new (set taken p true) hs rest ending row }
     ensures inserted { (old new : List Binding) (taken : List Bool) (hs unplaced : List (Fact Term))
-        (g h : Fact Term) (loose row : List ℕ) (at p : ℕ) → length taken ≡ length hs →
+        (g h : Fact Term) (ending : Ending) (row : List ℕ) (at p : ℕ) →
+        length taken ≡ length hs →
         slice_get unplaced at ≡ Some g → get_or taken p false ≡ false →
         slice_get hs p ≡ Some h → FactMatched old new g h →
-        HoldsFrom new (set taken p true) hs (remove unplaced at) loose row →
-        HoldsFrom old taken hs unplaced loose (insert row at p) }
+        HoldsFrom new (set taken p true) hs (remove unplaced at) ending row →
+        HoldsFrom old taken hs unplaced ending (insert row at p) }
     ensures front { (bs : List Binding) (taken : List Bool) (hs unplaced : List (Fact Term))
-        (g : Fact Term) (loose row : List ℕ) (at : ℕ) → length taken ≡ length hs →
-        slice_get unplaced at ≡ Some g → HoldsFrom bs taken hs unplaced loose row →
+        (g : Fact Term) (ending : Ending) (row : List ℕ) (at : ℕ) → length taken ≡ length hs →
+        slice_get unplaced at ≡ Some g → HoldsFrom bs taken hs unplaced ending row →
         (p : ℕ) × (slice_get row at ≡ Some p) ×
-        HoldsFrom bs taken hs (g ∷ remove unplaced at) loose (p ∷ remove row at) }
+        HoldsFrom bs taken hs (g ∷ remove unplaced at) ending (p ∷ remove row at) }
     ensures back { (bs : List Binding) (taken : List Bool) (hs unplaced : List (Fact Term))
-        (g : Fact Term) (loose row : List ℕ) (at p : ℕ) → length taken ≡ length hs →
+        (g : Fact Term) (ending : Ending) (row : List ℕ) (at p : ℕ) → length taken ≡ length hs →
         slice_get unplaced at ≡ Some g →
-        HoldsFrom bs taken hs (g ∷ remove unplaced at) loose (p ∷ row) →
-        HoldsFrom bs taken hs unplaced loose (insert row at p) }
+        HoldsFrom bs taken hs (g ∷ remove unplaced at) ending (p ∷ row) →
+        HoldsFrom bs taken hs unplaced ending (insert row at p) }
 {}
 
 /// The first row begins with the least position at which the first fact can stand, and goes on with the first row of
 /// the others from there. With no fact it is the empty one.
 pub fn first_rows_begin_with_the_least_stand()
     ensures nothing { (bs : List Binding) (taken : List Bool) (hs : List (Fact Term))
-        (loose : List ℕ) → CanPlace bs taken hs [] loose → IsFirstFrom bs taken hs [] loose [] }
+        (ending : Ending) → CanPlace bs taken hs [] ending → IsFirstFrom bs taken hs [] ending [] }
     ensures one { (old new : List Binding) (taken : List Bool) (hs rest : List (Fact Term))
-        (g h : Fact Term) (loose row : List ℕ) (p : ℕ) → length taken ≡ length hs →
+        (g h : Fact Term) (ending : Ending) (row : List ℕ) (p : ℕ) → length taken ≡ length hs →
         get_or taken p false ≡ false → slice_get hs p ≡ Some h → FactMatched old new g h →
-        ((q : ℕ) → q < p → CanStand old taken hs g rest loose q → ⊥) →
-        IsFirstFrom new (set taken p true) hs rest loose row →
-        IsFirstFrom old taken hs (g ∷ rest) loose (p ∷ row) }
+        ((q : ℕ) → q < p → CanStand old taken hs g rest ending q → ⊥) →
+        IsFirstFrom new (set taken p true) hs rest ending row →
+        IsFirstFrom old taken hs (g ∷ rest) ending (p ∷ row) }
 {}
 
 /// Facts are placed one after another along a row, which holds, or is the first, where what follows does. With no fact
-/// left the loose variables decide.
+/// left the ending decides: loose hypotheses and constraints.
 pub fn positions_lead_on()
-    ensures nowhere { (hs : List (Fact Term)) (loose : List ℕ) (start : Stage) →
-        PlacesOn hs loose start [] start × PlacesFirst hs loose start [] start }
-    ensures on { (hs : List (Fact Term)) (loose : List ℕ) (start : Stage) (bs new : List Binding)
+    ensures nowhere { (hs : List (Fact Term)) (ending : Ending) (start : Stage) →
+        PlacesOn hs ending start [] start × PlacesFirst hs ending start [] start }
+    ensures on { (hs : List (Fact Term)) (ending : Ending) (start : Stage)
+        (bs new : List Binding)
         (taken : List Bool) (done : List ℕ) (g h : Fact Term) (rest : List (Fact Term)) (p : ℕ) →
         get_or taken p false ≡ false → slice_get hs p ≡ Some h → FactMatched bs new g h →
-        PlacesOn hs loose start done
+        PlacesOn hs ending start done
         (record { bindings = bs; taken = taken; unplaced = g ∷ rest }) →
-        PlacesOn hs loose start (done ++ p ∷ [])
+        PlacesOn hs ending start (done ++ p ∷ [])
         (record { bindings = new; taken = set taken p true; unplaced = rest }) }
-    ensures first { (hs : List (Fact Term)) (loose : List ℕ) (start : Stage) (bs new : List Binding)
+    ensures first { (hs : List (Fact Term)) (ending : Ending) (start : Stage)
+        (bs new : List Binding)
         (taken : List Bool) (done : List ℕ) (g h : Fact Term) (rest : List (Fact Term)) (p : ℕ) →
         length taken ≡ length hs →
         get_or taken p false ≡ false → slice_get hs p ≡ Some h → FactMatched bs new g h →
-        ((q : ℕ) → q < p → CanStand bs taken hs g rest loose q → ⊥) →
-        PlacesFirst hs loose start done
+        ((q : ℕ) → q < p → CanStand bs taken hs g rest ending q → ⊥) →
+        PlacesFirst hs ending start done
         (record { bindings = bs; taken = taken; unplaced = g ∷ rest }) →
-        PlacesFirst hs loose start (done ++ p ∷ [])
+        PlacesFirst hs ending start (done ++ p ∷ [])
         (record { bindings = new; taken = set taken p true; unplaced = rest }) }
-    ensures no_further { (hs : List (Fact Term)) (loose : List ℕ) (start : Stage)
+    ensures no_further { (hs : List (Fact Term)) (ending : Ending) (start : Stage)
         (bs : List Binding) (taken : List Bool) (done row : List ℕ) (g : Fact Term)
         (rest : List (Fact Term)) (p : ℕ) → length taken ≡ length hs →
-        (CanStand bs taken hs g rest loose p → ⊥) →
-        PlacesOn hs loose start done
+        (CanStand bs taken hs g rest ending p → ⊥) →
+        PlacesOn hs ending start done
         (record { bindings = bs; taken = taken; unplaced = g ∷ rest }) →
-        HoldsFrom start.bindings start.taken hs start.unplaced loose (done ++ p ∷ row) → ⊥ }
-    ensures end { (hs : List (Fact Term)) (loose : List ℕ) (start : Stage) (bs : List Binding)
+        HoldsFrom start.bindings start.taken hs start.unplaced ending (done ++ p ∷ row) → ⊥ }
+    ensures end { (hs : List (Fact Term)) (ending : Ending) (start : Stage) (bs : List Binding)
         (taken : List Bool) (done : List ℕ) → length taken ≡ length hs →
-        PlacesOn hs loose start done (record { bindings = bs; taken = taken; unplaced = [] }) →
-        HoldsFrom start.bindings start.taken hs start.unplaced loose done ↔
-        CanPlace bs taken hs [] loose }
-    ensures first_end { (hs : List (Fact Term)) (loose : List ℕ) (start : Stage)
+        PlacesOn hs ending start done (record { bindings = bs; taken = taken; unplaced = [] }) →
+        HoldsFrom start.bindings start.taken hs start.unplaced ending done ↔
+        CanPlace bs taken hs [] ending }
+    ensures first_end { (hs : List (Fact Term)) (ending : Ending) (start : Stage)
         (bs : List Binding) (taken : List Bool) (done : List ℕ) →
-        PlacesFirst hs loose start done (record { bindings = bs; taken = taken; unplaced = [] }) →
-        CanPlace bs taken hs [] loose →
-        IsFirstFrom start.bindings start.taken hs start.unplaced loose done }
+        PlacesFirst hs ending start done (record { bindings = bs; taken = taken; unplaced = [] }) →
+        CanPlace bs taken hs [] ending →
+        IsFirstFrom start.bindings start.taken hs start.unplaced ending done }
 {}
 
-/// In a normal clause each variable of a loose hypothesis stands in the conclusion or in a firm hypothesis: else it would
-/// stand nowhere else, or twice in the same hypothesis. So each is bound once the conclusion is matched and all firm
-/// hypotheses are placed.
+/// In a normal clause each variable of a loose hypothesis or a constraint stands in the conclusion or in a firm
+/// hypothesis: else it would be dropped. So each is bound once the conclusion is matched and all firm hypotheses are
+/// placed.
 pub fn normal_clauses_are_linked()
     ensures normal { (c : Clause Term) → IsNormal c → IsLinked c }
     ensures own { (c : Clause Term) → norm c ≡ Some c → IsLinked c }
     ensures conclusion { (bs : List Binding) (c : Clause Term) (h : Fact Term) → IsLinked c →
         FactMatched [] bs c.conclusion h →
-        AreLinked bs (loose_variables c.hypotheses) (firm c.hypotheses) }
-    ensures placed { (old new : List Binding) (loose : List ℕ) (facts rest : List (Fact Term))
+        AreLinked bs (linked_variables (loose_variables c.hypotheses) c.diffs)
+        (firm c.hypotheses) }
+    ensures placed { (old new : List Binding) (variables : List ℕ) (facts rest : List (Fact Term))
         (g h : Fact Term) → Picks facts g rest → FactMatched old new g h →
-        AreLinked old loose facts → AreLinked new loose rest }
+        AreLinked old variables facts → AreLinked new variables rest }
+    ensures both { (bs : List Binding) (loose : List Loose) (diffs : List Diff)
+        (facts : List (Fact Term)) → AreLinked bs (linked_variables loose diffs) facts ↔
+        (AreLinked bs (variables_of loose) facts ×
+        AreLinked bs (flat_map diff_variables diffs) facts) }
 {}
 
 /// Facts are removed from the free positions one after another, whichever of equal ones goes: with more of them there
@@ -251,26 +264,33 @@ pub fn removal_is_exact()
         Removes hs before now ys → HasNoRoom hs now zs → HasNoRoom hs before (ys ++ zs) }
 {}
 
-/// Where all loose variables are bound and no fact is left to place, their parts decide: they can be placed exactly
-/// where there is room for them. Where there is no room for the parts of those that are bound, nothing can be placed.
+/// Where all loose variables are bound and no fact is left to place, their parts and the constraints decide: they can
+/// be placed where there is room for them and the bindings keep the constraints. Where there is no room for the parts of
+/// those that are bound, or the bindings have all variables of the constraints and don't keep them, nothing can be
+/// placed.
 pub fn loose_parts_decide()
-    ensures joined { (bs : List Binding) (xs ys : List ℕ) →
+    ensures joined { (bs : List Binding) (xs ys : List Loose) →
         bound_parts bs (xs ++ ys) ≡ bound_parts bs xs ++ bound_parts bs ys }
     ensures placed { (bs : List Binding) (taken : List Bool) (hs : List (Fact Term))
-        (loose : List ℕ) → AreDistinct bs → AreLinked bs loose [] →
-        IsWithin (bound_parts bs loose) (left taken hs) → CanPlace bs taken hs [] loose }
+        (ending : Ending) → AreDistinct bs → AreLinked bs (variables_of ending.loose) [] →
+        IsWithin (bound_parts bs ending.loose) (left taken hs) →
+        AreKept ending (replaced_once bs) → CanPlace bs taken hs [] ending }
     ensures unplaced { (bs : List Binding) (taken : List Bool) (hs unplaced : List (Fact Term))
-        (loose : List ℕ) → HasNoRoom hs taken (bound_parts bs loose) →
-        CanPlace bs taken hs unplaced loose → ⊥ }
+        (ending : Ending) → HasNoRoom hs taken (bound_parts bs ending.loose) →
+        CanPlace bs taken hs unplaced ending → ⊥ }
+    ensures unkept { (bs : List Binding) (taken : List Bool) (hs unplaced : List (Fact Term))
+        (ending : Ending) → AreDistinct bs →
+        AreLinked bs (flat_map diff_variables ending.diffs) [] →
+        (AreKept ending (replaced_once bs) → ⊥) → CanPlace bs taken hs unplaced ending → ⊥ }
 {}
 
 /// More facts that fit no free position outside of an area than the area has positions can't be placed. They are
 /// counted one after another.
 pub fn crowds_are_not_placed()
     ensures crowded { (bs : List Binding) (taken : List Bool) (hs unplaced : List (Fact Term))
-        (loose : List ℕ) (area : List Bool) (n : ℕ) → length taken ≡ length hs →
+        (ending : Ending) (area : List Bool) (n : ℕ) → length taken ≡ length hs →
         AreConfined bs taken hs area unplaced n → room area < n →
-        CanPlace bs taken hs unplaced loose → ⊥ }
+        CanPlace bs taken hs unplaced ending → ⊥ }
     ensures none { (bs : List Binding) (taken : List Bool) (hs : List (Fact Term))
         (area : List Bool) → AreConfined bs taken hs area [] 0 }
     ensures more { (bs : List Binding) (taken : List Bool) (hs facts : List (Fact Term))

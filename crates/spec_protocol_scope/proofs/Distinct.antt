@@ -67,6 +67,7 @@ unfound_fresh names word u (declared.Free number) e = none_numbered (λ d. d.wor
 unfound_fresh names word u (declared.Constructor number) e = none_numbered (λ d. d.word) names.constructors word u.constructors number e
 unfound_fresh names word u (declared.Destructor number) e = none_numbered (λ d. d.word) names.destructors word u.destructors number e
 unfound_fresh names word u (declared.Event number) e = none_numbered (λ d. d.word) names.events word u.events number e
+unfound_fresh names word u (declared.Table number) e = none_numbered {X = calculus.Declared} (λ d. d.word) [] word refl number e
 
 fresh : (s : Scope) (n : ℕ) (word : List ℕ) → IsNew s n word → (x : DeclaredName) → word_of (signature_with s.names) x ≡ Some word → ⊥
 fresh s n word new x e =
@@ -104,24 +105,28 @@ adds_free names d (declared.Free number) w e = elim (last_number (λ d. d.word) 
 adds_free names d (declared.Constructor number) w e = inl e
 adds_free names d (declared.Destructor number) w e = inl e
 adds_free names d (declared.Event number) w e = inl e
+adds_free names d (declared.Table number) w e = inl e
 
 adds_constructor : (names : Names) (d : calculus.Declared) → Adds (signature_with names) (signature_with (rules.with_constructor names d)) (declared.Constructor (suc (length names.constructors))) d.word
 adds_constructor names d (declared.Free number) w e = inl e
 adds_constructor names d (declared.Constructor number) w e = elim (last_number (λ d. d.word) names.constructors d number w e) [ inl h ↦ inl h | inr h ↦ inr (ap declared.Constructor h.0, h.1) ]
 adds_constructor names d (declared.Destructor number) w e = inl e
 adds_constructor names d (declared.Event number) w e = inl e
+adds_constructor names d (declared.Table number) w e = inl e
 
 adds_destructor : (names : Names) (d : calculus.Destructor) → Adds (signature_with names) (signature_with (rules.with_destructor names d)) (declared.Destructor (suc (length names.destructors))) d.word
 adds_destructor names d (declared.Free number) w e = inl e
 adds_destructor names d (declared.Constructor number) w e = inl e
 adds_destructor names d (declared.Destructor number) w e = elim (last_number (λ d. d.word) names.destructors d number w e) [ inl h ↦ inl h | inr h ↦ inr (ap declared.Destructor h.0, h.1) ]
 adds_destructor names d (declared.Event number) w e = inl e
+adds_destructor names d (declared.Table number) w e = inl e
 
 adds_event : (names : Names) (d : calculus.Declared) → Adds (signature_with names) (signature_with (rules.with_event names d)) (declared.Event (suc (length names.events))) d.word
 adds_event names d (declared.Free number) w e = inl e
 adds_event names d (declared.Constructor number) w e = inl e
 adds_event names d (declared.Destructor number) w e = inl e
 adds_event names d (declared.Event number) w e = elim (last_number (λ d. d.word) names.events d number w e) [ inl h ↦ inl h | inr h ↦ inr (ap declared.Event h.0, h.1) ]
+adds_event names d (declared.Table number) w e = inl e
 
 abbrev Distinct : Names → Type 0
 Distinct names = AreDistinct (signature_with names)
@@ -135,6 +140,8 @@ nothing_distinct (declared.Destructor zero) b w e f = absurd (let same = e in cc
 nothing_distinct (declared.Destructor (suc k)) b w e f = absurd (let same = e in cc)
 nothing_distinct (declared.Event zero) b w e f = absurd (let same = e in cc)
 nothing_distinct (declared.Event (suc k)) b w e f = absurd (let same = e in cc)
+nothing_distinct (declared.Table zero) b w e f = absurd (let same = e in cc)
+nothing_distinct (declared.Table (suc k)) b w e f = absurd (let same = e in cc)
 
 module _ (text : Texts) where
   module _ (names : Names) (distinct : Distinct names) where

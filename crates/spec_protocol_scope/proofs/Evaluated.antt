@@ -4,7 +4,7 @@ use Rattle.std.specs.Option.{option_map_or}
 use Rattle.std.specs.List.{AllByRecursion}
 use Rattle.spec_trees.specs.Tree.{Tree, Trees, Leaf, Node, none, more}
 use Rattle.spec_calculus.specs.Bounds.{most_choices}
-use Rattle.spec_calculus.specs.Syntax.{Name, Term, Head, Builds, Calls, Expression, Process, Nil, Output, Input, Parallel, Replication, New, Let, Event, Destructor, Protocol}
+use Rattle.spec_calculus.specs.Syntax.{Name, Term, Head, Builds, Calls, Expression, Process, Nil, Output, Input, Parallel, Replication, New, Let, Event, Phase, Insert, Get, Destructor, Protocol}
 use Rattle.spec_calculus.specs.Points.{numbered, point_after}
 use Rattle.spec_calculus.specs.Matching.{rules_of}
 use Rattle.spec_calculus.specs.Choices.{choice_count, row_choice_count, HasRules, HasRowRules}
@@ -28,6 +28,10 @@ module _ (signature : Signature) (Q : Expression → Type 0) (holds : (bound : L
   each_expression (Let pattern expression next otherwise) bound point h =
       (holds bound expression h.1, each_expression next _ (point + 1) h.2, each_expression otherwise bound (point_after (point + 1) next) h.3)
   each_expression (Event performed next) bound point h = each_expression next bound (point + 1) h.1
+  each_expression (Phase number next) bound point h = each_expression next bound (point + 1) h
+  each_expression (Insert table arguments next) bound point h = each_expression next bound (point + 1) h.2
+  each_expression (Get table patterns condition next otherwise) bound point h =
+      (each_expression next _ (point + 1) h.3, each_expression otherwise bound (point_after (point + 1) next) h.4)
 
 -- what holds of each symbol implies another
 module _ {L S : Type 0} (Q R : S → ℕ → Type 0) (weaker : (f : S) (n : ℕ) → Q f n → R f n) where

@@ -24,6 +24,7 @@ greeting_is : scope greeting (record { declarations = Free 0 true 1 [] ∷ []; f
       constructors = [];
       destructors = [];
       events = [];
+      tables = [];
       queries = [];
       main = calculus.Output (Leaf (calculus.Free 1)) (Leaf (calculus.Free 1)) calculus.Nil;
     })
@@ -52,7 +53,8 @@ one_key_is : scope two_keys (record {
       constructors = [];
       destructors = [];
       events = [];
-      queries = calculus.SecretNew 1 ∷ [];
+      tables = [];
+      queries = calculus.SecretNew 1 0 ∷ [];
       main = calculus.New (codes "k") (calculus.Output (Leaf (calculus.Free 1)) (Leaf (calculus.Made 1)) calculus.Nil);
     })
 one_key_is = refl
@@ -82,6 +84,7 @@ a_call_is : scope opened (opened_with (Named 17 none) (Process (Let 8 (NamedPatt
       constructors = record { word = codes "f"; arity = 1; public = true; is_data = false } ∷ [];
       destructors = record { word = codes "g"; rules = record { left = node (calculus.Constructor 1) (Leaf (calculus.Variable 1) ∷ []) ∷ []; right = Leaf (calculus.Variable 1) } ∷ [] } ∷ [];
       events = [];
+      tables = [];
       queries = [];
       main = calculus.Let (Leaf (calculus.Bind 1)) (node (calculus.Calls 1) (Leaf (Leaf (calculus.Free 1)) ∷ []))
           (calculus.Output (Leaf (calculus.Free 1)) (Leaf (calculus.Variable 1)) calculus.Nil) calculus.Nil;
@@ -105,6 +108,7 @@ each_use_is_fresh : scope twice (record { declarations = Free 0 true 1 [] ∷ De
       constructors = [];
       destructors = [];
       events = [];
+      tables = [];
       queries = [];
       main = calculus.Parallel (echo_of 1) (echo_of 2);
     })
@@ -145,6 +149,7 @@ a_variable_is : scope shadowed (record { declarations = Fun 0 true 1 3 ∷ Reduc
       constructors = record { word = codes "f"; arity = 1; public = true; is_data = false } ∷ [];
       destructors = record { word = codes "g"; rules = record { left = Leaf (calculus.Variable 1) ∷ []; right = Leaf (calculus.Variable 1) } ∷ [] } ∷ [];
       events = [];
+      tables = [];
       queries = [];
       main = calculus.Nil;
     })

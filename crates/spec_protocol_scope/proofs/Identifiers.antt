@@ -4,7 +4,7 @@ use Rattle.std.specs.Prelude.{codes, nat_le, ◌&&◌}
 use Rattle.std.specs.List.{list_all, prefix_len}
 use Rattle.std.specs.Char.{is_ascii_digit}
 use Rattle.std.specs.Str.{bytes_eq}
-use Rattle.spec_calculus.specs.Syntax.{Process, Nil, Output, Input, Parallel, Replication, New, Let, Event}
+use Rattle.spec_calculus.specs.Syntax.{Process, Nil, Output, Input, Parallel, Replication, New, Let, Event, Phase, Insert, Get}
 use Rattle.spec_protocol_tokens.specs.Token.{Token, TokenKind, Identifier, Reserved, Number, Symbol, text}
 use Rattle.spec_protocol_tokens.specs.Bytes.{is_blank, begins_word, is_in_word, is_reserved, symbols}
 use Rattle.spec_protocol_tokens.specs.Piece.{BadByte, LongNumber, Blank, Lexeme, Refused, piece, word_kind, word_of, number_of, symbol_of, comment_of, closed_after, longest_front, begins}
@@ -151,3 +151,6 @@ each_word-weaker P Q weaker (Replication copied) h = each_word-weaker P Q weaker
 each_word-weaker P Q weaker (New word next) h = (weaker word h.0, each_word-weaker P Q weaker next h.1)
 each_word-weaker P Q weaker (Let pattern expression next otherwise) h = (each_word-weaker P Q weaker next h.0, each_word-weaker P Q weaker otherwise h.1)
 each_word-weaker P Q weaker (Event performed next) h = each_word-weaker P Q weaker next h
+each_word-weaker P Q weaker (Phase number next) h = each_word-weaker P Q weaker next h
+each_word-weaker P Q weaker (Insert table arguments next) h = each_word-weaker P Q weaker next h
+each_word-weaker P Q weaker (Get table patterns condition next otherwise) h = (each_word-weaker P Q weaker next h.0, each_word-weaker P Q weaker otherwise h.1)

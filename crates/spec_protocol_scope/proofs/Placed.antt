@@ -7,6 +7,7 @@ use Rattle.spec_calculus.specs.Bounds.{most_points, most_points_above}
 use Rattle.spec_calculus.specs.Syntax as calculus
 use Rattle.spec_calculus.specs.Syntax.{Name, Free, Made, Variable, Term, Hole, Bind, Pattern, Expression, EventTerm}
 use Rattle.spec_calculus.specs.Points.{nodes}
+use Rattle.spec_calculus.specs.Plain.{IsPlain}
 use Rattle.spec_calculus.proofs.Items.{each-weaker, each-contains}
 use Rattle.spec_well_formed.specs.Signature.{Signature}
 use Rattle.spec_well_formed.specs.Terms.{IsKnown, IsTermBelow, IsPatternBelow, IsExpressionBelow, IsEventOver, bound_by_hole, bound_by}
@@ -81,6 +82,7 @@ module _ (signature : Signature) (IsWord : List ℕ → Type 0) where
     pub up : now.variable ≤ read.1.variable
     pub way : above + height read.0 ≤ 1 + most_points_above
     pub words : EachWord IsWord read.0
+    pub plain : IsPlain read.0
 
   module _ (names : List Name) (above : ℕ) (now next : Numbers) (room : Room above now next) where
     pub nil_placed : Placed names above now (calculus.Nil, next)
@@ -90,6 +92,7 @@ module _ (signature : Signature) (IsWord : List ℕ → Type 0) where
       up = let e = ap (λ (m : Numbers). m.variable) room.is in omega arith;
       way = let few = room.few in omega arith;
       words = tt;
+      plain = tt;
     }
 
     -- a process below, where the numbers are those behind the point
@@ -106,6 +109,7 @@ module _ (signature : Signature) (IsWord : List ℕ → Type 0) where
           up = let a = l.up in let b = k.up in omega arith;
           way = let a = l.way in let b = k.way in omega arith;
           words = (l.words, k.words);
+          plain = (l.plain, k.plain);
         }
 
     pub replication_placed : (copied : calculus.Process × Numbers) → Placed names (above + 1) next copied → Placed names above now (calculus.Replication copied.0, copied.1)
@@ -118,6 +122,7 @@ module _ (signature : Signature) (IsWord : List ℕ → Type 0) where
           up = c.up;
           way = let a = c.way in omega arith;
           words = c.words;
+          plain = c.plain;
         }
 
     pub new_placed : (word : List ℕ) (rest : calculus.Process × Numbers) → IsWord word → AreEarlier now names → Placed (Made now.point ∷ names) (above + 1) next rest → Placed names above now (calculus.New word rest.0, rest.1)
@@ -130,6 +135,7 @@ module _ (signature : Signature) (IsWord : List ℕ → Type 0) where
           up = c.up;
           way = let a = c.way in omega arith;
           words = (is_word, c.words);
+          plain = c.plain;
         }
 
     pub output_placed : (channel message : Term) (rest : calculus.Process × Numbers) → IsTermBelow signature names channel → IsTermBelow signature names message
@@ -143,6 +149,7 @@ module _ (signature : Signature) (IsWord : List ℕ → Type 0) where
           up = c.up;
           way = let a = c.way in omega arith;
           words = c.words;
+          plain = c.plain;
         }
 
     pub event_placed : (performed : EventTerm) (rest : calculus.Process × Numbers) → IsEventOver signature (IsKnown signature names) performed
@@ -156,6 +163,7 @@ module _ (signature : Signature) (IsWord : List ℕ → Type 0) where
           up = c.up;
           way = let a = c.way in omega arith;
           words = c.words;
+          plain = c.plain;
         }
 
     -- below a pattern, so many variables later
@@ -173,6 +181,7 @@ module _ (signature : Signature) (IsWord : List ℕ → Type 0) where
           up = let a = c.up in omega arith;
           way = let a = c.way in omega arith;
           words = c.words;
+          plain = c.plain;
         }
 
     pub let_placed : (pattern : Pattern) (expression : Expression) (found : List Bound) (then otherwise : calculus.Process × Numbers) → IsPatternBelow signature names pattern → IsExpressionBelow signature names expression
@@ -186,6 +195,7 @@ module _ (signature : Signature) (IsWord : List ℕ → Type 0) where
           up = let a = c.up in let b = k.up in omega arith;
           way = let a = c.way in let b = k.way in omega arith;
           words = (c.words, k.words);
+          plain = (c.plain, k.plain);
         }
 
 -- a pattern that was read, and what it binds

@@ -87,7 +87,7 @@ module _ (s : Scope) (IsName : ℕ → Type 0) (uniform : AllByRecursion (λ d. 
 
   -- no variable more
   no_variables : (now : Numbers) (xs : List Name) (above : ℕ) (part : calculus.Process × Numbers) → PlacedAt xs above now part → PlacedAt xs above (with_variables [] now) part
-  no_variables now xs above part h = record { below = h.below; counts = h.counts; up = let u = h.up in omega arith; way = h.way; words = h.words }
+  no_variables now xs above part h = record { below = h.below; counts = h.counts; up = let u = h.up in omega arith; way = h.way; words = h.words; plain = h.plain }
 
   module _ (macros : Macros) (all : AllPlace macros) where
     mutual

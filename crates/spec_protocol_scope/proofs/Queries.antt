@@ -8,6 +8,7 @@ use Rattle.spec_calculus.specs.Bounds.{most_alternatives, most_events, most_quer
 use Rattle.spec_calculus.specs.Syntax as calculus
 use Rattle.spec_calculus.specs.Syntax.{Name, Made, Variable, Term, Process, EventTerm, Secret, SecretNew}
 use Rattle.spec_calculus.specs.Points.{numbered, nodes, is_restriction}
+use Rattle.spec_calculus.specs.Plain.{IsPlainQuery}
 use Rattle.spec_calculus.proofs.Items.{each-append, each-weaker}
 use Rattle.spec_well_formed.specs.Signature.{Signature}
 use Rattle.spec_well_formed.specs.Leaves.{leaves}
@@ -56,6 +57,9 @@ first_point word (calculus.Parallel p q ∷ ps) first point others e = restricts
 first_point word (calculus.Replication p ∷ ps) first point others e = restricts_later first _ ps point (first_point word ps (first + 1) point others e)
 first_point word (calculus.Let p x next otherwise ∷ ps) first point others e = restricts_later first _ ps point (first_point word ps (first + 1) point others e)
 first_point word (calculus.Event x next ∷ ps) first point others e = restricts_later first _ ps point (first_point word ps (first + 1) point others e)
+first_point word (calculus.Phase n next ∷ ps) first point others e = restricts_later first _ ps point (first_point word ps (first + 1) point others e)
+first_point word (calculus.Insert t ms next ∷ ps) first point others e = restricts_later first _ ps point (first_point word ps (first + 1) point others e)
+first_point word (calculus.Get t qs x next otherwise ∷ ps) first point others e = restricts_later first _ ps point (first_point word ps (first + 1) point others e)
 
 at_restriction : (main : Process) (point : ℕ) → Restricts 1 (nodes main) point → IsRestrictionAt main point
 at_restriction main point r =
@@ -67,10 +71,11 @@ pub record Asked (signature : Signature) (main : Process) (q : calculus.Query) :
   pub has_leaves : HasLeavesFor signature main q
   pub over : IsQueryOver signature q
   pub small : IsSmallQuery q
+  pub plain : IsPlainQuery q
 
 only_point : (signature : Signature) (main : Process) (x : ℕ) (points : List ℕ) → ((point : ℕ) (others : List ℕ) → points ≡ point ∷ others → IsRestrictionAt main point) → (q : calculus.Query) → rules.only_point x points ≡ Ok q → Asked signature main q
 only_point signature main x [] at q e = absurd (faulty Unknown x q e)
-only_point signature main x (point ∷ []) at q e = subst (Asked signature main) (found_one (SecretNew point) q e) (record { has_leaves = at point [] refl; over = tt; small = tt })
+only_point signature main x (point ∷ []) at q e = subst (Asked signature main) (found_one (SecretNew point 0) q e) (record { has_leaves = (at point [] refl, omega arith); over = tt; small = tt; plain = refl })
 only_point signature main x (point ∷ further ∷ points) at q e = absurd (faulty AmbiguousNew x q e)
 
 -- with nothing bound, what is known is a declared free name
@@ -181,6 +186,7 @@ module _ (s : Scope) where
     );
     over = (l.over, r.over);
     small = (l.small, (let c = r.counts in omega arith), r.small);
+    plain = tt;
   }
 
   question : (main : Process) (n : ℕ) (q : QuerySketch) → IsSolidQuery q → (asked : calculus.Query) → rules.question s main n q ≡ Ok asked → Asked signature main asked
@@ -189,7 +195,7 @@ module _ (s : Scope) where
   question main n (Attacker attacker t) solid asked e =
       let a = stepped (terms.process_term s [] t) _ asked e in
       let over = free_term signature a.value (term_below s [] tt t solid a.value a.first) in
-      subst (Asked signature main) (found_one (Secret a.value) asked a.later) (record { has_leaves = over.known; over = over; small = over.few })
+      subst (Asked signature main) (found_one (Secret a.value 0) asked a.later) (record { has_leaves = (over.known, omega arith); over = over; small = over.few; plain = refl })
   question main n (Correspondence word a as') solid asked e =
       let b = stepped (rules.asked_event s [] a) _ asked e in
       let c = stepped (rules.alternatives s b.value.1 as') _ asked b.later in

@@ -1,11 +1,14 @@
 -- What holds of a protocol that bytes spell, from its parts.
-use Rattle.std.proofs.Common.{◌≡◌, ℕ, List, [], Option, None, Some, Ok, IfSome, subst, arith}
+use Rattle.std.proofs.Common.{◌≡◌, ℕ, List, [], Option, None, Some, Ok, IfSome, refl, subst, arith}
 use Rattle.std.specs.List.{AllByRecursion}
 use Rattle.std.specs.Option.{option_map_or}
-use Rattle.spec_calculus.specs.Syntax.{Name, Process, Nil, Output, Input, Parallel, Replication, New, Let, Event, Query, Rule, Destructor, Protocol}
+use Rattle.spec_calculus.specs.Syntax.{Name, Process, Nil, Output, Input, Parallel, Replication, New, Let, Event, Phase, Insert, Get, Query, Rule, Destructor, Protocol}
 use Rattle.spec_calculus.specs.Points.{numbered}
 use Rattle.spec_calculus.specs.Refusals.{AreUniform}
+use Rattle.spec_calculus.specs.Plain.{IsPlain, IsPlainQuery}
 use Rattle.spec_calculus.proofs.Items.{each-numbered, each-weaker}
+use Rattle.spec_calculus.proofs.Plain.{plain_greatest}
+use Rattle.spec_well_formed.proofs.Plain.{plain_ordered, plain_entries}
 use Rattle.spec_well_formed.specs.Signature.{Signature}
 use Rattle.spec_well_formed.specs.Queries.{HasQueryLeaves}
 use Rattle.spec_well_formed.specs.Processes.{HasLinearPatterns, IsProcessBelow}
@@ -93,6 +96,9 @@ linear_below signature (Replication copied) bound point h = linear_below signatu
 linear_below signature (New word next) bound point h = linear_below signature next _ _ h.1
 linear_below signature (Let pattern expression next otherwise) bound point h = (h.0.linear, linear_below signature next _ _ h.2, linear_below signature otherwise _ _ h.3)
 linear_below signature (Event performed next) bound point h = linear_below signature next _ _ h.1
+linear_below signature (Phase number next) bound point h = linear_below signature next _ _ h
+linear_below signature (Insert table arguments next) bound point h = linear_below signature next _ _ h.2
+linear_below signature (Get table patterns condition next otherwise) bound point h = (h.1.linear, linear_below signature next _ _ h.3, linear_below signature otherwise _ _ h.4)
 
 module _ (IsName : ℕ → Type 0) (text : Texts) (f : FileSketch) (p : Protocol) (h : HasParts IsName text f p) where
   abbrev scope_of : Scope
@@ -111,6 +117,10 @@ module _ (IsName : ℕ → Type 0) (text : Texts) (f : FileSketch) (p : Protocol
   pub query_leaves : AllByRecursion (HasQueryLeaves p) p.queries
   query_leaves = subst (λ (q : Protocol). AllByRecursion (HasQueryLeaves q) q.queries) h.is (each-weaker _ _ (λ q k. k.has_leaves) h.asked queries_asked.each)
 
+  pub plain : IsPlain p.main × AllByRecursion IsPlainQuery p.queries × (p.tables ≡ [])
+  plain = subst (λ (q : Protocol). IsPlain q.main × AllByRecursion IsPlainQuery q.queries × (q.tables ≡ [])) h.is
+      (placed.plain, each-weaker _ _ (λ q k. k.plain) h.asked queries_asked.each, refl)
+
   pub within_limits : IsWithinLimits p
   within_limits = subst IsWithinLimits h.is (record {
     names = let few = h.declared.few in omega arith;
@@ -121,12 +131,16 @@ module _ (IsName : ℕ → Type 0) (text : Texts) (f : FileSketch) (p : Protocol
     asked = each-weaker _ _ (λ q k. k.small) h.asked queries_asked.each;
     points = main_points scope_of f.main h.main h.main_is;
     way = let w = placed.way in omega arith;
+    tables = tt;
+    phases = let greatest = plain_greatest h.main placed.plain in omega arith;
+    entries = plain_entries h.main placed.plain;
   })
 
   pub well_scoped : IsWellScoped p
   well_scoped = subst IsWellScoped h.is (record {
     rules = each-weaker _ _ (λ d k. k.over) h.names.destructors h.declared.rules;
     process = placed.below;
+    phases = plain_ordered h.main placed.plain 0;
     queries = each-weaker _ _ (λ q k. k.over) h.asked queries_asked.each;
   })
 
@@ -140,6 +154,7 @@ module _ (IsName : ℕ → Type 0) (text : Texts) (f : FileSketch) (p : Protocol
     constructors = each-weaker _ _ (λ d k. (word d.word k.0, k.1)) h.names.constructors h.declared.constructors;
     destructors = each-weaker _ _ (λ d k. word d.word k) h.names.destructors h.declared.destructors;
     events = each-weaker _ _ (λ d k. word d.word k) h.names.events h.declared.events;
+    tables = tt;
     restrictions = each_word-weaker (IsWordOf IsName text) IsIdentifier word h.main placed.words;
   })
 

@@ -2,7 +2,7 @@
 use Rattle.std.specs.Prelude.{◌≡◌, ℕ, ◌≤◌, List, length}
 use Rattle.std.specs.List.{AllByRecursion}
 use Rattle.spec_calculus.specs.Bounds.{most_applications, most_choices}
-use Rattle.spec_calculus.specs.Syntax.{Head, Builds, Calls, Expression, Rule, Process, Nil, Output, Input, Parallel, Replication, New, Let, Event, Protocol}
+use Rattle.spec_calculus.specs.Syntax.{Head, Builds, Calls, Expression, Rule, Process, Nil, Output, Input, Parallel, Replication, New, Let, Event, Phase, Insert, Get, Protocol}
 use Rattle.spec_calculus.specs.Choices.{choices, applications}
 use Rattle.spec_well_formed.specs.Terms.{EachSymbol}
 
@@ -16,6 +16,9 @@ EachExpression Q (Replication copied) = EachExpression Q copied
 EachExpression Q (New word next) = EachExpression Q next
 EachExpression Q (Let pattern expression next otherwise) = Q expression × EachExpression Q next × EachExpression Q otherwise
 EachExpression Q (Event performed next) = EachExpression Q next
+EachExpression Q (Phase number next) = EachExpression Q next
+EachExpression Q (Insert table arguments next) = EachExpression Q next
+EachExpression Q (Get table patterns condition next otherwise) = EachExpression Q next × EachExpression Q otherwise
 
 -- each destructor of the expression has as many arguments as each of its rules has left sides
 abbrev pub IsFullCall : (ℕ → List Rule) → Head ℕ → ℕ → Type 0

@@ -25,9 +25,10 @@ pub record Names : Type 0 where
   pub events : List Declared
   pub macros : List Macro
 
--- what these names are apart from macros
+-- what these names are apart from macros; files declare no tables
 abbrev pub signature_with : Names → Signature
-signature_with names = record { frees = names.frees; constructors = names.constructors; destructors = names.destructors; events = names.events }
+signature_with names =
+    record { frees = names.frees; constructors = names.constructors; destructors = names.destructors; events = names.events; tables = [] }
 
 abbrev pub no_names : Names
 no_names = record { frees = []; constructors = []; destructors = []; events = []; macros = [] }

@@ -20,7 +20,7 @@ points_of word point (p ∷ ps) = points_of word (point + 1) ps
 -- the one restriction of a name
 abbrev pub only_point : ℕ → List ℕ → Answer calculus.Query
 only_point x [] = fault Unknown x
-only_point x (point ∷ []) = Ok (calculus.SecretNew point)
+only_point x (point ∷ []) = Ok (calculus.SecretNew point 0)
 only_point x (point ∷ further ∷ points) = fault AmbiguousNew x
 
 -- an event of a query, of no more symbols, with its own, than may be written
@@ -51,12 +51,12 @@ alternatives s variables (a ∷ as') = do
   others ← alternatives s first.1 as'
   Ok (first.0 ∷ others.0, others.1)
 
--- what a query asks, in a declaration that begins with this token; its variables are one space
+-- what a query asks, in a declaration that begins with this token; its variables are one space, and secrecy is asked of phase 0
 abbrev pub question : Scope → calculus.Process → ℕ → QuerySketch → Answer calculus.Query
 question s main n (AttackerNew attacker x) = only_point x (points_of (s.text x) 1 (nodes main))
 question s main n (Attacker attacker t) = do
   message ← process_term s [] t
-  Ok (calculus.Secret message)
+  Ok (calculus.Secret message 0)
 question s main n (Correspondence word a as') = do
   left ← asked_event s [] a
   read ← alternatives s left.1 as'

@@ -27,4 +27,5 @@ pub record HasWords (P : Protocol) : Type 0 where
   pub constructors : AllByRecursion (λ d. IsSymbolWord d.word) P.constructors
   pub destructors : AllByRecursion (λ d. IsIdentifier d.word) P.destructors
   pub events : AllByRecursion (λ d. IsIdentifier d.word) P.events
+  pub tables : AllByRecursion (λ d. IsIdentifier d.word) P.tables
   pub restrictions : EachWord IsIdentifier P.main

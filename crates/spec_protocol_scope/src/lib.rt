@@ -4,13 +4,15 @@
 //! functions below, which do nothing.
 #![tactic(auto)]
 
-ghost use Rattle.std.specs.Prelude.{◌≡◌, ◌≤◌, ◌↔◌, ℕ, List, length, Ok};
+ghost use Rattle.std.specs.Prelude.{◌≡◌, ◌≤◌, ◌↔◌, ℕ, List, [], length, Ok};
+ghost use Rattle.std.specs.List.{AllByRecursion};
 ghost use Rattle.spec_trees.specs.Tree.{Leaf};
 ghost use Rattle.spec_calculus.specs.Bounds.{most_points};
 ghost use Rattle.spec_calculus.specs.Syntax.{Term, Process, Protocol};
 ghost use Rattle.spec_calculus.specs.Points.{nodes};
 ghost use Rattle.spec_calculus.specs.Matching.{rules_of};
 ghost use Rattle.spec_calculus.specs.Choices.{HasRules};
+ghost use Rattle.spec_calculus.specs.Plain.{IsPlain, IsPlainQuery};
 ghost use Rattle.spec_well_formed.specs.Limits.{IsWithinLimits};
 ghost use Rattle.spec_well_formed.specs.Processes.{HasLinearPatterns};
 ghost use Rattle.spec_well_formed.specs.Queries.{HasProperQueries};
@@ -70,6 +72,14 @@ pub fn proper_rules()
 /// No pattern of a protocol that bytes spell binds a variable twice.
 pub fn linear_patterns()
     ensures { (bytes : List ℕ) (p : Protocol) → Spells bytes p → HasLinearPatterns p.main }
+{}
+
+/// A protocol that bytes spell waits for no phase, declares no table and uses none, and asks of secrets in phase 0.
+pub fn plain_protocols()
+    ensures process { (bytes : List ℕ) (p : Protocol) → Spells bytes p → IsPlain p.main }
+    ensures queries { (bytes : List ℕ) (p : Protocol) → Spells bytes p →
+        AllByRecursion IsPlainQuery p.queries }
+    ensures tables { (bytes : List ℕ) (p : Protocol) → Spells bytes p → p.tables ≡ [] }
 {}
 
 /// Secrets that a protocol asks of hold declared free names and constructors alone, and its correspondences declared free

@@ -1,7 +1,7 @@
 -- What holds of all patterns of a process holds of the one that stands at a point.
 use Rattle.std.proofs.Common.{◌≡◌, ℕ, zero, suc, Some, IfSome, List, sym, subst}
 use Rattle.std.specs.List.{AllByRecursion}
-use Rattle.spec_calculus.specs.Syntax.{Process, Nil, Output, Input, Parallel, Replication, New, Let, Event, Pattern, Protocol}
+use Rattle.spec_calculus.specs.Syntax.{Process, Nil, Output, Input, Parallel, Replication, New, Let, Event, Phase, Insert, Get, Pattern, Protocol}
 use Rattle.spec_calculus.specs.Points.{numbered, nodes}
 use Rattle.spec_calculus.specs.Matching.{IsLinear}
 use Rattle.spec_calculus.proofs.Items.{each-append, each-slice_get}
@@ -22,6 +22,9 @@ all_linear (Replication copied) h = ((λ pattern has. elim has [ ]), all_linear 
 all_linear (New word next) h = ((λ pattern has. elim has [ ]), all_linear next h)
 all_linear (Let own expression next otherwise) h = ((λ pattern has. subst IsLinear (sym has) h.0), each-append IsLinearAt (nodes next) (nodes otherwise) (all_linear next h.1) (all_linear otherwise h.2))
 all_linear (Event performed next) h = ((λ pattern has. elim has [ ]), all_linear next h)
+all_linear (Phase number next) h = ((λ pattern has. elim has [ ]), all_linear next h)
+all_linear (Insert table arguments next) h = ((λ pattern has. elim has [ ]), all_linear next h)
+all_linear (Get table patterns condition next otherwise) h = ((λ pattern has. subst IsLinear (sym has) h.0), each-append IsLinearAt (nodes next) (nodes otherwise) (all_linear next h.1) (all_linear otherwise h.2))
 
 -- what holds of each item holds of a numbered one
 pub each_numbered : {X : Type 0} (Q : X → Type 0) (xs : List X) (n : ℕ) (x : X) → AllByRecursion Q xs → numbered xs n ≡ Some x → Q x

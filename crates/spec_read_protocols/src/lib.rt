@@ -16,12 +16,15 @@ ghost use Rattle.spec_clauses.specs.Fact.{Clause};
 ghost use Rattle.spec_clauses.specs.Limits.{IsWithinLimit};
 ghost use Rattle.spec_clauses.specs.Inclusion.{Has};
 ghost use Rattle.spec_translation.specs.Translation.{Clauses, IsTranslation};
+ghost use Rattle.spec_translation.specs.Plain.{IsPlainClause};
 ghost use Rattle.spec_certificates.specs.Shown.{IsProper, IsShown};
 ghost use Rattle.spec_read_protocols.specs.Patterns.{IsPatternAt};
 
-use spec_protocol_scope::{linear_patterns, proper_rules, query_leaves, within_limits};
+use spec_protocol_scope::{
+    linear_patterns, plain_protocols, proper_rules, query_leaves, within_limits,
+};
 use spec_soundness::queries_hold;
-use spec_translation::translations_are_within_the_limit;
+use spec_translation::{plain_protocols_have_plain_clauses, translations_are_within_the_limit};
 
 /// The steps of a protocol that was read: one is refused exactly where it is not possible; a rule of a destructor gives
 /// a value of each instance of its left side; and a value matches a pattern of the process exactly where it is that
@@ -51,6 +54,18 @@ pub fn translations_of_read_protocols()
 {
     within_limits();
     translations_are_within_the_limit();
+}
+
+/// No phase but 0 and no table is spelled, and so each fact of each clause of the translation is of phase 0 or of none, and
+/// none is of a table.
+pub fn clauses_of_read_protocols()
+    ensures { (bytes : List ℕ) (P : Protocol) (q : Query) (all : List (Clause Term))
+        (c : Clause Term) →
+        Spells bytes P → Contains P.queries q → IsTranslation P q (Clauses all) → Has all c →
+        IsPlainClause c }
+{
+    plain_protocols();
+    plain_protocols_have_plain_clauses();
 }
 
 /// The queries of a protocol that was read: what is shown of one by a closed list of clauses is so in all runs.

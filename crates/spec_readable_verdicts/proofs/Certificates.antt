@@ -11,8 +11,8 @@ use Rattle.spec_calculus.specs.Syntax.{Query, Secret, SecretNew, Correspondence,
 use Rattle.spec_well_formed.specs.Terms.{row_length, EachSymbolInRow}
 use Rattle.spec_well_formed.specs.Limits.{IsSmallQuery}
 use Rattle.spec_terms.specs.Term.{Sym, Term}
-use Rattle.spec_clauses.specs.Fact.{Fact, Att, Mess, Ev, Mev, Bad, Clause, facts_of, terms_of, fact_under, total, fact_size, clause_size}
-use Rattle.spec_clauses.specs.Variables.{IsBelow, AreBelow}
+use Rattle.spec_clauses.specs.Fact.{Fact, Att, Mess, Tab, Ev, Mev, Bad, Clause, facts_of, terms_of, clause_terms, fact_under, total, fact_size, clause_size}
+use Rattle.spec_clauses.specs.Variables.{IsBelow, AreBelow, constrained_variables}
 use Rattle.spec_clauses.specs.Limits.{IsWithinLimit}
 use Rattle.spec_clauses.specs.Norm.{IsNormal}
 use Rattle.spec_clauses.specs.Subsumption.{hypothesis_at, firm}
@@ -63,16 +63,22 @@ module _ (P : Protocol) (n : ℕ) (small : n ≤ most_symbols) where
   all_may_stand (t ∷ ts) h b s = (may_stand t h.0 b.0 (omega (arith, s)), all_may_stand ts h.1 b.1 (omega (arith, s)))
 
   hypothesis_of : (f : Fact Term) → IsFactOver P f → AreBelow n (terms_of f) → fact_size f ≤ most_symbols → may_be_supposed f ≡ true → IsHypothesisOf P f
-  hypothesis_of (Att t) h b s e = may_stand t h.terms.0 b.0 (omega (arith, s))
-  hypothesis_of (Mess t u) h b s e = (may_stand t h.terms.0 b.0 (omega (arith, s)), may_stand u h.terms.1.0 b.1.0 (omega (arith, s)))
-  hypothesis_of (Ev event ts) h b s e = (h.event, all_may_stand ts h.terms b (omega (arith, s)))
-  hypothesis_of (Mev event ts) h b s e = (h.event, all_may_stand ts h.terms b (omega (arith, s)))
+  hypothesis_of (Att zero t) h b s e = may_stand t h.terms.0 b.0 (omega (arith, s))
+  hypothesis_of (Mess zero t u) h b s e = (may_stand t h.terms.0 b.0 (omega (arith, s)), may_stand u h.terms.1.0 b.1.0 (omega (arith, s)))
+  hypothesis_of (Att (suc k) t) h b s e = absurd h.predicate
+  hypothesis_of (Mess (suc k) t u) h b s e = absurd h.predicate
+  hypothesis_of (Tab table ts) h b s e = absurd h.predicate
+  hypothesis_of (Ev event ts) h b s e = (h.predicate, all_may_stand ts h.terms b (omega (arith, s)))
+  hypothesis_of (Mev event ts) h b s e = (h.predicate, all_may_stand ts h.terms b (omega (arith, s)))
   hypothesis_of (Bad ts) h b s e = cc
 
   conclusion_of : (f : Fact Term) → IsFactOver P f → AreBelow n (terms_of f) → fact_size f ≤ most_symbols → may_be_concluded f ≡ true → IsConclusionOf P f
-  conclusion_of (Att t) h b s e = may_stand t h.terms.0 b.0 (omega (arith, s))
-  conclusion_of (Mess t u) h b s e = (may_stand t h.terms.0 b.0 (omega (arith, s)), may_stand u h.terms.1.0 b.1.0 (omega (arith, s)))
-  conclusion_of (Ev event ts) h b s e = (h.event, all_may_stand ts h.terms b (omega (arith, s)))
+  conclusion_of (Att zero t) h b s e = may_stand t h.terms.0 b.0 (omega (arith, s))
+  conclusion_of (Mess zero t u) h b s e = (may_stand t h.terms.0 b.0 (omega (arith, s)), may_stand u h.terms.1.0 b.1.0 (omega (arith, s)))
+  conclusion_of (Att (suc k) t) h b s e = absurd h.predicate
+  conclusion_of (Mess (suc k) t u) h b s e = absurd h.predicate
+  conclusion_of (Tab table ts) h b s e = absurd h.predicate
+  conclusion_of (Ev event ts) h b s e = (h.predicate, all_may_stand ts h.terms b (omega (arith, s)))
   conclusion_of (Mev event ts) h b s e = cc
   conclusion_of (Bad ts) h b s e = all_may_stand ts h.terms b (omega (arith, s))
 
@@ -86,8 +92,9 @@ module _ (P : Protocol) (n : ℕ) (small : n ≤ most_symbols) where
 pub readable : (P : Protocol) (c : Clause Term) → IsKept P c → IsNormal c → IsWithinLimit c → IsReadable P c
 readable P c kept normal small =
     let n = clause_size c in
-    let below = all-from_flat_map (IsBelow n) terms_of (facts_of c) (norm-below c c normal.own) in record {
+    let below = all-from_flat_map (IsBelow n) terms_of (facts_of c) (all_first (IsBelow n) (clause_terms c) (map Leaf (constrained_variables c)) (norm-below c c normal.own)) in record {
       hypotheses = hypotheses_of P n small c.hypotheses kept.over.hypotheses below.1 (omega (arith, small)) kept.placed.hypotheses;
+      diffs = kept.none;
       conclusion = conclusion_of P n small c.conclusion kept.over.conclusion below.0 (omega (arith, small)) kept.placed.conclusion;
     }
 
@@ -112,8 +119,9 @@ positions_within f (x ∷ xs) hs (p ∷ row) e =
 
 length-le-size : (fs : List (Fact Term)) → length fs ≤ total fact_size fs
 length-le-size [] = omega arith
-length-le-size (Att t ∷ fs) = omega (arith, length-le-size fs)
-length-le-size (Mess t u ∷ fs) = omega (arith, length-le-size fs)
+length-le-size (Att k t ∷ fs) = omega (arith, length-le-size fs)
+length-le-size (Mess k t u ∷ fs) = omega (arith, length-le-size fs)
+length-le-size (Tab n ts ∷ fs) = omega (arith, length-le-size fs)
 length-le-size (Ev n ts ∷ fs) = omega (arith, length-le-size fs)
 length-le-size (Mev n ts ∷ fs) = omega (arith, length-le-size fs)
 length-le-size (Bad ts ∷ fs) = omega (arith, length-le-size fs)
@@ -136,8 +144,8 @@ cover_rows clauses few (c ∷ cs) small (row ∷ rows) h = (cover_row clauses fe
 
 -- a goal row
 goal_row : (P : Protocol) (q : Query) → IsSmallQuery q → (c : Clause Term) → IsWithinLimit c → (row : List ℕ) → GoalHolds P q row c → IsRow row
-goal_row P (Secret message) asked c small row h = absurd h
-goal_row P (SecretNew point) asked c small row h = absurd h
+goal_row P (Secret message phase) asked c small row h = absurd h
+goal_row P (SecretNew point phase) asked c small row h = absurd h
 goal_row P (Correspondence left alternatives) asked c small [] h = absurd h
 goal_row P (Correspondence left alternatives) asked c small (n ∷ positions) h =
     let within = numbered_within alternatives n h.alternative h.numbered_so in

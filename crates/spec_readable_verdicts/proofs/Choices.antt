@@ -54,6 +54,7 @@ module _ (P : Protocol) (scoped : IsWellScoped P) where
       messages = is.messages;
       sessions = is.sessions;
       count = is.count;
+      phase = is.phase;
     }
 
     abbrev GoOver : List (Option Visit) → Type 0

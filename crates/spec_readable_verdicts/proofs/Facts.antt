@@ -1,6 +1,6 @@
--- Facts and clauses over a protocol: each symbol and each event is one of the protocol's, with its number of arguments. So it stays under
--- substitutions, in flat parts and in norms.
-use Rattle.std.proofs.Common.{◌≡◌, ℕ, true, false, cond, List, [], ◌∷◌, map, length, refl, sym, subst, arith}
+-- Facts and clauses over a protocol: each symbol and each event is one of the protocol's, with its number of arguments, and facts are of phase 0
+-- and of no table. So it stays under substitutions, in flat parts and in norms.
+use Rattle.std.proofs.Common.{◌≡◌, ℕ, zero, suc, true, false, cond, List, [], ◌∷◌, map, length, refl, sym, subst, arith}
 use Rattle.std.specs.Prelude.{flat_map}
 use Rattle.std.specs.List.{AllByRecursion}
 use Rattle.std.proofs.lemmas.List.{length-map}
@@ -8,15 +8,15 @@ use Rattle.spec_trees.specs.Tree.{Trees, Leaf, Node, none, more, trees, node, bi
 use Rattle.spec_well_formed.specs.Terms.{row_length, EachSymbol, EachSymbolInRow}
 use Rattle.spec_calculus.specs.Syntax.{Protocol}
 use Rattle.spec_terms.specs.Term.{Sym, Term, Subst}
-use Rattle.spec_clauses.specs.Fact.{Fact, Att, Mess, Ev, Mev, Bad, Clause, terms_of, fact_under, clause_under}
+use Rattle.spec_clauses.specs.Fact.{Fact, Att, Mess, Tab, Ev, Mev, Bad, Clause, terms_of, fact_under, clause_under, phase_of}
 use Rattle.spec_clauses.specs.Flat.{is_data, parts, row_parts, flat, flat_parts}
 use Rattle.spec_clauses.specs.Variables.{clause_variables}
-use Rattle.spec_clauses.specs.Norm.{norms, numbering}
+use Rattle.spec_clauses.specs.Norm.{norms, numbering, everything_known, tidied}
 use Rattle.spec_clauses.specs.Inclusion.{Has}
 use Rattle.spec_clauses.proofs.Inclusion.{Has-within, Has-map_source}
 use Rattle.spec_clauses.proofs.Lists.{all_append, all-flat_map, all_weaker}
-use Rattle.spec_clauses.proofs.Norm.{simplified, norm_made}
-use Rattle.spec_clauses.proofs.NormKeeps.{few, few-within, generalized_or}
+use Rattle.spec_clauses.proofs.Norm.{few, simplified, norm_made}
+use Rattle.spec_clauses.proofs.NormKeeps.{few-within, generalized_or}
 use Rattle.spec_clauses.proofs.NormAnswers.{norms-source}
 use Rattle.spec_translation.proofs.Goal.{all_at, all_of_each}
 use Rattle.spec_certificate_text.specs.OfProtocol.{IsEvent, IsSymbolOf}
@@ -29,14 +29,19 @@ IsTermOver P t = EachSymbol (IsSymbolOf P) t
 abbrev pub AreTermsOver : Protocol → List Term → Type 0
 AreTermsOver P ts = AllByRecursion (IsTermOver P) ts
 
--- the event of a fact is one of the protocol's, with as many arguments
-abbrev pub HasEventOf : Protocol → Fact Term → Type 0
-HasEventOf P (Ev event ts) = IsEvent P event (length ts)
-HasEventOf P (Mev event ts) = IsEvent P event (length ts)
-HasEventOf P _ = Unit {0}
+-- the fact is of phase 0 and of no table; its event is one of the protocol's, with as many arguments
+abbrev pub HasPredicateOf : Protocol → Fact Term → Type 0
+HasPredicateOf P (Att zero t) = Unit {0}
+HasPredicateOf P (Att (suc k) t) = ⊥
+HasPredicateOf P (Mess zero t u) = Unit {0}
+HasPredicateOf P (Mess (suc k) t u) = ⊥
+HasPredicateOf P (Tab table ts) = ⊥
+HasPredicateOf P (Ev event ts) = IsEvent P event (length ts)
+HasPredicateOf P (Mev event ts) = IsEvent P event (length ts)
+HasPredicateOf P (Bad ts) = Unit {0}
 
 pub record IsFactOver (P : Protocol) (f : Fact Term) : Type 0 where
-  pub event : HasEventOf P f
+  pub predicate : HasPredicateOf P f
   pub terms : AreTermsOver P (terms_of f)
 
 pub record IsClauseOver (P : Protocol) (c : Clause Term) : Type 0 where
@@ -62,11 +67,14 @@ module _ (P : Protocol) where
   terms_over-under s each (t ∷ ts) h = (bind-over (IsSymbolOf P) s each t h.0, terms_over-under s each ts h.1)
 
   pub fact_over-under : (s : Subst) → ((x : ℕ) → IsTermOver P (s x)) → (f : Fact Term) → IsFactOver P f → IsFactOver P (fact_under s f)
-  fact_over-under s each (Att t) h = record { event = tt; terms = terms_over-under s each (t ∷ []) h.terms }
-  fact_over-under s each (Mess t u) h = record { event = tt; terms = terms_over-under s each (t ∷ u ∷ []) h.terms }
-  fact_over-under s each (Ev event ts) h = record { event = subst (IsEvent P event) (sym (length-map ts (bind s))) h.event; terms = terms_over-under s each ts h.terms }
-  fact_over-under s each (Mev event ts) h = record { event = subst (IsEvent P event) (sym (length-map ts (bind s))) h.event; terms = terms_over-under s each ts h.terms }
-  fact_over-under s each (Bad ts) h = record { event = tt; terms = terms_over-under s each ts h.terms }
+  fact_over-under s each (Att (suc k) t) h = absurd h.predicate
+  fact_over-under s each (Mess (suc k) t u) h = absurd h.predicate
+  fact_over-under s each (Tab n ts) h = absurd h.predicate
+  fact_over-under s each (Att zero t) h = record { predicate = tt; terms = terms_over-under s each (t ∷ []) h.terms }
+  fact_over-under s each (Mess zero t u) h = record { predicate = tt; terms = terms_over-under s each (t ∷ u ∷ []) h.terms }
+  fact_over-under s each (Ev event ts) h = record { predicate = subst (IsEvent P event) (sym (length-map ts (bind s))) h.predicate; terms = terms_over-under s each ts h.terms }
+  fact_over-under s each (Mev event ts) h = record { predicate = subst (IsEvent P event) (sym (length-map ts (bind s))) h.predicate; terms = terms_over-under s each ts h.terms }
+  fact_over-under s each (Bad ts) h = record { predicate = tt; terms = terms_over-under s each ts h.terms }
 
   pub facts_over-under : (s : Subst) → ((x : ℕ) → IsTermOver P (s x)) → (fs : List (Fact Term)) → AllByRecursion (IsFactOver P) fs → AllByRecursion (IsFactOver P) (map (fact_under s) fs)
   facts_over-under s each [] h = tt
@@ -87,34 +95,55 @@ module _ (P : Protocol) where
     row_parts_over none h = tt
     row_parts_over (more t ts) h = all_append (IsTermOver P) (parts t) (row_parts ts) (parts_over t h.0) (row_parts_over ts h.1)
 
-  pub known_over : (ts : List Term) → AreTermsOver P ts → AllByRecursion (IsFactOver P) (map Att ts)
+  pub known_over : (ts : List Term) → AreTermsOver P ts → AllByRecursion (IsFactOver P) (map (Att 0) ts)
   known_over [] h = tt
-  known_over (t ∷ ts) h = (record { event = tt; terms = (h.0, tt) }, known_over ts h.1)
+  known_over (t ∷ ts) h = (record { predicate = tt; terms = (h.0, tt) }, known_over ts h.1)
 
   flat_over : (f : Fact Term) → IsFactOver P f → AllByRecursion (IsFactOver P) (flat f)
-  flat_over (Att t) h = known_over (parts t) (parts_over t h.terms.0)
-  flat_over (Mess t u) h = (h, tt)
+  flat_over (Att (suc k) t) h = absurd h.predicate
+  flat_over (Mess phase t u) h = (h, tt)
+  flat_over (Tab n ts) h = (h, tt)
+  flat_over (Att zero t) h = known_over (parts t) (parts_over t h.terms.0)
   flat_over (Ev event ts) h = (h, tt)
   flat_over (Mev event ts) h = (h, tt)
   flat_over (Bad ts) h = (h, tt)
 
   part_over : (c part : Clause Term) → IsClauseOver P c → Has (flat_parts c) part → IsClauseOver P part
   part_over c part h listed =
-      let (f, there, same) = Has-map_source (λ f. record { hypotheses = flat_map flat c.hypotheses; conclusion = f }) (flat c.conclusion) part listed in
+      let (f, there, same) = Has-map_source (λ f. record { hypotheses = flat_map flat c.hypotheses; diffs = c.diffs; conclusion = f }) (flat c.conclusion) part listed in
       subst (IsClauseOver P) (sym same) (record {
         hypotheses = all-flat_map (IsFactOver P) flat c.hypotheses (all_weaker (IsFactOver P) (λ g. AllByRecursion (IsFactOver P) (flat g)) flat_over c.hypotheses h.hypotheses);
         conclusion = all_at (IsFactOver P) there.1 (flat_over c.conclusion h.conclusion);
       })
 
   -- norms
+  first_phase : (f : Fact Term) → HasPredicateOf P f → phase_of f ≡ 0
+  first_phase (Att zero t) h = refl
+  first_phase (Att (suc k) t) h = absurd h
+  first_phase (Mess zero t u) h = refl
+  first_phase (Mess (suc k) t u) h = absurd h
+  first_phase (Tab n ts) h = refl
+  first_phase (Ev event ts) h = refl
+  first_phase (Mev event ts) h = refl
+  first_phase (Bad ts) h = refl
+
+  everything_over : (k : ℕ) → k ≡ 0 → IsClauseOver P (everything_known k)
+  everything_over zero e = record { hypotheses = tt; conclusion = record { predicate = tt; terms = (tt, tt) } }
+  everything_over (suc k) e = absurd (omega (arith, e))
+
   simplified_over : (c : Clause Term) → IsClauseOver P c → IsClauseOver P (simplified c)
-  simplified_over c h = generalized_or (few c) (IsClauseOver P) (λ x e. record { hypotheses = tt; conclusion = record { event = tt; terms = (tt, tt) } }) (record {
+  simplified_over c h = generalized_or (few c) (IsClauseOver P) (λ x e. everything_over (phase_of c.conclusion) (first_phase c.conclusion h.conclusion.predicate)) (record {
     hypotheses = all_of_each (IsFactOver P) (few c).hypotheses (λ f there. all_at (IsFactOver P) (Has-within (few c).hypotheses c.hypotheses f (few-within c) there).1 h.hypotheses);
     conclusion = h.conclusion;
   })
+
+  tidied_over : (c : Clause Term) → IsClauseOver P c → IsClauseOver P (tidied c)
+  tidied_over c h = record { hypotheses = h.hypotheses; conclusion = h.conclusion }
 
   pub norms_over : (c d : Clause Term) → IsClauseOver P c → Has (norms c) d → IsClauseOver P d
   norms_over c d h listed =
       let (part, there, is) = norms-source c d listed in
       let plain = simplified part in
-      subst (IsClauseOver P) (sym (norm_made part d is).1) (clause_over-under (numbering (clause_variables plain)) (λ x. tt) plain (simplified_over part (part_over c part h there)))
+      let anew = clause_under (numbering (clause_variables plain)) plain in
+      let over = clause_over-under (numbering (clause_variables plain)) (λ x. tt) plain (simplified_over part (part_over c part h there)) in
+      subst (IsClauseOver P) (sym (norm_made part d is).1) (tidied_over anew over)

@@ -5,8 +5,9 @@ use Rattle.std.specs.List.{AllByRecursion, cons_option, enumerate_from}
 use Rattle.std.proofs.lemmas.List.{length-map}
 use Rattle.spec_trees.specs.Tree.{node}
 use Rattle.spec_trees.proofs.Equality.{and_true}
-use Rattle.spec_calculus.specs.Syntax.{Name, Made, Variable, Process, Nil, Output, Input, Parallel, Replication, New, Let, Event, Rule, Declared, Query, Secret, SecretNew, Correspondence, Protocol}
+use Rattle.spec_calculus.specs.Syntax.{Name, Made, Variable, Process, Nil, Output, Input, Parallel, Replication, New, Let, Event, Phase, Insert, Get, Rule, Declared, Query, Secret, SecretNew, Correspondence, Protocol}
 use Rattle.spec_calculus.specs.Syntax as calculus
+use Rattle.spec_calculus.specs.Plain.{IsPlain, IsPlainQuery}
 use Rattle.spec_calculus.specs.Points.{numbered, nodes, is_restriction, name_arguments}
 use Rattle.spec_well_formed.specs.Signature.{signature_of}
 use Rattle.spec_well_formed.specs.Rules.{IsVariable}
@@ -18,6 +19,8 @@ use Rattle.spec_clauses.specs.Fact.{Att, Clause}
 use Rattle.spec_clauses.proofs.Lists.{all_append, all-flat_map, all_weaker}
 use Rattle.spec_translation.specs.Conversion.{free_term, rule_leaf, rule_term}
 use Rattle.spec_translation.specs.Attacker.{variables_from, name_known, fresh_known, constructor_applied, rule_applied, message_heard, message_sent, attacker_raw}
+use Rattle.spec_translation.specs.Plain.{plain_attacker}
+use Rattle.spec_translation.proofs.Plain.{attacker_of_one_phase}
 use Rattle.spec_translation.specs.Goal.{query_leaf, event_variables, arguments_at, goal_raw}
 use Rattle.spec_abstraction.proofs.Standing.{levels, level_arguments, levels_count}
 use Rattle.spec_saturation.proofs.Places.{numbered_within}
@@ -63,6 +66,9 @@ new_node (Replication copied) e = cc
 new_node (New word next) e = (word, next, refl)
 new_node (Let pattern expression next otherwise) e = cc
 new_node (Event performed next) e = cc
+new_node (Phase number next) e = cc
+new_node (Insert table arguments next) e = cc
+new_node (Get table patterns condition next otherwise) e = cc
 
 count_at : (xs : List ℕ) (n : ℕ) → 0 < n → n ≤ length xs → numbered xs n ≡ Some (unwrap_or (numbered xs n) 0)
 count_at xs zero some few = absurd (omega (arith, some))
@@ -88,25 +94,25 @@ module _ (P : Protocol) (scoped : IsWellScoped P) where
   name_over : (x : ℕ × Declared) (raw : Clause Term) → numbered P.frees x.0 ≡ Some x.1 → name_known x ≡ Some raw → IsClauseOver P raw
   name_over x raw at e = go x.1.public e where
     made : Clause Term
-    made = record { hypotheses = []; conclusion = Att (free_term x.0) }
+    made = record { hypotheses = []; diffs = []; conclusion = Att 0 (free_term x.0) }
 
     go : (b : Bool) → cond b (Some made) None ≡ Some raw → IsClauseOver P raw
-    go true k = let same : made ≡ raw = cc in subst (IsClauseOver P) same (record { hypotheses = tt; conclusion = record { event = tt; terms = (((record { declared = x.1; there = at }, refl), tt), tt) } })
+    go true k = let same : made ≡ raw = cc in subst (IsClauseOver P) same (record { hypotheses = tt; conclusion = record { predicate = tt; terms = (((record { declared = x.1; there = at }, refl), tt), tt) } })
     go false k = cc
 
-  constructor_over : (x : ℕ × Declared) (raw : Clause Term) → numbered P.constructors x.0 ≡ Some x.1 → constructor_applied x ≡ Some raw → IsClauseOver P raw
+  constructor_over : (x : ℕ × Declared) (raw : Clause Term) → numbered P.constructors x.0 ≡ Some x.1 → constructor_applied 0 x ≡ Some raw → IsClauseOver P raw
   constructor_over x raw at e = go (x.1.public && not x.1.is_data) refl e where
     arguments : List Term
     arguments = variables_from 0 x.1.arity
 
     made : Clause Term
-    made = record { hypotheses = map Att arguments; conclusion = Att (node (Ctor x.0) arguments) }
+    made = record { hypotheses = map (Att 0) arguments; diffs = []; conclusion = Att 0 (node (Ctor x.0) arguments) }
 
     made_over : x.1.is_data ≡ false → IsClauseOver P made
     made_over plain = record {
       hypotheses = known_over P arguments (variables_over P 0 x.1.arity);
       conclusion = record {
-        event = tt;
+        predicate = tt;
         terms = (node_over P (Ctor x.0) arguments (record { declared = x.1; there = at; data_is = plain; arity = sym (length-variables 0 x.1.arity) }) (variables_over P 0 x.1.arity), tt);
       };
     }
@@ -124,40 +130,43 @@ module _ (P : Protocol) (scoped : IsWellScoped P) where
   rule_leaf_over base (Made p) h = absurd h
   rule_leaf_over base (Variable i) h = tt
 
-  known_terms : (ts : List calculus.Term) → AreTermsOver P (map (rule_term P 0) ts) → AllByRecursion (IsFactOver P) (map (λ t. Att (rule_term P 0 t)) ts)
+  known_terms : (ts : List calculus.Term) → AreTermsOver P (map (rule_term P 0) ts) → AllByRecursion (IsFactOver P) (map (λ t. Att 0 (rule_term P 0 t)) ts)
   known_terms [] h = tt
-  known_terms (t ∷ ts) h = (record { event = tt; terms = (h.0, tt) }, known_terms ts h.1)
+  known_terms (t ∷ ts) h = (record { predicate = tt; terms = (h.0, tt) }, known_terms ts h.1)
 
-  rule_over : (rule : Rule) → IsRuleOver (signature_of P) rule → IsClauseOver P (rule_applied P rule)
+  rule_over : (rule : Rule) → IsRuleOver (signature_of P) rule → IsClauseOver P (rule_applied P 0 rule)
   rule_over rule h = record {
     hypotheses = known_terms rule.left (terms_over P (rule_leaf 0) IsVariable (rule_leaf_over 0) rule.left h.left);
-    conclusion = record { event = tt; terms = (term_over P (rule_leaf 0) IsVariable (rule_leaf_over 0) rule.right h.right, tt) };
+    conclusion = record { predicate = tt; terms = (term_over P (rule_leaf 0) IsVariable (rule_leaf_over 0) rule.right h.right, tt) };
   }
 
-  rules_over : (rules : List Rule) → AllByRecursion (IsRuleOver (signature_of P)) rules → AllByRecursion (IsClauseOver P) (map (rule_applied P) rules)
+  rules_over : (rules : List Rule) → AllByRecursion (IsRuleOver (signature_of P)) rules → AllByRecursion (IsClauseOver P) (map (rule_applied P 0) rules)
   rules_over [] h = tt
   rules_over (rule ∷ rules) h = (rule_over rule h.0, rules_over rules h.1)
 
-  fixed_over : IsClauseOver P fresh_known × IsClauseOver P message_heard × IsClauseOver P message_sent
+  fixed_over : IsClauseOver P fresh_known × IsClauseOver P (message_heard 0) × IsClauseOver P (message_sent 0)
   fixed_over = (
-    record { hypotheses = tt; conclusion = record { event = tt; terms = ((refl, (tt, tt)), tt) } },
-    record { hypotheses = (record { event = tt; terms = (tt, (tt, tt)) }, (record { event = tt; terms = (tt, tt) }, tt)); conclusion = record { event = tt; terms = (tt, tt) } },
-    record { hypotheses = (record { event = tt; terms = (tt, tt) }, (record { event = tt; terms = (tt, tt) }, tt)); conclusion = record { event = tt; terms = (tt, (tt, tt)) } },
+    record { hypotheses = tt; conclusion = record { predicate = tt; terms = ((refl, (tt, tt)), tt) } },
+    record { hypotheses = (record { predicate = tt; terms = (tt, (tt, tt)) }, (record { predicate = tt; terms = (tt, tt) }, tt)); conclusion = record { predicate = tt; terms = (tt, tt) } },
+    record { hypotheses = (record { predicate = tt; terms = (tt, tt) }, (record { predicate = tt; terms = (tt, tt) }, tt)); conclusion = record { predicate = tt; terms = (tt, (tt, tt)) } },
   )
 
-  -- the attacker's raw clauses
-  pub attacker_over : AllByRecursion (IsClauseOver P) (attacker_raw P)
-  attacker_over =
-      let rules = flat_map (λ destructor. map (rule_applied P) destructor.rules) P.destructors in
-      let last = message_heard ∷ message_sent ∷ [] in
-      let constructors = filter_map constructor_applied (enumerate_from 1 P.constructors) in
+  -- the attacker's raw clauses, where there is one phase
+  plain_over : AllByRecursion (IsClauseOver P) (plain_attacker P)
+  plain_over =
+      let rules = flat_map (λ destructor. map (rule_applied P 0) destructor.rules) P.destructors in
+      let last = message_heard 0 ∷ message_sent 0 ∷ [] in
+      let constructors = filter_map (constructor_applied 0) (enumerate_from 1 P.constructors) in
       let behind = all_append (IsClauseOver P) rules last
-      (all-flat_map (IsClauseOver P) (λ destructor. map (rule_applied P) destructor.rules) P.destructors
-      (all_weaker (λ destructor. AllByRecursion (IsRuleOver (signature_of P)) destructor.rules) (λ destructor. AllByRecursion (IsClauseOver P) (map (rule_applied P) destructor.rules)) (λ d h. rules_over d.rules h) P.destructors scoped.rules))
+      (all-flat_map (IsClauseOver P) (λ destructor. map (rule_applied P 0) destructor.rules) P.destructors
+      (all_weaker (λ destructor. AllByRecursion (IsRuleOver (signature_of P)) destructor.rules) (λ destructor. AllByRecursion (IsClauseOver P) (map (rule_applied P 0) destructor.rules)) (λ d h. rules_over d.rules h) P.destructors scoped.rules))
       (fixed_over.1, (fixed_over.2, tt)) in
       all_append (IsClauseOver P) (filter_map name_known (enumerate_from 1 P.frees)) (fresh_known ∷ (constructors ++ (rules ++ last)))
       (all_made (IsClauseOver P) (λ p. numbered P.frees p.0 ≡ Some p.1) name_known name_over (enumerate_from 1 P.frees) (enumerated P.frees))
-      (fixed_over.0, all_append (IsClauseOver P) constructors (rules ++ last) (all_made (IsClauseOver P) (λ p. numbered P.constructors p.0 ≡ Some p.1) constructor_applied constructor_over (enumerate_from 1 P.constructors) (enumerated P.constructors)) behind)
+      (fixed_over.0, all_append (IsClauseOver P) constructors (rules ++ last) (all_made (IsClauseOver P) (λ p. numbered P.constructors p.0 ≡ Some p.1) (constructor_applied 0) constructor_over (enumerate_from 1 P.constructors) (enumerated P.constructors)) behind)
+
+  pub attacker_over : IsPlain P.main → AllByRecursion (IsClauseOver P) (attacker_raw P)
+  attacker_over plain = subst (AllByRecursion (IsClauseOver P)) (sym (attacker_of_one_phase P plain)) plain_over
 
   -- the goal's raw clause
   query_leaf_over : (x : Name) → IsFreeOrVariable (signature_of P) x → IsTermOver P (query_leaf x)
@@ -174,21 +183,23 @@ module _ (P : Protocol) (scoped : IsWellScoped P) where
   variables_known [] = tt
   variables_known (i ∷ is) = (tt, variables_known is)
 
-  pub goal_over : IsWithinLimits P → (q : Query) → IsQueryOver (signature_of P) q → HasQueryLeaves P q → IsClauseOver P (goal_raw P q)
-  goal_over limits (Secret message) h leaves = record {
-    hypotheses = (record { event = tt; terms = (term_over P query_leaf (IsDeclaredFree (signature_of P)) secret_leaf_over message h, tt) }, tt);
-    conclusion = record { event = tt; terms = tt };
+  pub goal_over : IsWithinLimits P → (q : Query) → IsQueryOver (signature_of P) q → HasQueryLeaves P q → IsPlainQuery q → IsClauseOver P (goal_raw P q)
+  goal_over limits (Secret message (suc k)) h leaves plain = absurd (omega (arith, plain))
+  goal_over limits (SecretNew point (suc k)) h leaves plain = absurd (omega (arith, plain))
+  goal_over limits (Secret message zero) h leaves plain = record {
+    hypotheses = (record { predicate = tt; terms = (term_over P query_leaf (IsDeclaredFree (signature_of P)) secret_leaf_over message h, tt) }, tt);
+    conclusion = record { predicate = tt; terms = tt };
   }
-  goal_over limits (SecretNew point) h leaves =
+  goal_over limits (SecretNew point zero) h leaves plain =
       let count = arguments_at P point in
       let arguments = variables_from 0 count in
-      let there : IsRestriction P point count = restriction_asked P point leaves in
-      let symbol : IsSymbolOf P (Point point) (length arguments) = (subst (IsRestriction P point) (sym (length-variables 0 count)) there, point_short P limits point leaves.node leaves.stands) in record {
-        hypotheses = (record { event = tt; terms = (node_over P (Point point) arguments symbol (variables_over P 0 count), tt) }, tt);
-        conclusion = record { event = tt; terms = tt };
+      let there : IsRestriction P point count = restriction_asked P point leaves.0 in
+      let symbol : IsSymbolOf P (Point point) (length arguments) = (subst (IsRestriction P point) (sym (length-variables 0 count)) there, point_short P limits point leaves.0.node leaves.0.stands) in record {
+        hypotheses = (record { predicate = tt; terms = (node_over P (Point point) arguments symbol (variables_over P 0 count), tt) }, tt);
+        conclusion = record { predicate = tt; terms = tt };
       }
-  goal_over limits (Correspondence left alternatives) h leaves =
+  goal_over limits (Correspondence left alternatives) h leaves plain =
       let e = event_over P query_leaf (IsFreeOrVariable (signature_of P)) query_leaf_over left h.0 in record {
-        hypotheses = (record { event = e.0; terms = e.1 }, tt);
-        conclusion = record { event = tt; terms = variables_known (event_variables left) };
+        hypotheses = (record { predicate = e.0; terms = e.1 }, tt);
+        conclusion = record { predicate = tt; terms = variables_known (event_variables left) };
       }

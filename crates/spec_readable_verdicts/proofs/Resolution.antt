@@ -6,7 +6,8 @@ use Rattle.spec_trees.proofs.Equality.{and_true}
 use Rattle.spec_calculus.specs.Syntax.{Protocol}
 use Rattle.spec_terms.specs.Term.{Term, Subst}
 use Rattle.spec_terms.specs.Unifier.{moved, IsMostGeneral}
-use Rattle.spec_clauses.specs.Fact.{Fact, Att, Mess, Ev, Mev, Bad, Clause, map_fact, fact_under}
+use Rattle.spec_clauses.specs.Fact.{Fact, Att, Mess, Tab, Ev, Mev, Bad, Clause, map_fact, fact_under}
+use Rattle.spec_clauses.specs.Diff.{diff_under}
 use Rattle.spec_clauses.specs.Selection.{Selection, select}
 use Rattle.spec_clauses.specs.Norm.{norms}
 use Rattle.spec_clauses.specs.Limits.{is_large_raw}
@@ -18,7 +19,8 @@ use Rattle.spec_clauses.proofs.NormKeeps.{all_pass_within}
 use Rattle.spec_clauses.proofs.Selection.{select-picks}
 use Rattle.spec_translation.specs.Placement.{may_be_supposed, may_be_concluded, IsWellPlaced}
 use Rattle.spec_translation.proofs.Goal.{all_at}
-use Rattle.spec_translation.proofs.Placement.{all_supposed-under, norms-concluded, norms-supposed}
+use Rattle.spec_translation.proofs.Plain.{norms_diffs}
+use Rattle.spec_translation.proofs.Placement.{all_told-under, norms-concluded, norms-told, supposed_told}
 use Rattle.spec_saturation.specs.Key.{Key, key, is_before, Entry, below}
 use Rattle.spec_saturation.specs.Log.{IsLive, IsOffered, IsNew}
 use Rattle.spec_saturation.specs.Live.{AreLive}
@@ -30,9 +32,10 @@ use Rattle.spec_readable_verdicts.proofs.Over.{cleaned, cleaned_under, cleaned-b
 use Rattle.spec_readable_verdicts.proofs.Symbols.{symbol}
 use Rattle.spec_readable_verdicts.proofs.Facts.{IsTermOver, IsFactOver, IsClauseOver, fact_over-under, facts_over-under, clause_over-under, norms_over}
 
--- a clause over the protocol whose facts stand where they may
+-- a clause over the protocol without constraints, whose facts stand where they may
 pub record IsKept (P : Protocol) (c : Clause Term) : Type 0 where
   pub over : IsClauseOver P c
+  pub none : c.diffs ≡ []
   pub placed : IsWellPlaced c
 
 -- resolvents are norms of a raw clause that isn't large
@@ -54,8 +57,9 @@ all_rest Q here h = h.1
 all_rest Q (there p) h = (h.0, all_rest Q p h.1)
 
 concluded-under : (s : Subst) (f : Fact Term) → may_be_concluded (fact_under s f) ≡ may_be_concluded f
-concluded-under s (Att t) = refl
-concluded-under s (Mess t u) = refl
+concluded-under s (Att k t) = refl
+concluded-under s (Mess k t u) = refl
+concluded-under s (Tab n ts) = refl
 concluded-under s (Ev e ts) = refl
 concluded-under s (Mev e ts) = refl
 concluded-under s (Bad ts) = refl
@@ -65,10 +69,11 @@ module _ (P : Protocol) where
   clean = cleaned (IsSymbolOf P) (symbol P)
 
   cleaned_fact : (s : Subst) (f : Fact Term) → IsFactOver P f → map_fact clean (fact_under s f) ≡ fact_under (cleaned_under (IsSymbolOf P) (symbol P) s) f
-  cleaned_fact s (Att t) h = ap Att (cleaned-bind (IsSymbolOf P) (symbol P) s t h.terms.0)
-  cleaned_fact s (Mess t u) h =
+  cleaned_fact s (Att k t) h = ap (Att k) (cleaned-bind (IsSymbolOf P) (symbol P) s t h.terms.0)
+  cleaned_fact s (Mess k t u) h =
       let first = cleaned-bind (IsSymbolOf P) (symbol P) s t h.terms.0 in
-      let second = cleaned-bind (IsSymbolOf P) (symbol P) s u h.terms.1.0 in λ i. Mess (first i) (second i)
+      let second = cleaned-bind (IsSymbolOf P) (symbol P) s u h.terms.1.0 in λ i. Mess k (first i) (second i)
+  cleaned_fact s (Tab n ts) h = ap (Tab n) (cleaned-binds (IsSymbolOf P) (symbol P) s ts h.terms)
   cleaned_fact s (Ev e ts) h = ap (Ev e) (cleaned-binds (IsSymbolOf P) (symbol P) s ts h.terms)
   cleaned_fact s (Mev e ts) h = ap (Mev e) (cleaned-binds (IsSymbolOf P) (symbol P) s ts h.terms)
   cleaned_fact s (Bad ts) h = ap Bad (cleaned-binds (IsSymbolOf P) (symbol P) s ts h.terms)
@@ -93,7 +98,7 @@ module _ (P : Protocol) where
     joined_supposed : (n : ℕ) → list_all may_be_supposed (joined n i j at).hypotheses ≡ true
     joined_supposed n =
         let all = all_pass_within may_be_supposed (at.fact ∷ at.others) j.hypotheses (pick-within picked) second.placed.hypotheses in
-        let others = all_supposed-under (moved n) at.others ∙ (and_true (may_be_supposed at.fact) (list_all may_be_supposed at.others) all).1 in
+        let others = all_told-under may_be_supposed supposed_told (moved n) at.others ∙ (and_true (may_be_supposed at.fact) (list_all may_be_supposed at.others) all).1 in
         let own = first.placed.hypotheses in
         list_all-append may_be_supposed i.hypotheses (map (fact_under (moved n)) at.others) ∙ (λ k. own k && others k)
 
@@ -105,8 +110,9 @@ module _ (P : Protocol) where
         let each = unifier_over i.conclusion (fact_under (moved n) at.fact) s first.over.conclusion fact most in
         subst (IsKept P) (sym made) (record {
           over = clause_over-under P s each (joined n i j at) (joined_over n);
+          none = λ k. map (diff_under s) (first.none k ++ map (diff_under (moved n)) (second.none k));
           placed = record {
-            hypotheses = all_supposed-under s (joined n i j at).hypotheses ∙ joined_supposed n;
+            hypotheses = all_told-under may_be_supposed supposed_told s (joined n i j at).hypotheses ∙ joined_supposed n;
             conclusion = concluded-under s (fact_under (moved n) j.conclusion) ∙ (concluded-under (moved n) j.conclusion ∙ second.placed.conclusion);
           };
         })
@@ -118,7 +124,8 @@ module _ (P : Protocol) where
         let kept = raw_kept n.clause (subst (IsRawResolvent i j at) n.is is) in
         let there = subst (λ ds. Has ds c) n.are listed in record {
           over = norms_over P n.clause c kept.over there;
-          placed = record { hypotheses = norms-supposed n.clause c kept.placed.hypotheses there; conclusion = norms-concluded n.clause c there ∙ kept.placed.conclusion };
+          none = norms_diffs n.clause c kept.none there;
+          placed = record { hypotheses = norms-told may_be_supposed supposed_told n.clause c kept.placed.hypotheses there; conclusion = norms-concluded n.clause c there ∙ kept.placed.conclusion };
         }
 
   module _ (given : List (Clause Term)) (first : (c : Clause Term) → Has given c → IsKept P c) where

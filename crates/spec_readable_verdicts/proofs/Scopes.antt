@@ -90,6 +90,7 @@ module _ (P : Protocol) where
     pub messages : AreTermsOver P v.messages
     pub sessions : AreTermsOver P v.sessions
     pub count : length v.messages + length v.sessions ≡ above
+    pub phase : v.phase ≡ 0
 
   module _ (bound : List Name) (above : ℕ) (v : Visit) (is : IsVisitOver bound above v) where
     -- terms where they stand
@@ -129,6 +130,7 @@ module _ (P : Protocol) where
       messages = terms_over-under P s each v.messages is.messages;
       sessions = terms_over-under P s each v.sessions is.sessions;
       count = omega (arith, length-map v.messages (bind s), length-map v.sessions (bind s), is.count);
+      phase = is.phase;
     }
 
     -- with what a pattern binds
@@ -150,8 +152,8 @@ module _ (P : Protocol) where
         ]
 
   -- what is sent
-  pub sent_over : (channel message : Term) → IsTermOver P channel → IsTermOver P message → IsFactOver P (sent P channel message)
-  sent_over channel message first second = go (is_public_channel P channel) where
-    go : (k : Bool) → IsFactOver P (cond k (Att message) (Mess channel message))
-    go true = record { event = tt; terms = (second, tt) }
-    go false = record { event = tt; terms = (first, (second, tt)) }
+  pub sent_over : (phase : ℕ) (channel message : Term) → phase ≡ 0 → IsTermOver P channel → IsTermOver P message → IsFactOver P (sent P phase channel message)
+  sent_over phase channel message zeroth first second = subst (λ n. IsFactOver P (sent P n channel message)) (sym zeroth) (go (is_public_channel P channel)) where
+    go : (k : Bool) → IsFactOver P (cond k (Att 0 message) (Mess 0 channel message))
+    go true = record { predicate = tt; terms = (second, tt) }
+    go false = record { predicate = tt; terms = (first, (second, tt)) }

@@ -2,7 +2,7 @@
 use Rattle.std.proofs.Common.{◌≡◌, ◌⊎◌, ◌∙◌, ℕ, ◌<◌, ◌≤◌, ◌^◌, Bool, true, false, Option, Some, None, List, refl, ap, sym, inl, inr, arith}
 use Rattle.std.proofs.lemmas.Bool.{cases_eq, cases_lt}
 use Rattle.spec_calculus.specs.Bounds.{most_digits, most_arguments}
-use Rattle.spec_calculus.specs.Syntax.{Declared, Process, Nil, Output, Input, Parallel, Replication, New, Let, Event, Protocol}
+use Rattle.spec_calculus.specs.Syntax.{Declared, Process, Nil, Output, Input, Parallel, Replication, New, Let, Event, Phase, Insert, Get, Protocol}
 use Rattle.spec_calculus.specs.Points.{numbered, nodes, name_arguments}
 use Rattle.spec_terms.specs.Term.{Sym, Ctor, Data, Tuple, Free, Point, Attacker}
 use Rattle.spec_saturation.proofs.Offers.{named_once}
@@ -73,6 +73,9 @@ new (Replication copied) = inr (λ h. let e = h.2 in cc)
 new (New word next) = inl (word, next, refl)
 new (Let pattern expression next otherwise) = inr (λ h. let e = h.2 in cc)
 new (Event performed next) = inr (λ h. let e = h.2 in cc)
+new (Phase number next) = inr (λ h. let e = h.2 in cc)
+new (Insert table arguments next) = inr (λ h. let e = h.2 in cc)
+new (Get table patterns condition next otherwise) = inr (λ h. let e = h.2 in cc)
 
 restriction : (P : Protocol) (point arguments : ℕ) → Decided (IsRestriction P point arguments)
 restriction P point arguments = go (numbered (nodes P.main) point) refl (numbered (name_arguments 0 P.main) point) refl where

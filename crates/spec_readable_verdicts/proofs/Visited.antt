@@ -3,8 +3,9 @@ use Rattle.std.proofs.Common.{◌≡◌, ℕ, zero, suc, ◌+◌, Bool, true, fa
 use Rattle.std.specs.Option.{IfSome}
 use Rattle.std.specs.List.{AllByRecursion}
 use Rattle.spec_trees.specs.Tree.{Leaf}
-use Rattle.spec_calculus.specs.Syntax.{Name, Made, Process, Nil, Output, Input, Parallel, Replication, New, Let, Event, Pattern, EventTerm, Query, Protocol}
+use Rattle.spec_calculus.specs.Syntax.{Name, Made, Process, Nil, Output, Input, Parallel, Replication, New, Let, Event, Phase, Insert, Get, Pattern, Expression, EventTerm, Query, Protocol}
 use Rattle.spec_calculus.specs.Syntax as calculus
+use Rattle.spec_calculus.specs.Plain.{IsPlain, IsPlainQuery}
 use Rattle.spec_calculus.specs.Points.{point_after}
 use Rattle.spec_calculus.specs.Bounds.{most_visits}
 use Rattle.spec_well_formed.specs.Signature.{signature_of}
@@ -21,6 +22,7 @@ use Rattle.spec_clauses.proofs.Inclusion.{Has-append, Has-one}
 use Rattle.spec_clauses.proofs.Lists.{all_append, all-flat_map, all_weaker}
 use Rattle.spec_translation.specs.Conversion.{StandsFor, term_in, leaf_term, Fresh, pattern_term, name_term}
 use Rattle.spec_translation.specs.Visit.{Visit, first_visit, is_large_visit, evaluates_large, sent, raw_clause, after_input, after_copy, after_new, event_terms, after_event}
+use Rattle.spec_translation.specs.Otherwise.{otherwise_visit}
 use Rattle.spec_translation.specs.Course.{Outcome, Done, TooLarge, Course, Finished, Counted, Unless, preceded, After, Then, Adds}
 use Rattle.spec_translation.specs.Visited.{some_large, EachThen, Copied, Received, Chosen, Visited}
 use Rattle.spec_translation.specs.Goal.{goal_raw}
@@ -84,13 +86,14 @@ module _ (P : Protocol) (limits : IsWithinLimits P) (scoped : IsWellScoped P) wh
     after_input_over channel pattern at to fits =
         let message = pattern_term P v.scope at pattern in
         let over = pattern_over P bound above v is at pattern fits in
-        let fact = sent P (term_in P v.scope channel) message in record {
+        let fact = sent P v.phase (term_in P v.scope channel) message in record {
           scope = scope_with P bound above v is at pattern;
           found = found_with P bound above v is at pattern;
-          hypotheses = all_append (IsFactOver P) v.hypotheses (fact ∷ []) is.hypotheses (sent_over P (term_in P v.scope channel) message (term_in_over P bound above v is channel to) over, tt);
+          hypotheses = all_append (IsFactOver P) v.hypotheses (fact ∷ []) is.hypotheses (sent_over P v.phase (term_in P v.scope channel) message is.phase (term_in_over P bound above v is channel to) over, tt);
           messages = all_append (IsTermOver P) v.messages (message ∷ []) is.messages (over, tt);
           sessions = is.sessions;
           count = omega (arith, length-append v.messages (message ∷ []), is.count);
+          phase = is.phase;
         }
 
     -- below a replication
@@ -102,6 +105,7 @@ module _ (P : Protocol) (limits : IsWithinLimits P) (scoped : IsWellScoped P) wh
       messages = is.messages;
       sessions = all_append (IsTermOver P) v.sessions (Leaf n ∷ []) is.sessions (tt, tt);
       count = omega (arith, length-append v.sessions (Leaf n ∷ []), is.count);
+      phase = is.phase;
     }
 
     -- below a restriction
@@ -130,13 +134,14 @@ module _ (P : Protocol) (limits : IsWithinLimits P) (scoped : IsWellScoped P) wh
           messages = is.messages;
           sessions = is.sessions;
           count = is.count;
+          phase = is.phase;
         }
 
     -- below an event
     performed_over : (e : EventTerm) → IsEventOver (signature_of P) (IsKnown (signature_of P) bound) e → IsFactOver P (Ev e.event (event_terms P v e)) × IsFactOver P (Mev e.event (event_terms P v e))
     performed_over e h =
         let k = event_over P (leaf_term v.scope) (IsKnown (signature_of P) bound) (leaf_over P bound above v is) e h in
-        (record { event = k.0; terms = k.1 }, record { event = k.0; terms = k.1 })
+        (record { predicate = k.0; terms = k.1 }, record { predicate = k.0; terms = k.1 })
 
     after_event_over : (e : EventTerm) → IsEventOver (signature_of P) (IsKnown (signature_of P) bound) e → IsVisitOver P bound above (after_event P v e)
     after_event_over e h = record {
@@ -146,59 +151,66 @@ module _ (P : Protocol) (limits : IsWithinLimits P) (scoped : IsWellScoped P) wh
       messages = is.messages;
       sessions = is.sessions;
       count = is.count;
+      phase = is.phase;
     }
 
+    -- in an else branch
+    otherwise_over : (pattern : Pattern) (expression : Expression) → IsVisitOver P bound above (otherwise_visit P v pattern expression)
+    otherwise_over pattern expression =
+        record { scope = is.scope; found = is.found; hypotheses = is.hypotheses; messages = is.messages; sessions = is.sessions; count = is.count; phase = is.phase }
+
   -- What the visits of a process add is over the protocol.
-  visited_keeps : (process : Process) (point above : ℕ) (bound : List Name) (v : Visit) → Stands P.main point process above → IsProcessBelow (signature_of P) bound point process → IsVisitOver P bound above v → Keeps (IsClauseOver P) (Visited P process point v)
-  visited_keeps Nil point above bound v stands below is = counted_keeps (IsClauseOver P) point Finished (finished_keeps (IsClauseOver P))
-  visited_keeps (Output channel message next) point above bound v stands below is =
+  visited_keeps : (process : Process) (point above : ℕ) (bound : List Name) (v : Visit) → Stands P.main point process above → IsProcessBelow (signature_of P) bound point process → IsPlain process → IsVisitOver P bound above v → Keeps (IsClauseOver P) (Visited P process point v)
+  visited_keeps Nil point above bound v stands below plain is = counted_keeps (IsClauseOver P) point Finished (finished_keeps (IsClauseOver P))
+  visited_keeps (Output channel message next) point above bound v stands below plain is =
       let Q = IsClauseOver P in
-      let fact = sent P (term_in P v.scope channel) (term_in P v.scope message) in
+      let fact = sent P v.phase (term_in P v.scope channel) (term_in P v.scope message) in
       let raw = raw_clause v fact in
       let test = evaluates_large P v (Output channel message next) || is_large_raw raw in
       let R = Visited P next (point + 1) v in
-      let over = sent_over P (term_in P v.scope channel) (term_in P v.scope message) (term_in_over P bound above v is channel below.0) (term_in_over P bound above v is message below.1) in
+      let over = sent_over P v.phase (term_in P v.scope channel) (term_in P v.scope message) is.phase (term_in_over P bound above v is channel below.0) (term_in_over P bound above v is message below.1) in
       counted_keeps Q point (Unless test point (Adds (norms raw) R)) (unless_keeps Q test point (Adds (norms raw) R)
       (adds_keeps Q (norms raw) R (all_norms raw (record { hypotheses = is.hypotheses; conclusion = over }))
-      (visited_keeps next (point + 1) above bound v (output_next P.main point above channel message next stands) below.2 is)))
-  visited_keeps (Input channel pattern next) point above bound v stands below is =
+      (visited_keeps next (point + 1) above bound v (output_next P.main point above channel message next stands) below.2 plain is)))
+  visited_keeps (Input channel pattern next) point above bound v stands below plain is =
       let Q = IsClauseOver P in
       let R = λ (w : Visit). Unless (is_large_visit w) point (Visited P next (point + 1) w) in
       let test = evaluates_large P v (Input channel pattern next) in
       counted_keeps Q point (Unless test point (Received P v channel pattern R)) (unless_keeps Q test point (Received P v channel pattern R) (λ left out (at, fresh, x).
       let w = after_input P v channel pattern at in
       unless_keeps Q (is_large_visit w) point (Visited P next (point + 1) w)
-      (visited_keeps next (point + 1) (above + 1) (bound_by pattern ++ bound) w (input_next P.main point above channel pattern next stands) below.2 (after_input_over bound above v is channel pattern at below.0 below.1)) left out x))
-  visited_keeps (Parallel left right) point above bound v stands below is =
+      (visited_keeps next (point + 1) (above + 1) (bound_by pattern ++ bound) w (input_next P.main point above channel pattern next stands) below.2 plain (after_input_over bound above v is channel pattern at below.0 below.1)) left out x))
+  visited_keeps (Parallel left right) point above bound v stands below plain is =
       let Q = IsClauseOver P in
       let R = Visited P left (point + 1) v in
       let S = Visited P right (point_after (point + 1) left) v in
       counted_keeps Q point (Then R S) (then_keeps Q R S
-      (visited_keeps left (point + 1) above bound v (parallel_left P.main point above left right stands) below.0 is)
-      (visited_keeps right (point_after (point + 1) left) above bound v (parallel_right P.main point above left right stands) below.1 is))
-  visited_keeps (Replication copied) point above bound v stands below is =
+      (visited_keeps left (point + 1) above bound v (parallel_left P.main point above left right stands) below.0 plain.0 is)
+      (visited_keeps right (point_after (point + 1) left) above bound v (parallel_right P.main point above left right stands) below.1 plain.1 is))
+  visited_keeps (Replication copied) point above bound v stands below plain is =
       counted_keeps (IsClauseOver P) point (Copied v (λ w. Visited P copied (point + 1) w)) (λ left out (n, new, x).
-      visited_keeps copied (point + 1) (above + 1) bound (after_copy v n) (replication_next P.main point above copied stands) below (after_copy_over bound above v is n) left out x)
-  visited_keeps (New word next) point above bound v stands below is =
+      visited_keeps copied (point + 1) (above + 1) bound (after_copy v n) (replication_next P.main point above copied stands) below plain (after_copy_over bound above v is n) left out x)
+  visited_keeps (New word next) point above bound v stands below plain is =
       let Q = IsClauseOver P in
       let w = after_new v point in
       let R = Visited P next (point + 1) w in
       counted_keeps Q point (Unless (is_large_visit w) point R) (unless_keeps Q (is_large_visit w) point R
-      (visited_keeps next (point + 1) above (Made point ∷ bound) w (new_next P.main point above word next stands) below.1 (after_new_over bound above v is point word next stands)))
-  visited_keeps (Let pattern expression next otherwise) point above bound v stands below is =
+      (visited_keeps next (point + 1) above (Made point ∷ bound) w (new_next P.main point above word next stands) below.1 plain (after_new_over bound above v is point word next stands)))
+  visited_keeps (Let pattern expression next otherwise) point above bound v stands below plain is =
       let Q = IsClauseOver P in
       let R = λ (w : Visit). Visited P next (point + 1) w in
-      let T = Visited P otherwise (point_after (point + 1) next) v in
+      let w_else = otherwise_visit P v pattern expression in
+      let T = Visited P otherwise (point_after (point + 1) next) w_else in
       let C = Chosen P v pattern expression point R T in
       let test = evaluates_large P v (Let pattern expression next otherwise) in
       let IsSo = IsVisitOver P (bound_by pattern ++ bound) above in
       counted_keeps Q point (Unless test point C) (unless_keeps Q test point C (λ left out (outs, go, x).
       unless_keeps Q (some_large outs) point (EachThen R outs T)
       (each_keeps Q IsSo R T
-      (λ w k. visited_keeps next (point + 1) above (bound_by pattern ++ bound) w (let_next P.main point above pattern expression next otherwise stands) below.2 k)
-      (visited_keeps otherwise (point_after (point + 1) next) above bound v (let_otherwise P.main point above pattern expression next otherwise stands) below.3 is)
+      (λ w k. visited_keeps next (point + 1) above (bound_by pattern ++ bound) w (let_next P.main point above pattern expression next otherwise stands) below.2 plain.0 k)
+      (visited_keeps otherwise (point_after (point + 1) next) above bound w_else (let_otherwise P.main point above pattern expression next otherwise stands) below.3 plain.1 (otherwise_over bound above v is pattern expression))
       outs (all_go_over P scoped bound above v is pattern below.0 expression below.1 outs go)) left out x))
-  visited_keeps (Event performed next) point above bound v stands below is =
+  visited_keeps (Event performed next) point above bound v stands below plain is =
       let Q = IsClauseOver P in
       let raw = raw_clause v (Ev performed.event (event_terms P v performed)) in
       let w = after_event P v performed in
@@ -206,22 +218,25 @@ module _ (P : Protocol) (limits : IsWithinLimits P) (scoped : IsWellScoped P) wh
       let test = evaluates_large P v (Event performed next) || (is_large_raw raw || is_large_visit w) in
       counted_keeps Q point (Unless test point (Adds (norms raw) R)) (unless_keeps Q test point (Adds (norms raw) R)
       (adds_keeps Q (norms raw) R (all_norms raw (record { hypotheses = is.hypotheses; conclusion = (performed_over bound above v is performed below.0).0 }))
-      (visited_keeps next (point + 1) above bound w (event_next P.main point above performed next stands) below.1 (after_event_over bound above v is performed below.0))))
+      (visited_keeps next (point + 1) above bound w (event_next P.main point above performed next stands) below.1 plain (after_event_over bound above v is performed below.0))))
+  visited_keeps (Phase number next) point above bound v stands below plain is = absurd plain
+  visited_keeps (Insert table arguments next) point above bound v stands below plain is = absurd plain
+  visited_keeps (Get table patterns condition next otherwise) point above bound v stands below plain is = absurd plain
 
   -- the first visit
   first_over : IsVisitOver P [] 0 first_visit
-  first_over = record { scope = tt; found = λ x h. elim h.1 [ ]; hypotheses = tt; messages = tt; sessions = tt; count = refl }
+  first_over = record { scope = tt; found = λ x h. elim h.1 [ ]; hypotheses = tt; messages = tt; sessions = tt; count = refl; phase = refl }
 
   -- Each clause of a translation.
-  pub translation_over : (q : Query) → IsQueryOver (signature_of P) q → HasQueryLeaves P q → (all : List (Clause Term)) → IsTranslation P q (Clauses all) → AllByRecursion (IsClauseOver P) all
-  translation_over q asked leaves all (outcome, visited, made) =
-      go outcome (visited_keeps P.main 1 0 [] first_visit (whole_stands P.main) scoped.process first_over most_visits outcome visited) made
+  pub translation_over : IsPlain P.main → (q : Query) → IsQueryOver (signature_of P) q → HasQueryLeaves P q → IsPlainQuery q → (all : List (Clause Term)) → IsTranslation P q (Clauses all) → AllByRecursion (IsClauseOver P) all
+  translation_over plain q asked leaves plain_q all (outcome, visited, made) =
+      go outcome (visited_keeps P.main 1 0 [] first_visit (whole_stands P.main) scoped.process plain first_over most_visits outcome visited) made
     where
       attackers : AllByRecursion (IsClauseOver P) (attacker_clauses P)
-      attackers = all-flat_map (IsClauseOver P) norms (attacker_raw P) (all_weaker (IsClauseOver P) (λ raw. AllByRecursion (IsClauseOver P) (norms raw)) all_norms (attacker_raw P) (attacker_over P scoped))
+      attackers = all-flat_map (IsClauseOver P) norms (attacker_raw P) (all_weaker (IsClauseOver P) (λ raw. AllByRecursion (IsClauseOver P) (norms raw)) all_norms (attacker_raw P) (attacker_over P scoped plain))
 
       goals : AllByRecursion (IsClauseOver P) (goal_clauses P q)
-      goals = all_norms (goal_raw P q) (goal_over P scoped limits q asked leaves)
+      goals = all_norms (goal_raw P q) (goal_over P scoped limits q asked leaves plain_q)
 
       go : (out : Outcome) → AllDone (IsClauseOver P) out → Clauses all ≡ whole P q out → AllByRecursion (IsClauseOver P) all
       go (TooLarge point) h e = cc

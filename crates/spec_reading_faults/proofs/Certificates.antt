@@ -62,11 +62,11 @@ unfolding no_hypotheses
 hypotheses_local P = choice_local (λ b. b == 61) no_hypotheses (things (one_hypothesis P)) no_hypotheses-local (things_local (one_hypothesis P) (one_hypothesis-local P) (one_hypothesis-moves P))
 
 with_conclusion : Protocol → List (Fact Term) → Reader (Clause Term)
-with_conclusion P hs bytes at = next (read_conclusion P bytes at) (λ c p r. Found (record { hypotheses = hs; conclusion = c }) p r)
+with_conclusion P hs bytes at = next (read_conclusion P bytes at) (λ c p r. Found (record { hypotheses = hs; diffs = []; conclusion = c }) p r)
 
 with_conclusion-local : (P : Protocol) (hs : List (Fact Term)) → IsLocal (with_conclusion P hs)
 unfolding with_conclusion
-with_conclusion-local P hs = next_local (read_conclusion P) (λ at c bytes p. Found (record { hypotheses = hs; conclusion = c }) p bytes) (conclusion_local P) (λ at c. found_local (record { hypotheses = hs; conclusion = c }))
+with_conclusion-local P hs = next_local (read_conclusion P) (λ at c bytes p. Found (record { hypotheses = hs; diffs = []; conclusion = c }) p bytes) (conclusion_local P) (λ at c. found_local (record { hypotheses = hs; diffs = []; conclusion = c }))
 
 pub clause_local : (P : Protocol) → IsLocal (read_clause P)
 unfolding with_conclusion

@@ -136,18 +136,18 @@ pub closing_local : {A : Type 0} (ws : List ℕ) (x : A) → IsLocal (λ bytes a
 closing_local ws x = behind_fixed ws (λ bytes at. Found x at bytes) (found_local x)
 
 att_term : Protocol → Reader (Fact Term)
-att_term P bytes at = next (one_term P bytes at) (λ t p r. next (read_fixed (codes ")") r p) (λ _ p r. Found (Att t) p r))
+att_term P bytes at = next (one_term P bytes at) (λ t p r. next (read_fixed (codes ")") r p) (λ _ p r. Found (Att 0 t) p r))
 
 att_local : (P : Protocol) → IsLocal (read_att P)
 unfolding att_term
-att_local P = behind_fixed (codes "att(") (att_term P) (next_local (one_term P) (λ at t bytes p. next (read_fixed (codes ")") bytes p) (λ _ p r. Found (Att t) p r)) (term_local P) (λ at t. closing_local (codes ")") (Att t)))
+att_local P = behind_fixed (codes "att(") (att_term P) (next_local (one_term P) (λ at t bytes p. next (read_fixed (codes ")") bytes p) (λ _ p r. Found (Att 0 t) p r)) (term_local P) (λ at t. closing_local (codes ")") (Att 0 t)))
 
 second_term : Protocol → Term → Reader (Fact Term)
-second_term P t bytes at = next (one_term P bytes at) (λ u p r. next (read_fixed (codes ")") r p) (λ _ p r. Found (Mess t u) p r))
+second_term P t bytes at = next (one_term P bytes at) (λ u p r. next (read_fixed (codes ")") r p) (λ _ p r. Found (Mess 0 t u) p r))
 
 second_term-local : (P : Protocol) (t : Term) → IsLocal (second_term P t)
 unfolding second_term
-second_term-local P t = next_local (one_term P) (λ at u bytes p. next (read_fixed (codes ")") bytes p) (λ _ p r. Found (Mess t u) p r)) (term_local P) (λ at u. closing_local (codes ")") (Mess t u))
+second_term-local P t = next_local (one_term P) (λ at u bytes p. next (read_fixed (codes ")") bytes p) (λ _ p r. Found (Mess 0 t u) p r)) (term_local P) (λ at u. closing_local (codes ")") (Mess 0 t u))
 
 first_term : Protocol → Reader (Fact Term)
 first_term P bytes at = next (one_term P bytes at) (λ t p r. next (read_fixed (codes ",") r p) (λ _ p r. second_term P t r p))

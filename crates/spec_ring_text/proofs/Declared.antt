@@ -54,9 +54,9 @@ ring_declared n cs small h =
     ∙ keys_declared (word_at (words (first_chunks (key_chunks 1 n cs)))) two_frees 27 1 n cs h (λ j low high. refl) (omega arith) (omega arith)
 
 -- what a ring asks
-keys_ask : (T : Texts) (n b m : ℕ) (main : Process) → T (further 3 (behind_keys b m)) ≡ codes "s" → queries (ring_scope T n) main 0 (key_sketches b m) ≡ Ok (Secret (Leaf (Free 2)) ∷ [])
+keys_ask : (T : Texts) (n b m : ℕ) (main : Process) → T (further 3 (behind_keys b m)) ≡ codes "s" → queries (ring_scope T n) main 0 (key_sketches b m) ≡ Ok (Secret (Leaf (Free 2)) 0 ∷ [])
 keys_ask T n b zero main e = rw (rules.free_name (ring_scope T n) [] (further 3 b) 2 refl (secret_meant T n (further 3 b) e)) refl
 keys_ask T n b (suc m) main e = keys_ask T n (further 4 b) m main e
 
-pub ring_asks : (T : Texts) (n m : ℕ) (main : Process) → T (further 3 (behind_keys 27 m)) ≡ codes "s" → queries (ring_scope T n) main 0 (first_sketches (key_sketches 27 m)) ≡ Ok (Secret (Leaf (Free 2)) ∷ [])
+pub ring_asks : (T : Texts) (n m : ℕ) (main : Process) → T (further 3 (behind_keys 27 m)) ≡ codes "s" → queries (ring_scope T n) main 0 (first_sketches (key_sketches 27 m)) ≡ Ok (Secret (Leaf (Free 2)) 0 ∷ [])
 ring_asks T n m main e = keys_ask T n 27 m main e

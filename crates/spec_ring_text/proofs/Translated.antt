@@ -16,10 +16,13 @@ use Rattle.spec_clauses.specs.Limits.{is_large_raw}
 use Rattle.spec_translation.specs.Conversion.{StandsFor, leaf_term, free_term, Fresh}
 use Rattle.spec_translation.specs.Attacker.{name_known, fresh_known, constructor_applied, rule_applied, message_heard, message_sent}
 use Rattle.spec_translation.specs.Visit.{Visit, first_visit, is_large_term, evaluates_large}
+use Rattle.spec_translation.specs.Otherwise.{otherwise_visit}
+use Rattle.spec_calculus.specs.Plain.{IsPlain}
 use Rattle.spec_translation.specs.Choice.{Choice, choice_under, IsUnified, ruled_choice, GoesOn, ruled_terms, ChoiceGoesOn}
 use Rattle.spec_translation.specs.Course.{Outcome, Done, Course, Finished, Counted, Unless, Adds}
 use Rattle.spec_translation.specs.Visited.{Visited, Chosen}
 use Rattle.spec_translation.specs.Translation.{Clauses, IsTranslation, attacker_clauses, goal_clauses}
+use Rattle.spec_translation.proofs.Plain.{attacker_of_one_phase}
 use Rattle.spec_ring_text.specs.Text.{successor}
 use Rattle.spec_ring_text.specs.Meaning as meaning
 use Rattle.spec_ring_text.specs.Meaning.{keys, key_name, encrypted, encryption, decryption, pass, passes, ring_protocol}
@@ -33,12 +36,19 @@ no_key_known k i (suc m) = no_key_known (k + 1) (i + 1) m
 -- the attacker's raw clauses, with those of the keys left open
 abbrev attacker_with : ℕ → List (Clause Term) → List (Clause Term)
 attacker_with n known =
-    record { hypotheses = []; conclusion = Att (free_term 1) }
-    ∷ (known ++ (fresh_known ∷ (filter_map constructor_applied (enumerate_from 1 (encryption ∷ []))
-    ++ (flat_map (λ destructor. map (rule_applied (ring_protocol n)) destructor.rules) (decryption ∷ []) ++ (message_heard ∷ message_sent ∷ [])))))
+    record { hypotheses = []; diffs = []; conclusion = Att 0 (free_term 1) }
+    ∷ (known ++ (fresh_known ∷ (filter_map (constructor_applied 0) (enumerate_from 1 (encryption ∷ []))
+    ++ (flat_map (λ destructor. map (rule_applied (ring_protocol n) 0) destructor.rules) (decryption ∷ []) ++ (message_heard 0 ∷ message_sent 0 ∷ [])))))
+
+-- no process of it waits for a phase, and none uses a table
+passes_plain : (n i v m : ℕ) → IsPlain (passes n i v m)
+passes_plain n i v zero = (tt, tt)
+passes_plain n i v (suc m) = ((tt, tt), passes_plain n (i + 1) (v + 2) m)
 
 attacker_count : (n : ℕ) → length (attacker_clauses (ring_protocol n)) ≡ 6
-attacker_count n = ap (λ (known : List (Clause Term)). length (flat_map norms (attacker_with n known))) (no_key_known 3 1 n)
+attacker_count n =
+    ap (λ (raws : List (Clause Term)). length (flat_map norms raws)) (attacker_of_one_phase (ring_protocol n) (tt, passes_plain n 1 1 (n - 1)))
+    ∙ ap (λ (known : List (Clause Term)). length (flat_map norms (attacker_with n known))) (no_key_known 3 1 n)
 
 -- what variables stand for
 abbrev standing : ℕ → Term → StandsFor
@@ -62,7 +72,7 @@ unless false point R left out e r = r
 
 -- the process that has received a message: its variable is the one behind d
 abbrev received : ℕ → ℕ → Visit
-received v d = record { scope = standing v (Leaf (1 + d)) ∷ []; hypotheses = Att (Leaf (1 + d)) ∷ []; messages = Leaf (1 + d) ∷ []; sessions = Leaf 0 ∷ [] }
+received v d = record { scope = standing v (Leaf (1 + d)) ∷ []; hypotheses = Att 0 (Leaf (1 + d)) ∷ []; diffs = []; messages = Leaf (1 + d) ∷ []; sessions = Leaf 0 ∷ []; phase = 0 }
 
 -- a term under key i
 abbrev under : Term → ℕ → Term
@@ -72,14 +82,16 @@ under t i = node (Ctor 1) (t ∷ free_term (i + 2) ∷ [])
 abbrev decrypted : ℕ → ℕ → Visit
 decrypted i v = record {
   scope = standing v (under (Leaf 2) i) ∷ standing (v + 1) (Leaf 2) ∷ [];
-  hypotheses = Att (under (Leaf 2) i) ∷ [];
+  hypotheses = Att 0 (under (Leaf 2) i) ∷ [];
+  diffs = [];
   messages = under (Leaf 2) i ∷ [];
   sessions = Leaf 0 ∷ [];
+  phase = 0;
 }
 
 -- what it adds where it encrypts the term with key j
 abbrev passed : ℕ → ℕ → Term → Clause Term
-passed i j t = record { hypotheses = Att (under (Leaf 2) i) ∷ []; conclusion = Att (under t j) }
+passed i j t = record { hypotheses = Att 0 (under (Leaf 2) i) ∷ []; diffs = []; conclusion = Att 0 (under t j) }
 
 -- its last step, and the step before
 abbrev sending : ℕ → ℕ → Process
@@ -109,7 +121,7 @@ choice_with i v t d = record {
   sides = node (Ctor 1) (Leaf 2 ∷ Leaf 3 ∷ []) ∷ Leaf 3 ∷ [];
   value = Leaf 2;
   target = Leaf (4 + d);
-  visit = record { scope = standing v (Leaf 1) ∷ standing (v + 1) (Leaf (4 + d)) ∷ []; hypotheses = Att (Leaf 1) ∷ []; messages = Leaf 1 ∷ []; sessions = Leaf 0 ∷ [] };
+  visit = record { scope = standing v (Leaf 1) ∷ standing (v + 1) (Leaf (4 + d)) ∷ []; hypotheses = Att 0 (Leaf 1) ∷ []; diffs = []; messages = Leaf 1 ∷ []; sessions = Leaf 0 ∷ []; phase = 0 };
 }
 
 -- the most general unifier: the message is what key i hides, and what is bound is the rule's first variable
@@ -152,7 +164,8 @@ added_by i j = (norms (passed i j (Leaf 2)) ++ []) ++ []
 -- what comes behind its `let`
 abbrev goes_on : ℕ → ℕ → ℕ → ℕ → ℕ → Course
 goes_on n i j v point = Chosen (ring_protocol n) (received v 0) (Leaf (Bind (v + 1))) (meaning.decrypted (Leaf (Variable v)) (key_name i)) point
-    (λ w. Visited (ring_protocol n) (sending j v) (point + 1) w) (Visited (ring_protocol n) Nil (point_after (point + 1) (sending j v)) (received v 0))
+    (λ w. Visited (ring_protocol n) (sending j v) (point + 1) w) (Visited (ring_protocol n) Nil (point_after (point + 1) (sending j v))
+    (otherwise_visit (ring_protocol n) (received v 0) (Leaf (Bind (v + 1))) (meaning.decrypted (Leaf (Variable v)) (key_name i))))
 
 opens : (n i j v point left : ℕ) → Visited (ring_protocol n) (opening i j v) point (received v 0) (suc (suc (suc (suc left)))) (Done (added_by i j) left)
 opens n i j v point left = unless (evaluates_large (ring_protocol n) (received v 0) (opening i j v)) point (goes_on n i j v point) (suc (suc (suc left))) (Done (added_by i j) left) small (
@@ -217,7 +230,7 @@ added_count n i (suc m) two last =
 
 -- what the process adds that sends `s` under the first key
 abbrev begun : Clause Term
-begun = record { hypotheses = []; conclusion = Att (under (free_term 2) 1) }
+begun = record { hypotheses = []; diffs = []; conclusion = Att 0 (under (free_term 2) 1) }
 
 ring_visited : (m left : ℕ) → Visited (ring_protocol (suc m)) (ring_protocol (suc m)).main 1 first_visit (suc (suc (suc (room m left)))) (Done ((norms begun ++ []) ++ added (suc m) 1 m) left)
 ring_visited m left =
@@ -232,13 +245,13 @@ ring_visited m left =
     )
 
 -- the translation, and how many clauses it has
-pub ring_translated : (m : ℕ) → 1 ≤ m → 7 * suc m + 2 ≤ most_visits → (all : List (Clause Term)) × IsTranslation (ring_protocol (suc m)) (Secret (Leaf (calculus.Free 2))) (Clauses all) × (length all ≡ suc m + 8)
+pub ring_translated : (m : ℕ) → 1 ≤ m → 7 * suc m + 2 ≤ most_visits → (all : List (Clause Term)) × IsTranslation (ring_protocol (suc m)) (Secret (Leaf (calculus.Free 2)) 0) (Clauses all) × (length all ≡ suc m + 8)
 ring_translated m more fits =
     let P = ring_protocol (suc m) in
     let left = most_visits - (7 * suc m + 2) in
     let visited = (norms begun ++ []) ++ added (suc m) 1 m in
     let enough : suc (suc (suc (room m left))) ≡ most_visits = omega (arith, room_size m left) in
-    let goal = goal_clauses P (Secret (Leaf (calculus.Free 2))) in (
+    let goal = goal_clauses P (Secret (Leaf (calculus.Free 2)) 0) in (
       attacker_clauses P ++ (visited ++ goal),
       (Done visited left, subst (λ (k : ℕ). Visited P P.main 1 first_visit k (Done visited left)) enough (ring_visited m left), refl),
       omega (arith, attacker_count (suc m), added_count (suc m) 1 m (omega arith) (omega arith), length-append (attacker_clauses P) (visited ++ goal), length-append visited goal, length-append (norms begun ++ []) (added (suc m) 1 m)),

@@ -55,6 +55,7 @@ ring_protocol n = record {
   constructors = encryption ∷ [];
   destructors = decryption ∷ [];
   events = [];
-  queries = Secret (Leaf (Free 2)) ∷ [];
+  tables = [];
+  queries = Secret (Leaf (Free 2)) 0 ∷ [];
   main = Parallel (Output (Leaf (Free 1)) (encrypted (Leaf (Free 2)) (key_name 1)) Nil) (passes n 1 1 (n - 1));
 }

@@ -35,7 +35,7 @@ pub fn ring_sizes()
 
 /// A ring asks whether the attacker knows `s`, the second free name, and its process has two points and seven for each key.
 pub fn ring_shapes()
-    ensures asked { (n : ℕ) → (ring_protocol n).queries ≡ Secret (Leaf (Free 2)) ∷ [] }
+    ensures asked { (n : ℕ) → (ring_protocol n).queries ≡ Secret (Leaf (Free 2)) 0 ∷ [] }
     ensures points { (n : ℕ) → 1 ≤ n → length (nodes (ring_protocol n).main) ≡ 7 * n + 2 }
 {}
 
@@ -43,6 +43,6 @@ pub fn ring_shapes()
 /// each key.
 pub fn ring_translations()
     ensures { (n : ℕ) → 2 ≤ n → 7 * n + 2 ≤ most_visits → (all : List (Clause Term))
-        × IsTranslation (ring_protocol n) (Secret (Leaf (Free 2))) (Clauses all)
+        × IsTranslation (ring_protocol n) (Secret (Leaf (Free 2)) 0) (Clauses all)
         × (length all ≡ n + 8) }
 {}

@@ -6,7 +6,7 @@ use Rattle.std.proofs.lemmas.Slice.Eq.{bytes_eq-Decides}
 use Rattle.spec_calculus.specs.Runs as runs
 use Rattle.spec_calculus.specs.Runs.{Step}
 use Rattle.spec_run_text.specs.Spelling.{word_of, numbers_of}
-use Rattle.spec_run_text.specs.Reading.{Action, Build, Reduce, Part, Fresh, Split, Copy, Make, Pass, Hear, Say, Take, Fail, Mark, action, step_with}
+use Rattle.spec_run_text.specs.Reading.{Action, Build, Reduce, Part, Fresh, Split, Copy, Make, Pass, Hear, Say, Take, Fail, Mark, Next, Put, Fetch, Miss, action, step_with}
 
 -- the word of an action
 abbrev pub action_word : Action → List ℕ
@@ -23,6 +23,10 @@ action_word Say = codes "say"
 action_word Take = codes "take"
 action_word Fail = codes "fail"
 action_word Mark = codes "mark"
+action_word Next = codes "next"
+action_word Put = codes "insert"
+action_word Fetch = codes "get"
+action_word Miss = codes "miss"
 
 -- the action of a step
 abbrev pub action_of : Step → Action
@@ -39,6 +43,10 @@ action_of (runs.Say thread value) = Say
 action_of (runs.Take thread label) = Take
 action_of (runs.Fail thread) = Fail
 action_of (runs.Mark thread) = Mark
+action_of runs.Next = Next
+action_of (runs.Put thread) = Put
+action_of (runs.Fetch thread entry) = Fetch
+action_of (runs.Miss thread) = Miss
 
 pub action-word_of : (s : Step) → action (word_of s) ≡ Some (action_of s)
 action-word_of (runs.Build constructor arguments) = refl
@@ -54,6 +62,10 @@ action-word_of (runs.Say thread value) = refl
 action-word_of (runs.Take thread label) = refl
 action-word_of (runs.Fail thread) = refl
 action-word_of (runs.Mark thread) = refl
+action-word_of runs.Next = refl
+action-word_of (runs.Put thread) = refl
+action-word_of (runs.Fetch thread entry) = refl
+action-word_of (runs.Miss thread) = refl
 
 pub word_of-action : (s : Step) → action_word (action_of s) ≡ word_of s
 word_of-action (runs.Build constructor arguments) = refl
@@ -69,6 +81,10 @@ word_of-action (runs.Say thread value) = refl
 word_of-action (runs.Take thread label) = refl
 word_of-action (runs.Fail thread) = refl
 word_of-action (runs.Mark thread) = refl
+word_of-action runs.Next = refl
+word_of-action (runs.Put thread) = refl
+word_of-action (runs.Fetch thread entry) = refl
+word_of-action (runs.Miss thread) = refl
 
 pub step_with-numbers_of : (s : Step) → step_with (action_of s) (numbers_of s) ≡ Some s
 step_with-numbers_of (runs.Build constructor arguments) = refl
@@ -84,6 +100,10 @@ step_with-numbers_of (runs.Say thread value) = refl
 step_with-numbers_of (runs.Take thread label) = refl
 step_with-numbers_of (runs.Fail thread) = refl
 step_with-numbers_of (runs.Mark thread) = refl
+step_with-numbers_of runs.Next = refl
+step_with-numbers_of (runs.Put thread) = refl
+step_with-numbers_of (runs.Fetch thread entry) = refl
+step_with-numbers_of (runs.Miss thread) = refl
 
 -- a test of a word at the head of others
 tested : (word : List ℕ) (name : List ℕ) (a b : Action) (later : Option Action) → name ≡ action_word a → (cond (bytes_eq word name) (Some a) later) ≡ Some b → (later ≡ Some b → word ≡ action_word b) → word ≡ action_word b
@@ -100,7 +120,8 @@ action-some word a e =
     tested word _ Build a _ refl e λ e. tested word _ Reduce a _ refl e λ e. tested word _ Part a _ refl e λ e. tested word _ Fresh a _ refl e
     λ e. tested word _ Split a _ refl e λ e. tested word _ Copy a _ refl e λ e. tested word _ Make a _ refl e λ e. tested word _ Pass a _ refl e
     λ e. tested word _ Hear a _ refl e λ e. tested word _ Say a _ refl e λ e. tested word _ Take a _ refl e λ e. tested word _ Fail a _ refl e
-    λ e. tested word _ Mark a _ refl e λ e. cc
+    λ e. tested word _ Mark a _ refl e λ e. tested word _ Next a _ refl e λ e. tested word _ Put a _ refl e λ e. tested word _ Fetch a _ refl e
+    λ e. tested word _ Miss a _ refl e λ e. cc
 
 -- a step comes of its action and its numbers alone
 pub record Comes (a : Action) (ns : List ℕ) (s : Step) : Type 0 where
@@ -124,4 +145,8 @@ step_with-some Say (j ∷ k ∷ []) s e = comes _ _ _ s refl refl e
 step_with-some Take (i ∷ label) s e = comes _ _ _ s refl refl e
 step_with-some Fail (i ∷ []) s e = comes _ _ _ s refl refl e
 step_with-some Mark (i ∷ []) s e = comes _ _ _ s refl refl e
+step_with-some Next [] s e = comes _ _ _ s refl refl e
+step_with-some Put (i ∷ []) s e = comes _ _ _ s refl refl e
+step_with-some Fetch (i ∷ j ∷ []) s e = comes _ _ _ s refl refl e
+step_with-some Miss (i ∷ []) s e = comes _ _ _ s refl refl e
 step_with-some other numbers s e = cc

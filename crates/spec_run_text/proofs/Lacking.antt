@@ -5,7 +5,7 @@ use Rattle.std.specs.List.{AllByRecursion, list_all}
 use Rattle.std.specs.Str.{all_ascii_digits}
 use Rattle.std.specs.Fmt.{decimal}
 use Rattle.std.proofs.lemmas.Bool.Decides.{nat_tests}
-use Rattle.spec_calculus.specs.Runs.{Step, Build, Reduce, Part, Fresh, Split, Copy, Make, Pass, Hear, Say, Take, Fail, Mark}
+use Rattle.spec_calculus.specs.Runs.{Step, Build, Reduce, Part, Fresh, Split, Copy, Make, Pass, Hear, Say, Take, Fail, Mark, Next, Put, Fetch, Miss}
 use Rattle.spec_run_text.specs.Spelling.{word_of, IsSmall}
 use Rattle.spec_run_text.proofs.Numbers.{decimal_is_numeral}
 use Rattle.spec_run_text.proofs.Fields.{Lacks}
@@ -32,6 +32,10 @@ word_of-letters (Say thread value) = refl
 word_of-letters (Take thread label) = refl
 word_of-letters (Fail thread) = refl
 word_of-letters (Mark thread) = refl
+word_of-letters Next = refl
+word_of-letters (Put thread) = refl
+word_of-letters (Fetch thread entry) = refl
+word_of-letters (Miss thread) = refl
 
 pub word_of-Lacks : (b : ℕ) (s : Step) → b < 97 → Lacks b (word_of s)
 word_of-Lacks b s low = Lacks-letters b (word_of s) low (word_of-letters s)

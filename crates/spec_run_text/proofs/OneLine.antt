@@ -10,7 +10,7 @@ use Rattle.spec_calculus.specs.Runs.{Step}
 use Rattle.spec_run_text.specs.Lines.{fields}
 use Rattle.spec_run_text.specs.Spelling.{word_of, numbers_of, spaced, IsSmall, Spells}
 use Rattle.spec_run_text.specs.Faults.{Fault, Word, Number, LongLine, first_word, IsFaulty}
-use Rattle.spec_run_text.specs.Reading.{Action, Build, Reduce, Part, Fresh, Split, Copy, Make, Pass, Hear, Say, Take, Fail, Mark, action, step_with, numerals, line_numbers, line_with, read_line}
+use Rattle.spec_run_text.specs.Reading.{Action, Build, Reduce, Part, Fresh, Split, Copy, Make, Pass, Hear, Say, Take, Fail, Mark, Next, Put, Fetch, Miss, action, step_with, numerals, line_numbers, line_with, read_line}
 use Rattle.spec_run_text.proofs.Numbers.{numerals_some, numerals-decimal}
 use Rattle.spec_run_text.proofs.Fields.{joined, cut_line, fields-joined}
 use Rattle.spec_run_text.proofs.Lacking.{Lacks-decimals, word_of-Lacks}
@@ -73,6 +73,10 @@ with_word Say = runs.Say 0 0
 with_word Take = runs.Take 0 []
 with_word Fail = runs.Fail 0
 with_word Mark = runs.Mark 0
+with_word Next = runs.Next
+with_word Put = runs.Put 0
+with_word Fetch = runs.Fetch 0 0
+with_word Miss = runs.Miss 0
 
 word_of-with_word : (a : Action) → action_word a ≡ word_of (with_word a)
 unfolding with_word
@@ -89,6 +93,10 @@ word_of-with_word Say = refl
 word_of-with_word Take = refl
 word_of-with_word Fail = refl
 word_of-with_word Mark = refl
+word_of-with_word Next = refl
+word_of-with_word Put = refl
+word_of-with_word Fetch = refl
+word_of-with_word Miss = refl
 
 -- what a result of reading a line says of it
 abbrev pub Tells : List ℕ → Result Step Fault → Type 0

@@ -1,7 +1,7 @@
 -- The definitions on small inputs that were worked out by hand.
 use Rattle.std.proofs.Common.{◌≡◌, [], ◌∷◌, refl}
 use Rattle.std.specs.Prelude.{codes, Ok, Err}
-use Rattle.spec_calculus.specs.Runs.{Build, Fresh, Hear, Pass, Take}
+use Rattle.spec_calculus.specs.Runs.{Build, Fresh, Hear, Pass, Take, Next, Put, Fetch, Miss}
 use Rattle.spec_run_text.specs.Lines.{lines, fields}
 use Rattle.spec_run_text.specs.Faults.{Word, Number}
 use Rattle.spec_run_text.specs.Reading.{reading}
@@ -29,6 +29,12 @@ some_steps = refl
 
 zeros : reading (codes "take 0 0\nhear 999999999\n") ≡ Ok (Take 0 (0 ∷ []) ∷ Hear 999999999 ∷ [])
 zeros = refl
+
+phases_and_tables : reading (codes "next\ninsert 3\nget 4 2\nmiss 4\n") ≡ Ok (Next ∷ Put 3 ∷ Fetch 4 2 ∷ Miss 4 ∷ [])
+phases_and_tables = refl
+
+no_entry : reading (codes "get 4") ≡ Err (Number, 1)
+no_entry = refl
 
 -- a label of two numbers, and one of none
 labels : reading (codes "take 2 1 3\ntake 1") ≡ Ok (Take 2 (1 ∷ 3 ∷ []) ∷ Take 1 [] ∷ [])

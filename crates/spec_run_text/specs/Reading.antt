@@ -23,6 +23,10 @@ pub data Action : Type 0 where
   Take : Action
   Fail : Action
   Mark : Action
+  Next : Action
+  Put : Action
+  Fetch : Action
+  Miss : Action
 
 -- the action that the word names
 abbrev pub action : List ℕ → Option Action
@@ -33,7 +37,9 @@ action word =
     else (if bytes_eq word (codes "make") then Some Make else (if bytes_eq word (codes "pass") then Some Pass
     else (if bytes_eq word (codes "hear") then Some Hear else (if bytes_eq word (codes "say") then Some Say
     else (if bytes_eq word (codes "take") then Some Take else (if bytes_eq word (codes "fail") then Some Fail
-    else (if bytes_eq word (codes "mark") then Some Mark else None))))))))))))
+    else (if bytes_eq word (codes "mark") then Some Mark else (if bytes_eq word (codes "next") then Some Next
+    else (if bytes_eq word (codes "insert") then Some Put else (if bytes_eq word (codes "get") then Some Fetch
+    else (if bytes_eq word (codes "miss") then Some Miss else None))))))))))))))))
 
 -- the step of an action with these numbers, where that is their count; a label is any numbers, none among them
 abbrev pub step_with : Action → List ℕ → Option Step
@@ -50,6 +56,10 @@ step_with Say (thread ∷ value ∷ []) = Some (runs.Say thread value)
 step_with Take (thread ∷ label) = Some (runs.Take thread label)
 step_with Fail (thread ∷ []) = Some (runs.Fail thread)
 step_with Mark (thread ∷ []) = Some (runs.Mark thread)
+step_with Next [] = Some runs.Next
+step_with Put (thread ∷ []) = Some (runs.Put thread)
+step_with Fetch (thread ∷ entry ∷ []) = Some (runs.Fetch thread entry)
+step_with Miss (thread ∷ []) = Some (runs.Miss thread)
 step_with other numbers = None
 
 -- whether the bytes are digits, one at least and no more than the limit, of which a 0 stands first only alone

@@ -3,7 +3,7 @@ use Rattle.std.specs.Prelude.{◌≡◌, ℕ, ◌<◌, ◌≤◌, ◌^◌, List,
 use Rattle.std.specs.List.{AllByRecursion, concat}
 use Rattle.std.specs.Fmt.{decimal}
 use Rattle.spec_calculus.specs.Bounds.{most_line_bytes, most_digits}
-use Rattle.spec_calculus.specs.Runs.{Step, Build, Reduce, Part, Fresh, Split, Copy, Make, Pass, Hear, Say, Take, Fail, Mark}
+use Rattle.spec_calculus.specs.Runs.{Step, Build, Reduce, Part, Fresh, Split, Copy, Make, Pass, Hear, Say, Take, Fail, Mark, Next, Put, Fetch, Miss}
 
 -- the word of a step
 abbrev pub word_of : Step → List ℕ
@@ -20,6 +20,10 @@ word_of (Say thread value) = codes "say"
 word_of (Take thread label) = codes "take"
 word_of (Fail thread) = codes "fail"
 word_of (Mark thread) = codes "mark"
+word_of Next = codes "next"
+word_of (Put thread) = codes "insert"
+word_of (Fetch thread entry) = codes "get"
+word_of (Miss thread) = codes "miss"
 
 -- the numbers of a step, in the order of its line
 abbrev pub numbers_of : Step → List ℕ
@@ -36,6 +40,10 @@ numbers_of (Say thread value) = thread ∷ value ∷ []
 numbers_of (Take thread label) = thread ∷ label
 numbers_of (Fail thread) = thread ∷ []
 numbers_of (Mark thread) = thread ∷ []
+numbers_of Next = []
+numbers_of (Put thread) = thread ∷ []
+numbers_of (Fetch thread entry) = thread ∷ entry ∷ []
+numbers_of (Miss thread) = thread ∷ []
 
 -- a number in decimal digits, without leading zero, behind one space
 abbrev pub spaced : ℕ → List ℕ

@@ -1,14 +1,11 @@
 -- The live clauses of a closed log have to cover all that is offered: the given clauses, the goal, and what their pairs give.
 use Rattle.std.proofs.Common.{◌≡◌, ◌⊎◌, ◌∙◌, ℕ, zero, suc, ◌+◌, ◌<◌, ◌≤◌, Bool, true, false, cond, Some, None, List, [], ◌∷◌, length, refl, ap, sym, subst, inl, inr, arith}
 use Rattle.std.specs.Prelude.{slice_get}
-use Rattle.std.specs.List.{list_all}
 use Rattle.std.proofs.lemmas.Bool.{cases_lt}
 use Rattle.std.proofs.lemmas.Bool.Decides.{nat_tests}
-use Rattle.spec_trees.proofs.Equality.{and_true}
 use Rattle.spec_terms.specs.Term.{Term}
 use Rattle.spec_calculus.specs.Points.{numbered}
 use Rattle.spec_clauses.specs.Fact.{Clause}
-use Rattle.spec_clauses.specs.Flat.{is_flat}
 use Rattle.spec_clauses.specs.Norm.{IsNormal}
 use Rattle.spec_clauses.specs.Inclusion.{Picks, here, there, Has}
 use Rattle.spec_clauses.specs.Subsumption.{Subsumes, IsCovered}
@@ -34,9 +31,6 @@ pub entries_covered : (es : List Entry) (cs : List (Clause Term)) → AreLive es
 entries_covered [] cs live normal e h = elim h.1 [ ]
 entries_covered (d ∷ es) cs live normal e h = go live (λ ds l f k. entries_covered es ds l (λ g m. normal g (d ∷ m.0, there m.1)) f k)
   where
-    flat_all : list_all is_flat d.clause.hypotheses ≡ true
-    flat_all = (and_true (is_flat d.clause.conclusion) (list_all is_flat d.clause.hypotheses) (normal d (es, here)).flat).1
-
     among : {ds rest : List Entry} {f : Entry} → Picks ds f rest → ds ≡ d ∷ es → (f ≡ d) ⊎ Has es f
     among here same = inl cc
     among (there {x = f} {xs = ds} {rest = rest} p) same = let tails : ds ≡ es = cc in inr (subst (λ xs. Has xs f) tails (rest, p))
@@ -48,7 +42,7 @@ entries_covered (d ∷ es) cs live normal e h = go live (λ ds l f k. entries_co
     ]
     go (inr (unbeaten, (rest, is, l))) later =
         let whole : IsCovered (d.clause ∷ rest) e.clause = elim (among h.1 refl) as (λ _. IsCovered (d.clause ∷ rest) e.clause) [
-          | inl same ↦ subst (λ f. IsCovered (d.clause ∷ rest) f.clause) (sym same) (d.clause, (rest, here), subsumes_itself d.clause flat_all)
+          | inl same ↦ subst (λ f. IsCovered (d.clause ∷ rest) f.clause) (sym same) (d.clause, (rest, here), subsumes_itself d.clause (normal d (es, here)))
           | inr k ↦ covered_more rest d.clause e.clause (later rest l e k)
         ] in
         subst (λ xs. IsCovered xs e.clause) (sym is) whole

@@ -190,7 +190,7 @@ pub one_common_log : (clauses : List (Clause Term)) (budget : ℕ) (log other : 
 one_common_log clauses budget log other end stop a b = one_part (with_goal clauses some_goal) budget log other end stop (a some_goal) (b some_goal)
   where
     some_goal : Clause Term
-    some_goal = record { hypotheses = []; conclusion = Bad [] }
+    some_goal = record { hypotheses = []; diffs = []; conclusion = Bad [] }
 
 module _ (given : List (Clause Term)) (budget : ℕ) (log : List Entry) (end : End) (is_log : IsLog given budget log end) where
   -- each turn below this one at which the entries end has its goal's key after the end

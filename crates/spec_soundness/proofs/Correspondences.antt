@@ -31,19 +31,18 @@ use Rattle.spec_translation.specs.Conversion.{converted, converted_row}
 use Rattle.spec_translation.specs.Goal.{query_leaf, query_term, event_variables, goal_raw, required}
 use Rattle.spec_translation.specs.Translation.{Clauses, IsTranslation}
 use Rattle.spec_translation.specs.Satisfied.{IsMet, AreSatisfied}
-use Rattle.spec_translation.proofs.Conversions.{converted-bind}
+use Rattle.spec_translation.proofs.Conversions.{converted-bind, converted_row-trees}
 use Rattle.spec_abstraction.specs.Trace.{MadeAt, trace_of}
 use Rattle.spec_abstraction.specs.Naming.{atom_term, abstracted, performed_fact, event_fact, event_facts, naming}
 use Rattle.spec_abstraction.specs.OneToOne.{is_foreign, IsOneToOne}
 use Rattle.spec_abstraction.proofs.Holding.{translations_hold_all}
 use Rattle.spec_abstraction.proofs.Listed.{concluded}
-use Rattle.spec_abstraction.proofs.Values.{converted_row-trees}
 use Rattle.spec_abstraction.proofs.Runs.{runs_are_derived}
-use Rattle.spec_abstraction.proofs.Older.{runs_are_named}
 use Rattle.spec_abstraction.proofs.Entries.{runs_have_entries}
 use Rattle.spec_abstraction.proofs.OneToOne.{runs_are_one_to_one}
+use Rattle.spec_abstraction.proofs.Backwards.{is_bound, bound_first, bound_second, places_row_back, places_row_bound}
 use Rattle.spec_soundness.proofs.Secrecy.{shown_bad}
-use Rattle.spec_soundness.proofs.Extension.{is_bound, bound_first, bound_second, leaf_under, IsBack, places_row_back, places_row_bound, Answers, event_back, bindings_of, bindings_back, all_performed}
+use Rattle.spec_soundness.proofs.Extension.{leaf_under, IsAnswered, Answers, event_back, bindings_of, bindings_back, all_performed}
 use Rattle.spec_soundness.proofs.Instances.{IsQueryLeaf, numbered_leaves, bound_terms, terms_bound, left_same}
 
 -- the first items of a list
@@ -98,12 +97,13 @@ module _ (solved_suffice : SolvedClausesSuffice) (P : Protocol) (left : EventTer
       let one = runs_are_one_to_one P steps c reached in
       let lacks = (runs_have_entries P steps c reached).events in
       let holds = translations_hold_all P (Correspondence left alternatives) all is in
-      let derived = runs_are_derived P names (Correspondence left alternatives) all is proper linear steps c reached (runs_are_named P steps c reached) in
+      let derived = runs_are_derived P (Correspondence left alternatives) all is proper linear steps c reached in
       let s = bound_terms P names environment in
       let terms = terms_bound P names environment left.arguments left_leaves in
       let goal : Instance (goal_raw P (Correspondence left alternatives)) (performed_fact P names happened ∷ []) (Bad (bad_terms s)) = record {
         by = s;
         premises_are = ap (λ ts. Ev left.event ts ∷ []) (sym terms);
+        met = tt;
         concludes = ([], here);
       } in
       let bad = concluded (event_facts P names before) all (goal_raw P (Correspondence left alternatives)) (performed_fact P names happened ∷ []) (Bad (bad_terms s)) refl holds.goal goal (derived.happened index happened violated.is_instance) in
@@ -123,8 +123,8 @@ module _ (solved_suffice : SolvedClausesSuffice) (P : Protocol) (left : EventTer
       (required_found P made one before (all_taken (EventLacks (is_foreign made)) index c.events lacks) clauses shown.clause shown.premises (Bad (bad_terms s)) shown.instance shown.derived met.by) met.alternative met.events in
       let first = places_row (trees left.arguments) (trees happened.arguments) in
       let later = bindings_of P made one r met.by before met.alternative found in
-      let back = all_append (IsBack P made one r met.by) first later (places_row_back P made one r met.by (trees left.arguments) (trees happened.arguments) answers.row answers.lacks) (bindings_back P made one r met.by before met.alternative found) in
-      let bound = all_weaker (λ x. is_bound first x ≡ true) (λ x. is_bound (first ++ later) x ≡ true) (λ x h. bound_first first later x h) (row_leaves (trees left.arguments)) (places_row_bound P made one r met.by (trees left.arguments) (trees happened.arguments) answers.row) in
+      let back = all_append (IsAnswered P made one r met.by) first later (places_row_back P made one (leaf_under r met.by) (trees left.arguments) (trees happened.arguments) answers.row answers.lacks) (bindings_back P made one r met.by before met.alternative found) in
+      let bound = all_weaker (λ x. is_bound first x ≡ true) (λ x. is_bound (first ++ later) x ≡ true) (λ x h. bound_first first later x h) (row_leaves (trees left.arguments)) (places_row_bound P made one (leaf_under r met.by) (trees left.arguments) (trees happened.arguments) answers.row) in
       violated.unpreceded (first ++ later) met.alternative
       (event_back P made one r met.by (first ++ later) back left happened answers bound)
       (Contains-from_Has alternatives met.alternative met.listed)

@@ -1,7 +1,7 @@
 -- The last clause of a derivation of `bad`.
 use Rattle.std.proofs.Common.{◌≡◌, true, List, [], ◌∷◌, refl, sym, subst}
 use Rattle.spec_terms.specs.Term.{Term}
-use Rattle.spec_clauses.specs.Fact.{Fact, Att, Mess, Ev, Mev, Bad, Clause, fact_under}
+use Rattle.spec_clauses.specs.Fact.{Fact, Att, Mess, Tab, Ev, Mev, Bad, Clause, fact_under}
 use Rattle.spec_clauses.specs.Flat.{flat, parts}
 use Rattle.spec_clauses.specs.Inclusion.{Picks, here, there, Has}
 use Rattle.spec_clauses.proofs.Inclusion.{Has-map_source}
@@ -40,8 +40,9 @@ pub concludes_bad : (c : Clause Term) (premises : List (Fact Term)) (ts : List T
 concludes_bad c premises ts i = go c.conclusion i.concludes
   where
     go : (f : Fact Term) → Has (flat (fact_under i.by f)) (Bad ts) → is_bad f ≡ true
-    go (Att t) h = let (u, found, same) = Has-map_source Att (parts (bind i.by t)) (Bad ts) h in cc
-    go (Mess t u) h = let same = only_item (fact_under i.by (Mess t u)) (Bad ts) h in cc
+    go (Att k t) h = let (u, found, same) = Has-map_source (Att k) (parts (bind i.by t)) (Bad ts) h in cc
+    go (Mess k t u) h = let same = only_item (fact_under i.by (Mess k t u)) (Bad ts) h in cc
+    go (Tab n us) h = let same = only_item (fact_under i.by (Tab n us)) (Bad ts) h in cc
     go (Ev e us) h = let same = only_item (fact_under i.by (Ev e us)) (Bad ts) h in cc
     go (Mev e us) h = let same = only_item (fact_under i.by (Mev e us)) (Bad ts) h in cc
     go (Bad us) h = refl

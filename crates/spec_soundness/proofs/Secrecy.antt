@@ -1,5 +1,5 @@
--- Secrets are kept: where a closed list has no solved clause with conclusion `bad`, no run makes the secret known.
-use Rattle.std.proofs.Common.{◌≡◌, ◌∙◌, ℕ, ◌+◌, true, false, List, [], ◌∷◌, ◌++◌, map, length, refl, ap, sym, subst, length-append, arith}
+-- Secrets are kept: where a closed list has no solved clause with conclusion `bad`, no run makes the secret known up to the phase.
+use Rattle.std.proofs.Common.{◌≡◌, ◌∙◌, ℕ, ◌+◌, ◌≤◌, true, false, List, [], ◌∷◌, ◌++◌, map, length, refl, ap, sym, subst, length-append, arith}
 use Rattle.std.specs.List.{AllByRecursion}
 use Rattle.std.proofs.lemmas.List.{append-nil}
 use Rattle.spec_trees.specs.Tree.{Leaf, bind, node, some_leaf}
@@ -8,6 +8,7 @@ use Rattle.spec_trees.proofs.Rows.{bind-node}
 use Rattle.spec_trees.proofs.Substitution.{bind-Leaf}
 use Rattle.spec_calculus.specs.Syntax.{Name, Made, Variable, Query, Secret, SecretNew, Protocol}
 use Rattle.spec_calculus.specs.Syntax as calculus
+use Rattle.spec_calculus.specs.Points.{greatest_phase}
 use Rattle.spec_calculus.specs.Values.{MadeName, value_of}
 use Rattle.spec_calculus.specs.Matching.{rules_of}
 use Rattle.spec_calculus.specs.Secrecy.{Holds}
@@ -85,42 +86,42 @@ module _ (solved_suffice : SolvedClausesSuffice) (P : Protocol) (q : Query) (all
 
 module _ (solved_suffice : SolvedClausesSuffice) (P : Protocol) (all clauses : List (Clause Term)) (closes : Closes all clauses) (proper : (d : ℕ) → AllByRecursion IsProperRule (rules_of P d)) (linear : HasLinearPatterns P.main) where
   -- the goal of a message: what the attacker has of it shows `bad`
-  message_shows : (message : calculus.Term) (events : List (Fact Term)) → IsTaken all (goal_raw P (Secret message)) → Derive all events (flat (Att (query_term P message))) → Derive all events (Bad [] ∷ [])
-  message_shows message events taken d =
-      let hypotheses : flat_under Leaf (Att (query_term P message) ∷ []) ≡ flat (Att (query_term P message)) = append-nil (flat (Att (bind Leaf (query_term P message)))) ∙ ap (λ t. flat (Att t)) (bind-Leaf (query_term P message)) in
-      concluded events all (goal_raw P (Secret message)) (flat (Att (query_term P message))) (Bad []) refl taken
-      (record { by = Leaf; premises_are = sym hypotheses; concludes = ([], here) }) d
+  message_shows : (message : calculus.Term) (phase : ℕ) (events : List (Fact Term)) → IsTaken all (goal_raw P (Secret message phase)) → Derive all events (flat (Att phase (query_term P message))) → Derive all events (Bad [] ∷ [])
+  message_shows message phase events taken d =
+      let hypotheses : flat_under Leaf (Att phase (query_term P message) ∷ []) ≡ flat (Att phase (query_term P message)) = append-nil (flat (Att phase (bind Leaf (query_term P message)))) ∙ ap (λ t. flat (Att phase t)) (bind-Leaf (query_term P message)) in
+      concluded events all (goal_raw P (Secret message phase)) (flat (Att phase (query_term P message))) (Bad []) refl taken
+      (record { by = Leaf; premises_are = sym hypotheses; met = tt; concludes = ([], here) }) d
 
-  pub messages_are_kept : (message : calculus.Term) → AllByRecursion (IsDeclaredFree (signature_of P)) (leaves message) → IsTranslation P (Secret message) (Clauses all) → AreSatisfied P (Secret message) clauses → Holds P (Secret message)
-  messages_are_kept message free is satisfied steps c reached known =
+  pub messages_are_kept : (message : calculus.Term) (phase : ℕ) → AllByRecursion (IsDeclaredFree (signature_of P)) (leaves message) → phase ≤ greatest_phase P.main → IsTranslation P (Secret message phase) (Clauses all) → AreSatisfied P (Secret message phase) clauses → Holds P (Secret message phase)
+  messages_are_kept message phase free asked is satisfied steps c reached (known, before) =
       let made = (trace_of P steps).made in
       let names = naming P made in
-      let derived = runs_are_derived P names (Secret message) all is proper linear steps c reached (runs_are_named P steps c reached) in
+      let derived = runs_are_derived P (Secret message phase) all is proper linear steps c reached in
       let events = event_facts P names c.events in
-      let has = each-contains (λ v. Derive all events (flat (Att (abstracted P names v)))) c.known (value_of [] message) derived.known known in
-      let there = subst (λ t. Derive all events (flat (Att t))) (secret_term P names message free) has in
-      let goal = (translations_hold_all P (Secret message) all is).goal in
-      let shown = shown_bad solved_suffice P (Secret message) all clauses closes satisfied events [] (message_shows message events goal there) in
+      let has = each-contains (λ v. Derive all events (flat (Att phase (abstracted P names v)))) c.known (value_of [] message) (derived.known phase before asked) known in
+      let there = subst (λ t. Derive all events (flat (Att phase t))) (secret_term P names message free) has in
+      let goal = (translations_hold_all P (Secret message phase) all is).goal in
+      let shown = shown_bad solved_suffice P (Secret message phase) all clauses closes satisfied events [] (message_shows message phase events goal there) in
       satisfied shown.clause shown.listed shown.solved shown.concludes
 
   -- the goal of a restriction: a name of it that the attacker has shows `bad`
-  name_shows : (point : ℕ) (ts : List Term) (events : List (Fact Term)) → arguments_at P point ≡ length ts → IsTaken all (goal_raw P (SecretNew point)) → Derive all events (flat (Att (node (Point point) ts))) → Derive all events (Bad [] ∷ [])
-  name_shows point ts events count taken d =
+  name_shows : (point phase : ℕ) (ts : List Term) (events : List (Fact Term)) → arguments_at P point ≡ length ts → IsTaken all (goal_raw P (SecretNew point phase)) → Derive all events (flat (Att phase (node (Point point) ts))) → Derive all events (Bad [] ∷ [])
+  name_shows point phase ts events count taken d =
       let vars = variables_from 0 (arguments_at P point) in
       let terms : map (bind (nth ts)) vars ≡ ts = ap (λ n. map (bind (nth ts)) (variables_from 0 n)) count ∙ nth_fills ts 0 ts (λ x. ap (nth ts) (let e : 0 + x ≡ x = omega arith in e)) in
-      let hypotheses : flat_under (nth ts) (Att (node (Point point) vars) ∷ []) ≡ flat (Att (node (Point point) ts)) =
-      append-nil (flat (Att (bind (nth ts) (node (Point point) vars)))) ∙ ap (λ t. flat (Att t)) (bind-node (nth ts) (Point point) vars ∙ ap (node (Point point)) terms) in
-      concluded events all (goal_raw P (SecretNew point)) (flat (Att (node (Point point) ts))) (Bad []) refl taken
-      (record { by = nth ts; premises_are = sym hypotheses; concludes = ([], here) }) d
+      let hypotheses : flat_under (nth ts) (Att phase (node (Point point) vars) ∷ []) ≡ flat (Att phase (node (Point point) ts)) =
+      append-nil (flat (Att phase (bind (nth ts) (node (Point point) vars)))) ∙ ap (λ t. flat (Att phase t)) (bind-node (nth ts) (Point point) vars ∙ ap (node (Point point)) terms) in
+      concluded events all (goal_raw P (SecretNew point phase)) (flat (Att phase (node (Point point) ts))) (Bad []) refl taken
+      (record { by = nth ts; premises_are = sym hypotheses; met = tt; concludes = ([], here) }) d
 
-  pub names_are_kept : (point : ℕ) → IsTranslation P (SecretNew point) (Clauses all) → AreSatisfied P (SecretNew point) clauses → Holds P (SecretNew point)
-  names_are_kept point is satisfied steps c reached (number, known) =
+  pub names_are_kept : (point phase : ℕ) → phase ≤ greatest_phase P.main → IsTranslation P (SecretNew point phase) (Clauses all) → AreSatisfied P (SecretNew point phase) clauses → Holds P (SecretNew point phase)
+  names_are_kept point phase asked is satisfied steps c reached ((number, known), before) =
       let made = (trace_of P steps).made in
       let names = naming P made in
       let named = runs_are_named P steps c reached in
-      let derived = runs_are_derived P names (SecretNew point) all is proper linear steps c reached named in
+      let derived = runs_are_derived P (SecretNew point phase) all is proper linear steps c reached in
       let events = event_facts P names c.events in
-      let has = each-contains (λ v. Derive all events (flat (Att (abstracted P names v)))) c.known (Leaf (MadeName point number)) derived.known known in
+      let has = each-contains (λ v. Derive all events (flat (Att phase (abstracted P names v)))) c.known (Leaf (MadeName point number)) (derived.known phase before asked) known in
       let lacks = each-contains (λ v. some_leaf (is_foreign made) v ≡ false) c.known (Leaf (MadeName point number)) (runs_have_entries P steps c reached).known known in
       let (e, entered, at, numbered_so) = found_entry point number made lacks in
       let term : names point number ≡ made_term P names e = (λ i. names (sym at i) (sym numbered_so i)) ∙ all_has (λ e. names e.point e.number ≡ made_term P names e) made e named entered in
@@ -129,8 +130,8 @@ module _ (solved_suffice : SolvedClausesSuffice) (P : Protocol) (all clauses : L
       let sessions : List Term = map Leaf e.past.sessions in
       let size : length (messages ++ sessions) ≡ past_count e.past = length-append messages sessions ∙ (λ i. lengths {Y = Term} (abstracted P names) e.past.messages i + lengths {Y = Term} Leaf e.past.sessions i) in
       let whole : arguments_at P point ≡ length (messages ++ sessions) = ap (arguments_at P) (sym at) ∙ (count ∙ sym size) in
-      let there : Derive all events (flat (Att (node (Point point) (messages ++ sessions)))) =
-      subst (λ t. Derive all events (flat (Att t))) (term ∙ ap (λ p. name_term p messages sessions) at) has in
-      let goal = (translations_hold_all P (SecretNew point) all is).goal in
-      let shown = shown_bad solved_suffice P (SecretNew point) all clauses closes satisfied events [] (name_shows point (messages ++ sessions) events whole goal there) in
+      let there : Derive all events (flat (Att phase (node (Point point) (messages ++ sessions)))) =
+      subst (λ t. Derive all events (flat (Att phase t))) (term ∙ ap (λ p. name_term p messages sessions) at) has in
+      let goal = (translations_hold_all P (SecretNew point phase) all is).goal in
+      let shown = shown_bad solved_suffice P (SecretNew point phase) all clauses closes satisfied events [] (name_shows point phase (messages ++ sessions) events whole goal there) in
       satisfied shown.clause shown.listed shown.solved shown.concludes

@@ -19,14 +19,14 @@ use spec_certificates::{a_key_is_certified, accepted_certificates_show, names_ar
 use spec_derivations::solved_clauses_suffice;
 
 /// Secrets are kept: where it is shown of a message, or of the names of a restriction, no run of the protocol beside
-/// the attacker makes it known.
+/// the attacker makes it known up to the phase of the query.
 pub fn secrets_are_kept()
-    ensures messages { (P : Protocol) (message : Message) (all clauses : List (Clause Term)) →
-        IsProper P (Secret message) → IsShown P (Secret message) all clauses →
-        Holds P (Secret message) }
-    ensures names { (P : Protocol) (point : ℕ) (all clauses : List (Clause Term)) →
-        IsProper P (SecretNew point) → IsShown P (SecretNew point) all clauses →
-        Holds P (SecretNew point) }
+    ensures messages { (P : Protocol) (message : Message) (phase : ℕ)
+        (all clauses : List (Clause Term)) → IsProper P (Secret message phase) →
+        IsShown P (Secret message phase) all clauses → Holds P (Secret message phase) }
+    ensures names { (P : Protocol) (point phase : ℕ) (all clauses : List (Clause Term)) →
+        IsProper P (SecretNew point phase) → IsShown P (SecretNew point phase) all clauses →
+        Holds P (SecretNew point phase) }
 {
     solved_clauses_suffice()
 }

@@ -1,22 +1,24 @@
 -- Choices of a `let` at visits that differ in names of variables alone go on alike.
-use Rattle.std.proofs.Common.{◌≡◌, ◌∙◌, ℕ, ◌+◌, ◌-◌, Option, Some, None, List, [], ◌∷◌, ◌++◌, map, refl, ap, sym, subst, arith}
-use Rattle.std.specs.List.{AllByRecursion}
+use Rattle.std.proofs.Common.{◌≡◌, ◌∙◌, ℕ, ◌+◌, ◌-◌, Bool, Option, Some, None, List, [], ◌∷◌, ◌++◌, map, refl, ap, sym, subst, arith}
+use Rattle.std.specs.List.{AllByRecursion, list_any}
+use Rattle.std.proofs.lemmas.List.{map-append}
 use Rattle.spec_trees.specs.Tree.{Leaf, bind, after}
 use Rattle.spec_trees.proofs.Substitution.{bind-bind}
-use Rattle.spec_calculus.specs.Syntax.{Name, Made, Variable, Pattern, Expression, Ruled, Protocol}
+use Rattle.spec_calculus.specs.Syntax.{Name, Made, Variable, Pattern, Expression, Ruled, Condition, Protocol}
 use Rattle.spec_calculus.specs.Syntax as calculus
 use Rattle.spec_calculus.specs.Choices.{choices}
+use Rattle.spec_calculus.specs.Tables.{row_pattern}
 use Rattle.spec_terms.specs.Term.{Subst}
 use Rattle.spec_clauses.specs.Variables.{leaves, IsBelow, AreBelow}
 use Rattle.spec_clauses.proofs.Lists.{all_first, all_second}
-use Rattle.spec_translation.specs.Conversion.{term_in, rule_leaf, rule_term, Fresh, pattern_term, pattern_scope}
-use Rattle.spec_translation.specs.Visit.{Visit, standing_under, visit_under, visit_terms, IsFresh}
+use Rattle.spec_translation.specs.Conversion.{free_term, term_in, rule_leaf, rule_term, Fresh, pattern_term, pattern_scope}
+use Rattle.spec_translation.specs.Visit.{Visit, standing_under, visit_under, visit_terms, is_large_term, IsFresh, after_entry}
 use Rattle.spec_translation.specs.Applied.{ruled_term, ruled_arguments, ruled_sides}
-use Rattle.spec_translation.specs.Choice.{Choice, choice_under, IsUnified, ruled_choice, ruled_terms, GoesOn, ChoiceGoesOn, EachGoesOn, AllGoOn}
-use Rattle.spec_translation.proofs.Conversions.{converted-bind, converted-same, term_in-under}
-use Rattle.spec_translation.proofs.Visits.{terms_under-terms_under, visit_under-visit_under, below_agree, terms_agree, visit_agree, IsLedBack, AreAlike}
+use Rattle.spec_translation.specs.Choice.{Choice, choice_under, IsUnified, ruled_choice, ruled_terms, GoesOn, ChoiceGoesOn, EachGoesOn, AllGoOn, left_of, right_of, entry_choice, has_large_side, EntryGoesOn}
+use Rattle.spec_translation.proofs.Conversions.{converted-bind, converted-same, term_in-under, left_of-under, right_of-under}
+use Rattle.spec_translation.proofs.Visits.{terms_under-terms_under, visit_under-visit_under, below_agree, terms_agree, visit_agree, large_terms-back, IsLedBack, AreAlike}
 use Rattle.spec_translation.proofs.Applied.{ruled_term_moved, ruled_arguments_moved, ruled_sides_moved}
-use Rattle.spec_translation.proofs.Fresh.{mixed, mixed_below, mixed_from, extended, extended_below, visit_extended, scope_extended, pattern_term_moved}
+use Rattle.spec_translation.proofs.Fresh.{mixed, mixed_below, mixed_from, extended, extended_below, visit_extended, scope_extended, pattern_term_moved, after_entry-under}
 
 -- substitutions in a row
 pub choice_under-choice_under : (s t : Subst) (c : Choice) → choice_under s (choice_under t c) ≡ choice_under (after s t) c
@@ -116,8 +118,26 @@ ruled_choice-under P s v pattern ruled base other at to new apart fresh =
       sides = sides i;
       value = value i;
       target = target i;
-      visit = record { scope = scopes i; hypotheses = (same i).hypotheses; messages = (same i).messages; sessions = (same i).sessions };
+      visit = record { scope = scopes i; hypotheses = (same i).hypotheses; diffs = (same i).diffs; messages = (same i).messages; sessions = (same i).sessions; phase = v.phase };
     }
+
+-- what a `get` makes one, under a substitution of the visit
+entry_choice-under : (P : Protocol) (s : Subst) (v : Visit) (table : ℕ) (patterns : List Pattern) (condition : Condition) (at to : Fresh) → IsFresh v (row_pattern patterns) at → choice_under (extended s at to) (entry_choice P v table patterns condition at) ≡ entry_choice P (visit_under s v) table patterns condition to
+entry_choice-under P s v table patterns condition at to fresh =
+    let r = extended s at to in
+    let w = after_entry P v table patterns at in
+    let visits = after_entry-under P s v table patterns at to fresh in
+    let left = sym (left_of-under P r w.scope condition) ∙ (λ i. left_of P (visits i).scope condition) in
+    let right = sym (right_of-under P r w.scope condition) ∙ (λ i. right_of P (visits i).scope condition) in
+    λ i. record { arguments = left i; sides = right i; value = free_term 0; target = free_term 0; visit = visits i }
+
+-- choices that are instances of each other have large sides alike
+large_side-back : (s t : Subst) (c : Choice) → choice_under t (choice_under s c) ≡ c → has_large_side (choice_under s c) ≡ has_large_side c
+large_side-back s t c e =
+    let parts = map-append (bind s) c.arguments c.sides in
+    let home : map (bind t) (map (bind s) (c.arguments ++ c.sides)) ≡ c.arguments ++ c.sides =
+    ap (map (bind t)) parts ∙ (map-append (bind t) (map (bind s) c.arguments) (map (bind s) c.sides) ∙ (λ i. (e i).arguments ++ (e i).sides)) in
+    sym (ap (list_any is_large_term) parts) ∙ large_terms-back s t (c.arguments ++ c.sides) home
 
 -- Visits of which one is the instance of the other, and is led back, go on alike.
 module _ (P : Protocol) (s t : Subst) (v : Visit) (e : IsLedBack s t v) where
@@ -138,3 +158,22 @@ module _ (P : Protocol) (s t : Subst) (v : Visit) (e : IsLedBack s t v) where
 
   pub all_go_alike : (pattern : Pattern) (expression : Expression) (os ps : List (Option Visit)) → AllGoOn P v pattern expression os → AllGoOn P (visit_under s v) pattern expression ps → AllGoAlike os ps
   all_go_alike pattern expression os ps a b = each_goes_alike pattern (map (λ c. c.ruled) (choices P expression)) os ps a b
+
+  -- the entry of a `get`
+  module _ (table : ℕ) (patterns : List Pattern) (condition : Condition) (large larger : Bool) (o p : Option Visit) (a : EntryGoesOn P v table patterns condition large o) (b : EntryGoesOn P (visit_under s v) table patterns condition larger p) where
+    entry_there : choice_under (extended s a.at b.at) (entry_choice P v table patterns condition a.at) ≡ entry_choice P (visit_under s v) table patterns condition b.at
+    entry_there = entry_choice-under P s v table patterns condition a.at b.at a.is_fresh
+
+    entry_again : choice_under (extended t b.at a.at) (entry_choice P (visit_under s v) table patterns condition b.at) ≡ entry_choice P v table patterns condition a.at
+    entry_again = entry_choice-under P t (visit_under s v) table patterns condition b.at a.at b.is_fresh ∙ (λ i. entry_choice P (e i) table patterns condition a.at)
+
+    pub entry_goes_alike : GoAlike o p
+    entry_goes_alike =
+        choices_go_alike (entry_choice P v table patterns condition a.at) (entry_choice P (visit_under s v) table patterns condition b.at)
+        (extended s a.at b.at) (extended t b.at a.at) entry_there entry_again o p a.goes_on b.goes_on
+
+    pub entry_large_alike : large ≡ larger
+    entry_large_alike =
+        let c = entry_choice P v table patterns condition a.at in
+        let home = ap (choice_under (extended t b.at a.at)) entry_there ∙ entry_again in
+        a.is_large ∙ (sym (large_side-back (extended s a.at b.at) (extended t b.at a.at) c home) ∙ (ap has_large_side entry_there ∙ sym b.is_large))

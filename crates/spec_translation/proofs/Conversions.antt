@@ -1,43 +1,58 @@
 -- The terms of a process under a substitution of the visit, and what a substitution that another leads back from keeps.
-use Rattle.std.proofs.Common.{◌≡◌, ◌∙◌, Bool, true, false, cond, Option, Some, None, List, [], ◌∷◌, map, refl, ap, sym, arith}
+use Rattle.std.proofs.Common.{◌≡◌, ◌∙◌, ℕ, Bool, true, false, cond, Option, Some, None, List, [], ◌∷◌, map, refl, ap, sym, arith}
 use Rattle.std.specs.Prelude.{unwrap_or, option_map}
 use Rattle.std.specs.List.{AllByRecursion}
-use Rattle.spec_trees.specs.Tree.{Tree, Trees, Leaf, Node, none, more, bind, binds, size}
+use Rattle.spec_trees.specs.Tree.{Tree, Trees, Leaf, Node, none, more, bind, binds, trees, items_of, node, size}
 use Rattle.spec_trees.proofs.Measures.{size-le-bind}
-use Rattle.spec_calculus.specs.Syntax.{Name, Made, Variable, Symbol, Protocol}
+use Rattle.spec_trees.proofs.Rows.{items_of-trees}
+use Rattle.spec_calculus.specs.Syntax.{Name, Made, Variable, Symbol, Condition, Protocol}
 use Rattle.spec_calculus.specs.Syntax as calculus
 use Rattle.spec_calculus.specs.Values.{same_name}
-use Rattle.spec_terms.specs.Term.{Ctor, Data, Tuple, Free, Point, Attacker, Term, Subst}
+use Rattle.spec_terms.specs.Term.{Sym, Ctor, Data, Tuple, Free, Point, Attacker, Term, Subst}
 use Rattle.spec_clauses.specs.Fact.{Fact, Att, Mess, fact_under, fact_size}
 use Rattle.spec_clauses.specs.Variables.{leaves, row_leaves}
 use Rattle.spec_clauses.proofs.Lists.{all_first, all_second}
 use Rattle.spec_clauses.proofs.Variants.{variants_size}
 use Rattle.spec_translation.specs.Conversion.{Scope, free_term, symbol_over, row_length, converted, converted_row, found_in, leaf_term, term_in}
 use Rattle.spec_translation.specs.Visit.{standing_under, is_public_channel, sent}
+use Rattle.spec_translation.specs.Choice.{left_of, right_of}
 
 -- what is converted under a substitution is converted with each leaf under it
 module _ (P : Protocol) {L : Type 0} where
   mutual
-    pub converted-bind : (s : Subst) (leaf : L → Term) (t : Tree L Symbol) → bind s (converted P leaf t) ≡ converted P (λ x. bind s (leaf x)) t
+    pub converted-bind : {X Y : Type 0} (s : X → Tree Y Sym) (leaf : L → Tree X Sym) (t : Tree L Symbol) → bind s (converted P leaf t) ≡ converted P (λ x. bind s (leaf x)) t
     converted-bind s leaf (Leaf x) = refl
     converted-bind s leaf (Node f ts) = ap (Node (symbol_over P (row_length ts) f)) (converted_row-binds s leaf ts)
 
-    pub converted_row-binds : (s : Subst) (leaf : L → Term) (ts : Trees L Symbol) → binds s (converted_row P leaf ts) ≡ converted_row P (λ x. bind s (leaf x)) ts
+    pub converted_row-binds : {X Y : Type 0} (s : X → Tree Y Sym) (leaf : L → Tree X Sym) (ts : Trees L Symbol) → binds s (converted_row P leaf ts) ≡ converted_row P (λ x. bind s (leaf x)) ts
     converted_row-binds s leaf none = refl
     converted_row-binds s leaf (more t ts) =
         let first = converted-bind s leaf t in let others = converted_row-binds s leaf ts in λ i. more (first i) (others i)
 
   -- only what the leaves at hand stand for counts
   mutual
-    pub converted-same : (f g : L → Term) (t : Tree L Symbol) → AllByRecursion (λ x. f x ≡ g x) (leaves t) → converted P f t ≡ converted P g t
+    pub converted-same : {X : Type 0} (f g : L → Tree X Sym) (t : Tree L Symbol) → AllByRecursion (λ x. f x ≡ g x) (leaves t) → converted P f t ≡ converted P g t
     converted-same f g (Leaf x) a = a.0
     converted-same f g (Node h ts) a = ap (Node (symbol_over P (row_length ts) h)) (converted_row-same f g ts a)
 
-    pub converted_row-same : (f g : L → Term) (ts : Trees L Symbol) → AllByRecursion (λ x. f x ≡ g x) (row_leaves ts) → converted_row P f ts ≡ converted_row P g ts
+    pub converted_row-same : {X : Type 0} (f g : L → Tree X Sym) (ts : Trees L Symbol) → AllByRecursion (λ x. f x ≡ g x) (row_leaves ts) → converted_row P f ts ≡ converted_row P g ts
     converted_row-same f g none a = refl
     converted_row-same f g (more t ts) a =
         let first = converted-same f g t (all_first (λ x. f x ≡ g x) (leaves t) (row_leaves ts) a) in
         let others = converted_row-same f g ts (all_second (λ x. f x ≡ g x) (leaves t) (row_leaves ts) a) in λ i. more (first i) (others i)
+
+-- a row is converted tree by tree
+pub converted_row-trees : (P : Protocol) {L X : Type 0} (leaf : L → Tree X Sym) (ts : List (Tree L Symbol)) → converted_row P leaf (trees ts) ≡ trees (map (converted P leaf) ts)
+converted_row-trees P leaf [] = refl
+converted_row-trees P leaf (t ∷ ts) = ap (λ row. more (converted P leaf t) row) (converted_row-trees P leaf ts)
+
+-- below the root of a tuple's term stand the terms of its parts
+abbrev pub below_root : Term → List Term
+below_root (Leaf x) = []
+below_root (Node f ts) = items_of ts
+
+pub below_tuple : (P : Protocol) {L : Type 0} (leaf : L → Term) (ts : List (Tree L Symbol)) → below_root (converted P leaf (node calculus.Tuple ts)) ≡ map (converted P leaf) ts
+below_tuple P leaf ts = ap items_of (converted_row-trees P leaf ts) ∙ items_of-trees (map (converted P leaf) ts)
 
 -- what a leaf stands for in a scope under a substitution
 pub found_in-under : (s : Subst) (scope : Scope) (x : Name) → found_in (map (standing_under s) scope) x ≡ option_map (bind s) (found_in scope x)
@@ -87,13 +102,22 @@ size-back s t c e =
 
 pub fact_size-back : (s t : Subst) (h : Fact Term) → fact_under t (fact_under s h) ≡ h → fact_size (fact_under s h) ≡ fact_size h
 fact_size-back s t h e =
-    let same = variants_size (record { hypotheses = []; conclusion = h }) (record { hypotheses = []; conclusion = fact_under s h })
-    (record { by = s; back = t; there = refl; again = λ i. record { hypotheses = []; conclusion = e i } }) in
+    let same = variants_size (record { hypotheses = []; diffs = []; conclusion = h }) (record { hypotheses = []; diffs = []; conclusion = fact_under s h })
+    (record { by = s; back = t; there = refl; again = λ i. record { hypotheses = []; diffs = []; conclusion = e i } }) in
     omega (arith, same)
 
 -- a message under a substitution that keeps whether its channel is public
-pub sent-under : (P : Protocol) (s : Subst) (channel message : Term) → is_public_channel P (bind s channel) ≡ is_public_channel P channel → fact_under s (sent P channel message) ≡ sent P (bind s channel) (bind s message)
-sent-under P s channel message e = rw e (go (is_public_channel P channel)) where
-  go : (b : Bool) → fact_under s (cond b (Att message) (Mess channel message)) ≡ cond b (Att (bind s message)) (Mess (bind s channel) (bind s message))
+pub sent-under : (P : Protocol) (s : Subst) (phase : ℕ) (channel message : Term) → is_public_channel P (bind s channel) ≡ is_public_channel P channel → fact_under s (sent P phase channel message) ≡ sent P phase (bind s channel) (bind s message)
+sent-under P s phase channel message e = rw e (go (is_public_channel P channel)) where
+  go : (b : Bool) → fact_under s (cond b (Att phase message) (Mess phase channel message)) ≡ cond b (Att phase (bind s message)) (Mess phase (bind s channel) (bind s message))
   go true = refl
   go false = refl
+
+-- and the terms of a condition
+pub left_of-under : (P : Protocol) (s : Subst) (scope : Scope) (condition : Condition) → left_of P (map (standing_under s) scope) condition ≡ map (bind s) (left_of P scope condition)
+left_of-under P s scope None = refl
+left_of-under P s scope (Some (left, right)) = let e = term_in-under P s scope left in λ i. e i ∷ []
+
+pub right_of-under : (P : Protocol) (s : Subst) (scope : Scope) (condition : Condition) → right_of P (map (standing_under s) scope) condition ≡ map (bind s) (right_of P scope condition)
+right_of-under P s scope None = refl
+right_of-under P s scope (Some (left, right)) = let e = term_in-under P s scope right in λ i. e i ∷ []

@@ -8,7 +8,7 @@ use Rattle.spec_clauses.specs.Fact.{Fact, Att, Mess, Clause}
 use Rattle.spec_translation.specs.Conversion.{Fresh}
 use Rattle.spec_translation.specs.Visit.{Visit}
 
--- declarations: free names, constructors, data constructors and events
+-- declarations: free names, constructors, data constructors, events and tables
 abbrev pub public_name : ℕ → Declared
 public_name letter = record { word = letter ∷ []; arity = 0; public = true; is_data = false }
 
@@ -40,7 +40,7 @@ ruled_call rule ts = node (Calls rule) (map Leaf ts)
 
 -- clauses and their terms: variables and free names
 abbrev pub clause : List (Fact Term) → Fact Term → Clause Term
-clause hs f = record { hypotheses = hs; conclusion = f }
+clause hs f = record { hypotheses = hs; diffs = []; conclusion = f }
 
 abbrev pub x : ℕ → Term
 x n = Leaf n
@@ -48,15 +48,21 @@ x n = Leaf n
 abbrev pub free : ℕ → Term
 free n = Node (Free n) none
 
--- `=> att(@[v0])`, `mess(v1,v0), att(v1) => att(v0)`, `att(v0), att(v1) => mess(v0,v1)`
+-- `=> att(@[v0])`, and in a phase `mess(v1,v0), att(v1) => att(v0)`, `att(v0), att(v1) => mess(v0,v1)`
 abbrev pub own_names : Clause Term
-own_names = clause [] (Att (node Attacker (x 0 ∷ [])))
+own_names = clause [] (Att 0 (node Attacker (x 0 ∷ [])))
+
+abbrev pub hears_in : ℕ → Clause Term
+hears_in k = clause (Mess k (x 1) (x 0) ∷ Att k (x 1) ∷ []) (Att k (x 0))
+
+abbrev pub says_in : ℕ → Clause Term
+says_in k = clause (Att k (x 0) ∷ Att k (x 1) ∷ []) (Mess k (x 0) (x 1))
 
 abbrev pub hears : Clause Term
-hears = clause (Mess (x 1) (x 0) ∷ Att (x 1) ∷ []) (Att (x 0))
+hears = hears_in 0
 
 abbrev pub says : Clause Term
-says = clause (Att (x 0) ∷ Att (x 1) ∷ []) (Mess (x 0) (x 1))
+says = says_in 0
 
 -- the first of a list of terms
 abbrev pub first_of : List Term → Term
@@ -82,4 +88,4 @@ next_variable = record { base = 1; first = 1 }
 
 -- a visit in which the first variable stands for the term
 abbrev pub with_value : Term → Visit
-with_value t = record { scope = record { name = Variable 1; term = t } ∷ []; hypotheses = []; messages = []; sessions = [] }
+with_value t = record { scope = record { name = Variable 1; term = t } ∷ []; hypotheses = []; diffs = []; messages = []; sessions = []; phase = 0 }

@@ -15,12 +15,13 @@ encrypted_names = record {
   constructors = record { word = 101 ∷ 110 ∷ 99 ∷ []; arity = 2; public = true; is_data = false } ∷ [];
   destructors = [];
   events = [];
-  queries = SecretNew 2 ∷ [];
+  tables = [];
+  queries = SecretNew 2 0 ∷ [];
   main = Replication (New (110 ∷ []) (Output (Leaf (calculus.Free 1)) (Node (Constructor 1) (more (Leaf (Made 2)) (more (Leaf (calculus.Free 2)) none))) Nil));
 }
 
 abbrev fact_of : List (Fact Term) → Fact Term → Clause Term
-fact_of hs c = record { hypotheses = hs; conclusion = c }
+fact_of hs c = record { hypotheses = hs; diffs = []; conclusion = c }
 
 abbrev x0 : Term
 x0 = Leaf 0
@@ -40,18 +41,18 @@ free n = Node (Free n) none
 -- its seven clauses
 abbrev its_clauses : List (Clause Term)
 its_clauses =
-    fact_of [] (Att (free 1))
-    ∷ fact_of [] (Att (node Attacker (x0 ∷ [])))
-    ∷ fact_of (Att x0 ∷ Att x1 ∷ []) (Att (enc x0 x1))
-    ∷ fact_of (Mess x1 x0 ∷ Att x1 ∷ []) (Att x0)
-    ∷ fact_of (Att x0 ∷ Att x1 ∷ []) (Mess x0 x1)
-    ∷ fact_of [] (Att (enc (name x0) (free 2)))
-    ∷ fact_of (Att (name x0) ∷ []) (Bad [])
+    fact_of [] (Att 0 (free 1))
+    ∷ fact_of [] (Att 0 (node Attacker (x0 ∷ [])))
+    ∷ fact_of (Att 0 x0 ∷ Att 0 x1 ∷ []) (Att 0 (enc x0 x1))
+    ∷ fact_of (Mess 0 x1 x0 ∷ Att 0 x1 ∷ []) (Att 0 x0)
+    ∷ fact_of (Att 0 x0 ∷ Att 0 x1 ∷ []) (Mess 0 x0 x1)
+    ∷ fact_of [] (Att 0 (enc (name x0) (free 2)))
+    ∷ fact_of (Att 0 (name x0) ∷ []) (Bad [])
     ∷ []
 
-pub names_are_translated : IsTranslation encrypted_names (SecretNew 2) (Clauses its_clauses)
+pub names_are_translated : IsTranslation encrypted_names (SecretNew 2 0) (Clauses its_clauses)
 names_are_translated = (
-  Done (fact_of [] (Att (enc (name x0) (free 2))) ∷ []) 65532,
+  Done (fact_of [] (Att 0 (enc (name x0) (free 2))) ∷ []) 65532,
   (0, tt, (Done [] 65532, refl, refl)),
   refl,
 )

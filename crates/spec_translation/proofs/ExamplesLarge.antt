@@ -41,7 +41,8 @@ doubling count = record {
   constructors = constructor_of 104 2 ∷ [];
   destructors = [];
   events = [];
-  queries = Secret (name 2) ∷ [];
+  tables = [];
+  queries = Secret (name 2) 0 ∷ [];
   main = lets count 0;
 }
 
@@ -68,7 +69,7 @@ scope_behind zero = []
 scope_behind (suc i) = scope_behind i ++ record { name = Variable (suc i); term = doubled (suc i) } ∷ []
 
 abbrev behind : ℕ → Visit
-behind i = record { scope = scope_behind i; hypotheses = []; messages = []; sessions = [] }
+behind i = record { scope = scope_behind i; hypotheses = []; diffs = []; messages = []; sessions = []; phase = 0 }
 
 found_last : (scope : Scope) (b : StandsFor) (n : Name) → found_in scope n ≡ None → found_in (scope ++ b ∷ []) n ≡ found_in (b ∷ []) n
 found_last [] b n e = refl
@@ -120,16 +121,16 @@ weight_grows (suc count) i =
     let below = weight_grows count i in omega arith
 
 -- the raw clause of the output is flat, and its own norm
-own_norms : (i : ℕ) → norms (clause [] (Att (doubled i))) ≡ clause [] (Att (doubled i)) ∷ []
+own_norms : (i : ℕ) → norms (clause [] (Att 0 (doubled i))) ≡ clause [] (Att 0 (doubled i)) ∷ []
 own_norms zero = refl
 own_norms (suc i) =
-    let closed = doubled-closed (numbering (clause_variables (clause [] (Att (doubled (suc i)))))) (suc i) in
-    λ k. clause [] (Att (closed k)) ∷ []
+    let closed = doubled-closed (numbering (clause_variables (clause [] (Att 0 (doubled (suc i)))))) (suc i) in
+    λ k. clause [] (Att 0 (closed k)) ∷ []
 
-raw_small : (i : ℕ) → weight i ≤ 16383 → is_large_raw (clause [] (Att (doubled i))) ≡ false
+raw_small : (i : ℕ) → weight i ≤ 16383 → is_large_raw (clause [] (Att 0 (doubled i))) ≡ false
 raw_small zero fits = refl
 raw_small (suc i) fits =
-    let c = clause [] (Att (doubled (suc i))) in
+    let c = clause [] (Att 0 (doubled (suc i))) in
     let e = doubled-size (suc i) in
     let within : IsWithinLimit c = omega arith in
     (large_raw-decides c).1 (within, (within, tt))
@@ -158,37 +159,37 @@ module _ (total : ℕ) where
       (subst (λ w. Then (Visited P next (point + 1) w) (Visited P Nil (point_after (point + 1) next) (behind i)) left out) (sym same) below)
 
   -- the output behind them
-  output_visited : (i point rest : ℕ) → weight i ≤ 16383 → Visited P (lets 0 i) point (behind i) (suc (suc rest)) (Done (clause [] (Att (doubled i)) ∷ []) rest)
+  output_visited : (i point rest : ℕ) → weight i ≤ 16383 → Visited P (lets 0 i) point (behind i) (suc (suc rest)) (Done (clause [] (Att 0 (doubled i)) ∷ []) rest)
   output_visited i point rest fits =
       let e = last_term P i in
       let evaluated : evaluates_large P (behind i) (Output (name 1) (last i) Nil) ≡ false = ap (λ t. is_large_term t || false) e ∙ ap (λ b. b || false) (term_small i (omega arith)) in
-      let same : raw_clause (behind i) (sent P (free 1) (term_in P (scope_behind i) (last i))) ≡ clause [] (Att (doubled i)) = λ k. clause [] (Att (e k)) in
-      let small : is_large_raw (raw_clause (behind i) (sent P (free 1) (term_in P (scope_behind i) (last i)))) ≡ false = ap is_large_raw same ∙ raw_small i fits in
-      let added : norms (raw_clause (behind i) (sent P (free 1) (term_in P (scope_behind i) (last i)))) ≡ clause [] (Att (doubled i)) ∷ [] = ap norms same ∙ own_norms i in
-      let out = Done (clause [] (Att (doubled i)) ∷ []) rest in
-      let done : Adds (clause [] (Att (doubled i)) ∷ []) (Visited P Nil (point + 1) (behind i)) (suc rest) out = (Done [] rest, refl, refl) in
-      let whole : Adds (norms (raw_clause (behind i) (sent P (free 1) (term_in P (scope_behind i) (last i))))) (Visited P Nil (point + 1) (behind i)) (suc rest) out = subst (λ cs. Adds cs (Visited P Nil (point + 1) (behind i)) (suc rest) out) (sym added) done in
-      let large : (evaluates_large P (behind i) (Output (name 1) (last i) Nil) || is_large_raw (raw_clause (behind i) (sent P (free 1) (term_in P (scope_behind i) (last i))))) ≡ false = λ k. evaluated k || small k in
-      subst (λ b. Unless b point (Adds (norms (raw_clause (behind i) (sent P (free 1) (term_in P (scope_behind i) (last i))))) (Visited P Nil (point + 1) (behind i))) (suc rest) out) (sym large) whole
+      let same : raw_clause (behind i) (sent P 0 (free 1) (term_in P (scope_behind i) (last i))) ≡ clause [] (Att 0 (doubled i)) = λ k. clause [] (Att 0 (e k)) in
+      let small : is_large_raw (raw_clause (behind i) (sent P 0 (free 1) (term_in P (scope_behind i) (last i)))) ≡ false = ap is_large_raw same ∙ raw_small i fits in
+      let added : norms (raw_clause (behind i) (sent P 0 (free 1) (term_in P (scope_behind i) (last i)))) ≡ clause [] (Att 0 (doubled i)) ∷ [] = ap norms same ∙ own_norms i in
+      let out = Done (clause [] (Att 0 (doubled i)) ∷ []) rest in
+      let done : Adds (clause [] (Att 0 (doubled i)) ∷ []) (Visited P Nil (point + 1) (behind i)) (suc rest) out = (Done [] rest, refl, refl) in
+      let whole : Adds (norms (raw_clause (behind i) (sent P 0 (free 1) (term_in P (scope_behind i) (last i))))) (Visited P Nil (point + 1) (behind i)) (suc rest) out = subst (λ cs. Adds cs (Visited P Nil (point + 1) (behind i)) (suc rest) out) (sym added) done in
+      let large : (evaluates_large P (behind i) (Output (name 1) (last i) Nil) || is_large_raw (raw_clause (behind i) (sent P 0 (free 1) (term_in P (scope_behind i) (last i))))) ≡ false = λ k. evaluated k || small k in
+      subst (λ b. Unless b point (Adds (norms (raw_clause (behind i) (sent P 0 (free 1) (term_in P (scope_behind i) (last i))))) (Visited P Nil (point + 1) (behind i))) (suc rest) out) (sym large) whole
 
   -- how many visits so many lets, their else branches and the output take
   abbrev lefts : ℕ → ℕ → ℕ
   lefts zero rest = suc (suc rest)
   lefts (suc count) rest = suc (lefts count (suc rest))
 
-  lets_visited : (count i point rest : ℕ) → weight (count + i) ≤ 16383 → Visited P (lets count i) point (behind i) (lefts count rest) (Done (clause [] (Att (doubled (count + i))) ∷ []) rest)
+  lets_visited : (count i point rest : ℕ) → weight (count + i) ≤ 16383 → Visited P (lets count i) point (behind i) (lefts count rest) (Done (clause [] (Att 0 (doubled (count + i))) ∷ []) rest)
   lets_visited zero i point rest fits =
       let same : 0 + i ≡ i = omega arith in
       let here : weight i ≤ 16383 = subst (λ n. weight n ≤ 16383) same fits in
-      subst (λ n. Visited P (lets 0 i) point (behind i) (suc (suc rest)) (Done (clause [] (Att (doubled n)) ∷ []) rest)) (sym same) (output_visited i point rest here)
+      subst (λ n. Visited P (lets 0 i) point (behind i) (suc (suc rest)) (Done (clause [] (Att 0 (doubled n)) ∷ []) rest)) (sym same) (output_visited i point rest here)
   lets_visited (suc count) i point rest fits =
       let same : count + suc i ≡ suc count + i = omega arith in
       let there : weight (count + suc i) ≤ 16383 = subst (λ n. weight n ≤ 16383) (sym same) fits in
       let here = weight_grows count (suc i) in
-      let added = clause [] (Att (doubled (count + suc i))) ∷ [] in
+      let added = clause [] (Att 0 (doubled (count + suc i))) ∷ [] in
       let below = lets_visited count (suc i) (point + 1) (suc rest) there in
       let whole = one_let i (lets count (suc i)) point (lefts count (suc rest)) (Done added rest) (omega arith) (Done added (suc rest), below, (Done [] rest, refl, refl)) in
-      subst (λ n. Visited P (lets (suc count) i) point (behind i) (lefts (suc count) rest) (Done (clause [] (Att (doubled n)) ∷ []) rest)) same whole
+      subst (λ n. Visited P (lets (suc count) i) point (behind i) (lefts (suc count) rest) (Done (clause [] (Att 0 (doubled n)) ∷ []) rest)) same whole
 
   -- the point of a let behind so many others
   abbrev point_behind : ℕ → ℕ → ℕ
@@ -221,17 +222,17 @@ module _ (total : ℕ) where
       one_let i (lets_behind count more (suc i)) point (visits_behind count left) (TooLarge (point_behind count (point + 1))) (omega arith) (TooLarge (point_behind count (point + 1)), below, refl)
 
 -- Of thirteen lets the output's clause has 16,384 symbols.
-pub thirteen_are_translated : IsTranslation (doubling 13) (Secret (name 2)) (Clauses (
-    clause [] (Att (free 1)) ∷ own_names
-    ∷ clause (Att (x 0) ∷ Att (x 1) ∷ []) (Att (node (Ctor 1) (x 0 ∷ x 1 ∷ [])))
+pub thirteen_are_translated : IsTranslation (doubling 13) (Secret (name 2) 0) (Clauses (
+    clause [] (Att 0 (free 1)) ∷ own_names
+    ∷ clause (Att 0 (x 0) ∷ Att 0 (x 1) ∷ []) (Att 0 (node (Ctor 1) (x 0 ∷ x 1 ∷ [])))
     ∷ hears ∷ says
-    ∷ clause [] (Att (doubled 13))
-    ∷ clause (Att (free 2) ∷ []) (Bad []) ∷ []))
-thirteen_are_translated = (Done (clause [] (Att (doubled 13)) ∷ []) 65508, lets_visited 13 13 0 1 65508 (omega arith), refl)
+    ∷ clause [] (Att 0 (doubled 13))
+    ∷ clause (Att 0 (free 2) ∷ []) (Bad []) ∷ []))
+thirteen_are_translated = (Done (clause [] (Att 0 (doubled 13)) ∷ []) 65508, lets_visited 13 13 0 1 65508 (omega arith), refl)
 
-its_size : clause_size (clause [] (Att (doubled 13))) ≡ 16384
+its_size : clause_size (clause [] (Att 0 (doubled 13))) ≡ 16384
 its_size = ap (λ n. 1 + n + 0) (doubled-size 13)
 
 -- With a fourteenth the translation is large at the fourteenth's point.
-pub fourteen_are_large : IsTranslation (doubling 14) (Secret (name 2)) (LargeAt 14)
+pub fourteen_are_large : IsTranslation (doubling 14) (Secret (name 2) 0) (LargeAt 14)
 fourteen_are_large = (TooLarge 14, large_visited 14 13 0 0 1 65522 (omega arith) (omega arith), refl)

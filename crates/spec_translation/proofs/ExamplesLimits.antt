@@ -1,19 +1,23 @@
 -- Where a visit is too large, worked out by hand: a message, a name, a clause, a flat part of it, one of two choices, and the number of visits.
-use Rattle.std.proofs.Common.{◌≡◌, ◌∙◌, ℕ, zero, suc, ◌+◌, Some, List, [], ◌∷◌, length, refl, ap, sym, subst, arith}
+use Rattle.std.proofs.Common.{◌≡◌, ◌∙◌, ℕ, zero, suc, ◌+◌, ◌++◌, Some, List, [], ◌∷◌, length, refl, ap, sym, subst, arith}
+use Rattle.std.specs.Prelude.{max, flat_map, filter_map}
+use Rattle.std.specs.List.{enumerate_from}
 use Rattle.std.proofs.lemmas.List.{length-append}
 use Rattle.spec_trees.specs.Tree.{Leaf, node, after}
 use Rattle.spec_calculus.specs.Syntax.{Variable, Tuple, Hole, Pattern, Bind, Equal, Process, Nil, Output, Input, Parallel, Replication, New, Let, Rule, Destructor, Secret, Protocol}
 use Rattle.spec_calculus.specs.Syntax as calculus
-use Rattle.spec_calculus.specs.Points.{nodes, point_after}
+use Rattle.spec_calculus.specs.Points.{nodes, point_after, greatest_phase}
 use Rattle.spec_terms.specs.Term.{Ctor, Term, Subst}
 use Rattle.spec_terms.specs.Term as terms
 use Rattle.spec_clauses.specs.Fact.{Att, Bad, clause_size}
+use Rattle.spec_clauses.specs.Norm.{norms}
 use Rattle.spec_translation.specs.Conversion.{Fresh}
+use Rattle.spec_translation.specs.Attacker.{name_known, fresh_known, done_in, done_after}
 use Rattle.spec_translation.specs.Visit.{Visit, first_visit, after_copy}
 use Rattle.spec_translation.specs.Choice.{Choice, choice_under, IsUnified, ruled_choice, ChoiceGoesOn}
 use Rattle.spec_translation.specs.Course.{Done, TooLarge}
 use Rattle.spec_translation.specs.Visited.{Visited}
-use Rattle.spec_translation.specs.Translation.{IsTranslation, Clauses, LargeAt}
+use Rattle.spec_translation.specs.Translation.{IsTranslation, Clauses, LargeAt, goal_clauses}
 use Rattle.spec_translation.proofs.ExampleWords.{public_name, private_name, constructor_of, name, variable, apply, call, ruled_call, clause, x, free, own_names, hears, says, same_rule, next_variable, with_value, first_of, two_terms}
 use Rattle.spec_translation.proofs.ExamplesLarge.{doubled, weight}
 
@@ -29,7 +33,8 @@ file process = record {
   constructors = constructor_of 104 2 ∷ [];
   destructors = [];
   events = [];
-  queries = Secret (name 2) ∷ [];
+  tables = [];
+  queries = Secret (name 2) 0 ∷ [];
   main = process;
 }
 
@@ -44,14 +49,14 @@ abbrev nothing_new : Fresh
 nothing_new = record { base = 0; first = 0 }
 
 -- in(c,(=t,=t,=t)) with t of 8,191 symbols: each is within the limit, and the message is not
-pub message_is_large : IsTranslation (file (Input (name 1) (compares (is_term 12 ∷ is_term 12 ∷ is_term 12 ∷ [])) Nil)) (Secret (name 2)) (LargeAt 1)
+pub message_is_large : IsTranslation (file (Input (name 1) (compares (is_term 12 ∷ is_term 12 ∷ is_term 12 ∷ [])) Nil)) (Secret (name 2) 0) (LargeAt 1)
 message_is_large = (TooLarge 1, (nothing_new, record { is_new = tt; from_first = tt }, refl), refl)
 
 -- in(c,=t); in(c,=t); in(c,=t); new n: the name has 24,574 symbols
 abbrev three_inputs : Process → Process
 three_inputs next = Input (name 1) (is_term 12) (Input (name 1) (is_term 12) (Input (name 1) (is_term 12) next))
 
-pub name_is_large : IsTranslation (file (three_inputs (New (110 ∷ []) Nil))) (Secret (name 2)) (LargeAt 4)
+pub name_is_large : IsTranslation (file (three_inputs (New (110 ∷ []) Nil))) (Secret (name 2) 0) (LargeAt 4)
 name_is_large = (
   TooLarge 4,
   (
@@ -67,7 +72,7 @@ name_is_large = (
 )
 
 -- in(c,=t); in(c,=t); out(c,c): two hypotheses of 8,192 symbols, and the conclusion
-pub clause_is_large : IsTranslation (file (Input (name 1) (is_term 12) (Input (name 1) (is_term 12) (Output (name 1) (name 1) Nil)))) (Secret (name 2)) (LargeAt 3)
+pub clause_is_large : IsTranslation (file (Input (name 1) (is_term 12) (Input (name 1) (is_term 12) (Output (name 1) (name 1) Nil)))) (Secret (name 2) 0) (LargeAt 3)
 clause_is_large = (
   TooLarge 3,
   (
@@ -79,10 +84,10 @@ clause_is_large = (
 )
 
 -- in(c,(=t,=u,=w,=w)); out(c,c): the raw clause has 16,384 symbols, and its flat part 16,386, one `att` for each part of the tuple
-pub flat_part_is_large : IsTranslation (file (Input (name 1) (compares (is_term 12 ∷ is_term 11 ∷ is_term 10 ∷ is_term 10 ∷ [])) (Output (name 1) (name 1) Nil))) (Secret (name 2)) (LargeAt 2)
+pub flat_part_is_large : IsTranslation (file (Input (name 1) (compares (is_term 12 ∷ is_term 11 ∷ is_term 10 ∷ is_term 10 ∷ [])) (Output (name 1) (name 1) Nil))) (Secret (name 2) 0) (LargeAt 2)
 flat_part_is_large = (TooLarge 2, (nothing_new, record { is_new = tt; from_first = tt }, refl), refl)
 
-its_size : clause_size (clause (Att (node (terms.Tuple 4) (doubled 12 ∷ doubled 11 ∷ doubled 10 ∷ doubled 10 ∷ [])) ∷ []) (Att (free 1))) ≡ 16384
+its_size : clause_size (clause (Att 0 (node (terms.Tuple 4) (doubled 12 ∷ doubled 11 ∷ doubled 10 ∷ doubled 10 ∷ [])) ∷ []) (Att 0 (free 1))) ≡ 16384
 its_size = refl
 
 -- Two rules: d(x) -> x and d(x) -> g(x,x,x).
@@ -97,7 +102,8 @@ two_choices = record {
   constructors = constructor_of 104 2 ∷ constructor_of 103 3 ∷ [];
   destructors = record { word = 100 ∷ []; rules = same_rule ∷ tripled_rule ∷ [] } ∷ [];
   events = [];
-  queries = Secret (name 2) ∷ [];
+  tables = [];
+  queries = Secret (name 2) 0 ∷ [];
   main = Let (Leaf (Bind 1)) (call 1 (written 12 ∷ [])) (Output (name 1) (node Tuple (variable 1 ∷ variable 1 ∷ variable 1 ∷ [])) Nil) Nil;
 }
 
@@ -142,7 +148,7 @@ tripled_goes = record {
 }
 
 -- The second choice is large, which is found at the `let`, before the output of the first, which is large too.
-pub choice_is_large : IsTranslation two_choices (Secret (name 2)) (LargeAt 1)
+pub choice_is_large : IsTranslation two_choices (Secret (name 2) 0) (LargeAt 1)
 choice_is_large = (
   TooLarge 1,
   (
@@ -170,6 +176,11 @@ tree_points : (depth : ℕ) → length (nodes (tree depth)) ≡ weight depth
 tree_points zero = refl
 tree_points (suc depth) = omega (arith, tree_points depth, length-append (nodes (tree depth)) (nodes (tree depth)))
 
+-- they name no phase
+tree_first : (depth : ℕ) → greatest_phase (tree depth) ≡ 0
+tree_first zero = refl
+tree_first (suc depth) = let e = tree_first depth in λ i. max (e i) (e i)
+
 tree_visited : (P : Protocol) (depth point : ℕ) (v : Visit) (rest : ℕ) → Visited P (tree depth) point v (lefts depth rest) (Done [] rest)
 tree_visited P zero point v rest = refl
 tree_visited P (suc depth) point v rest = (
@@ -188,15 +199,18 @@ fifteen : weight 15 ≡ 65535
 fifteen = refl
 
 -- A process of 65,536 points is visited whole.
-pub most_visits_fit : (depth : ℕ) → weight depth ≡ 65535 → IsTranslation (file (Replication (tree depth))) (Secret (name 2)) (Clauses (
-    clause [] (Att (free 1)) ∷ own_names
-    ∷ clause (Att (x 0) ∷ Att (x 1) ∷ []) (Att (node (Ctor 1) (x 0 ∷ x 1 ∷ [])))
+pub most_visits_fit : (depth : ℕ) → weight depth ≡ 65535 → IsTranslation (file (Replication (tree depth))) (Secret (name 2) 0) (Clauses (
+    clause [] (Att 0 (free 1)) ∷ own_names
+    ∷ clause (Att 0 (x 0) ∷ Att 0 (x 1) ∷ []) (Att 0 (node (Ctor 1) (x 0 ∷ x 1 ∷ [])))
     ∷ hears ∷ says
-    ∷ clause (Att (free 2) ∷ []) (Bad []) ∷ []))
-most_visits_fit depth e = (Done [] 0, (0, tt, all_but_one (file (Replication (tree depth))) depth 2 (after_copy first_visit 0) e), refl)
+    ∷ clause (Att 0 (free 2) ∷ []) (Bad []) ∷ []))
+most_visits_fit depth e =
+    let P = file (Replication (tree depth)) in
+    let later = λ (greatest : ℕ). Clauses (flat_map norms (filter_map name_known (enumerate_from 1 P.frees) ++ (fresh_known ∷ (done_in P 0 ++ done_after P 0 greatest))) ++ goal_clauses P (Secret (name 2) 0)) in
+    (Done [] 0, (0, tt, all_but_one P depth 2 (after_copy first_visit 0) e), ap later (sym (tree_first depth)))
 
 -- One more point is large.
-pub one_visit_more_is_large : (depth : ℕ) → weight depth ≡ 65535 → IsTranslation (file (Parallel (tree depth) Nil)) (Secret (name 2)) (LargeAt 65537)
+pub one_visit_more_is_large : (depth : ℕ) → weight depth ≡ 65535 → IsTranslation (file (Parallel (tree depth) Nil)) (Secret (name 2) 0) (LargeAt 65537)
 one_visit_more_is_large depth e =
     let at : point_after 2 (tree depth) ≡ 65537 = omega (arith, tree_points depth) in (
       TooLarge (point_after 2 (tree depth)),

@@ -1,11 +1,17 @@
 -- Translations worked out by hand: names over messages and sessions, private constructors, all branches of a `let`, variables of goals.
-use Rattle.std.proofs.Common.{◌≡◌, ◌∙◌, ℕ, zero, suc, false, Some, List, [], ◌∷◌, refl, ap, arith}
+use Rattle.std.proofs.Common.{◌≡◌, ◌∙◌, ℕ, zero, suc, false, Some, List, [], ◌∷◌, refl, ap, inr, arith}
+use Rattle.std.specs.List.{cons_option}
 use Rattle.spec_trees.specs.Tree.{Leaf, node, after}
 use Rattle.spec_calculus.specs.Syntax.{Made, Tuple, Bind, Nil, Output, Input, Replication, New, Let, Event, Rule, EventTerm, Secret, SecretNew, Correspondence, Protocol}
-use Rattle.spec_terms.specs.Term.{Ctor, Point, Term, Subst}
+use Rattle.spec_terms.specs.Term.{Ctor, Free, Point, Term, Subst}
 use Rattle.spec_terms.specs.Term as terms
 use Rattle.spec_clauses.specs.Fact.{Att, Mess, Ev, Mev, Bad, Clause}
+use Rattle.spec_clauses.specs.Diff.{Bound, Diff}
+use Rattle.spec_clauses.specs.Norm.{norms}
+use Rattle.spec_clauses.specs.Inclusion.{here}
+use Rattle.spec_clauses.proofs.NormAnswers.{norm-none}
 use Rattle.spec_translation.specs.Goal.{event_variables}
+use Rattle.spec_translation.specs.Otherwise.{choice_diffs}
 use Rattle.spec_translation.specs.Visit.{first_visit}
 use Rattle.spec_translation.specs.Choice.{Choice, choice_under, IsUnified, ruled_choice, ChoiceGoesOn}
 use Rattle.spec_translation.specs.Course.{Done}
@@ -19,7 +25,8 @@ answering = record {
   constructors = record { word = 102 ∷ []; arity = 1; public = false; is_data = false } ∷ [];
   destructors = [];
   events = [];
-  queries = SecretNew 3 ∷ [];
+  tables = [];
+  queries = SecretNew 3 0 ∷ [];
   main = Replication (Input (name 1) (Leaf (Bind 1)) (New (110 ∷ []) (Output (name 1) (Leaf (Made 3)) Nil)));
 }
 
@@ -27,12 +34,12 @@ abbrev made : Term → Term → Term
 made message session = node (Point 3) (message ∷ session ∷ [])
 
 -- The message comes before the session: `att(v0) => att(n@3[v0,v1])`. The private constructor has no clause.
-pub answering_is_translated : IsTranslation answering (SecretNew 3) (Clauses (
-    clause [] (Att (free 1)) ∷ own_names ∷ hears ∷ says
-    ∷ clause (Att (x 0) ∷ []) (Att (made (x 0) (x 1)))
-    ∷ clause (Att (made (x 0) (x 1)) ∷ []) (Bad []) ∷ []))
+pub answering_is_translated : IsTranslation answering (SecretNew 3 0) (Clauses (
+    clause [] (Att 0 (free 1)) ∷ own_names ∷ hears ∷ says
+    ∷ clause (Att 0 (x 0) ∷ []) (Att 0 (made (x 0) (x 1)))
+    ∷ clause (Att 0 (made (x 0) (x 1)) ∷ []) (Bad []) ∷ []))
 answering_is_translated = (
-  Done (clause (Att (x 0) ∷ []) (Att (made (x 0) (x 1))) ∷ []) 65531,
+  Done (clause (Att 0 (x 0) ∷ []) (Att 0 (made (x 0) (x 1))) ∷ []) 65531,
   (
     0,
     tt,
@@ -68,7 +75,8 @@ branches = record {
   constructors = constructor_of 104 2 ∷ [];
   destructors = record { word = 100 ∷ []; rules = same_rule ∷ pair_rule ∷ [] } ∷ [];
   events = [];
-  queries = Secret (name 2) ∷ [];
+  tables = [];
+  queries = Secret (name 2) 0 ∷ [];
   main = Let (Leaf (Bind 1)) (call 1 (name 1 ∷ [])) (Output (name 1) (apply 1 (variable 1 ∷ name 2 ∷ [])) Nil) (Output (name 1) (apply 1 (name 2 ∷ name 2 ∷ [])) Nil);
 }
 
@@ -109,23 +117,39 @@ pair_goes = record {
   goes_on = (two_terms (free 1) (h (free 1) (free 1)), record { accepted = (refl, refl); most = λ r e. (r, pair_most r e) }, refl);
 }
 
--- what the branches add: of each rule in order, and then the else branch, once
+-- what the branches add: of each rule in order
 abbrev first_branch : Clause Term
-first_branch = clause [] (Att (h (free 1) (free 2)))
+first_branch = clause [] (Att 0 (h (free 1) (free 2)))
 
 abbrev second_branch : Clause Term
-second_branch = clause [] (Att (h (h (free 1) (free 1)) (free 2)))
+second_branch = clause [] (Att 0 (h (h (free 1) (free 1)) (free 2)))
 
 abbrev else_branch : Clause Term
-else_branch = clause [] (Att (h (free 2) (free 2)))
+else_branch = clause [] (Att 0 (h (free 2) (free 2)))
+
+-- With the constraints of its choices the else branch adds nothing: the first rule gives a value, and the variable takes any. So
+-- `diff(c,?0;?0,?1)` is never met.
+abbrev no_value : Diff
+no_value = record { left = node (Free 1) [] ∷ Leaf (Bound 0) ∷ []; right = Leaf (Bound 0) ∷ Leaf (Bound 1) ∷ [] }
+
+abbrev no_pair : Diff
+no_pair = record { left = node (Free 1) [] ∷ node (Ctor 1) (Leaf (Bound 0) ∷ Leaf (Bound 0) ∷ []) ∷ []; right = Leaf (Bound 0) ∷ Leaf (Bound 1) ∷ [] }
+
+pub both_are_excluded : choice_diffs branches [] (Leaf (Bind 1)) (call 1 (name 1 ∷ [])) ≡ no_value ∷ no_pair ∷ []
+both_are_excluded = refl
+
+pub never_otherwise : norms (record { hypotheses = []; diffs = no_value ∷ no_pair ∷ []; conclusion = Att 0 (h (free 2) (free 2)) }) ≡ []
+never_otherwise =
+    let raw : Clause Term = record { hypotheses = []; diffs = no_value ∷ no_pair ∷ []; conclusion = Att 0 (h (free 2) (free 2)) } in
+    ap (λ o. cons_option o []) ((norm-none raw).1 (inr (no_value, (no_pair ∷ [], here), ((λ i. free 1), refl))))
 
 -- The first rule's own clause, `att(v0) => att(v0)`, is a tautology.
-pub branches_are_translated : IsTranslation branches (Secret (name 2)) (Clauses (
-    clause [] (Att (free 1)) ∷ own_names
-    ∷ clause (Att (x 0) ∷ Att (x 1) ∷ []) (Att (h (x 0) (x 1)))
-    ∷ clause (Att (x 0) ∷ []) (Att (h (x 0) (x 0)))
+pub branches_are_translated : IsTranslation branches (Secret (name 2) 0) (Clauses (
+    clause [] (Att 0 (free 1)) ∷ own_names
+    ∷ clause (Att 0 (x 0) ∷ Att 0 (x 1) ∷ []) (Att 0 (h (x 0) (x 1)))
+    ∷ clause (Att 0 (x 0) ∷ []) (Att 0 (h (x 0) (x 0)))
     ∷ hears ∷ says ∷ first_branch ∷ second_branch ∷ else_branch
-    ∷ clause (Att (free 2) ∷ []) (Bad []) ∷ []))
+    ∷ clause (Att 0 (free 2) ∷ []) (Bad []) ∷ []))
 branches_are_translated =
     let first = with_value (free 1) in
     let second = with_value (h (free 1) (free 1)) in (
@@ -158,7 +182,8 @@ orders = record {
   constructors = constructor_of 104 2 ∷ [];
   destructors = [];
   events = constructor_of 101 1 ∷ [];
-  queries = SecretNew 7 ∷ [];
+  tables = [];
+  queries = SecretNew 7 0 ∷ [];
   main = Replication (New (109 ∷ []) (Input (name 1) (Leaf (Bind 1)) (Event (record { event = 1; arguments = variable 1 ∷ [] })
       (Replication (Input (name 2) (Leaf (Bind 2)) (New (110 ∷ []) (Output (name 1) (apply 1 (Leaf (Made 2) ∷ apply 1 (variable 1 ∷ Leaf (Made 7) ∷ []) ∷ [])) Nil)))))));
 }
@@ -171,17 +196,17 @@ abbrev inner : List Term → Term
 inner ts = node (Point 7) ts
 
 abbrev noted : Clause Term
-noted = clause (Att (x 0) ∷ []) (Ev 1 (x 0 ∷ []))
+noted = clause (Att 0 (x 0) ∷ []) (Ev 1 (x 0 ∷ []))
 
 abbrev sent_last : Clause Term
-sent_last = clause (Att (x 1) ∷ Mev 1 (x 1 ∷ []) ∷ Mess (free 2) (x 2) ∷ []) (Att (h (outer (x 0)) (h (x 1) (inner (x 1 ∷ x 2 ∷ x 0 ∷ x 3 ∷ [])))))
+sent_last = clause (Att 0 (x 1) ∷ Mev 1 (x 1 ∷ []) ∷ Mess 0 (free 2) (x 2) ∷ []) (Att 0 (h (outer (x 0)) (h (x 1) (inner (x 1 ∷ x 2 ∷ x 0 ∷ x 3 ∷ [])))))
 
 -- Hypotheses, messages and sessions stand in the order in which they came.
-pub orders_are_translated : IsTranslation orders (SecretNew 7) (Clauses (
-    clause [] (Att (free 1)) ∷ own_names
-    ∷ clause (Att (x 0) ∷ Att (x 1) ∷ []) (Att (h (x 0) (x 1)))
+pub orders_are_translated : IsTranslation orders (SecretNew 7 0) (Clauses (
+    clause [] (Att 0 (free 1)) ∷ own_names
+    ∷ clause (Att 0 (x 0) ∷ Att 0 (x 1) ∷ []) (Att 0 (h (x 0) (x 1)))
     ∷ hears ∷ says ∷ noted ∷ sent_last
-    ∷ clause (Att (inner (x 0 ∷ x 1 ∷ x 2 ∷ x 3 ∷ [])) ∷ []) (Bad []) ∷ []))
+    ∷ clause (Att 0 (inner (x 0 ∷ x 1 ∷ x 2 ∷ x 3 ∷ [])) ∷ []) (Bad []) ∷ []))
 orders_are_translated = (
   Done (noted ∷ sent_last ∷ []) 65527,
   (

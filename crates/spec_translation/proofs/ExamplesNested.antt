@@ -1,10 +1,15 @@
 -- Translations worked out by hand: destructors in one another.
-use Rattle.std.proofs.Common.{◌≡◌, ℕ, zero, suc, None, Some, [], ◌∷◌, refl, arith}
+use Rattle.std.proofs.Common.{◌≡◌, ℕ, zero, suc, true, false, ◌&&◌, None, Some, [], ◌∷◌, refl, ap, arith}
+use Rattle.std.specs.List.{cons_option}
 use Rattle.spec_trees.specs.Tree.{Leaf, node, after}
 use Rattle.spec_calculus.specs.Syntax.{Variable, Bind, Calls, Expression, Ruled, Nil, Output, Input, Parallel, Let, Secret, Protocol}
-use Rattle.spec_terms.specs.Term.{Ctor, Term, Subst}
+use Rattle.spec_terms.specs.Term.{Ctor, Free, Term, Subst}
 use Rattle.spec_clauses.specs.Fact.{Att, Bad, Clause}
+use Rattle.spec_clauses.specs.Diff.{Bound, Diff}
+use Rattle.spec_clauses.specs.Norm.{norms}
+use Rattle.spec_clauses.proofs.ConstraintExamples.{cannot, may_be_met, by_tests}
 use Rattle.spec_translation.specs.Conversion.{Fresh}
+use Rattle.spec_translation.specs.Otherwise.{choice_diffs}
 use Rattle.spec_translation.specs.Visit.{Visit, first_visit}
 use Rattle.spec_translation.specs.Choice.{Choice, choice_under, IsUnified, ruled_choice, ChoiceGoesOn}
 use Rattle.spec_translation.specs.Course.{Done}
@@ -26,7 +31,8 @@ twice_encrypted = record {
   constructors = constructor_of 101 2 ∷ [];
   destructors = record { word = 100 ∷ []; rules = decryption ∷ [] } ∷ [];
   events = [];
-  queries = Secret (name 3) ∷ [];
+  tables = [];
+  queries = Secret (name 3) 0 ∷ [];
   main = Parallel
       (Output (name 1) (apply 1 (apply 1 (name 3 ∷ name 2 ∷ []) ∷ name 2 ∷ [])) Nil)
       (Input (name 1) (Leaf (Bind 1)) (Let (Leaf (Bind 2)) (opened (opened (Leaf (variable 1)) (Leaf (name 2))) (Leaf (name 2))) (Output (name 1) (variable 2) Nil) Nil));
@@ -37,14 +43,14 @@ enc t u = node (Ctor 1) (t ∷ u ∷ [])
 
 -- what the sender adds, and what the receiver
 abbrev given : Clause Term
-given = clause [] (Att (enc (enc (free 3) (free 2)) (free 2)))
+given = clause [] (Att 0 (enc (enc (free 3) (free 2)) (free 2)))
 
 abbrev gives : Clause Term
-gives = clause (Att (enc (enc (x 0) (free 2)) (free 2)) ∷ []) (Att (x 0))
+gives = clause (Att 0 (enc (enc (x 0) (free 2)) (free 2)) ∷ []) (Att 0 (x 0))
 
 -- the receiver once it has received
 abbrev received : Visit
-received = record { scope = record { name = Variable 1; term = x 0 } ∷ []; hypotheses = Att (x 0) ∷ []; messages = x 0 ∷ []; sessions = [] }
+received = record { scope = record { name = Variable 1; term = x 0 } ∷ []; hypotheses = Att 0 (x 0) ∷ []; diffs = []; messages = x 0 ∷ []; sessions = []; phase = 0 }
 
 -- the variables of the inner rule are 1 and 2, those of the outer 3 and 4, and the pattern's is 5
 abbrev ruled : Ruled
@@ -85,9 +91,11 @@ most_general r e (suc (suc (suc (suc (suc (suc n)))))) = refl
 abbrev decrypted : Visit
 decrypted = record {
   scope = record { name = Variable 1; term = enc (enc (x 3) (free 2)) (free 2) } ∷ record { name = Variable 2; term = x 3 } ∷ [];
-  hypotheses = Att (enc (enc (x 3) (free 2)) (free 2)) ∷ [];
+  hypotheses = Att 0 (enc (enc (x 3) (free 2)) (free 2)) ∷ [];
+  diffs = [];
   messages = enc (enc (x 3) (free 2)) (free 2) ∷ [];
   sessions = [];
+  phase = 0;
 }
 
 decrypts : ChoiceGoesOn twice_encrypted received (Leaf (Bind 2)) ruled (Some decrypted)
@@ -107,12 +115,12 @@ decrypts = record {
 }
 
 -- its nine clauses
-pub twice_encrypted_is_translated : IsTranslation twice_encrypted (Secret (name 3)) (Clauses (
-    clause [] (Att (free 1)) ∷ own_names
-    ∷ clause (Att (x 0) ∷ Att (x 1) ∷ []) (Att (enc (x 0) (x 1)))
-    ∷ clause (Att (enc (x 0) (x 1)) ∷ Att (x 1) ∷ []) (Att (x 0))
+pub twice_encrypted_is_translated : IsTranslation twice_encrypted (Secret (name 3) 0) (Clauses (
+    clause [] (Att 0 (free 1)) ∷ own_names
+    ∷ clause (Att 0 (x 0) ∷ Att 0 (x 1) ∷ []) (Att 0 (enc (x 0) (x 1)))
+    ∷ clause (Att 0 (enc (x 0) (x 1)) ∷ Att 0 (x 1) ∷ []) (Att 0 (x 0))
     ∷ hears ∷ says ∷ given ∷ gives
-    ∷ clause (Att (free 3) ∷ []) (Bad []) ∷ []))
+    ∷ clause (Att 0 (free 3) ∷ []) (Bad []) ∷ []))
 twice_encrypted_is_translated = (
   Done (given ∷ gives ∷ []) 65528,
   (
@@ -143,7 +151,8 @@ no_value = record {
   constructors = constructor_of 101 2 ∷ [];
   destructors = record { word = 100 ∷ []; rules = decryption ∷ [] } ∷ [];
   events = [];
-  queries = Secret (name 2) ∷ [];
+  tables = [];
+  queries = Secret (name 2) 0 ∷ [];
   main = Let (Leaf (Bind 1)) (opened (opened (Leaf (apply 1 (name 1 ∷ name 2 ∷ []))) (Leaf (name 2))) (Leaf (name 2))) (Output (name 1) (name 2) Nil) (Output (name 1) (name 1) Nil);
 }
 
@@ -163,16 +172,29 @@ nothing_goes_on = record {
   goes_on = λ s e. let clash = e.0 in cc;
 }
 
+-- The constraint of its choice, `diff(enc(c,k),k,?0,k,?1;enc(?0,?2),?2,enc(?1,?3),?3,?4)`, can't be equal, and with it the clause of the else branch is as without it.
+abbrev not_twice : Diff
+not_twice = record {
+  left = node (Ctor 1) (node (Free 1) [] ∷ node (Free 2) [] ∷ []) ∷ node (Free 2) [] ∷ Leaf (Bound 0) ∷ node (Free 2) [] ∷ Leaf (Bound 1) ∷ [];
+  right = node (Ctor 1) (Leaf (Bound 0) ∷ Leaf (Bound 2) ∷ []) ∷ Leaf (Bound 2) ∷ node (Ctor 1) (Leaf (Bound 1) ∷ Leaf (Bound 3) ∷ []) ∷ Leaf (Bound 3) ∷ Leaf (Bound 4) ∷ [];
+}
+
+pub it_is_excluded : choice_diffs no_value [] (Leaf (Bind 1)) (opened (opened (Leaf (apply 1 (name 1 ∷ name 2 ∷ []))) (Leaf (name 2))) (Leaf (name 2))) ≡ not_twice ∷ []
+it_is_excluded = refl
+
+pub it_is_dropped : norms (record { hypotheses = []; diffs = not_twice ∷ []; conclusion = Att 0 (free 1) }) ≡ clause [] (Att 0 (free 1)) ∷ []
+it_is_dropped = ap (λ o. cons_option o []) (by_tests [] not_twice (Att 0 (free 1)) false false (may_be_met not_twice (λ h. let e = h.1 in cc)) (ap (λ b. b && true) (cannot not_twice (λ h. let e = h.1 in cc))))
+
 -- only the else branch is visited
-pub no_value_is_translated : IsTranslation no_value (Secret (name 2)) (Clauses (
-    clause [] (Att (free 1)) ∷ own_names
-    ∷ clause (Att (x 0) ∷ Att (x 1) ∷ []) (Att (enc (x 0) (x 1)))
-    ∷ clause (Att (enc (x 0) (x 1)) ∷ Att (x 1) ∷ []) (Att (x 0))
+pub no_value_is_translated : IsTranslation no_value (Secret (name 2) 0) (Clauses (
+    clause [] (Att 0 (free 1)) ∷ own_names
+    ∷ clause (Att 0 (x 0) ∷ Att 0 (x 1) ∷ []) (Att 0 (enc (x 0) (x 1)))
+    ∷ clause (Att 0 (enc (x 0) (x 1)) ∷ Att 0 (x 1) ∷ []) (Att 0 (x 0))
     ∷ hears ∷ says
-    ∷ clause [] (Att (free 1))
-    ∷ clause (Att (free 2) ∷ []) (Bad []) ∷ []))
+    ∷ clause [] (Att 0 (free 1))
+    ∷ clause (Att 0 (free 2) ∷ []) (Bad []) ∷ []))
 no_value_is_translated = (
-  Done (clause [] (Att (free 1)) ∷ []) 65533,
+  Done (clause [] (Att 0 (free 1)) ∷ []) 65533,
   (None ∷ [], (None, [], nothing_goes_on, refl, refl), (Done [] 65533, refl, refl)),
   refl,
 )

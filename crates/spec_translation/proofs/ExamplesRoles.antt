@@ -30,6 +30,7 @@ roles = record {
   constructors = constructor_of 101 2 ∷ [];
   destructors = record { word = 100 ∷ []; rules = decryption ∷ [] } ∷ [];
   events = constructor_of 98 1 ∷ constructor_of 102 1 ∷ [];
+  tables = [];
   queries = asked ∷ [];
   main = Parallel
       (Replication (New (110 ∷ []) (Event (begin (Leaf (Made 3))) (Output (name 1) (apply 1 (Leaf (Made 3) ∷ name 2 ∷ [])) Nil))))
@@ -48,14 +49,14 @@ abbrev begun : Clause Term
 begun = clause [] (Ev 1 (made ∷ []))
 
 abbrev encrypted : Clause Term
-encrypted = clause (Mev 1 (made ∷ []) ∷ []) (Att (enc made (free 2)))
+encrypted = clause (Mev 1 (made ∷ []) ∷ []) (Att 0 (enc made (free 2)))
 
 abbrev ended : Clause Term
-ended = clause (Att (enc (x 0) (free 2)) ∷ []) (Ev 2 (x 0 ∷ []))
+ended = clause (Att 0 (enc (x 0) (free 2)) ∷ []) (Ev 2 (x 0 ∷ []))
 
 -- the second role once it has received: the variable 1 for the message, and 0 for its copy
 abbrev received : Visit
-received = record { scope = record { name = Variable 1; term = x 1 } ∷ []; hypotheses = Att (x 1) ∷ []; messages = x 1 ∷ []; sessions = x 0 ∷ [] }
+received = record { scope = record { name = Variable 1; term = x 1 } ∷ []; hypotheses = Att 0 (x 1) ∷ []; diffs = []; messages = x 1 ∷ []; sessions = x 0 ∷ []; phase = 0 }
 
 -- the rule's variables are 2 and 3, and the pattern's is 4
 abbrev new : Fresh
@@ -85,9 +86,11 @@ most_general r e (suc (suc (suc (suc (suc n))))) = refl
 abbrev decrypted : Visit
 decrypted = record {
   scope = record { name = Variable 1; term = enc (x 2) (free 2) } ∷ record { name = Variable 2; term = x 2 } ∷ [];
-  hypotheses = Att (enc (x 2) (free 2)) ∷ [];
+  hypotheses = Att 0 (enc (x 2) (free 2)) ∷ [];
+  diffs = [];
   messages = enc (x 2) (free 2) ∷ [];
   sessions = x 0 ∷ [];
+  phase = 0;
 }
 
 decrypts : ChoiceGoesOn roles received (Leaf (Bind 2)) (ruled_call decryption (variable 1 ∷ name 2 ∷ [])) (Some decrypted)
@@ -105,9 +108,9 @@ decrypts = record {
 
 -- its ten clauses
 pub roles_are_translated : IsTranslation roles asked (Clauses (
-    clause [] (Att (free 1)) ∷ own_names
-    ∷ clause (Att (x 0) ∷ Att (x 1) ∷ []) (Att (enc (x 0) (x 1)))
-    ∷ clause (Att (enc (x 0) (x 1)) ∷ Att (x 1) ∷ []) (Att (x 0))
+    clause [] (Att 0 (free 1)) ∷ own_names
+    ∷ clause (Att 0 (x 0) ∷ Att 0 (x 1) ∷ []) (Att 0 (enc (x 0) (x 1)))
+    ∷ clause (Att 0 (enc (x 0) (x 1)) ∷ Att 0 (x 1) ∷ []) (Att 0 (x 0))
     ∷ hears ∷ says ∷ begun ∷ encrypted ∷ ended
     ∷ clause (Ev 2 (x 0 ∷ []) ∷ []) (Bad (x 0 ∷ [])) ∷ []))
 roles_are_translated = (

@@ -1,33 +1,35 @@
 -- A protocol and a query have a translation: variables that are new are there, unification is decided, and each course has an end.
 use Rattle.std.proofs.Common.{◌≡◌, ◌⊎◌, ℕ, zero, suc, ◌+◌, ◌≤◌, Bool, true, false, ◌||◌, Option, Some, None, List, [], ◌∷◌, ◌++◌, map, refl, inl, inr, arith}
 use Rattle.std.specs.List.{AllByRecursion}
-use Rattle.spec_calculus.specs.Syntax.{Process, Nil, Output, Input, Parallel, Replication, New, Let, Event, Pattern, Expression, Ruled, Query, Protocol}
+use Rattle.spec_calculus.specs.Syntax.{Process, Nil, Output, Input, Parallel, Replication, New, Let, Event, Phase, Insert, Get, Pattern, Expression, Ruled, Condition, Query, Protocol}
 use Rattle.spec_calculus.specs.Points.{point_after}
 use Rattle.spec_calculus.specs.Choices.{choices}
+use Rattle.spec_calculus.specs.Tables.{row_pattern}
 use Rattle.spec_calculus.specs.Bounds.{most_visits}
 use Rattle.spec_trees.specs.Tree.{node, bind}
 use Rattle.spec_terms.specs.Term.{Attacker, Term, Subst}
 use Rattle.spec_terms.specs.Unifier.{Unifies, UnifiesAll, IsMgu}
 use Rattle.spec_terms.proofs.Decision.{unification_decided}
 use Rattle.spec_terms.proofs.Equations.{all_unified}
-use Rattle.spec_clauses.specs.Fact.{Bad, Ev, Clause}
+use Rattle.spec_clauses.specs.Fact.{Bad, Tab, Ev, Clause, clause_terms}
 use Rattle.spec_clauses.specs.Variables.{IsBelow, AreBelow}
 use Rattle.spec_clauses.specs.Norm.{norms}
 use Rattle.spec_clauses.specs.Limits.{is_large_raw}
 use Rattle.spec_clauses.proofs.Lists.{all_first, all_second}
 use Rattle.spec_clauses.proofs.Answers.{an_offset}
 use Rattle.spec_translation.specs.Conversion.{term_in, Fresh, bound_numbers}
-use Rattle.spec_translation.specs.Visit.{Visit, first_visit, visit_terms, visit_under, is_large_visit, evaluates_large, sent, raw_clause, IsFresh, after_input, after_copy, after_new, event_terms, after_event}
-use Rattle.spec_translation.specs.Choice.{Choice, choice_under, IsUnified, ruled_choice, ruled_terms, GoesOn, ChoiceGoesOn, EachGoesOn, AllGoOn}
+use Rattle.spec_translation.specs.Visit.{Visit, first_visit, visit_terms, visit_under, is_large_visit, evaluates_large, sent, raw_clause, IsFresh, after_input, after_copy, after_new, event_terms, after_event, after_phase, written_terms}
+use Rattle.spec_translation.specs.Choice.{Choice, choice_under, IsUnified, ruled_choice, ruled_terms, GoesOn, ChoiceGoesOn, EachGoesOn, AllGoOn, entry_choice, has_large_side, EntryGoesOn}
+use Rattle.spec_translation.specs.Otherwise.{otherwise_visit}
 use Rattle.spec_translation.specs.Course.{Outcome, Done, TooLarge, Course, Finished, Counted, Unless, preceded, After, Then, Adds}
-use Rattle.spec_translation.specs.Visited.{some_large, EachThen, Copied, Received, Chosen, Visited}
+use Rattle.spec_translation.specs.Visited.{some_large, EachThen, Copied, Received, Chosen, Fetched, Visited}
 use Rattle.spec_translation.specs.Translation.{Translated, whole, IsTranslation}
 
 -- a number above all variables of terms
 pub above_terms : (ts : List Term) → (n : ℕ) × AreBelow n ts
 above_terms ts =
-    let c : Clause Term = record { hypotheses = []; conclusion = Bad ts } in
-    let (n, below) = an_offset c in (n, all_first (IsBelow n) ts [] below)
+    let c : Clause Term = record { hypotheses = []; diffs = []; conclusion = Bad ts } in
+    let (n, below) = an_offset c in (n, all_first (IsBelow n) ts [] (all_first (IsBelow n) (clause_terms c) [] below))
 
 pub from_zero : (xs : List ℕ) → AllByRecursion (λ i. 0 ≤ i) xs
 from_zero [] = tt
@@ -88,6 +90,13 @@ module _ (P : Protocol) (v : Visit) (pattern : Pattern) where
   all_go : (expression : Expression) → (outs : List (Option Visit)) × AllGoOn P v pattern expression outs
   all_go expression = each_goes (map (λ c. c.ruled) (choices P expression))
 
+-- and so does a `get` with an entry
+entry_goes : (P : Protocol) (v : Visit) (table : ℕ) (patterns : List Pattern) (condition : Condition) → (large : Bool) × (out : Option Visit) × EntryGoesOn P v table patterns condition large out
+entry_goes P v table patterns condition =
+    let (at, fresh) = new_variables v (row_pattern patterns) in
+    let choice = entry_choice P v table patterns condition at in
+    let (out, goes) = choice_goes choice in (has_large_side choice, out, record { at = at; is_fresh = fresh; is_large = refl; goes_on = goes })
+
 -- from each number of visits left the course has an outcome
 abbrev HasEnds : Course → Type 0
 HasEnds R = (left : ℕ) → (out : Outcome) × R left out
@@ -123,7 +132,7 @@ each_ends R last each ends (Some v ∷ outs) = then_ends (R v) (EachThen R outs 
 visited_ends : (P : Protocol) (process : Process) (point : ℕ) (v : Visit) → HasEnds (Visited P process point v)
 visited_ends P Nil point v = counted_ends point Finished finished_ends
 visited_ends P (Output channel message next) point v =
-    let raw = raw_clause v (sent P (term_in P v.scope channel) (term_in P v.scope message)) in
+    let raw = raw_clause v (sent P v.phase (term_in P v.scope channel) (term_in P v.scope message)) in
     let large = evaluates_large P v (Output channel message next) || is_large_raw raw in
     let R = Adds (norms raw) (Visited P next (point + 1) v) in
     counted_ends point (Unless large point R) (unless_ends large point R (adds_ends (norms raw) (Visited P next (point + 1) v) (visited_ends P next (point + 1) v)))
@@ -150,11 +159,12 @@ visited_ends P (New word next) point v =
 visited_ends P (Let pattern expression next otherwise) point v =
     let process = Let pattern expression next otherwise in
     let R = λ (w : Visit). Visited P next (point + 1) w in
-    let T = Visited P otherwise (point_after (point + 1) next) v in
+    let w_else = otherwise_visit P v pattern expression in
+    let T = Visited P otherwise (point_after (point + 1) next) w_else in
     let C = Chosen P v pattern expression point R T in
     let large = evaluates_large P v process in
     let ways = all_go P v pattern expression in
-    let each = each_ends R T (λ w. visited_ends P next (point + 1) w) (visited_ends P otherwise (point_after (point + 1) next) v) ways.0 in
+    let each = each_ends R T (λ w. visited_ends P next (point + 1) w) (visited_ends P otherwise (point_after (point + 1) next) w_else) ways.0 in
     let below = unless_ends (some_large ways.0) point (EachThen R ways.0 T) each in
     counted_ends point (Unless large point C) (unless_ends large point C (λ left. let end = below left in (end.0, (ways.0, ways.1, end.1))))
 visited_ends P (Event performed next) point v =
@@ -163,6 +173,24 @@ visited_ends P (Event performed next) point v =
     let large = evaluates_large P v (Event performed next) || (is_large_raw raw || is_large_visit w) in
     let R = Adds (norms raw) (Visited P next (point + 1) w) in
     counted_ends point (Unless large point R) (unless_ends large point R (adds_ends (norms raw) (Visited P next (point + 1) w) (visited_ends P next (point + 1) w)))
+visited_ends P (Phase number next) point v =
+    let R = Visited P next (point + 1) (after_phase v number) in counted_ends point R (visited_ends P next (point + 1) (after_phase v number))
+visited_ends P (Insert table arguments next) point v =
+    let raw = raw_clause v (Tab table (written_terms P v arguments)) in
+    let large = evaluates_large P v (Insert table arguments next) || is_large_raw raw in
+    let R = Adds (norms raw) (Visited P next (point + 1) v) in
+    counted_ends point (Unless large point R) (unless_ends large point R (adds_ends (norms raw) (Visited P next (point + 1) v) (visited_ends P next (point + 1) v)))
+visited_ends P (Get table patterns condition next otherwise) point v =
+    let process = Get table patterns condition next otherwise in
+    let R = λ (w : Visit). Visited P next (point + 1) w in
+    let T = Visited P otherwise (point_after (point + 1) next) v in
+    let C = Fetched P v table patterns condition point R T in
+    let large = evaluates_large P v process in
+    let way = entry_goes P v table patterns condition in
+    let larger = way.0 || some_large (way.1 ∷ []) in
+    let each = each_ends R T (λ w. visited_ends P next (point + 1) w) (visited_ends P otherwise (point_after (point + 1) next) v) (way.1 ∷ []) in
+    let below = unless_ends larger point (EachThen R (way.1 ∷ []) T) each in
+    counted_ends point (Unless large point C) (unless_ends large point C (λ left. let end = below left in (end.0, (way.0, way.1, way.2, end.1))))
 
 -- A protocol and a query have a translation.
 pub a_translation : (P : Protocol) (q : Query) → (out : Translated) × IsTranslation P q out

@@ -10,8 +10,8 @@ use Rattle.spec_calculus.specs.Syntax.{Query, Protocol}
 use Rattle.spec_calculus.specs.Bounds.{most_symbols}
 use Rattle.spec_well_formed.specs.Limits.{IsSmallQuery, IsWithinLimits}
 use Rattle.spec_terms.specs.Term.{Term}
-use Rattle.spec_clauses.specs.Fact.{Fact, Clause, terms_of, total, fact_size, clause_size, clause_terms}
-use Rattle.spec_clauses.specs.Variables.{leaves, fact_variables, IsBelow, AreBelow}
+use Rattle.spec_clauses.specs.Fact.{Fact, Clause, terms_of, total, fact_size, clause_size}
+use Rattle.spec_clauses.specs.Variables.{leaves, fact_variables, all_terms, IsBelow, AreBelow}
 use Rattle.spec_clauses.specs.Limits.{IsWithinLimit}
 use Rattle.spec_clauses.specs.Inclusion.{Has}
 use Rattle.spec_clauses.specs.Norm.{IsNormal}
@@ -59,12 +59,12 @@ visit_few v e =
     (scope_few v.scope parts.0, hypotheses_few v.hypotheses parts.1)
 
 -- the variables of a clause that is its own norm within the limit
-normal_below : (c : Clause Term) → IsNormal c → IsWithinLimit c → AreBelow most_symbols (clause_terms c)
+normal_below : (c : Clause Term) → IsNormal c → IsWithinLimit c → AreBelow most_symbols (all_terms c)
 normal_below c own small =
     all_weaker (IsBelow (clause_size c)) (IsBelow most_symbols)
     (λ t below. all_weaker (λ x. x < clause_size c) (λ x. x < most_symbols) (λ x h. omega (arith, h, small)) (leaves t) below)
-    (clause_terms c) (norm-below c c own.own)
+    (all_terms c) (norm-below c c own.own)
 
-pub clauses_below : (P : Protocol) (q : Query) (all : List (Clause Term)) (c : Clause Term) → IsWithinLimits P → IsSmallQuery q → IsTranslation P q (Clauses all) → Has all c → AreBelow most_symbols (clause_terms c)
+pub clauses_below : (P : Protocol) (q : Query) (all : List (Clause Term)) (c : Clause Term) → IsWithinLimits P → IsSmallQuery q → IsTranslation P q (Clauses all) → Has all c → AreBelow most_symbols (all_terms c)
 clauses_below P q all c limits small translated has =
     normal_below c (clauses_normal P q all translated c has) (clauses_within P q all c limits small translated has)

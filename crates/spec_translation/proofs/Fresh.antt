@@ -3,17 +3,20 @@ use Rattle.std.proofs.Common.{◌≡◌, ◌∙◌, ℕ, ◌+◌, ◌-◌, ◌<�
 use Rattle.std.specs.List.{AllByRecursion}
 use Rattle.std.proofs.lemmas.Bool.Decides.{nat_tests}
 use Rattle.std.proofs.lemmas.List.{map-append}
-use Rattle.spec_trees.specs.Tree.{Leaf, bind, node}
+use Rattle.spec_trees.specs.Tree.{Tree, Leaf, bind, node, trees}
 use Rattle.spec_trees.proofs.Rows.{bind-node}
-use Rattle.spec_calculus.specs.Syntax.{Name, Made, Variable, Hole, Bind, Equal, Pattern, EventTerm, Protocol}
+use Rattle.spec_calculus.specs.Syntax.{Name, Made, Variable, Symbol, Tuple, Hole, Bind, Equal, Pattern, EventTerm, Protocol}
 use Rattle.spec_calculus.specs.Syntax as calculus
+use Rattle.spec_calculus.specs.Tables.{row_pattern}
 use Rattle.spec_terms.specs.Term.{Point, Term, Subst}
-use Rattle.spec_clauses.specs.Fact.{Mev, fact_under}
+use Rattle.spec_clauses.specs.Fact.{Tab, Mev, fact_under}
+use Rattle.spec_clauses.specs.Diff.{diff_under}
 use Rattle.spec_clauses.specs.Variables.{leaves, AreBelow}
-use Rattle.spec_translation.specs.Conversion.{Scope, term_in, name_term, Fresh, fresh_leaf, hole_term, pattern_term, bound_number, hole_standing, pattern_scope}
-use Rattle.spec_translation.specs.Visit.{Visit, standing_under, visit_under, visit_terms, is_public_channel, sent, IsFresh, after_input, after_copy, after_new, event_terms, after_event}
-use Rattle.spec_translation.proofs.Conversions.{converted-bind, converted-same, term_in-under, terms_in-under, sent-under}
+use Rattle.spec_translation.specs.Conversion.{Scope, converted, converted_row, term_in, name_term, Fresh, fresh_leaf, hole_term, pattern_term, bound_number, hole_standing, pattern_scope}
+use Rattle.spec_translation.specs.Visit.{Visit, standing_under, visit_under, visit_terms, is_public_channel, sent, IsFresh, after_input, after_copy, after_new, event_terms, after_event, after_entry}
+use Rattle.spec_translation.proofs.Conversions.{converted-bind, converted-same, below_root, below_tuple, term_in-under, terms_in-under, sent-under}
 use Rattle.spec_translation.proofs.Visits.{visit_agree}
+use Rattle.spec_translation.proofs.Applied.{items_of-binds}
 
 -- the substitution s below n, and from n on what r has for the variables counted from there
 abbrev pub mixed : ℕ → Subst → (ℕ → Term) → Subst
@@ -83,10 +86,10 @@ after_input-under P s v channel pattern at to public fresh =
     let there : bind r (term_in P v.scope channel) ≡ term_in P (map (standing_under s) v.scope) channel =
     sym (term_in-under P r v.scope channel) ∙ (λ i. term_in P (same i).scope channel) in
     let agreed : bind r (term_in P v.scope channel) ≡ bind s (term_in P v.scope channel) = there ∙ term_in-under P s v.scope channel in
-    let fact = sent-under P r (term_in P v.scope channel) (pattern_term P v.scope at pattern) (ap (is_public_channel P) agreed ∙ public) ∙ (λ i. sent P (there i) (message i)) in
-    let facts = map-append (fact_under r) v.hypotheses (sent P (term_in P v.scope channel) (pattern_term P v.scope at pattern) ∷ []) ∙ (λ i. (same i).hypotheses ++ fact i ∷ []) in
+    let fact = sent-under P r v.phase (term_in P v.scope channel) (pattern_term P v.scope at pattern) (ap (is_public_channel P) agreed ∙ public) ∙ (λ i. sent P v.phase (there i) (message i)) in
+    let facts = map-append (fact_under r) v.hypotheses (sent P v.phase (term_in P v.scope channel) (pattern_term P v.scope at pattern) ∷ []) ∙ (λ i. (same i).hypotheses ++ fact i ∷ []) in
     let messages = map-append (bind r) v.messages (pattern_term P v.scope at pattern ∷ []) ∙ (λ i. (same i).messages ++ message i ∷ []) in
-    λ i. record { scope = scopes i; hypotheses = facts i; messages = messages i; sessions = (same i).sessions }
+    λ i. record { scope = scopes i; hypotheses = facts i; diffs = (same i).diffs; messages = messages i; sessions = (same i).sessions; phase = v.phase }
 
 -- the visit below a replication
 pub after_copy-under : (s : Subst) (v : Visit) (n m : ℕ) → AreBelow n (visit_terms v) → visit_under (mixed n s (λ d. Leaf m)) (after_copy v n) ≡ after_copy (visit_under s v) m
@@ -96,7 +99,7 @@ after_copy-under s v n m new =
     let e : n + 0 ≡ n = omega arith in
     let last : bind r (Leaf n) ≡ Leaf m = ap r (sym e) ∙ mixed_from n s (λ d. Leaf m) 0 in
     let sessions = map-append (bind r) v.sessions (Leaf n ∷ []) ∙ (λ i. (same i).sessions ++ last i ∷ []) in
-    λ i. record { scope = (same i).scope; hypotheses = (same i).hypotheses; messages = (same i).messages; sessions = sessions i }
+    λ i. record { scope = (same i).scope; hypotheses = (same i).hypotheses; diffs = (same i).diffs; messages = (same i).messages; sessions = sessions i; phase = v.phase }
 
 -- the visit below a restriction
 pub after_new-under : (s : Subst) (v : Visit) (point : ℕ) → visit_under s (after_new v point) ≡ after_new (visit_under s v) point
@@ -105,11 +108,30 @@ after_new-under s v point =
     bind-node s (Point point) (v.messages ++ v.sessions) ∙ ap (node (Point point)) (map-append (bind s) v.messages v.sessions) in
     let scopes = map-append (standing_under s) v.scope (record { name = Made point; term = name_term point v.messages v.sessions } ∷ [])
     ∙ (λ i. map (standing_under s) v.scope ++ record { name = Made point; term = name i } ∷ []) in
-    λ i. record { scope = scopes i; hypotheses = map (fact_under s) v.hypotheses; messages = map (bind s) v.messages; sessions = map (bind s) v.sessions }
+    λ i. record { scope = scopes i; hypotheses = map (fact_under s) v.hypotheses; diffs = map (diff_under s) v.diffs; messages = map (bind s) v.messages; sessions = map (bind s) v.sessions; phase = v.phase }
 
 -- the visit below an event
 pub after_event-under : (P : Protocol) (s : Subst) (v : Visit) (e : EventTerm) → visit_under s (after_event P v e) ≡ after_event P (visit_under s v) e
 after_event-under P s v e =
     let terms = sym (terms_in-under P s v.scope e.arguments) in
     let facts = map-append (fact_under s) v.hypotheses (Mev e.event (event_terms P v e) ∷ []) ∙ (λ i. map (fact_under s) v.hypotheses ++ Mev e.event (terms i) ∷ []) in
-    λ i. record { scope = map (standing_under s) v.scope; hypotheses = facts i; messages = map (bind s) v.messages; sessions = map (bind s) v.sessions }
+    λ i. record { scope = map (standing_under s) v.scope; hypotheses = facts i; diffs = map (diff_under s) v.diffs; messages = map (bind s) v.messages; sessions = map (bind s) v.sessions; phase = v.phase }
+
+-- the terms of trees in a row are moved as that of their tuple is
+pub row_under : (P : Protocol) {L M : Type 0} (leaf : L → Term) (other : M → Term) (s : Subst) (ts : List (Tree L Symbol)) (us : List (Tree M Symbol)) → bind s (converted P leaf (node Tuple ts)) ≡ converted P other (node Tuple us) → map (bind s) (map (converted P leaf) ts) ≡ map (converted P other) us
+row_under P leaf other s ts us e =
+    sym (ap (map (bind s)) (below_tuple P leaf ts))
+    ∙ (items_of-binds s (converted_row P leaf (trees ts)) ∙ (ap below_root e ∙ below_tuple P other us))
+
+-- the visit below a `get`
+pub after_entry-under : (P : Protocol) (s : Subst) (v : Visit) (table : ℕ) (patterns : List Pattern) (at to : Fresh) → IsFresh v (row_pattern patterns) at → visit_under (extended s at to) (after_entry P v table patterns at) ≡ after_entry P (visit_under s v) table patterns to
+after_entry-under P s v table patterns at to fresh =
+    let r = extended s at to in
+    let same = visit_extended s v (row_pattern patterns) at to fresh in
+    let scopes = scope_extended s v (row_pattern patterns) at to fresh in
+    let terms = map (pattern_term P v.scope at) patterns in
+    let moved = row_under P (hole_term P v.scope at) (hole_term P (map (standing_under s) v.scope) to) r patterns patterns
+    (pattern_term_moved P s at to v.scope (λ i. (same i).scope) (row_pattern patterns) fresh.from_first) in
+    let facts = map-append (fact_under r) v.hypotheses (Tab table terms ∷ []) ∙ (λ i. (same i).hypotheses ++ Tab table (moved i) ∷ []) in
+    let messages = map-append (bind r) v.messages terms ∙ (λ i. (same i).messages ++ moved i) in
+    λ i. record { scope = scopes i; hypotheses = facts i; diffs = (same i).diffs; messages = messages i; sessions = (same i).sessions; phase = v.phase }

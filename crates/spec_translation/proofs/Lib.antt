@@ -1,7 +1,9 @@
 pub mod Conversions
 pub mod Visits
-pub mod Fresh
 pub mod Applied
+pub mod Fresh
+pub mod Otherwise
+pub mod Fitting
 pub mod Choices
 pub mod Courses
 pub mod OneTranslation
@@ -9,6 +11,7 @@ pub mod Existence
 pub mod Placement
 pub mod Parts
 pub mod Goal
+pub mod Plain
 pub mod Sizes
 pub mod Few
 pub mod Examples
@@ -21,3 +24,5 @@ pub mod ExamplesLarge
 pub mod ExamplesLimits
 pub mod ExamplesNames
 pub mod ExamplesNested
+pub mod ExamplesPhases
+pub mod ExamplesElse

@@ -1,25 +1,27 @@
 -- A protocol and a query have one translation.
-use Rattle.std.proofs.Common.{◌≡◌, ◌∙◌, ℕ, ◌+◌, ◌||◌, map, refl, ap, sym, subst}
+use Rattle.std.proofs.Common.{◌≡◌, ◌∙◌, ℕ, ◌+◌, ◌||◌, List, [], ◌∷◌, map, refl, ap, sym, subst}
 use Rattle.spec_trees.specs.Tree.{Leaf}
-use Rattle.spec_calculus.specs.Syntax.{Process, Nil, Output, Input, Parallel, Replication, New, Let, Event, Pattern, Expression, EventTerm, Query, Protocol}
+use Rattle.spec_calculus.specs.Syntax.{Process, Nil, Output, Input, Parallel, Replication, New, Let, Event, Phase, Insert, Get, Pattern, Expression, EventTerm, Condition, Query, Protocol}
 use Rattle.spec_calculus.specs.Syntax as calculus
 use Rattle.spec_calculus.specs.Points.{point_after}
 use Rattle.spec_calculus.specs.Bounds.{most_visits}
 use Rattle.spec_terms.specs.Term.{Subst}
-use Rattle.spec_clauses.specs.Fact.{Ev}
+use Rattle.spec_clauses.specs.Fact.{Tab, Ev}
 use Rattle.spec_clauses.specs.Norm.{norms}
 use Rattle.spec_clauses.specs.Limits.{is_large_raw}
 use Rattle.spec_clauses.specs.Renaming.{AreVariants}
 use Rattle.spec_clauses.proofs.Variants.{variants_norms, variants_large}
 use Rattle.spec_translation.specs.Conversion.{term_in}
-use Rattle.spec_translation.specs.Visit.{Visit, first_visit, standing_under, visit_under, is_large_visit, evaluates_large, sent, raw_clause, after_input, after_copy, after_new, event_terms, after_event}
+use Rattle.spec_translation.specs.Visit.{Visit, first_visit, standing_under, visit_under, is_large_visit, evaluates_large, sent, raw_clause, after_input, after_copy, after_new, event_terms, after_event, after_phase, written_terms}
+use Rattle.spec_translation.specs.Otherwise.{otherwise_visit}
 use Rattle.spec_translation.specs.Course.{Outcome, Course, Finished, Unless, Then, Adds}
-use Rattle.spec_translation.specs.Visited.{some_large, EachThen, Copied, Received, Chosen, Visited}
+use Rattle.spec_translation.specs.Visited.{some_large, EachThen, Copied, Received, Chosen, Fetched, Visited}
 use Rattle.spec_translation.specs.Translation.{Translated, whole, IsTranslation}
 use Rattle.spec_translation.proofs.Conversions.{terms_in-under}
 use Rattle.spec_translation.proofs.Visits.{IsLedBack, AreAlike, alike_led_back, led_there, channel_public, sent_there, large_visit-back, evaluates_large-back, raw_alike}
 use Rattle.spec_translation.proofs.Fresh.{mixed, extended, after_input-under, after_copy-under, after_new-under, after_event-under}
-use Rattle.spec_translation.proofs.Choices.{all_go_alike}
+use Rattle.spec_translation.proofs.Otherwise.{otherwise_visit-under}
+use Rattle.spec_translation.proofs.Choices.{AllGoAlike, all_go_alike, entry_goes_alike, entry_large_alike}
 use Rattle.spec_translation.proofs.Courses.{SameEnds, finished_same, counted_same, unless_same, then_same, adds_same, some_large_alike, each_same}
 
 -- what visits go on with at visits that are alike
@@ -59,6 +61,28 @@ module _ (P : Protocol) (s t : Subst) (v : Visit) (e : IsLedBack s t v) where
       let alike = all_go_alike P s t v e pattern expression x.0 y.0 x.1 y.1 in
       unless_same (some_large x.0) (some_large y.0) point (EachThen R x.0 T) (EachThen S y.0 U) (some_large_alike x.0 y.0 alike) (each_same R S T U same last x.0 y.0 alike) left a b x.2 y.2
 
+  -- the else branch of a `let`
+  otherwise_alike : (pattern : Pattern) (expression : Expression) → AreAlike (otherwise_visit P v pattern expression) (otherwise_visit P (visit_under s v) pattern expression)
+  otherwise_alike pattern expression = record {
+    by = s;
+    back = t;
+    there = otherwise_visit-under P s v pattern expression;
+    again = otherwise_visit-under P t (visit_under s v) pattern expression ∙ (λ i. otherwise_visit P (e i) pattern expression);
+  }
+
+  -- below a `get`
+  fetched_same : (table : ℕ) (patterns : List Pattern) (condition : Condition) (point : ℕ) (R S : Visit → ℕ → Outcome → Type 0) (T U : Course) → SameCourses R S → SameEnds T U → SameEnds (Fetched P v table patterns condition point R T) (Fetched P (visit_under s v) table patterns condition point S U)
+  fetched_same table patterns condition point R S T U same last left a b x y =
+      let alike : AllGoAlike (x.1 ∷ []) (y.1 ∷ []) = (entry_goes_alike P s t v e table patterns condition x.0 y.0 x.1 y.1 x.2 y.2, tt) in
+      let large = entry_large_alike P s t v e table patterns condition x.0 y.0 x.1 y.1 x.2 y.2 in
+      let below = some_large_alike (x.1 ∷ []) (y.1 ∷ []) alike in
+      unless_same (x.0 || some_large (x.1 ∷ [])) (y.0 || some_large (y.1 ∷ [])) point (EachThen R (x.1 ∷ []) T) (EachThen S (y.1 ∷ []) U) (λ i. large i || below i)
+      (each_same R S T U same last (x.1 ∷ []) (y.1 ∷ []) alike) left a b x.3 y.3
+
+  -- in the phase that begins
+  phase_alike : (number : ℕ) → AreAlike (after_phase v number) (after_phase (visit_under s v) number)
+  phase_alike number = record { by = s; back = t; there = refl; again = λ i. after_phase (e i) number }
+
   -- below a restriction
   new_alike : (point : ℕ) → AreAlike (after_new v point) (after_new (visit_under s v) point)
   new_alike point = record {
@@ -77,12 +101,12 @@ module _ (P : Protocol) (s t : Subst) (v : Visit) (e : IsLedBack s t v) where
     again = after_event-under P t (visit_under s v) performed ∙ (λ i. after_event P (e i) performed);
   }
 
-  -- the raw clauses of an output and of an event
-  output_raw : (channel message : calculus.Term) → AreVariants (raw_clause v (sent P (term_in P v.scope channel) (term_in P v.scope message))) (raw_clause (visit_under s v) (sent P (term_in P (map (standing_under s) v.scope) channel) (term_in P (map (standing_under s) v.scope) message)))
+  -- the raw clauses of an output, of an event and of an `insert`
+  output_raw : (channel message : calculus.Term) → AreVariants (raw_clause v (sent P v.phase (term_in P v.scope channel) (term_in P v.scope message))) (raw_clause (visit_under s v) (sent P v.phase (term_in P (map (standing_under s) v.scope) channel) (term_in P (map (standing_under s) v.scope) message)))
   output_raw channel message =
-      raw_alike s t v (sent P (term_in P v.scope channel) (term_in P v.scope message)) (sent P (term_in P (map (standing_under s) v.scope) channel) (term_in P (map (standing_under s) v.scope) message)) e
+      raw_alike s t v (sent P v.phase (term_in P v.scope channel) (term_in P v.scope message)) (sent P v.phase (term_in P (map (standing_under s) v.scope) channel) (term_in P (map (standing_under s) v.scope) message)) e
       (sent_there P s t v e channel message)
-      (sent_there P t s (visit_under s v) (led_there s t v e) channel message ∙ (λ i. sent P (term_in P (e i).scope channel) (term_in P (e i).scope message)))
+      (sent_there P t s (visit_under s v) (led_there s t v e) channel message ∙ (λ i. sent P (e i).phase (term_in P (e i).scope channel) (term_in P (e i).scope message)))
 
   event_raw : (performed : EventTerm) → AreVariants (raw_clause v (Ev performed.event (event_terms P v performed))) (raw_clause (visit_under s v) (Ev performed.event (event_terms P (visit_under s v) performed)))
   event_raw performed =
@@ -91,6 +115,14 @@ module _ (P : Protocol) (s t : Subst) (v : Visit) (e : IsLedBack s t v) where
       raw_alike s t v (Ev performed.event (event_terms P v performed)) (Ev performed.event (event_terms P (visit_under s v) performed)) e
       (ap (Ev performed.event) there)
       (ap (Ev performed.event) home ∙ (λ i. Ev performed.event (event_terms P (e i) performed)))
+
+  insert_raw : (table : ℕ) (arguments : List calculus.Term) → AreVariants (raw_clause v (Tab table (written_terms P v arguments))) (raw_clause (visit_under s v) (Tab table (written_terms P (visit_under s v) arguments)))
+  insert_raw table arguments =
+      let there = sym (terms_in-under P s v.scope arguments) in
+      let home = sym (terms_in-under P t (map (standing_under s) v.scope) arguments) in
+      raw_alike s t v (Tab table (written_terms P v arguments)) (Tab table (written_terms P (visit_under s v) arguments)) e
+      (ap (Tab table) there)
+      (ap (Tab table) home ∙ (λ i. Tab table (written_terms P (e i) arguments)))
 
 -- a course at an alike visit, from one at an instance that is led back
 at_alike : (P : Protocol) (R S : Visit → ℕ → Outcome → Type 0) → ((s t : Subst) (v : Visit) → IsLedBack s t v → SameEnds (R v) (S (visit_under s v))) → SameCourses R S
@@ -102,8 +134,8 @@ visited_same P Nil point s t v e = counted_same point Finished Finished finished
 visited_same P (Output channel message next) point s t v e =
     let w = visit_under s v in
     let raw = output_raw P s t v e channel message in
-    let here = raw_clause v (sent P (term_in P v.scope channel) (term_in P v.scope message)) in
-    let there = raw_clause w (sent P (term_in P w.scope channel) (term_in P w.scope message)) in
+    let here = raw_clause v (sent P v.phase (term_in P v.scope channel) (term_in P v.scope message)) in
+    let there = raw_clause w (sent P w.phase (term_in P w.scope channel) (term_in P w.scope message)) in
     let below = visited_same P next (point + 1) s t v e in
     let evaluated = sym (evaluates_large-back P s t v e (Output channel message next)) in
     let large = variants_large here there raw in
@@ -136,9 +168,12 @@ visited_same P (Let pattern expression next otherwise) point s t v e =
     let R : Visit → ℕ → Outcome → Type 0 = λ u. Visited P next (point + 1) u in
     let T : Visit → ℕ → Outcome → Type 0 = λ u. Visited P otherwise (point_after (point + 1) next) u in
     let process = Let pattern expression next otherwise in
-    counted_same point (Unless (evaluates_large P v process) point (Chosen P v pattern expression point R (T v))) (Unless (evaluates_large P w process) point (Chosen P w pattern expression point R (T w)))
-    (unless_same (evaluates_large P v process) (evaluates_large P w process) point (Chosen P v pattern expression point R (T v)) (Chosen P w pattern expression point R (T w)) (sym (evaluates_large-back P s t v e process))
-    (chosen_same P s t v e pattern expression point R R (T v) (T w) (at_alike P R R (λ q r u f. visited_same P next (point + 1) q r u f)) (visited_same P otherwise (point_after (point + 1) next) s t v e)))
+    let v_else = otherwise_visit P v pattern expression in
+    let w_else = otherwise_visit P w pattern expression in
+    let last = at_alike P T T (λ q r u f. visited_same P otherwise (point_after (point + 1) next) q r u f) v_else w_else (otherwise_alike P s t v e pattern expression) in
+    counted_same point (Unless (evaluates_large P v process) point (Chosen P v pattern expression point R (T v_else))) (Unless (evaluates_large P w process) point (Chosen P w pattern expression point R (T w_else)))
+    (unless_same (evaluates_large P v process) (evaluates_large P w process) point (Chosen P v pattern expression point R (T v_else)) (Chosen P w pattern expression point R (T w_else)) (sym (evaluates_large-back P s t v e process))
+    (chosen_same P s t v e pattern expression point R R (T v_else) (T w_else) (at_alike P R R (λ q r u f. visited_same P next (point + 1) q r u f)) last))
 visited_same P (Event performed next) point s t v e =
     let w = visit_under s v in
     let process = Event performed next in
@@ -157,6 +192,32 @@ visited_same P (Event performed next) point s t v e =
     (Unless (evaluates_large P w process || (is_large_raw there || is_large_visit w_next)) point (Adds (norms there) (R w_next)))
     (unless_same (evaluates_large P v process || (is_large_raw here || is_large_visit v_next)) (evaluates_large P w process || (is_large_raw there || is_large_visit w_next)) point (Adds (norms here) (R v_next)) (Adds (norms there) (R w_next)) (λ i. evaluated i || (large_raw i || large_next i))
     (adds_same (norms here) (norms there) (R v_next) (R w_next) (variants_norms here there raw) below))
+visited_same P (Phase number next) point s t v e =
+    let w = visit_under s v in
+    let R : Visit → ℕ → Outcome → Type 0 = λ u. Visited P next (point + 1) u in
+    let below = at_alike P R R (λ q r u f. visited_same P next (point + 1) q r u f) in
+    counted_same point (R (after_phase v number)) (R (after_phase w number)) (below (after_phase v number) (after_phase w number) (phase_alike P s t v e number))
+visited_same P (Insert table arguments next) point s t v e =
+    let w = visit_under s v in
+    let process = Insert table arguments next in
+    let raw = insert_raw P s t v e table arguments in
+    let here = raw_clause v (Tab table (written_terms P v arguments)) in
+    let there = raw_clause w (Tab table (written_terms P w arguments)) in
+    let below = visited_same P next (point + 1) s t v e in
+    let evaluated = sym (evaluates_large-back P s t v e process) in
+    let large = variants_large here there raw in
+    counted_same point (Unless (evaluates_large P v process || is_large_raw here) point (Adds (norms here) (Visited P next (point + 1) v)))
+    (Unless (evaluates_large P w process || is_large_raw there) point (Adds (norms there) (Visited P next (point + 1) w)))
+    (unless_same (evaluates_large P v process || is_large_raw here) (evaluates_large P w process || is_large_raw there) point (Adds (norms here) (Visited P next (point + 1) v)) (Adds (norms there) (Visited P next (point + 1) w)) (λ i. evaluated i || large i)
+    (adds_same (norms here) (norms there) (Visited P next (point + 1) v) (Visited P next (point + 1) w) (variants_norms here there raw) below))
+visited_same P (Get table patterns condition next otherwise) point s t v e =
+    let w = visit_under s v in
+    let R : Visit → ℕ → Outcome → Type 0 = λ u. Visited P next (point + 1) u in
+    let T : Visit → ℕ → Outcome → Type 0 = λ u. Visited P otherwise (point_after (point + 1) next) u in
+    let process = Get table patterns condition next otherwise in
+    counted_same point (Unless (evaluates_large P v process) point (Fetched P v table patterns condition point R (T v))) (Unless (evaluates_large P w process) point (Fetched P w table patterns condition point R (T w)))
+    (unless_same (evaluates_large P v process) (evaluates_large P w process) point (Fetched P v table patterns condition point R (T v)) (Fetched P w table patterns condition point R (T w)) (sym (evaluates_large-back P s t v e process))
+    (fetched_same P s t v e table patterns condition point R R (T v) (T w) (at_alike P R R (λ q r u f. visited_same P next (point + 1) q r u f)) (visited_same P otherwise (point_after (point + 1) next) s t v e)))
 
 -- The translation of a protocol and a query is one.
 pub one_translation : (P : Protocol) (q : Query) (a b : Translated) → IsTranslation P q a → IsTranslation P q b → a ≡ b

@@ -10,6 +10,8 @@ use Rattle.spec_terms.specs.Term.{Term}
 use Rattle.spec_terms.specs.Binding.{only}
 use Rattle.spec_terms.proofs.Replace.{only-self, only-other, after_only}
 use Rattle.spec_clauses.specs.Fact.{map_fact}
+use Rattle.spec_clauses.specs.Diff.{Diff, diff_under}
+use Rattle.spec_clauses.proofs.Diffs.{diff_under-Leaf}
 use Rattle.spec_clauses.proofs.Facts.{map_facts-id}
 use Rattle.spec_translation.specs.Conversion.{Scope, term_in, Fresh}
 use Rattle.spec_translation.specs.Visit.{Visit, bound, standing_under, visit_under, visit_terms, is_large_visit, evaluates_large}
@@ -28,13 +30,18 @@ scope_under-Leaf : (scope : Scope) → map (standing_under Leaf) scope ≡ scope
 scope_under-Leaf [] = refl
 scope_under-Leaf (b ∷ bs) = let first = bind-Leaf b.term in let others = scope_under-Leaf bs in λ i. record { name = b.name; term = first i } ∷ others i
 
+diffs_under-Leaf : (ds : List Diff) → map (diff_under Leaf) ds ≡ ds
+diffs_under-Leaf [] = refl
+diffs_under-Leaf (d ∷ ds) = let first = diff_under-Leaf d in let others = diffs_under-Leaf ds in λ i. first i ∷ others i
+
 pub visit_under-Leaf : (v : Visit) → visit_under Leaf v ≡ v
 visit_under-Leaf v =
     let scopes = scope_under-Leaf v.scope in
     let facts = (λ i. map (map_fact (λ x. bind-Leaf x i)) v.hypotheses) ∙ map_facts-id v.hypotheses in
+    let diffs = diffs_under-Leaf v.diffs in
     let messages = terms_under-Leaf v.messages in
     let sessions = terms_under-Leaf v.sessions in
-    λ i. record { scope = scopes i; hypotheses = facts i; messages = messages i; sessions = sessions i }
+    λ i. record { scope = scopes i; hypotheses = facts i; diffs = diffs i; messages = messages i; sessions = sessions i; phase = v.phase }
 
 -- The most general unifier replaces the pattern's new variable by the term.
 pub plain_let_binds : (P : Protocol) (v : Visit) (i : ℕ) (term : calculus.Term) → ChoiceGoesOn P v (Leaf (Bind i)) (Leaf term) (Some (bound v i (term_in P v.scope term)))
@@ -59,7 +66,7 @@ plain_let_binds P v i term =
       goes_on = (
         s,
         record { accepted = (refl, kept ∙ sym self); most = λ r e. (r, after_only r z t (sym e.1)) },
-        sym (λ k. record { scope = scopes k; hypotheses = (visits k).hypotheses; messages = (visits k).messages; sessions = (visits k).sessions }),
+        sym (λ k. record { scope = scopes k; hypotheses = (visits k).hypotheses; diffs = (visits k).diffs; messages = (visits k).messages; sessions = (visits k).sessions; phase = v.phase }),
       );
     }
 

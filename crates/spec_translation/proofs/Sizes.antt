@@ -4,11 +4,11 @@ use Rattle.std.specs.Prelude.{flat_map, filter, filter_map, unwrap_or, slice_get
 use Rattle.std.specs.List.{AllByRecursion, cons_option, enumerate_from}
 use Rattle.std.proofs.lemmas.List.{length-append}
 use Rattle.spec_trees.specs.Tree.{Tree, Trees, Leaf, Node, none, more, trees, node, size, sizes}
-use Rattle.spec_calculus.specs.Syntax.{Name, Made, Variable, Symbol, Process, Nil, Output, Input, Parallel, Replication, New, Let, Event, Rule, Declared, Destructor, EventTerm, Query, Secret, SecretNew, Correspondence, Protocol}
+use Rattle.spec_calculus.specs.Syntax.{Name, Made, Variable, Symbol, Process, Nil, Output, Input, Parallel, Replication, New, Let, Event, Phase, Insert, Get, Rule, Declared, Destructor, EventTerm, Query, Secret, SecretNew, Correspondence, Protocol}
 use Rattle.spec_calculus.specs.Syntax as calculus
 use Rattle.spec_calculus.specs.Bounds.{most_arguments, most_points_above, most_symbols}
-use Rattle.spec_calculus.specs.Points.{numbered, name_arguments}
-use Rattle.spec_well_formed.specs.Processes.{height}
+use Rattle.spec_calculus.specs.Points.{numbered, name_arguments, greatest_phase}
+use Rattle.spec_well_formed.specs.Processes.{height, AreSmallEntries}
 use Rattle.spec_well_formed.specs.Limits.{IsSmallRule, IsSmallDestructor, IsSmallQuery, IsWithinLimits}
 use Rattle.spec_terms.specs.Term.{Ctor, Term}
 use Rattle.spec_clauses.specs.Fact.{Att, Clause, total, fact_size, clause_size}
@@ -22,7 +22,7 @@ use Rattle.spec_clauses.proofs.Lists.{all_append}
 use Rattle.spec_clauses.proofs.Limits.{large_raw-decides, norms-within_limit}
 use Rattle.spec_clauses.proofs.FlatSizes.{flat_parts-size}
 use Rattle.spec_translation.specs.Conversion.{free_term, converted, converted_row, rule_leaf}
-use Rattle.spec_translation.specs.Attacker.{variables_from, name_known, fresh_known, constructor_applied, rule_applied, message_heard, message_sent, attacker_raw}
+use Rattle.spec_translation.specs.Attacker.{variables_from, name_known, fresh_known, constructor_applied, rule_applied, message_heard, message_sent, done_in, kept_known, done_after, attacker_raw}
 use Rattle.spec_translation.specs.Goal.{query_leaf, variable_at, event_variables, arguments_at, goal_raw}
 use Rattle.spec_translation.specs.Translation.{Clauses, IsTranslation}
 use Rattle.spec_translation.proofs.Goal.{all_at, all_of_each, all_filter_map, each_clause}
@@ -45,9 +45,9 @@ module _ (P : Protocol) {L : Type 0} (leaf : L → Term) (one : (x : L) → size
     converted_row-size none = refl
     converted_row-size (more t ts) = let first = converted-size t in let others = converted_row-size ts in λ i. first i + others i
 
-  known-size : (ts : List (Tree L Symbol)) → total fact_size (map (λ t. Att (converted P leaf t)) ts) ≡ length ts + sizes (trees ts)
-  known-size [] = refl
-  known-size (t ∷ ts) = omega (arith, converted-size t, known-size ts)
+  known-size : (phase : ℕ) (ts : List (Tree L Symbol)) → total fact_size (map (λ t. Att phase (converted P leaf t)) ts) ≡ length ts + sizes (trees ts)
+  known-size phase [] = refl
+  known-size phase (t ∷ ts) = omega (arith, converted-size t, known-size phase ts)
 
   terms-size : (ts : List (Tree L Symbol)) → total size (map (converted P leaf) ts) ≡ sizes (trees ts)
   terms-size [] = refl
@@ -68,9 +68,9 @@ variables-size : (n count : ℕ) → sizes (trees (variables_from n count)) ≡ 
 variables-size n zero = refl
 variables-size n (suc count) = omega (arith, variables-size (n + 1) count)
 
-variables_known-size : (n count : ℕ) → total fact_size (map Att (variables_from n count)) ≡ 2 * count
-variables_known-size n zero = refl
-variables_known-size n (suc count) = omega (arith, variables_known-size (n + 1) count)
+variables_known-size : (phase n count : ℕ) → total fact_size (map (Att phase) (variables_from n count)) ≡ 2 * count
+variables_known-size phase n zero = refl
+variables_known-size phase n (suc count) = omega (arith, variables_known-size phase (n + 1) count)
 
 -- the attacker's raw clauses: of a name 2 symbols, of a constructor at most 50, and of a rule at most 2,016
 abbrev IsSmallRaw : Clause Term → Type 0
@@ -79,74 +79,93 @@ IsSmallRaw c = is_large_raw c ≡ false
 name_small : (x : ℕ × Declared) (raw : Clause Term) → name_known x ≡ Some raw → IsSmallRaw raw
 name_small x raw e = go x.1.public e where
   made : Clause Term
-  made = record { hypotheses = []; conclusion = Att (free_term x.0) }
+  made = record { hypotheses = []; diffs = []; conclusion = Att 0 (free_term x.0) }
 
   go : (b : Bool) → cond b (Some made) None ≡ Some raw → IsSmallRaw raw
   go true k = let same : made ≡ raw = cc in subst IsSmallRaw same (half_is_small made (omega arith))
   go false k = cc
 
-constructor_small : (number : ℕ) (declared : Declared) → declared.arity ≤ most_arguments → (raw : Clause Term) → constructor_applied (number, declared) ≡ Some raw → IsSmallRaw raw
-constructor_small number declared few raw e = go (declared.public && not declared.is_data) e where
+constructor_small : (phase number : ℕ) (declared : Declared) → declared.arity ≤ most_arguments → (raw : Clause Term) → constructor_applied phase (number, declared) ≡ Some raw → IsSmallRaw raw
+constructor_small phase number declared few raw e = go (declared.public && not declared.is_data) e where
   arguments : List Term
   arguments = variables_from 0 declared.arity
 
   made : Clause Term
-  made = record { hypotheses = map Att arguments; conclusion = Att (node (Ctor number) arguments) }
+  made = record { hypotheses = map (Att phase) arguments; diffs = []; conclusion = Att phase (node (Ctor number) arguments) }
 
   go : (b : Bool) → cond b (Some made) None ≡ Some raw → IsSmallRaw raw
   go true k =
       let same : made ≡ raw = cc in
-      let above = variables_known-size 0 declared.arity in
+      let above = variables_known-size phase 0 declared.arity in
       let below = variables-size 0 declared.arity in
       subst IsSmallRaw same (half_is_small made (omega arith))
   go false k = cc
 
-constructors_small : (items : List Declared) (from : ℕ) → AllByRecursion (λ d. d.arity ≤ most_arguments) items → AllByRecursion IsSmallRaw (filter_map constructor_applied (enumerate_from from items))
-constructors_small [] from few = tt
-constructors_small (d ∷ ds) from few = go (constructor_applied (from, d)) refl (constructors_small ds (from + 1) few.1) where
-  go : (o : Option (Clause Term)) → constructor_applied (from, d) ≡ o → AllByRecursion IsSmallRaw (filter_map constructor_applied (enumerate_from (from + 1) ds)) → AllByRecursion IsSmallRaw (cons_option o (filter_map constructor_applied (enumerate_from (from + 1) ds)))
+constructors_small : (phase : ℕ) (items : List Declared) (from : ℕ) → AllByRecursion (λ d. d.arity ≤ most_arguments) items → AllByRecursion IsSmallRaw (filter_map (constructor_applied phase) (enumerate_from from items))
+constructors_small phase [] from few = tt
+constructors_small phase (d ∷ ds) from few = go (constructor_applied phase (from, d)) refl (constructors_small phase ds (from + 1) few.1) where
+  go : (o : Option (Clause Term)) → constructor_applied phase (from, d) ≡ o → AllByRecursion IsSmallRaw (filter_map (constructor_applied phase) (enumerate_from (from + 1) ds)) → AllByRecursion IsSmallRaw (cons_option o (filter_map (constructor_applied phase) (enumerate_from (from + 1) ds)))
   go None e others = others
-  go (Some raw) e others = (constructor_small from d few.0 raw e, others)
+  go (Some raw) e others = (constructor_small phase from d few.0 raw e, others)
 
-rule_small : (P : Protocol) (rule : Rule) → IsSmallRule rule → IsSmallRaw (rule_applied P rule)
-rule_small P rule small =
-    let left = known-size P (rule_leaf 0) rule_leaf-size rule.left in
-    let right = converted-size P (rule_leaf 0) rule_leaf-size rule.right in
-    let few = small.arguments in
-    let symbols = small.symbols in
-    half_is_small (rule_applied P rule) (omega arith)
+module _ (P : Protocol) (phase : ℕ) where
+  rule_small : (rule : Rule) → IsSmallRule rule → IsSmallRaw (rule_applied P phase rule)
+  rule_small rule small =
+      let left = known-size P (rule_leaf 0) rule_leaf-size phase rule.left in
+      let right = converted-size P (rule_leaf 0) rule_leaf-size rule.right in
+      let few = small.arguments in
+      let symbols = small.symbols in
+      half_is_small (rule_applied P phase rule) (omega arith)
 
-rules_small : (P : Protocol) (rules : List Rule) → AllByRecursion IsSmallRule rules → AllByRecursion IsSmallRaw (map (rule_applied P) rules)
-rules_small P [] small = tt
-rules_small P (rule ∷ rules) small = (rule_small P rule small.0, rules_small P rules small.1)
+  rules_small : (rules : List Rule) → AllByRecursion IsSmallRule rules → AllByRecursion IsSmallRaw (map (rule_applied P phase) rules)
+  rules_small [] small = tt
+  rules_small (rule ∷ rules) small = (rule_small rule small.0, rules_small rules small.1)
 
-destructors_small : (P : Protocol) (ds : List Destructor) → AllByRecursion IsSmallDestructor ds → AllByRecursion IsSmallRaw (flat_map (λ d. map (rule_applied P) d.rules) ds)
-destructors_small P [] small = tt
-destructors_small P (d ∷ ds) small = all_append IsSmallRaw (map (rule_applied P) d.rules) (flat_map (λ d. map (rule_applied P) d.rules) ds) (rules_small P d.rules small.0.rules) (destructors_small P ds small.1)
+  destructors_small : (ds : List Destructor) → AllByRecursion IsSmallDestructor ds → AllByRecursion IsSmallRaw (flat_map (λ d. map (rule_applied P phase) d.rules) ds)
+  destructors_small [] small = tt
+  destructors_small (d ∷ ds) small = all_append IsSmallRaw (map (rule_applied P phase) d.rules) (flat_map (λ d. map (rule_applied P phase) d.rules) ds) (rules_small d.rules small.0.rules) (destructors_small ds small.1)
+
+  done_small : IsWithinLimits P → AllByRecursion IsSmallRaw (done_in P phase)
+  done_small limits =
+      let rules = flat_map (λ d. map (rule_applied P phase) d.rules) P.destructors in
+      let network = message_heard phase ∷ message_sent phase ∷ [] in
+      let last = all_append IsSmallRaw rules network (destructors_small P.destructors limits.destructors) (half_is_small (message_heard phase) (omega arith), (half_is_small (message_sent phase) (omega arith), tt)) in
+      all_append IsSmallRaw (filter_map (constructor_applied phase) (enumerate_from 1 P.constructors)) (rules ++ network) (constructors_small phase P.constructors 1 limits.constructors) last
+
+done_after_small : (P : Protocol) → IsWithinLimits P → (phase count : ℕ) → AllByRecursion IsSmallRaw (done_after P phase count)
+done_after_small P limits phase zero = tt
+done_after_small P limits phase (suc count) = (
+  half_is_small (kept_known phase) (omega arith),
+  all_append IsSmallRaw (done_in P (phase + 1)) (done_after P (phase + 1) count) (done_small P (phase + 1) limits) (done_after_small P limits (phase + 1) count),
+)
 
 pub attacker_small : (P : Protocol) → IsWithinLimits P → AllByRecursion IsSmallRaw (attacker_raw P)
 attacker_small P limits =
     let names = filter_map name_known (enumerate_from 1 P.frees) in
-    let constructors = filter_map constructor_applied (enumerate_from 1 P.constructors) in
-    let rules = flat_map (λ d. map (rule_applied P) d.rules) P.destructors in
-    let network = message_heard ∷ message_sent ∷ [] in
-    let last = all_append IsSmallRaw rules network (destructors_small P P.destructors limits.destructors) (half_is_small message_heard (omega arith), (half_is_small message_sent (omega arith), tt)) in
-    all_append IsSmallRaw names (fresh_known ∷ (constructors ++ (rules ++ network)))
+    let later = done_after P 0 (greatest_phase P.main) in
+    all_append IsSmallRaw names (fresh_known ∷ (done_in P 0 ++ later))
     (all_filter_map IsSmallRaw name_known name_small (enumerate_from 1 P.frees))
-    (half_is_small fresh_known (omega arith), all_append IsSmallRaw constructors (rules ++ network) (constructors_small P.constructors 1 limits.constructors) last)
+    (half_is_small fresh_known (omega arith), all_append IsSmallRaw (done_in P 0) later (done_small P 0 limits) (done_after_small P limits 0 (greatest_phase P.main)))
 
--- the names of a restriction have fewer arguments than points stand on the way to it
-arguments_below : (above bound : ℕ) (process : Process) → above + height process ≤ bound → AllByRecursion (λ n. n < bound) (name_arguments above process)
-arguments_below above bound Nil h = (omega arith, tt)
-arguments_below above bound (Output channel message next) h = (omega arith, arguments_below above bound next (omega arith))
-arguments_below above bound (Input channel pattern next) h = (omega arith, arguments_below (above + 1) bound next (omega arith))
-arguments_below above bound (Parallel left right) h =
-    (omega arith, all_append (λ n. n < bound) (name_arguments above left) (name_arguments above right) (arguments_below above bound left (omega arith)) (arguments_below above bound right (omega arith)))
-arguments_below above bound (Replication copied) h = (omega arith, arguments_below (above + 1) bound copied (omega arith))
-arguments_below above bound (New word next) h = (omega arith, arguments_below above bound next (omega arith))
-arguments_below above bound (Let pattern expression next otherwise) h =
-    (omega arith, all_append (λ n. n < bound) (name_arguments above next) (name_arguments above otherwise) (arguments_below above bound next (omega arith)) (arguments_below above bound otherwise (omega arith)))
-arguments_below above bound (Event performed next) h = (omega arith, arguments_below above bound next (omega arith))
+-- The names of a restriction have an argument for each input and copy on the way to it, and no more than the limit of arguments for each
+-- entry that is taken.
+arguments_below : (above bound : ℕ) (process : Process) → above + most_arguments * height process < bound + most_arguments → AreSmallEntries process → AllByRecursion (λ n. n < bound) (name_arguments above process)
+arguments_below above bound Nil h small = (omega arith, tt)
+arguments_below above bound (Output channel message next) h small = (omega arith, arguments_below above bound next (omega arith) small)
+arguments_below above bound (Input channel pattern next) h small = (omega arith, arguments_below (above + 1) bound next (omega arith) small)
+arguments_below above bound (Parallel left right) h small =
+    (omega arith, all_append (λ n. n < bound) (name_arguments above left) (name_arguments above right) (arguments_below above bound left (omega arith) small.0) (arguments_below above bound right (omega arith) small.1))
+arguments_below above bound (Replication copied) h small = (omega arith, arguments_below (above + 1) bound copied (omega arith) small)
+arguments_below above bound (New word next) h small = (omega arith, arguments_below above bound next (omega arith) small)
+arguments_below above bound (Let pattern expression next otherwise) h small =
+    (omega arith, all_append (λ n. n < bound) (name_arguments above next) (name_arguments above otherwise) (arguments_below above bound next (omega arith) small.0) (arguments_below above bound otherwise (omega arith) small.1))
+arguments_below above bound (Event performed next) h small = (omega arith, arguments_below above bound next (omega arith) small)
+arguments_below above bound (Phase number next) h small = (omega arith, arguments_below above bound next (omega arith) small)
+arguments_below above bound (Insert table arguments next) h small = (omega arith, arguments_below above bound next (omega arith) small)
+arguments_below above bound (Get table patterns condition next otherwise) h small =
+    let few = small.0 in
+    let behind = above + length patterns in
+    (omega arith, all_append (λ n. n < bound) (name_arguments behind next) (name_arguments above otherwise) (arguments_below behind bound next (omega arith) small.1) (arguments_below above bound otherwise (omega arith) small.2))
 
 got_below : (bound : ℕ) → 0 < bound → (xs : List ℕ) → AllByRecursion (λ n. n < bound) xs → (i : ℕ) → unwrap_or (slice_get xs i) 0 < bound
 got_below bound some [] all i = some
@@ -157,8 +176,12 @@ numbered_below : (bound : ℕ) → 0 < bound → (xs : List ℕ) → AllByRecurs
 numbered_below bound some xs all zero = some
 numbered_below bound some xs all (suc i) = got_below bound some xs all i
 
-pub arguments_few : (P : Protocol) (point : ℕ) → height P.main ≤ 1 + most_points_above → arguments_at P point < 1 + most_points_above
-arguments_few P point way = numbered_below (1 + most_points_above) (omega arith) (name_arguments 0 P.main) (arguments_below 0 (1 + most_points_above) P.main (omega arith)) point
+pub arguments_few : (P : Protocol) (point : ℕ) → IsWithinLimits P → arguments_at P point ≤ most_arguments * most_points_above
+arguments_few P point limits =
+    let bound = 1 + most_arguments * most_points_above in
+    let way = limits.way in
+    let below = numbered_below bound (omega arith) (name_arguments 0 P.main) (arguments_below 0 bound P.main (omega arith) limits.entries) point in
+    omega (arith, below)
 
 -- an event has no more variables than symbols
 filter-length : {X : Type 0} (p : X → Bool) (xs : List X) → length (filter p xs) ≤ length xs
@@ -204,16 +227,15 @@ bad-size : (xs : List ℕ) → total size (map (λ i. query_leaf (Variable i)) x
 bad-size [] = refl
 bad-size (x ∷ xs) = omega (arith, bad-size xs)
 
--- The goal's raw clause: of a message at most 2,002 symbols, of a name at most 514, and of an event at most 4,000; this one is flat.
+-- The goal's raw clause: of a message at most 2,002 symbols, of a name at most 8,179, and of an event at most 4,000; this one is flat.
 pub goal_small : (P : Protocol) (q : Query) → IsWithinLimits P → IsSmallQuery q → is_large_raw (goal_raw P q) ≡ false
-goal_small P (Secret message) limits small =
+goal_small P (Secret message phase) limits small =
     let same = converted-size P query_leaf query_leaf-size message in
-    half_is_small (goal_raw P (Secret message)) (omega arith)
-goal_small P (SecretNew point) limits small =
-    let way = limits.way in
-    let few = arguments_few P point way in
+    half_is_small (goal_raw P (Secret message phase)) (omega arith)
+goal_small P (SecretNew point phase) limits small =
+    let few = arguments_few P point limits in
     let same = variables-size 0 (arguments_at P point) in
-    half_is_small (goal_raw P (SecretNew point)) (omega arith)
+    half_is_small (goal_raw P (SecretNew point phase)) (omega arith)
 goal_small P (Correspondence left alternatives) limits small =
     let raw = goal_raw P (Correspondence left alternatives) in
     let event = small.0 in

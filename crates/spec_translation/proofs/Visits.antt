@@ -2,7 +2,7 @@
 use Rattle.std.proofs.Common.{◌≡◌, ◌∙◌, ℕ, ◌<◌, not, ◌||◌, List, [], ◌∷◌, ◌++◌, map, refl, ap, sym}
 use Rattle.std.specs.Prelude.{flat_map, nat_le}
 use Rattle.std.specs.List.{AllByRecursion, list_any}
-use Rattle.spec_trees.specs.Tree.{bind, after}
+use Rattle.spec_trees.specs.Tree.{Leaf, bind, after}
 use Rattle.spec_trees.proofs.Substitution.{bind-bind}
 use Rattle.spec_calculus.specs.Syntax.{Process, Protocol}
 use Rattle.spec_calculus.specs.Syntax as calculus
@@ -10,9 +10,11 @@ use Rattle.spec_calculus.specs.Bounds.{most_symbols}
 use Rattle.spec_calculus.specs.Limits.{terms_at}
 use Rattle.spec_terms.specs.Term.{Term, Subst}
 use Rattle.spec_clauses.specs.Fact.{Fact, terms_of, fact_under, fact_size}
+use Rattle.spec_clauses.specs.Diff.{Diff, diff_variables, diff_under}
 use Rattle.spec_clauses.specs.Variables.{leaves, IsBelow, AreBelow}
 use Rattle.spec_clauses.specs.Renaming.{AreVariants}
 use Rattle.spec_clauses.proofs.Lists.{all_first, all_second, all_weaker, map_same}
+use Rattle.spec_clauses.proofs.Diffs.{diff_under-diff_under, diff_under-agree}
 use Rattle.spec_clauses.proofs.Facts.{facts_under-facts_under, map_facts-agree, bind-agree_on}
 use Rattle.spec_translation.specs.Conversion.{Scope, term_in}
 use Rattle.spec_translation.specs.Visit.{Visit, standing_under, visit_under, visit_terms, is_large_term, is_large_visit, evaluates_large, is_public_channel, sent, raw_clause}
@@ -30,13 +32,19 @@ scope_under-scope_under s t (b ∷ bs) =
     let first = bind-bind s t b.term in
     let others = scope_under-scope_under s t bs in λ i. record { name = b.name; term = first i } ∷ others i
 
+pub diffs_under-diffs_under : (s t : Subst) (ds : List Diff) → map (diff_under s) (map (diff_under t) ds) ≡ map (diff_under (after s t)) ds
+diffs_under-diffs_under s t [] = refl
+diffs_under-diffs_under s t (d ∷ ds) =
+    let first = diff_under-diff_under s t d in let others = diffs_under-diffs_under s t ds in λ i. first i ∷ others i
+
 pub visit_under-visit_under : (s t : Subst) (v : Visit) → visit_under s (visit_under t v) ≡ visit_under (after s t) v
 visit_under-visit_under s t v =
     let scopes = scope_under-scope_under s t v.scope in
     let facts = facts_under-facts_under s t v.hypotheses in
+    let diffs = diffs_under-diffs_under s t v.diffs in
     let messages = terms_under-terms_under s t v.messages in
     let sessions = terms_under-terms_under s t v.sessions in
-    λ i. record { scope = scopes i; hypotheses = facts i; messages = messages i; sessions = sessions i }
+    λ i. record { scope = scopes i; hypotheses = facts i; diffs = diffs i; messages = messages i; sessions = sessions i; phase = v.phase }
 
 -- Two substitutions with the same terms for the variables below n do the same to what is below n.
 module _ (s t : Subst) (n : ℕ) (same : (x : ℕ) → x < n → s x ≡ t x) where
@@ -58,17 +66,30 @@ module _ (s t : Subst) (n : ℕ) (same : (x : ℕ) → x < n → s x ≡ t x) wh
   pub facts_agree : (hs : List (Fact Term)) → AreBelow n (flat_map terms_of hs) → map (fact_under s) hs ≡ map (fact_under t) hs
   facts_agree hs b = map_facts-agree (bind s) (bind t) hs (all_agree (flat_map terms_of hs) b)
 
+  leaves_agree : (xs : List ℕ) → AreBelow n (map Leaf xs) → AllByRecursion (λ x. s x ≡ t x) xs
+  leaves_agree [] b = tt
+  leaves_agree (x ∷ xs) b = (same x b.0.0, leaves_agree xs b.1)
+
+  diffs_agree : (ds : List Diff) → AllByRecursion (λ x. s x ≡ t x) (flat_map diff_variables ds) → map (diff_under s) ds ≡ map (diff_under t) ds
+  diffs_agree [] a = refl
+  diffs_agree (d ∷ ds) a =
+      let first = diff_under-agree s t d (all_first (λ x. s x ≡ t x) (diff_variables d) (flat_map diff_variables ds) a) in
+      let others = diffs_agree ds (all_second (λ x. s x ≡ t x) (diff_variables d) (flat_map diff_variables ds) a) in λ i. first i ∷ others i
+
   pub visit_agree : (v : Visit) → AreBelow n (visit_terms v) → visit_under s v ≡ visit_under t v
   visit_agree v b =
       let scope_terms = map (λ b. b.term) v.scope in
       let fact_terms = flat_map terms_of v.hypotheses in
-      let behind = all_second (IsBelow n) scope_terms (fact_terms ++ (v.messages ++ v.sessions)) b in
-      let last = all_second (IsBelow n) fact_terms (v.messages ++ v.sessions) behind in
-      let scopes = scope_agree v.scope (all_first (IsBelow n) scope_terms (fact_terms ++ (v.messages ++ v.sessions)) b) in
-      let facts = facts_agree v.hypotheses (all_first (IsBelow n) fact_terms (v.messages ++ v.sessions) behind) in
-      let messages = terms_agree v.messages (all_first (IsBelow n) v.messages v.sessions last) in
-      let sessions = terms_agree v.sessions (all_second (IsBelow n) v.messages v.sessions last) in
-      λ i. record { scope = scopes i; hypotheses = facts i; messages = messages i; sessions = sessions i }
+      let own = map Leaf (flat_map diff_variables v.diffs) in
+      let behind = all_second (IsBelow n) scope_terms (fact_terms ++ (v.messages ++ (v.sessions ++ own))) b in
+      let last = all_second (IsBelow n) fact_terms (v.messages ++ (v.sessions ++ own)) behind in
+      let very_last = all_second (IsBelow n) v.messages (v.sessions ++ own) last in
+      let scopes = scope_agree v.scope (all_first (IsBelow n) scope_terms (fact_terms ++ (v.messages ++ (v.sessions ++ own))) b) in
+      let facts = facts_agree v.hypotheses (all_first (IsBelow n) fact_terms (v.messages ++ (v.sessions ++ own)) behind) in
+      let diffs = diffs_agree v.diffs (leaves_agree (flat_map diff_variables v.diffs) (all_second (IsBelow n) v.sessions own very_last)) in
+      let messages = terms_agree v.messages (all_first (IsBelow n) v.messages (v.sessions ++ own) last) in
+      let sessions = terms_agree v.sessions (all_first (IsBelow n) v.sessions own very_last) in
+      λ i. record { scope = scopes i; hypotheses = facts i; diffs = diffs i; messages = messages i; sessions = sessions i; phase = v.phase }
 
 -- a visit is led back: t undoes what s does to it
 abbrev pub IsLedBack : Subst → Subst → Visit → Type 0
@@ -96,6 +117,14 @@ channel_public P s t v e channel = public-back P s t (term_in P v.scope channel)
 -- what is large of a visit that is led back is so of its instance
 large_term-back : (s t : Subst) (u : Term) → bind t (bind s u) ≡ u → is_large_term (bind s u) ≡ is_large_term u
 large_term-back s t u e = ap (λ n. not (nat_le n most_symbols)) (size-back s t u e)
+
+pub large_terms-back : (s t : Subst) (us : List Term) → map (bind t) (map (bind s) us) ≡ us → list_any is_large_term (map (bind s) us) ≡ list_any is_large_term us
+large_terms-back s t [] e = refl
+large_terms-back s t (u ∷ us) e =
+    let heads : bind t (bind s u) ≡ u = cc in
+    let tails : map (bind t) (map (bind s) us) ≡ us = cc in
+    let first = large_term-back s t u heads in
+    let others = large_terms-back s t us tails in λ i. first i || others i
 
 large_scope-back : (s t : Subst) (scope : Scope) → map (standing_under t) (map (standing_under s) scope) ≡ scope → list_any (λ b. is_large_term b.term) (map (standing_under s) scope) ≡ list_any (λ b. is_large_term b.term) scope
 large_scope-back s t [] e = refl
@@ -132,16 +161,16 @@ pub raw_alike : (s t : Subst) (v : Visit) (f g : Fact Term) → IsLedBack s t v 
 raw_alike s t v f g e there again = record {
   by = s;
   back = t;
-  there = λ i. record { hypotheses = map (fact_under s) v.hypotheses; conclusion = there i };
-  again = λ i. record { hypotheses = (e i).hypotheses; conclusion = again i };
+  there = λ i. record { hypotheses = map (fact_under s) v.hypotheses; diffs = map (diff_under s) v.diffs; conclusion = there i };
+  again = λ i. record { hypotheses = (e i).hypotheses; diffs = (e i).diffs; conclusion = again i };
 }
 
 -- what is sent at a visit, under a substitution that is led back
-pub sent_there : (P : Protocol) (s t : Subst) (v : Visit) → IsLedBack s t v → (channel message : calculus.Term) → fact_under s (sent P (term_in P v.scope channel) (term_in P v.scope message)) ≡ sent P (term_in P (map (standing_under s) v.scope) channel) (term_in P (map (standing_under s) v.scope) message)
+pub sent_there : (P : Protocol) (s t : Subst) (v : Visit) → IsLedBack s t v → (channel message : calculus.Term) → fact_under s (sent P v.phase (term_in P v.scope channel) (term_in P v.scope message)) ≡ sent P v.phase (term_in P (map (standing_under s) v.scope) channel) (term_in P (map (standing_under s) v.scope) message)
 sent_there P s t v e channel message =
     let to = term_in-under P s v.scope channel in
     let what = term_in-under P s v.scope message in
-    sent-under P s (term_in P v.scope channel) (term_in P v.scope message) (channel_public P s t v e channel) ∙ (λ i. sent P (sym to i) (sym what i))
+    sent-under P s v.phase (term_in P v.scope channel) (term_in P v.scope message) (channel_public P s t v e channel) ∙ (λ i. sent P v.phase (sym to i) (sym what i))
 
 -- what s leads to is led back by t, where t leads back
 pub led_there : (s t : Subst) (v : Visit) → IsLedBack s t v → IsLedBack t s (visit_under s v)

@@ -1,6 +1,6 @@
 -- An expression whose rules are chosen, as terms: what it is, and which terms have to become one for all of its rules to apply
 -- (Blanchet 2016, section 3.3.2: the translation of the evaluation of destructors).
-use Rattle.std.specs.Prelude.{ℕ, ◌+◌, max, List, [], ◌∷◌, ◌++◌, map}
+use Rattle.std.specs.Prelude.{ℕ, ◌+◌, max, Bool, true, ◌&&◌, nat_eq, List, [], ◌∷◌, ◌++◌, map, length}
 use Rattle.spec_trees.specs.Tree.{Tree, Trees, Leaf, Node, none, more, items_of}
 use Rattle.spec_calculus.specs.Syntax.{Name, Free, Made, Variable, Head, Builds, Calls, Rule, Ruled, Protocol}
 use Rattle.spec_calculus.specs.Syntax as calculus
@@ -28,6 +28,17 @@ abbrev mutual
   pub row_width : Trees calculus.Term (Head Rule) → ℕ
   row_width none = 0
   row_width (more part parts) = width part + row_width parts
+
+-- whether each rule has as many left sides as there are arguments, as where it applies
+abbrev mutual
+  pub fits : Ruled → Bool
+  fits (Leaf term) = true
+  fits (Node (Builds f) parts) = row_fits parts
+  fits (Node (Calls rule) parts) = row_fits parts && nat_eq (length rule.left) (row_length parts)
+
+  pub row_fits : Trees calculus.Term (Head Rule) → Bool
+  row_fits none = true
+  row_fits (more part parts) = fits part && row_fits parts
 
 -- how terms of the process are read, and those of rules, whose variables are new from a base on
 module _ {X : Type 0} (P : Protocol) (term_of : calculus.Term → Tree X Sym) (rule_term_of : ℕ → calculus.Term → Tree X Sym) where

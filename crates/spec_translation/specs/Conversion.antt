@@ -25,13 +25,13 @@ abbrev pub symbol_over : Protocol → ℕ → Symbol → Sym
 symbol_over P count (Constructor f) = cond (is_data P (Constructor f)) (Data f) (Ctor f)
 symbol_over P count calculus.Tuple = Tuple count
 
--- a tree of the protocol, each leaf as the term that it stands for
+-- a tree of the protocol, each leaf as the tree that it stands for
 abbrev mutual
-  pub converted : {L : Type 0} → Protocol → (L → Term) → Tree L Symbol → Term
+  pub converted : {L X : Type 0} → Protocol → (L → Tree X Sym) → Tree L Symbol → Tree X Sym
   converted P leaf (Leaf x) = leaf x
   converted P leaf (Node f ts) = Node (symbol_over P (row_length ts) f) (converted_row P leaf ts)
 
-  pub converted_row : {L : Type 0} → Protocol → (L → Term) → Trees L Symbol → Trees ℕ Sym
+  pub converted_row : {L X : Type 0} → Protocol → (L → Tree X Sym) → Trees L Symbol → Trees X Sym
   converted_row P leaf none = none
   converted_row P leaf (more t ts) = more (converted P leaf t) (converted_row P leaf ts)
 

@@ -35,10 +35,11 @@ arguments_at P point = unwrap_or (numbered (name_arguments 0 P.main) point) 0
 
 -- the goal's raw clause
 abbrev pub goal_raw : Protocol → Query → Clause Term
-goal_raw P (Secret message) = record { hypotheses = Att (query_term P message) ∷ []; conclusion = Bad [] }
-goal_raw P (SecretNew point) = record { hypotheses = Att (node (Point point) (variables_from 0 (arguments_at P point))) ∷ []; conclusion = Bad [] }
+goal_raw P (Secret message phase) = record { hypotheses = Att phase (query_term P message) ∷ []; diffs = []; conclusion = Bad [] }
+goal_raw P (SecretNew point phase) = record { hypotheses = Att phase (node (Point point) (variables_from 0 (arguments_at P point))) ∷ []; diffs = []; conclusion = Bad [] }
 goal_raw P (Correspondence left alternatives) = record {
   hypotheses = Ev left.event (map (query_term P) left.arguments) ∷ [];
+  diffs = [];
   conclusion = Bad (map (λ i. query_leaf (Variable i)) (event_variables left));
 }
 

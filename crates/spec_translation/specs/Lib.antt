@@ -3,9 +3,11 @@ pub mod Attacker
 pub mod Goal
 pub mod Visit
 pub mod Applied
+pub mod Otherwise
 pub mod Choice
 pub mod Course
 pub mod Visited
 pub mod Translation
 pub mod Satisfied
 pub mod Placement
+pub mod Plain

@@ -27,8 +27,8 @@ pub record IsMet (P : Protocol) (left : EventTerm) (alternatives : List (List Ev
 
 -- a secrecy query is satisfied by no clause
 abbrev pub IsSatisfied : Protocol → Query → Clause Term → Type 0
-IsSatisfied P (Secret message) c = ⊥
-IsSatisfied P (SecretNew point) c = ⊥
+IsSatisfied P (Secret message phase) c = ⊥
+IsSatisfied P (SecretNew point phase) c = ⊥
 IsSatisfied P (Correspondence left alternatives) c = IsMet P left alternatives c
 
 -- each solved clause of the list with conclusion `bad` is satisfied

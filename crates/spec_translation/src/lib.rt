@@ -2,22 +2,26 @@
 //! have empty bodies, and say in their contracts what holds of the definitions.
 #![tactic(auto)]
 
-ghost use Rattle.std.specs.Prelude.{◌≡◌, ℕ, ◌≤◌, Option, Some, None, List, ◌++◌, false, true, [], ◌∷◌, length, map};
+ghost use Rattle.std.specs.Prelude.{◌≡◌, ℕ, ◌*◌, ◌≤◌, Option, Some, None, List, ◌++◌, false, true, [], ◌∷◌, length, map};
 ghost use Rattle.std.specs.List.{AllByRecursion};
 ghost use Rattle.spec_trees.specs.Tree.{Leaf, bind};
 ghost use Rattle.spec_calculus.specs.Syntax.{Bind, Pattern, Expression, Ruled, Query, Protocol};
 ghost use Rattle.spec_calculus.specs.Syntax as calculus;
-ghost use Rattle.spec_calculus.specs.Bounds.{most_symbols, most_points_above};
+ghost use Rattle.spec_calculus.specs.Choices.{choices};
+ghost use Rattle.spec_calculus.specs.Bounds.{most_arguments, most_symbols, most_points_above};
 ghost use Rattle.spec_well_formed.specs.Limits.{IsSmallQuery, IsWithinLimits};
+ghost use Rattle.spec_well_formed.specs.Signature.{signature_of};
+ghost use Rattle.spec_well_formed.specs.Terms.{EachSymbol, TakesParts};
 ghost use Rattle.spec_terms.specs.Term.{Term, Subst};
-ghost use Rattle.spec_clauses.specs.Fact.{Clause, clause_terms};
-ghost use Rattle.spec_clauses.specs.Variables.{leaves, fact_variables, AreBelow};
+ghost use Rattle.spec_clauses.specs.Fact.{Clause};
+ghost use Rattle.spec_clauses.specs.Variables.{leaves, fact_variables, all_terms, AreBelow};
 ghost use Rattle.spec_clauses.specs.Norm.{IsNormal};
 ghost use Rattle.spec_clauses.specs.Limits.{is_large_raw, IsWithinLimit};
 ghost use Rattle.spec_clauses.specs.Inclusion.{Has};
-ghost use Rattle.spec_translation.specs.Conversion.{StandsFor, term_in, rule_term};
+ghost use Rattle.spec_translation.specs.Conversion.{Scope, StandsFor, term_in, rule_term};
 ghost use Rattle.spec_translation.specs.Visit.{Visit, bound, visit_terms, is_large_visit};
 ghost use Rattle.spec_translation.specs.Applied.{ruled_arguments, ruled_sides};
+ghost use Rattle.spec_translation.specs.Otherwise.{choice_diff, choice_diffs};
 ghost use Rattle.spec_translation.specs.Choice.{ChoiceGoesOn, AllGoOn};
 ghost use Rattle.spec_translation.specs.Visited.{some_large};
 ghost use Rattle.spec_translation.specs.Translation.{Translated, Clauses, IsTranslation};
@@ -26,6 +30,7 @@ ghost use Rattle.spec_translation.specs.Attacker.{attacker_raw};
 ghost use Rattle.spec_translation.specs.Goal.{arguments_at, goal_raw};
 ghost use Rattle.spec_translation.specs.Satisfied.{is_bad};
 ghost use Rattle.spec_translation.specs.Placement.{IsWellPlaced};
+ghost use Rattle.spec_translation.specs.Plain.{IsPlain, IsPlainQuery, IsPlainClause, plain_attacker};
 
 /// A protocol and a query have one translation at most: the same clauses in the same order, or the same point,
 /// whatever new variables and most general unifiers are taken.
@@ -97,18 +102,36 @@ pub fn translations_are_within_the_limit()
         Has all c → IsWithinLimit c }
 {}
 
-/// There are few variables. A restricted name has an argument for each input and each copy above its restriction, and so
-/// no more than points may stand above one. Of a visit that isn't too large, each term that a variable stands for and each
-/// hypothesis has no more occurrences of variables than the limit of size has symbols. Variables of a translation's clauses
-/// have numbers below that limit.
+/// There are few variables. A restricted name has an argument for each input, each copy and each term of an entry above its
+/// restriction, and so no more than points may stand above one, each with the terms of an entry. Of a visit that isn't too
+/// large, each term that a variable stands for and each hypothesis has no more occurrences of variables than the limit of size
+/// has symbols. Variables of a translation's clauses have numbers below that limit.
 pub fn variables_are_few()
     ensures names { (P : Protocol) (point : ℕ) → IsWithinLimits P →
-        arguments_at P point ≤ most_points_above }
+        arguments_at P point ≤ most_arguments * most_points_above }
     ensures scope { (v : Visit) → is_large_visit v ≡ false →
         AllByRecursion (λ (b : StandsFor). length (leaves b.term) ≤ most_symbols) v.scope }
     ensures hypotheses { (v : Visit) → is_large_visit v ≡ false →
         AllByRecursion (λ h. length (fact_variables h) ≤ most_symbols) v.hypotheses }
     ensures clauses { (P : Protocol) (q : Query) (all : List (Clause Term)) (c : Clause Term) →
         IsWithinLimits P → IsSmallQuery q → IsTranslation P q (Clauses all) →
-        Has all c → AreBelow most_symbols (clause_terms c) }
+        Has all c → AreBelow most_symbols (all_terms c) }
+{}
+
+/// A protocol that waits for no phase and has no use of tables is translated as one without these: the attacker's raw clauses
+/// are those of phase 0 alone, and where the query is of phase 0, or about events, so is each fact of each clause, and none is
+/// of a table. No clause has constraints, since else branches, which alone could, add none.
+pub fn plain_protocols_have_plain_clauses()
+    ensures attacker { (P : Protocol) → IsPlain P.main → attacker_raw P ≡ plain_attacker P }
+    ensures clauses { (P : Protocol) (q : Query) (all : List (Clause Term)) (c : Clause Term) →
+        IsPlain P.main → IsPlainQuery q → IsTranslation P q (Clauses all) → Has all c →
+        IsPlainClause c }
+{}
+
+/// What excludes the else branch of a `let` is one constraint for each choice of rules, in order, where each destructor of the
+/// expression takes as many arguments as its rules have left sides, as in each protocol that was read.
+pub fn else_branches_have_a_constraint_for_each_choice()
+    ensures { (P : Protocol) (scope : Scope) (pattern : Pattern) (e : Expression) →
+        EachSymbol (TakesParts (signature_of P)) e → choice_diffs P scope pattern e
+        ≡ map (λ c. choice_diff P scope pattern c.ruled) (choices P e) }
 {}

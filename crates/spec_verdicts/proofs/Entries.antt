@@ -7,7 +7,7 @@ use Rattle.spec_well_formed.specs.Limits.{IsSmallQuery, IsWithinLimits}
 use Rattle.spec_trees.specs.Tree.{bind}
 use Rattle.spec_terms.specs.Term.{Term, Subst}
 use Rattle.spec_terms.specs.Unifier.{moved}
-use Rattle.spec_clauses.specs.Fact.{Fact, Att, Mess, Ev, Mev, Bad, Clause, outline, fact_under}
+use Rattle.spec_clauses.specs.Fact.{Fact, Att, Mess, Tab, Ev, Mev, Bad, Clause, outline, fact_under}
 use Rattle.spec_clauses.specs.Selection.{Selection}
 use Rattle.spec_clauses.specs.Norm.{norms}
 use Rattle.spec_clauses.specs.Limits.{is_large_raw}
@@ -89,12 +89,14 @@ module _ (Q : Clause Term → Type 0) (given : List (Clause Term)) (first : (c :
 
 -- how many arguments `bad` has
 arguments_alike : (n : ℕ) (f g : Fact Term) → outline f ≡ outline g → HasArguments n g → HasArguments n f
-arguments_alike n (Att t) g e h = tt
-arguments_alike n (Mess t u) g e h = tt
+arguments_alike n (Att p t) g e h = tt
+arguments_alike n (Mess p t u) g e h = tt
+arguments_alike n (Tab k ts) g e h = tt
 arguments_alike n (Ev k ts) g e h = tt
 arguments_alike n (Mev k ts) g e h = tt
-arguments_alike n (Bad ts) (Att t) e h = cc
-arguments_alike n (Bad ts) (Mess t u) e h = cc
+arguments_alike n (Bad ts) (Att p t) e h = cc
+arguments_alike n (Bad ts) (Mess p t u) e h = cc
+arguments_alike n (Bad ts) (Tab k us) e h = cc
 arguments_alike n (Bad ts) (Ev k us) e h = cc
 arguments_alike n (Bad ts) (Mev k us) e h = cc
 arguments_alike n (Bad ts) (Bad us) e h =
@@ -102,22 +104,24 @@ arguments_alike n (Bad ts) (Bad us) e h =
     sym (length-map ts (λ t. tt {0})) ∙ (ap length same ∙ (length-map us (λ t. tt {0}) ∙ h))
 
 arguments_under : (n : ℕ) (s : Subst) (f : Fact Term) → HasArguments n f → HasArguments n (fact_under s f)
-arguments_under n s (Att t) h = tt
-arguments_under n s (Mess t u) h = tt
+arguments_under n s (Att p t) h = tt
+arguments_under n s (Mess p t u) h = tt
+arguments_under n s (Tab k ts) h = tt
 arguments_under n s (Ev k ts) h = tt
 arguments_under n s (Mev k ts) h = tt
 arguments_under n s (Bad ts) h = length-map ts (bind s) ∙ h
 
 not_bad_arguments : (n : ℕ) (f : Fact Term) → is_bad f ≡ false → HasArguments n f
-not_bad_arguments n (Att t) e = tt
-not_bad_arguments n (Mess t u) e = tt
+not_bad_arguments n (Att p t) e = tt
+not_bad_arguments n (Mess p t u) e = tt
+not_bad_arguments n (Tab k ts) e = tt
 not_bad_arguments n (Ev k ts) e = tt
 not_bad_arguments n (Mev k ts) e = tt
 not_bad_arguments n (Bad ts) e = cc
 
 raw_arguments : (P : Protocol) (q : Query) → HasArguments (bad_arguments q) (goal_raw P q).conclusion
-raw_arguments P (Secret message) = refl
-raw_arguments P (SecretNew point) = refl
+raw_arguments P (Secret message phase) = refl
+raw_arguments P (SecretNew point phase) = refl
 raw_arguments P (Correspondence left alternatives) = length-map (event_variables left) (λ i. query_leaf (Variable i))
 
 -- resolvents are norms of a raw clause that isn't large

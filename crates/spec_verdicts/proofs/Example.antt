@@ -1,5 +1,5 @@
 -- The worked example: its translation, its log, which is closed, and its certificate.
-use Rattle.std.proofs.Common.{◌≡◌, ◌∙◌, ℕ, zero, suc, ◌<◌, ◌≤◌, Bool, true, false, cond, nat_eq, Some, None, List, [], ◌∷◌, ◌++◌, length, refl, ap, sym, subst, inl, inr, eqb-true, arith}
+use Rattle.std.proofs.Common.{◌≡◌, ◌∙◌, ℕ, zero, suc, ◌<◌, ◌≤◌, true, false, Some, None, List, [], ◌∷◌, ◌++◌, length, refl, ap, sym, subst, inl, inr, arith}
 use Rattle.std.specs.List.{AllByRecursion}
 use Rattle.spec_trees.specs.Tree.{Leaf, node}
 use Rattle.spec_calculus.specs.Points.{numbered}
@@ -43,7 +43,7 @@ not_subsumed : (a b : Clause Term) → IsApart a b → Subsumes a b → ⊥
 not_subsumed a b apart h = apart h.by h.conclusion
 
 listens_more : (c : Clause Term) → c.hypotheses ≡ [] → Subsumes listens c → ⊥
-listens_more c none h = go (subst (λ hs. Picks hs (fact_under h.by (Mess (Leaf 1) (Leaf 0))) h.within.0) none h.within.1)
+listens_more c none h = go (subst (λ hs. Picks hs (fact_under h.by (Mess 0 (Leaf 1) (Leaf 0))) h.within.0) none h.within.1)
   where
     go : {x : Fact Term} {rest : List (Fact Term)} → Picks [] x rest → ⊥
     go p = elim p [ ]
@@ -144,10 +144,10 @@ log_live =
 
 -- What the pairs give: nothing.
 listening : Selection
-listening = record { index = 0; fact = Mess (Leaf 1) (Leaf 0); others = Att (Leaf 1) ∷ [] }
+listening = record { index = 0; fact = Mess 0 (Leaf 1) (Leaf 0); others = Att 0 (Leaf 1) ∷ [] }
 
 asking : Selection
-asking = record { index = 0; fact = Att (node (Free 2) []); others = [] }
+asking = record { index = 0; fact = Att 0 (node (Free 2) []); others = [] }
 
 knows_listening : Resolves knows listens listening NoUnifier
 unfolding listening
@@ -173,7 +173,7 @@ sends_asking = (None, record { offset = 2; apart = ((omega arith, tt), ((omega a
 sends_listening : Resolves sends listens listening (Resolvents [])
 unfolding listening
 sends_listening = (
-  Some (clause (Att (Leaf 0) ∷ Att (Leaf 1) ∷ Att (Leaf 0) ∷ []) (Att (Leaf 1))),
+  Some (clause (Att 0 (Leaf 0) ∷ Att 0 (Leaf 1) ∷ Att 0 (Leaf 0) ∷ []) (Att 0 (Leaf 1))),
   record {
     offset = 2;
     apart = ((omega arith, tt), ((omega arith, tt), ((omega arith, tt), ((omega arith, tt), tt))));
@@ -363,15 +363,15 @@ least_asks (suc q ∷ qs) h (inr same) = none_before qs same.1
 
 five_covered : AreFirstCovers five five five_rows.rows
 five_covered = (
-  first_row knows knows [] _ [] refl tt refl (record { by = Leaf; distinct = refl; conclusion = refl; firmly = refl; loosely = tt }) (λ qs h b. none_before qs b),
+  first_row knows knows [] _ [] refl tt refl (record { by = Leaf; distinct = refl; conclusion = refl; firmly = refl; loosely = tt; diffs = tt }) (λ qs h b. none_before qs b),
   (
-    first_row makes makes (knows ∷ []) _ [] refl (knows_makes, tt) refl (record { by = Leaf; distinct = refl; conclusion = refl; firmly = refl; loosely = tt }) (λ qs h b. none_before qs b),
+    first_row makes makes (knows ∷ []) _ [] refl (knows_makes, tt) refl (record { by = Leaf; distinct = refl; conclusion = refl; firmly = refl; loosely = tt; diffs = tt }) (λ qs h b. none_before qs b),
     (
-      first_row listens listens (knows ∷ makes ∷ []) _ (1 ∷ []) refl (knows_listens, (makes_listens, tt)) refl (record { by = Leaf; distinct = refl; conclusion = refl; firmly = refl; loosely = (_, here, tt) }) least_listens,
+      first_row listens listens (knows ∷ makes ∷ []) _ (1 ∷ []) refl (knows_listens, (makes_listens, tt)) refl (record { by = Leaf; distinct = refl; conclusion = refl; firmly = refl; loosely = (_, here, tt); diffs = tt }) least_listens,
       (
-        first_row sends sends (knows ∷ makes ∷ listens ∷ []) _ [] refl (knows_sends, (makes_sends, (listens_sends, tt))) refl (record { by = Leaf; distinct = refl; conclusion = refl; firmly = refl; loosely = (_, here, (_, here, tt)) }) (λ qs h b. none_before qs b),
+        first_row sends sends (knows ∷ makes ∷ listens ∷ []) _ [] refl (knows_sends, (makes_sends, (listens_sends, tt))) refl (record { by = Leaf; distinct = refl; conclusion = refl; firmly = refl; loosely = (_, here, (_, here, tt)); diffs = tt }) (λ qs h b. none_before qs b),
         (
-          first_row asks asks (knows ∷ makes ∷ listens ∷ sends ∷ []) _ (1 ∷ []) refl (knows_asks, (makes_asks, (listens_asks, (sends_asks, tt)))) refl (record { by = Leaf; distinct = refl; conclusion = refl; firmly = refl; loosely = tt }) least_asks,
+          first_row asks asks (knows ∷ makes ∷ listens ∷ sends ∷ []) _ (1 ∷ []) refl (knows_asks, (makes_asks, (listens_asks, (sends_asks, tt)))) refl (record { by = Leaf; distinct = refl; conclusion = refl; firmly = refl; loosely = tt; diffs = tt }) least_asks,
           tt,
         ),
       ),

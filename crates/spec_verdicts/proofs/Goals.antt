@@ -16,8 +16,8 @@ use Rattle.spec_verdicts.specs.FirstRows.{AreFirstGoals, bad_clauses}
 
 -- a row that holds shows that the clause is satisfied
 pub goal_satisfies : (P : Protocol) (q : Query) (row : List ℕ) (c : Clause Term) → GoalHolds P q row c → IsSatisfied P q c
-goal_satisfies P (Secret message) row c h = h
-goal_satisfies P (SecretNew point) row c h = h
+goal_satisfies P (Secret message phase) row c h = h
+goal_satisfies P (SecretNew point phase) row c h = h
 goal_satisfies P (Correspondence left alternatives) [] c h = absurd h
 goal_satisfies P (Correspondence left alternatives) (n ∷ positions) c h = (rows_tell P left alternatives c).1 (n, positions, h)
 

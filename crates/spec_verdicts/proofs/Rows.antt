@@ -44,8 +44,8 @@ events_length P left alternatives c n row h =
     sym (length-map row (hypothesis_at c.hypotheses)) ∙ (sym (ap length h.events) ∙ length-map h.alternative (λ e. Some (fact_under h.by (required P e))))
 
 goal_order : (P : Protocol) (q : Query) (c : Clause Term) (row other : List ℕ) → GoalHolds P q row c → GoalHolds P q other c → Order row other
-goal_order P (Secret message) c row other a b = absurd a
-goal_order P (SecretNew point) c row other a b = absurd a
+goal_order P (Secret message phase) c row other a b = absurd a
+goal_order P (SecretNew point phase) c row other a b = absurd a
 goal_order P (Correspondence left alternatives) c [] other a b = absurd a
 goal_order P (Correspondence left alternatives) c (n ∷ ps) [] a b = absurd b
 goal_order P (Correspondence left alternatives) c (n ∷ ps) (m ∷ qs) a b = order_numbered n m ps qs (λ same.

@@ -1,5 +1,5 @@
 -- What is proved is shown: the clauses of a first certificate close the translation, and show the query.
-use Rattle.std.proofs.Common.{◌≡◌, ℕ, ◌+◌, Some, None, List, [], ◌∷◌, ◌++◌, sym, subst, inl, inr}
+use Rattle.std.proofs.Common.{◌≡◌, ℕ, ◌+◌, Some, List, [], ◌∷◌, ◌++◌, sym, subst, inl, inr}
 use Rattle.std.specs.List.{list_all}
 use Rattle.spec_trees.proofs.Equality.{and_true}
 use Rattle.spec_calculus.specs.Syntax.{Query, Protocol}

@@ -11,7 +11,7 @@ use Rattle.spec_certificates.specs.Certificate.{Certificate}
 
 -- free c. private free s. query attacker(s). process 0
 abbrev pub kept : Query
-kept = Secret (Leaf (calculus.Free 2))
+kept = Secret (Leaf (calculus.Free 2)) 0
 
 abbrev pub quiet : Protocol
 quiet = record {
@@ -19,28 +19,29 @@ quiet = record {
   constructors = [];
   destructors = [];
   events = [];
+  tables = [];
   queries = kept ∷ [];
   main = Nil;
 }
 
 abbrev pub clause : List (Fact Term) → Fact Term → Clause Term
-clause hypotheses conclusion = record { hypotheses = hypotheses; conclusion = conclusion }
+clause hypotheses conclusion = record { hypotheses = hypotheses; diffs = []; conclusion = conclusion }
 
 -- `=> att(c)`, `=> att(@[v0])`, `mess(v1,v0), att(v1) => att(v0)`, `att(v0), att(v1) => mess(v0,v1)`, `att(s) => bad()`
 abbrev pub knows : Clause Term
-knows = clause [] (Att (node (Free 1) []))
+knows = clause [] (Att 0 (node (Free 1) []))
 
 abbrev pub makes : Clause Term
-makes = clause [] (Att (node Attacker (Leaf 0 ∷ [])))
+makes = clause [] (Att 0 (node Attacker (Leaf 0 ∷ [])))
 
 abbrev pub listens : Clause Term
-listens = clause (Mess (Leaf 1) (Leaf 0) ∷ Att (Leaf 1) ∷ []) (Att (Leaf 0))
+listens = clause (Mess 0 (Leaf 1) (Leaf 0) ∷ Att 0 (Leaf 1) ∷ []) (Att 0 (Leaf 0))
 
 abbrev pub sends : Clause Term
-sends = clause (Att (Leaf 0) ∷ Att (Leaf 1) ∷ []) (Mess (Leaf 0) (Leaf 1))
+sends = clause (Att 0 (Leaf 0) ∷ Att 0 (Leaf 1) ∷ []) (Mess 0 (Leaf 0) (Leaf 1))
 
 abbrev pub asks : Clause Term
-asks = clause (Att (node (Free 2) []) ∷ []) (Bad [])
+asks = clause (Att 0 (node (Free 2) []) ∷ []) (Bad [])
 
 abbrev pub five : List (Clause Term)
 five = knows ∷ makes ∷ listens ∷ sends ∷ asks ∷ []

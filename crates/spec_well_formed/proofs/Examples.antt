@@ -1,15 +1,15 @@
 -- Small rules, patterns, queries and processes, worked out by hand: what the definitions take, and what they refuse.
-use Rattle.std.proofs.Common.{◌≡◌, ℕ, zero, suc, ◌<◌, ap, sym, subst, ◌∙◌, true, false, List, [], ◌∷◌, length, codes, Contains, refl, arith}
+use Rattle.std.proofs.Common.{◌≡◌, ℕ, zero, suc, ◌<◌, ap, sym, subst, ◌∙◌, true, false, List, [], ◌∷◌, length, None, Some, codes, Contains, refl, arith}
 use Rattle.std.specs.List.{AllByRecursion}
 use Rattle.spec_trees.specs.Tree.{Leaf, node}
-use Rattle.spec_calculus.specs.Syntax.{Name, Free, Made, Variable, Constructor, Tuple, Term, Bind, Pattern, Builds, Calls, Expression, Rule, Nil, Output, Input, New, Declared, Destructor, Secret, SecretNew, Correspondence, Protocol}
+use Rattle.spec_calculus.specs.Syntax.{Name, Free, Made, Variable, Constructor, Tuple, Term, Bind, Pattern, Builds, Calls, Expression, Rule, Nil, Output, Input, New, Phase, Insert, Get, Declared, Destructor, Secret, SecretNew, Correspondence, Protocol}
 use Rattle.spec_calculus.specs.Points.{is_restriction}
 use Rattle.spec_calculus.specs.Matching.{IsLinear}
 use Rattle.spec_well_formed.specs.Signature.{Signature, signature_of}
 use Rattle.spec_well_formed.specs.Rules.{IsProperRule}
 use Rattle.spec_well_formed.specs.Queries.{HasQueryLeaves}
-use Rattle.spec_well_formed.specs.Terms.{IsTermBelow, HasRulesFor, IsExpressionBelow}
-use Rattle.spec_well_formed.specs.Processes.{IsProcessBelow, HasLinearPatterns, height}
+use Rattle.spec_well_formed.specs.Terms.{IsTermBelow, HasArity, HasRulesFor, IsExpressionBelow}
+use Rattle.spec_well_formed.specs.Processes.{IsProcessBelow, HasLinearPatterns, ArePhasesOrdered, height}
 
 abbrev x : Term
 x = Leaf (Variable 1)
@@ -59,7 +59,7 @@ pairing = record { word = codes "pair"; arity = 2; public = true; is_data = fals
 
 -- free c. fun pair/2. process new a; out(c, a)
 abbrev sends : Protocol
-sends = record { frees = channel ∷ []; constructors = pairing ∷ []; destructors = []; events = []; queries = []; main = New (codes "a") (Output (Leaf (Free 1)) (Leaf (Made 1)) Nil) }
+sends = record { frees = channel ∷ []; constructors = pairing ∷ []; destructors = []; events = []; tables = []; queries = []; main = New (codes "a") (Output (Leaf (Free 1)) (Leaf (Made 1)) Nil) }
 
 abbrev signature : Signature
 signature = signature_of sends
@@ -94,16 +94,16 @@ one_argument h =
     differ 1 2 (omega arith) (sym (ap (λ (d : Declared). d.arity) same ∙ a.is))
 
 -- queries of the restriction at point 1, of a secret, and of one with a variable
-asks_a : HasQueryLeaves sends (SecretNew 1)
-asks_a = record { node = sends.main; stands = refl; restricts = refl }
+asks_a : HasQueryLeaves sends (SecretNew 1 0)
+asks_a = (record { node = sends.main; stands = refl; restricts = refl }, omega arith)
 
-asks_point_two : HasQueryLeaves sends (SecretNew 2) → ⊥
+asks_point_two : HasQueryLeaves sends (SecretNew 2 0) → ⊥
 asks_point_two h =
-    let same : Output (Leaf (Free 1)) (Leaf (Made 1)) Nil ≡ h.node = (let found = h.stands in cc) in
-    let no : false ≡ true = ap is_restriction same ∙ h.restricts in cc
+    let same : Output (Leaf (Free 1)) (Leaf (Made 1)) Nil ≡ h.0.node = (let found = h.0.stands in cc) in
+    let no : false ≡ true = ap is_restriction same ∙ h.0.restricts in cc
 
-asks_a_variable : HasQueryLeaves sends (Secret x) → ⊥
-asks_a_variable h = h.0
+asks_a_variable : HasQueryLeaves sends (Secret x 0) → ⊥
+asks_a_variable h = h.0.0
 
 asks_of_variables : HasQueryLeaves sends (Correspondence (record { event = 1; arguments = x ∷ [] }) ((record { event = 2; arguments = y ∷ x ∷ [] } ∷ []) ∷ []))
 asks_of_variables = ((tt, (tt, (tt, tt))), (omega arith, omega arith, (omega arith, omega arith, (omega arith, omega arith, tt))))
@@ -112,9 +112,49 @@ asks_of_variables = ((tt, (tt, (tt, tt))), (omega arith, omega arith, (omega ari
 three_points : height sends.main ≡ 3
 three_points = refl
 
+-- the process has no phase 1, of which a query could ask
+asks_a_later_phase : HasQueryLeaves sends (Secret (Leaf (Free 1)) 1) → ⊥
+asks_a_later_phase h = let late = h.1 in omega (arith, late)
+
+-- `phase 1; phase 2` comes in order, `phase 1; phase 1` does not
+in_order : ArePhasesOrdered 0 (Phase 1 (Phase 2 Nil))
+in_order = (omega arith, (omega arith, tt))
+
+the_same_phase : ArePhasesOrdered 0 (Phase 1 (Phase 1 Nil)) → ⊥
+the_same_phase h = let late = h.1.0 in omega (arith, late)
+
+-- table keys/1. get keys(x) suchthat x = c in insert keys(x)
+abbrev keys : Declared
+keys = record { word = codes "keys"; arity = 1; public = true; is_data = false }
+
+abbrev with_table : Signature
+with_table = record { frees = channel ∷ []; constructors = []; destructors = []; events = []; tables = keys ∷ [] }
+
+stands_in_table : IsTermBelow with_table (Variable 1 ∷ []) x
+stands_in_table = record { known = ((0, omega arith, refl), tt); arities = tt; few = omega arith }
+
+takes_and_writes : IsProcessBelow with_table [] 1 (Get 1 (Leaf (Bind 1) ∷ []) (Some (x, Leaf (Free 1))) (Insert 1 (x ∷ []) Nil) Nil)
+takes_and_writes = (
+  one_term,
+  record { linear = (tt, tt, (λ i bound. refl)); new = ((λ at. let within = at.1 in omega arith), tt); holes = (tt, tt); arities = (tt, tt) },
+  (stands_in_table, (record { known = ((omega arith, omega arith), tt); arities = tt; few = omega arith }, tt)),
+  (one_term, (stands_in_table, tt), tt),
+  tt,
+)
+  where
+    one_term : HasArity with_table.tables 1 1
+    one_term = record { declared = keys; stands = refl; is = refl }
+
+-- below the else branch nothing of the entry is bound
+not_bound_otherwise : IsProcessBelow with_table [] 1 (Get 1 (Leaf (Bind 1) ∷ []) None Nil (Insert 1 (x ∷ []) Nil)) → ⊥
+not_bound_otherwise h = by h.4.1.0.known.0
+  where
+    by : Contains [] (Variable 1) → ⊥
+    by (k, within, at) = omega (arith, within)
+
 -- dec(dec(c,a),a) is an expression of this signature: two applications of a destructor of one rule
 abbrev deciphering : Signature
-deciphering = record { frees = channel ∷ []; constructors = pairing ∷ []; destructors = record { word = codes "dec"; rules = decryption ∷ [] } ∷ []; events = [] }
+deciphering = record { frees = channel ∷ []; constructors = pairing ∷ []; destructors = record { word = codes "dec"; rules = decryption ∷ [] } ∷ []; events = []; tables = [] }
 
 free_deciphered : IsTermBelow deciphering [] (Leaf (Free 1))
 free_deciphered = record { known = ((omega arith, omega arith), tt); arities = tt; few = omega arith }

@@ -2,7 +2,7 @@
 use Rattle.std.specs.Prelude.{◌≡◌, ℕ, ◌<◌, ◌≤◌, true, List, ◌++◌, length, Some}
 use Rattle.std.specs.List.{AllByRecursion, flat_map}
 use Rattle.spec_calculus.specs.Syntax.{Name, Free, Made, Variable, Process, EventTerm, Query, Secret, SecretNew, Correspondence, Protocol}
-use Rattle.spec_calculus.specs.Points.{numbered, nodes, is_restriction}
+use Rattle.spec_calculus.specs.Points.{numbered, nodes, is_restriction, greatest_phase}
 use Rattle.spec_well_formed.specs.Signature.{Signature, signature_of}
 use Rattle.spec_well_formed.specs.Leaves.{leaves, leaves_of, AreNumbered}
 
@@ -32,10 +32,11 @@ pub record IsRestrictionAt (main : Process) (point : ℕ) : Type 0 where
   pub restricts : is_restriction node ≡ true
 
 -- a secret message holds declared free names and constructors alone; a correspondence declared free names, and variables
--- that are numbered from 1 by first occurrence; and at the point of a restriction that is asked for, there is one
+-- that are numbered from 1 by first occurrence; at the point of a restriction that is asked for, there is one; and no phase is later
+-- than the greatest of the process
 abbrev pub HasLeavesFor : Signature → Process → Query → Type 0
-HasLeavesFor signature main (Secret message) = AllByRecursion (IsDeclaredFree signature) (leaves message)
-HasLeavesFor signature main (SecretNew point) = IsRestrictionAt main point
+HasLeavesFor signature main (Secret message phase) = AllByRecursion (IsDeclaredFree signature) (leaves message) × (phase ≤ greatest_phase main)
+HasLeavesFor signature main (SecretNew point phase) = IsRestrictionAt main point × (phase ≤ greatest_phase main)
 HasLeavesFor signature main (Correspondence left alternatives) =
     AllByRecursion (IsFreeOrVariable signature) (correspondence_leaves left alternatives)
     × AreNumbered (correspondence_leaves left alternatives)

@@ -7,6 +7,7 @@ pub record Signature : Type 0 where
   pub constructors : List Declared
   pub destructors : List Destructor
   pub events : List Declared
+  pub tables : List Declared
 
 abbrev pub signature_of : Protocol → Signature
-signature_of P = record { frees = P.frees; constructors = P.constructors; destructors = P.destructors; events = P.events }
+signature_of P = record { frees = P.frees; constructors = P.constructors; destructors = P.destructors; events = P.events; tables = P.tables }

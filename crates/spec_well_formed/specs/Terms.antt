@@ -2,11 +2,12 @@
 use Rattle.std.specs.Prelude.{◌≡◌, ℕ, ◌+◌, ◌<◌, ◌≤◌, true, List, length, Some, Contains, filter_map, Option, None}
 use Rattle.std.specs.List.{AllByRecursion}
 use Rattle.std.specs.Option.{option_map_or}
-use Rattle.spec_trees.specs.Tree.{Tree, Trees, Leaf, Node, none, more, size}
+use Rattle.spec_trees.specs.Tree.{Tree, Trees, Leaf, Node, none, more, trees, size}
 use Rattle.spec_calculus.specs.Bounds.{most_arguments, most_written_symbols, most_applications, most_choices}
-use Rattle.spec_calculus.specs.Syntax.{Name, Free, Made, Variable, Symbol, Constructor, Tuple, Term, Hole, Bind, Equal, Pattern, Head, Builds, Calls, Expression, EventTerm, Declared, Destructor}
+use Rattle.spec_calculus.specs.Syntax.{Name, Free, Made, Variable, Symbol, Constructor, Tuple, Term, Hole, Bind, Equal, Pattern, Condition, Head, Builds, Calls, Expression, EventTerm, Declared, Destructor}
 use Rattle.spec_calculus.specs.Points.{numbered}
 use Rattle.spec_calculus.specs.Matching.{IsLinear}
+use Rattle.spec_calculus.specs.Tables.{row_pattern, sides}
 use Rattle.spec_calculus.specs.Choices.{applications, row_applications, choice_count}
 use Rattle.spec_well_formed.specs.Signature.{Signature}
 use Rattle.spec_well_formed.specs.Leaves.{leaves}
@@ -83,6 +84,21 @@ pub record IsPatternBelow (signature : Signature) (bound : List Name) (p : Patte
   pub new : AllByRecursion (λ x. Contains bound x → ⊥) (bound_by p)
   pub holes : AllByRecursion (IsHoleBelow signature bound) (leaves p)
   pub arities : EachSymbol (TakesPatterns signature) p
+
+-- the variables that the patterns of a row bind, from left to right
+abbrev pub bound_by_row : List Pattern → List Name
+bound_by_row patterns = bound_by (row_pattern patterns)
+
+-- the same of a row of patterns: all their terms are read before any of them binds
+pub record IsRowBelow (signature : Signature) (bound : List Name) (patterns : List Pattern) : Type 0 where
+  pub linear : IsLinear (row_pattern patterns)
+  pub new : AllByRecursion (λ x. Contains bound x → ⊥) (bound_by_row patterns)
+  pub holes : AllByRecursion (IsHoleBelow signature bound) (leaves (row_pattern patterns))
+  pub arities : EachSymbolInRow (TakesPatterns signature) (trees patterns)
+
+-- a condition where these leaves are bound
+abbrev pub IsConditionBelow : Signature → List Name → Condition → Type 0
+IsConditionBelow signature bound condition = AllByRecursion (IsTermBelow signature bound) (sides condition)
 
 -- all rules of the destructor of that number take so many arguments
 pub record HasRulesFor (signature : Signature) (number arity : ℕ) : Type 0 where

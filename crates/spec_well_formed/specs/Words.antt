@@ -10,6 +10,7 @@ pub data DeclaredName : Type 0 where
   Constructor : (number : ℕ) → DeclaredName
   Destructor : (number : ℕ) → DeclaredName
   Event : (number : ℕ) → DeclaredName
+  Table : (number : ℕ) → DeclaredName
 
 -- its word, where there is one of that number
 abbrev pub word_of : Signature → DeclaredName → Option (List ℕ)
@@ -17,6 +18,7 @@ word_of signature (Free number) = option_map (λ d. d.word) (numbered signature.
 word_of signature (Constructor number) = option_map (λ d. d.word) (numbered signature.constructors number)
 word_of signature (Destructor number) = option_map (λ d. d.word) (numbered signature.destructors number)
 word_of signature (Event number) = option_map (λ d. d.word) (numbered signature.events number)
+word_of signature (Table number) = option_map (λ d. d.word) (numbered signature.tables number)
 
 -- no two declared names have one word
 abbrev pub AreDistinct : Signature → Type 0

@@ -3,7 +3,7 @@ use Rattle.std.proofs.Common.{◌≡◌, ℕ, List, [], ◌∷◌, ◌++◌, dro
 use Rattle.std.specs.Prelude.{codes}
 use Rattle.std.specs.Fmt.{decimal}
 use Rattle.spec_calculus.specs.Syntax.{Protocol}
-use Rattle.spec_clauses.specs.Fact.{Fact, Att, Mess, Ev, Mev, Bad, Clause}
+use Rattle.spec_clauses.specs.Fact.{Fact, Att, Mess, Tab, Ev, Mev, Bad, Clause}
 use Rattle.spec_certificates.specs.Certificate.{Certificate}
 use Rattle.spec_certificate_text.specs.Loose.{Head, Applied, Tupled, Made, Attackers}
 use Rattle.spec_certificate_text.specs.Words.{event_word}
@@ -50,8 +50,9 @@ module _ (P : Protocol) where
   event_followed e (n ∷ ns) k rest = append_assoc (event_word P e) (40 ∷ terms_text number_text P (n ∷ ns) (41 ∷ k)) rest ∙ ap (λ l. event_word P e ++ (40 ∷ l)) (terms_followed (n ∷ ns) (41 ∷ k) rest)
 
   fact_followed : (f : Fact ℕ) (k rest : List ℕ) → fact_over number_text P f k ++ rest ≡ fact_over number_text P f (k ++ rest)
-  fact_followed (Att t) k rest = ap (λ l. codes "att(" ++ l) (terms_followed (t ∷ []) (41 ∷ k) rest)
-  fact_followed (Mess t u) k rest = ap (λ l. codes "mess(" ++ l) (terms_followed (t ∷ u ∷ []) (41 ∷ k) rest)
+  fact_followed (Att phase t) k rest = ap (λ l. codes "att(" ++ l) (terms_followed (t ∷ []) (41 ∷ k) rest)
+  fact_followed (Mess phase t u) k rest = ap (λ l. codes "mess(" ++ l) (terms_followed (t ∷ u ∷ []) (41 ∷ k) rest)
+  fact_followed (Tab n ts) k rest = ap (λ l. codes "tab(" ++ l) (terms_followed ts (41 ∷ k) rest)
   fact_followed (Ev e ts) k rest = ap (λ l. codes "ev(" ++ l) (event_followed e ts (41 ∷ k) rest)
   fact_followed (Mev e ts) k rest = ap (λ l. codes "mev(" ++ l) (event_followed e ts (41 ∷ k) rest)
   fact_followed (Bad ts) k rest = ap (λ l. codes "bad(" ++ l) (terms_followed ts (41 ∷ k) rest)

@@ -1,10 +1,10 @@
 -- A certificate that may stand in a report may be written by a table, if it is not too large for one.
-use Rattle.std.proofs.Common.{List, [], ◌∷◌, ℕ}
+use Rattle.std.proofs.Common.{List, [], ◌∷◌, ℕ, zero, suc}
 use Rattle.std.specs.List.{AllByRecursion}
 use Rattle.spec_trees.specs.Tree.{trees}
 use Rattle.spec_calculus.specs.Syntax.{Protocol}
 use Rattle.spec_terms.specs.Term.{Term}
-use Rattle.spec_clauses.specs.Fact.{Fact, Att, Mess, Ev, Mev, Bad, Clause}
+use Rattle.spec_clauses.specs.Fact.{Fact, Att, Mess, Tab, Ev, Mev, Bad, Clause}
 use Rattle.spec_clauses.proofs.Lists.{all_weaker}
 use Rattle.spec_certificates.specs.Certificate.{Certificate}
 use Rattle.spec_certificate_text.specs.OfProtocol.{IsShort, AreTermsOf, IsFactOf, IsClauseOf}
@@ -17,29 +17,37 @@ terms_are P [] are = tt
 terms_are P (t ∷ ts) are = (are.0.0, terms_are P ts are.1)
 
 hypothesis_is : (P : Protocol) (f : Fact Term) → IsHypothesisOf P f → IsFactOf P f
-hypothesis_is P (Att t) is = is.0
-hypothesis_is P (Mess t u) is = (is.0.0, is.1.0)
+hypothesis_is P (Att zero t) is = is.0
+hypothesis_is P (Att (suc k) t) is = absurd is
+hypothesis_is P (Mess zero t u) is = (is.0.0, is.1.0)
+hypothesis_is P (Mess (suc k) t u) is = absurd is
+hypothesis_is P (Tab n ts) is = absurd is
 hypothesis_is P (Ev e ts) is = (is.0, terms_are P ts is.1)
 hypothesis_is P (Mev e ts) is = (is.0, terms_are P ts is.1)
 hypothesis_is P (Bad ts) is = absurd is
 
 hypothesis_may : (P : Protocol) (f : Fact Term) → IsHypothesisOf P f → MayBeHypothesis f
-hypothesis_may P (Att t) is = tt
-hypothesis_may P (Mess t u) is = tt
+hypothesis_may P (Att phase t) is = tt
+hypothesis_may P (Mess phase t u) is = tt
+hypothesis_may P (Tab n ts) is = tt
 hypothesis_may P (Ev e ts) is = tt
 hypothesis_may P (Mev e ts) is = tt
 hypothesis_may P (Bad ts) is = absurd is
 
 conclusion_is : (P : Protocol) (f : Fact Term) → IsConclusionOf P f → IsFactOf P f
-conclusion_is P (Att t) is = is.0
-conclusion_is P (Mess t u) is = (is.0.0, is.1.0)
+conclusion_is P (Att zero t) is = is.0
+conclusion_is P (Att (suc k) t) is = absurd is
+conclusion_is P (Mess zero t u) is = (is.0.0, is.1.0)
+conclusion_is P (Mess (suc k) t u) is = absurd is
+conclusion_is P (Tab n ts) is = absurd is
 conclusion_is P (Ev e ts) is = (is.0, terms_are P ts is.1)
 conclusion_is P (Mev e ts) is = absurd is
 conclusion_is P (Bad ts) is = terms_are P ts is
 
 conclusion_may : (P : Protocol) (f : Fact Term) → IsConclusionOf P f → MayBeConclusion f
-conclusion_may P (Att t) is = tt
-conclusion_may P (Mess t u) is = tt
+conclusion_may P (Att phase t) is = tt
+conclusion_may P (Mess phase t u) is = tt
+conclusion_may P (Tab n ts) is = tt
 conclusion_may P (Ev e ts) is = tt
 conclusion_may P (Mev e ts) is = absurd is
 conclusion_may P (Bad ts) is = tt
@@ -47,6 +55,7 @@ conclusion_may P (Bad ts) is = tt
 clause_is : (P : Protocol) (c : Clause Term) → IsReadable P c → IsClauseOf P c
 clause_is P c is = record {
   hypotheses = all_weaker (IsHypothesisOf P) (IsFactOf P) (hypothesis_is P) c.hypotheses is.hypotheses;
+  diffs = is.diffs;
   conclusion = conclusion_is P c.conclusion is.conclusion;
 }
 

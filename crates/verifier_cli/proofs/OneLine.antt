@@ -5,14 +5,14 @@ use Rattle.std.proofs.lemmas.List.Folds.{list_all-append}
 use Rattle.std.specs.Fmt.{decimal, digits, digits_onto, digit_glyph}
 use Rattle.std.specs.List.{list_all, AllByRecursion}
 use Rattle.spec_trees.specs.Tree.{Trees, Leaf, Node, none, more, trees}
-use Rattle.spec_calculus.specs.Syntax.{Declared, Process, Nil, Output, Input, Parallel, Replication, New, Let, Event, Protocol}
+use Rattle.spec_calculus.specs.Syntax.{Declared, Process, Nil, Output, Input, Parallel, Replication, New, Let, Event, Phase, Insert, Get, Protocol}
 use Rattle.spec_calculus.specs.Points.{numbered, nodes}
 use Rattle.spec_calculus.proofs.Items.{each-append, each-numbered, if_some-is, if_some-map, if_some-unwrap}
 use Rattle.spec_well_formed.specs.Processes.{EachWord}
 use Rattle.spec_protocol_tokens.specs.Bytes.{is_in_word}
 use Rattle.spec_protocol_scope.specs.Words.{IsIdentifier, IsSymbolWord, HasWords}
 use Rattle.spec_terms.specs.Term.{Sym, Ctor, Data, Tuple, Free, Point, Attacker, Term}
-use Rattle.spec_clauses.specs.Fact.{Fact, Att, Mess, Ev, Mev, Bad, Clause}
+use Rattle.spec_clauses.specs.Fact.{Fact, Att, Mess, Tab, Ev, Mev, Bad, Clause}
 use Rattle.spec_certificate_text.specs.Loose.{Head, Applied, Tupled, Made, Attackers, Loose, LooseRow, opening, closing, onto, row, behind}
 use Rattle.spec_certificate_text.specs.Words.{declared_word, word_of_process, symbol_word, event_word}
 use Rattle.spec_certificate_text.specs.Written.{applied, headed, written, written_row, written_event, written_fact}
@@ -91,6 +91,9 @@ nodes_in_line (Replication copied) each = (refl, nodes_in_line copied each)
 nodes_in_line (New word next) each = (identifier_in_line word each.0, nodes_in_line next each.1)
 nodes_in_line (Let pattern e next otherwise) each = (refl, each-append OnOneLine (nodes next) (nodes otherwise) (nodes_in_line next each.0) (nodes_in_line otherwise each.1))
 nodes_in_line (Event performed next) each = (refl, nodes_in_line next each)
+nodes_in_line (Phase number next) each = (refl, nodes_in_line next each)
+nodes_in_line (Insert table arguments next) each = (refl, nodes_in_line next each)
+nodes_in_line (Get table patterns condition next otherwise) each = (refl, each-append OnOneLine (nodes next) (nodes otherwise) (nodes_in_line next each.0) (nodes_in_line otherwise each.1))
 
 symbol_word_in_line : (d : Declared) → IsSymbolWord d.word → IsOneLine d.word
 symbol_word_in_line d is = identifier_in_line d.word is.0
@@ -175,8 +178,9 @@ event_written_in_line : (P : Protocol) → HasWords P → (event : ℕ) (ts : Li
 event_written_in_line P words event ts = applied_in_line (event_word P event) (written_row P (trees ts)) (event_in_line P words event) (written_row_in_line P words (trees ts))
 
 fact_written_in_line : (P : Protocol) → HasWords P → (f : Fact Term) → LooseInLine (written_fact P f)
-fact_written_in_line P words (Att t) = (refl, (written_in_line P words t, tt))
-fact_written_in_line P words (Mess t u) = (refl, (written_in_line P words t, (written_in_line P words u, tt)))
+fact_written_in_line P words (Att phase t) = (refl, (written_in_line P words t, tt))
+fact_written_in_line P words (Mess phase t u) = (refl, (written_in_line P words t, (written_in_line P words u, tt)))
+fact_written_in_line P words (Tab table ts) = (refl, written_row_in_line P words (trees ts))
 fact_written_in_line P words (Ev event ts) = (refl, (event_written_in_line P words event ts, tt))
 fact_written_in_line P words (Mev event ts) = (refl, (event_written_in_line P words event ts, tt))
 fact_written_in_line P words (Bad ts) = (refl, written_row_in_line P words (trees ts))

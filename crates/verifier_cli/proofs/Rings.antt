@@ -23,7 +23,7 @@ use Rattle.verifier_cli.proofs.Verifying.{Soundness, Laws, none_violated}
 
 -- what a ring asks
 abbrev secret : Query
-secret = Secret (Leaf (Free 2))
+secret = Secret (Leaf (Free 2)) 0
 
 -- how many clauses the law says that it is translated into
 abbrev pub Translates : ℕ → Type 0

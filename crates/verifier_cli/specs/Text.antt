@@ -141,6 +141,7 @@ step_text step.NoRule = codes "6 NoRule"
 step_text step.NotFailing = codes "7 NotFailing"
 step_text step.NotPublic = codes "8 NotPublic"
 step_text step.Large = codes "9 Large"
+step_text step.NoEntry = codes "10 NoEntry"
 
 -- what a replay to the end shows, by the number of its steps and the queries' first violations
 abbrev pub done_text : ℕ → List (Option ℕ) → List ℕ

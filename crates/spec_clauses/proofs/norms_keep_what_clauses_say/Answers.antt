@@ -1,5 +1,5 @@
 use Rattle.spec_clauses.proofs.NormAnswers.{norm-none}
-use Rattle.spec_clauses.proofs.NormKeeps.{norm-size, norm-outline, norm-within}
+use Rattle.spec_clauses.proofs.NormKeeps.{norm-size, norm-outline, norm-within, norm-diffs}
 use Rattle.spec_clauses.proofs.Norm.{norm-variables}
 use Rattle.spec_clauses.proofs.NormNumbers.{norm-below}
 use Rattle.spec_clauses.proofs.norms_keep_what_clauses_say.Goals as goal
@@ -21,3 +21,6 @@ returns-clause-numbers c = norm-variables
 
 pub returns-clause-below : goal.returns-clause-below
 returns-clause-below c = norm-below
+
+pub returns-clause-constraints : goal.returns-clause-constraints
+returns-clause-constraints c = norm-diffs

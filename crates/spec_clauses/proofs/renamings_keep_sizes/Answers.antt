@@ -1,4 +1,5 @@
-use Rattle.spec_clauses.proofs.Renaming.{fact_size-renamed, clause_size-renamed, clause_variables-renamed}
+use Rattle.spec_clauses.proofs.Renaming.{fact_size-renamed, clause_variables-renamed}
+use Rattle.spec_clauses.proofs.ClauseRenaming.{clause_size-renamed}
 use Rattle.spec_clauses.proofs.renamings_keep_sizes.Goals as goal
 
 pub returns-clause-facts : goal.returns-clause-facts

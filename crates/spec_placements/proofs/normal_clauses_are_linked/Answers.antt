@@ -1,5 +1,5 @@
 use Rattle.spec_clauses.proofs.NormKeeps.{own_norm}
-use Rattle.spec_placements.proofs.Linked.{rules_link, linked_first, linked_next}
+use Rattle.spec_placements.proofs.Linked.{rules_link, linked_first, linked_next, linked_loose, linked_diffs, linked_both}
 use Rattle.spec_placements.proofs.normal_clauses_are_linked.Goals as goal
 
 pub returns-clause-normal : goal.returns-clause-normal
@@ -13,3 +13,6 @@ returns-clause-conclusion c = linked_first
 
 pub returns-clause-placed : goal.returns-clause-placed
 returns-clause-placed c = linked_next
+
+pub returns-clause-both : goal.returns-clause-both
+returns-clause-both c = λ bs loose diffs facts. (λ a. (linked_loose bs loose diffs facts a, linked_diffs bs loose diffs facts a), λ a. linked_both bs loose diffs facts a.0 a.1)

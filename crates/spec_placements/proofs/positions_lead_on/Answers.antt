@@ -2,16 +2,16 @@ use Rattle.spec_placements.proofs.Leading.{leads_nowhere, leads_first_nowhere, l
 use Rattle.spec_placements.proofs.positions_lead_on.Goals as goal
 
 pub returns-clause-nowhere : goal.returns-clause-nowhere
-returns-clause-nowhere c = λ hs loose start. (leads_nowhere hs loose start, leads_first_nowhere hs loose start)
+returns-clause-nowhere c = λ hs ending start. (leads_nowhere hs ending start, leads_first_nowhere hs ending start)
 
 pub returns-clause-on : goal.returns-clause-on
-returns-clause-on c = λ hs loose start bs new taken done g h rest p. leads_on hs loose start bs taken done g rest p new h
+returns-clause-on c = λ hs ending start bs new taken done g h rest p. leads_on hs ending start bs taken done g rest p new h
 
 pub returns-clause-first : goal.returns-clause-first
-returns-clause-first c = λ hs loose start bs new taken done g h rest p. leads_first_on hs loose start bs taken done g rest p new h
+returns-clause-first c = λ hs ending start bs new taken done g h rest p. leads_first_on hs ending start bs taken done g rest p new h
 
 pub returns-clause-no_further : goal.returns-clause-no_further
-returns-clause-no_further c = λ hs loose start bs taken done row g rest p. leads_no_further hs loose start bs taken done g rest p row
+returns-clause-no_further c = λ hs ending start bs taken done row g rest p. leads_no_further hs ending start bs taken done g rest p row
 
 pub returns-clause-end : goal.returns-clause-end
 returns-clause-end c = leads_to_end

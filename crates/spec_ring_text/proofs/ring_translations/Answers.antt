@@ -12,5 +12,5 @@ use Rattle.spec_ring_text.proofs.ring_translations.Goals as goal
 
 pub returns : goal.returns
 returns c = λ n two fits.
-    with_keys (λ n. 2 ≤ n → 7 * n + 2 ≤ most_visits → (all : List (Clause Term)) × IsTranslation (ring_protocol n) (Secret (Leaf (Free 2))) (Clauses all) × (length all ≡ n + 8))
+    with_keys (λ n. 2 ≤ n → 7 * n + 2 ≤ most_visits → (all : List (Clause Term)) × IsTranslation (ring_protocol n) (Secret (Leaf (Free 2)) 0) (Clauses all) × (length all ≡ n + 8))
     (λ m more fits. ring_translated m (omega arith) fits) n (omega arith) two fits

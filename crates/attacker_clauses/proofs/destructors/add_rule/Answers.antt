@@ -16,7 +16,7 @@ returns-clause-adds g c =
     let P = protocol_of c.args.protocol.now in
     let rule = rule_of c.args.rule.now in
     let left = shown_terms made made c.in_ok-left.left c.left.inside.items.items c.deref.result.now (map (rule_term P 0) rule.left) (Grows_refl made) c.deref.ensures.value c.left.view_is c.in_ok-left.ensures.left in
-    last_added old made (g.B.Bank.trees c.add_known.new.bank) c.args.list.now c.add_known.new.list (known_clause (map (tree_at made) c.deref.result.now) (tree_at made c.in_ok-left.right) ∷ []) (rule_applied P rule ∷ [])
+    last_added old made (g.B.Bank.trees c.add_known.new.bank) c.args.list.now c.add_known.new.list (known_clause (map (tree_at made) c.deref.result.now) (tree_at made c.in_ok-left.right) ∷ []) (rule_applied P 0 rule ∷ [])
     c.add_known.result c.rename_rule.ensures.grows (rule_listed P rule (map (tree_at made) c.deref.result.now) (tree_at made c.in_ok-left.right) left c.in_ok-left.ensures.right.is) c.add_known.ensures.adds
 
 pub returns-clause-grows : goal.returns-clause-grows

@@ -17,5 +17,5 @@ add_raw-requires g c = record {
 pub returns-clause-adds : goal.returns-clause-adds
 returns-clause-adds g c =
     let old = g.B.Bank.trees c.args.bank.now in
-    last_added old old (g.B.Bank.trees c.add_raw.new.bank) c.args.list.now c.add_raw.new.list (single (map (fact_at old) c.in_ok-hyps.hyps) (tree_at old c.args.last)) (single (map Att (map (tree_at old) c.args.terms.now)) (tree_at old c.args.last))
+    last_added old old (g.B.Bank.trees c.add_raw.new.bank) c.args.list.now c.add_raw.new.list (single (map (fact_at old) c.in_ok-hyps.hyps) (tree_at old c.args.last)) (single (map (Att 0) (map (tree_at old) c.args.terms.now)) (tree_at old c.args.last))
     c.add_raw.result (Grows_refl old) (ap (λ l. single l (tree_at old c.args.last)) (atts_named old c.args.terms.now c.in_ok-hyps.hyps c.in_ok-hyps.ensures)) c.add_raw.ensures.adds

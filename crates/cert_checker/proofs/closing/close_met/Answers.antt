@@ -16,7 +16,7 @@ returns-then-not-may_resolve-clause-closed g c =
     let cs = c.args.checker.now.clauses.now in
     let solving = c.args.solving.now in
     let one = c.args.one in
-    let none : Clause Id = record { hypotheses = []; conclusion = Bad [] } in
+    let none : Clause Id = record { hypotheses = []; diffs = []; conclusion = Bad [] } in
     pair_told_apart all cs c.args.checker.now.rows.now c.args.from solving.solved one.place none none c.requires.solved c.requires.unsolved one.at (fingerprint_seen solving.print) _
     (selected_at all cs one.place one.at none c.requires.unsolved c.requires.selected)
     (c.requires.print (get_or cs solving.solved none) (slice_get-get_or cs solving.solved none c.requires.solved))

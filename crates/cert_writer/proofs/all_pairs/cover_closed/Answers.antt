@@ -1,8 +1,10 @@
-use Rattle.cert_writer.proofs.Telling.{fit_known}
+use Rattle.std.proofs.Common.{◌∙◌, map, option_map, ap, sym}
+use Rattle.fact_fingerprint.specs.Seen.{fingerprint_seen}
+use Rattle.cert_writer.specs.Unsolved.{some_places}
 use Rattle.cert_writer.proofs.all_pairs.cover_closed.Goals as goal
 
-pub begin_with-requires-clause-live : goal.begin_with-requires-clause-live
-begin_with-requires-clause-live g c = fit_known (g.B.Bank.trees c.args.bank.now) c.args.writer.now.live.now c.requires.ready.fit
-
-pub cover_pairs-requires-clause-known : goal.cover_pairs-requires-clause-known
-cover_pairs-requires-clause-known g c = c.none_known-none.ensures.known (g.B.Bank.trees c.args.bank.now)
+pub keep_all-requires-clause-unsolved : goal.keep_all-requires-clause-unsolved
+keep_all-requires-clause-unsolved g c = record {
+  prints = ap (map (option_map fingerprint_seen)) c.deref-2.ensures.value ∙ c.in_ok-prints.ensures;
+  places = c.deref-3.ensures.value ∙ (c.in_ok-places.ensures ∙ ap (some_places 0) (c.deref.ensures.value ∙ sym c.deref-2.ensures.value));
+}

@@ -1,4 +1,4 @@
-use Rattle.std.proofs.Common.{◌≡◌, ◌∙◌, ℕ, List, map, take, length, option_map, ap, sym, subst, arith}
+use Rattle.std.proofs.Common.{◌∙◌, ℕ, List, take, length, sym, subst, arith}
 use Rattle.spec_terms.specs.Term.{Term}
 use Rattle.spec_clauses.specs.Inclusion.{Has}
 use Rattle.spec_certificates.specs.Certificate.{Numbered, numbered_from, pairs_of}
@@ -6,8 +6,7 @@ use Rattle.spec_verdicts.proofs.Building.{take_past}
 use Rattle.clause_form.specs.Seen.{clause_at}
 use Rattle.clause_form.specs.Fit.{IsFit, clauses_at}
 use Rattle.clause_form.proofs.Fit.{clause_fit_at}
-use Rattle.fact_fingerprint.specs.Seen.{fingerprint_seen}
-use Rattle.spec_fingerprints.specs.Fingerprints.{hypothesis_print}
+use Rattle.cert_writer.specs.Unsolved.{AreUnsolved}
 use Rattle.cert_writer.specs.Ready.{IsReady}
 use Rattle.cert_writer.specs.Adding.{AddsPairs, pairs_if_solved, MustClose}
 use Rattle.cert_writer.proofs.Items.{item_at, item_has, numbers_past}
@@ -35,10 +34,9 @@ cover_one-requires-clause-live g c =
 
 pub cover_one-requires-clause-told : goal.cover_one-requires-clause-told
 cover_one-requires-clause-told g c =
-    let same : map (option_map fingerprint_seen) c.deref.result.now ≡ map hypothesis_print (clauses_at (g.B.Bank.trees c.args.bank.now) c.args.writer.now.live.now) = ap (map (option_map fingerprint_seen)) c.deref.ensures.value ∙ c.in_ok-prints.ensures in
     record {
       conclusion = c.conclusion_fingerprint.ensures;
-      hypotheses = same ∙ ap (λ (all : List Term). map hypothesis_print (clauses_at all c.args.writer.now.live.now)) (sym c.each.invariant.bank);
+      unsolved = subst (λ (all : List Term). AreUnsolved all c.args.writer.now.live.now c.args.unsolved.now) (sym c.each.invariant.bank) c.requires.unsolved;
     }
 
 pub cover_one-requires-clause-places : goal.cover_one-requires-clause-places

@@ -7,4 +7,5 @@ invariant-each g l = record {
   bank : g.B.Bank.trees l.bank ≡ g.B.Bank.trees l.fn.bank;
   known : IsKnown (g.B.Bank.trees l.fn.bank) l.known;
   live : l.known.live ≡ l.fn.known.live;
+  given : l.known.given ≡ l.fn.known.given;
 }

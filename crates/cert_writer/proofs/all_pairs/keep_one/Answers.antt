@@ -51,4 +51,4 @@ returns-clause-known g c =
     let adds = λ (i : ℕ). c.in_ok-cover_one.ensures.rows i [] (subst (λ (rs : List (List ℕ)). AddsPairs (clauses_at all live) (pairs_if_solved i clause (take 0 nums)) [] rs) (sym empty) (none_with (clauses_at all live) i clause [])) in
     let are = rows_kept all known live c.requires.begin clause rows c.len-count.result counted adds (c.all_begin_within.ensures c.if-not-all_begin_within.false) in
     kept_more all known live c.requires.begin c.requires.known clause rows _ (subst (λ (n : ℕ). slice_get (clauses_at all live) n ≡ Some clause) placed at) (omega (arith, placed, counted, c.if-place-count.false)) are
-    (λ i. (c.known.view_is i).live) (c.in_ok-push.ensures.items ∙ ap (λ (rs : List (List (List ℕ))). rs ++ rows ∷ []) (λ i. (c.known.view_is i).rows.items))
+    (λ i. (c.known.view_is i).live) (c.in_ok-push.ensures.items ∙ ap (λ (rs : List (List (List ℕ))). rs ++ rows ∷ []) (λ i. (c.known.view_is i).rows.items)) (λ i. (c.known.view_is i).given) (λ i. (c.known.view_is i).covers)

@@ -16,10 +16,10 @@ use Rattle.cert_writer.proofs.Adding.{pair_told_apart}
 use Rattle.cert_writer.proofs.closing.cover_met.Goals as goal
 
 abbrev no_clause : Clause Id
-no_clause = record { hypotheses = []; conclusion = Bad [] }
+no_clause = record { hypotheses = []; diffs = []; conclusion = Bad [] }
 
 pub bounds-solving-place : goal.bounds-solving-place
-bounds-solving-place g c = omega (arith, prints_count (g.B.Bank.trees c.args.bank.now) c.args.writer.now.live.now c.args.solving.now.prints.now c.requires.told.hypotheses, c.requires.place)
+bounds-solving-place g c = omega (arith, prints_count (g.B.Bank.trees c.args.bank.now) c.args.writer.now.live.now c.args.solving.now.unsolved.prints.now c.requires.told.unsolved.prints, c.requires.place)
 
 pub returns-then-not-may_resolve-clause-rows : goal.returns-then-not-may_resolve-clause-rows
 returns-then-not-may_resolve-clause-rows g c = λ d there i j.
@@ -30,7 +30,7 @@ returns-then-not-may_resolve-clause-rows g c = λ d there i j.
     let same : get_or live c.args.place no_clause ≡ d = some_same (sym (slice_get-get_or live c.args.place no_clause c.requires.place) ∙ there) in
     subst (λ (x : Clause Id). AddsPairs (clauses_at all live) (pairs_of_two i solved j (clause_at all x)) c.args.rows.now c.args.rows.now) same
     (pair_told_apart (clauses_at all live) i j solved (clause_at all (get_or live c.args.place no_clause)) c.args.rows.now (fingerprint_seen solving.print) _
-    c.requires.told.conclusion (print_there all live solving.prints.now c.args.place no_clause _ c.requires.told.hypotheses c.requires.place) (sym c.may_resolve.ensures ∙ c.if-not-may_resolve.true)))
+    c.requires.told.conclusion (print_there all live solving.unsolved.prints.now c.args.place no_clause _ c.requires.told.unsolved.prints c.requires.place) (sym c.may_resolve.ensures ∙ c.if-not-may_resolve.true)))
 
 pub cover_pair-requires-clause-unsolved_fit : goal.cover_pair-requires-clause-unsolved_fit
 cover_pair-requires-clause-unsolved_fit g c = fit_in (g.B.Bank.trees c.args.bank.now) c.args.writer.now.live.now c.args.place c.index-writer-place.result c.requires.ready.fit c.requires.place

@@ -14,7 +14,7 @@ use Rattle.cert_writer.proofs.Prints.{prints_count, print_there, no_row}
 use Rattle.cert_writer.proofs.covering.cover_at.Goals as goal
 
 abbrev no_clause : Clause Id
-no_clause = record { hypotheses = []; conclusion = Bad [] }
+no_clause = record { hypotheses = []; diffs = []; conclusion = Bad [] }
 
 pub bounds-writer-place : goal.bounds-writer-place
 bounds-writer-place g c = omega (arith, prints_count (g.B.Bank.trees c.args.bank.now) c.args.writer.now.live.now c.args.writer.now.prints.now c.requires.ready.prints, c.requires.place)

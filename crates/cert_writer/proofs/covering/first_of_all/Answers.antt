@@ -13,7 +13,7 @@ use Rattle.cert_writer.proofs.Items.{item_at, items_past, fit_normal, when_some,
 use Rattle.cert_writer.proofs.covering.first_of_all.Goals as goal
 
 abbrev no_clause : Clause Id
-no_clause = record { hypotheses = []; conclusion = Bad [] }
+no_clause = record { hypotheses = []; diffs = []; conclusion = Bad [] }
 
 pub returns-in-Some : goal.returns-in-Some
 returns-in-Some g c =

@@ -7,7 +7,7 @@ use Rattle.clause_form.proofs.copies.copy_clause.Goals as goal
 pub returns-clause-names : goal.returns-clause-names
 returns-clause-names g c =
     let hyps_are : map plain_fact_of c.deref.result.now ≡ c.args.plain.now.hypotheses = search rules in
-    clause_named (g.B.Bank.trees c.copy_facts.new.bank) (g.B.Bank.trees c.copy_fact.new.bank) c.in_ok-hyps.hyps _ _ c.args.plain.now c.copy_fact.ensures.grows c.in_ok-hyps.ensures.names hyps_are (search rules)
+    clause_named (g.B.Bank.trees c.copy_facts.new.bank) (g.B.Bank.trees c.copy_fact.new.bank) c.in_ok-hyps.hyps _ _ c.args.plain.now c.copy_fact.ensures.grows c.in_ok-hyps.ensures.names hyps_are (search rules) (search rules)
 
 pub returns-in_err-concl-clause-grows : goal.returns-in_err-concl-clause-grows
 returns-in_err-concl-clause-grows g c = Grows_trans (g.B.Bank.trees c.args.bank.now) (g.B.Bank.trees c.copy_facts.new.bank) (g.B.Bank.trees c.copy_fact.new.bank) c.copy_facts.ensures.grows c.copy_fact.ensures.grows

@@ -21,10 +21,10 @@ returns-after-each-clause-parts g t c =
     ∙ sym (data_flat all c.args.id (symbol_of c.in-App.symbol) c.in-App.arguments.now c.in-App.ensures.0 (search rules)))
 
 pub returns-then-not-is_data_symbol-clause-known : goal.returns-then-not-is_data_symbol-clause-known
-returns-then-not-is_data_symbol-clause-known g t c = push_known (g.B.Bank.trees c.args.bank.now) c.args.facts.now _ (Att c.args.id) c.in_ok-push-in-App.ensures.ok c.requires.facts (c.requires.term, tt)
+returns-then-not-is_data_symbol-clause-known g t c = push_known (g.B.Bank.trees c.args.bank.now) c.args.facts.now _ (Att 0 c.args.id) c.in_ok-push-in-App.ensures.ok c.requires.facts (c.requires.term, tt)
 
 pub returns-in_ok-push-in-Var-clause-known : goal.returns-in_ok-push-in-Var-clause-known
-returns-in_ok-push-in-Var-clause-known g t c = push_known (g.B.Bank.trees c.args.bank.now) c.args.facts.now _ (Att c.args.id) c.in_ok-push-in-Var.ensures.ok c.requires.facts (c.requires.term, tt)
+returns-in_ok-push-in-Var-clause-known g t c = push_known (g.B.Bank.trees c.args.bank.now) c.args.facts.now _ (Att 0 c.args.id) c.in_ok-push-in-Var.ensures.ok c.requires.facts (c.requires.term, tt)
 
 pub each-preserved : goal.each-preserved
 each-preserved g t c = grind (arith, common_steps)

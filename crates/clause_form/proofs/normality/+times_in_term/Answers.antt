@@ -1,5 +1,5 @@
 use Rattle.std.proofs.Common.{◌∙◌, ◌+◌, ◌-◌, ◌^◌, min, ap, sym, arith}
-use Rattle.spec_clauses.specs.Variables.{times}
+use Rattle.spec_clauses.specs.FirstPhase.{times}
 use Rattle.term_tree.specs.Bank.{symbol_of}
 use Rattle.clause_form.proofs.Walks.{argument_at}
 use Rattle.clause_form.proofs.Counting.{leaves_at, node_leaves}

@@ -1,6 +1,6 @@
 use Rattle.std.proofs.Common.{◌≡◌, ◌+◌, ◌-◌, ◌^◌, min, take, flat_map}
 use Rattle.spec_trees.specs.Tree.{depth}
-use Rattle.spec_clauses.specs.Variables.{times}
+use Rattle.spec_clauses.specs.FirstPhase.{times}
 use Rattle.term_tree.specs.Bank.{tree_at}
 use Rattle.clause_form.proofs.Counting.{leaves_at}
 use Rattle.clause_form.proofs.normality.+times_in_term.Given as goal

@@ -1,5 +1,6 @@
 use Rattle.std.proofs.Common.{◌≡◌, ◌+◌, ◌-◌, ◌^◌, min, take, flat_map}
-use Rattle.spec_clauses.specs.Variables.{fact_variables, times}
+use Rattle.spec_clauses.specs.Variables.{fact_variables}
+use Rattle.spec_clauses.specs.FirstPhase.{times}
 use Rattle.clause_form.specs.Facts.{fact_of}
 use Rattle.clause_form.specs.Seen.{fact_at}
 use Rattle.clause_form.proofs.normality.times_in_facts.Given as goal

@@ -1,6 +1,7 @@
 use Rattle.std.proofs.Common.{◌∙◌, ◌+◌, ◌-◌, ◌^◌, min, ap, sym}
 use Rattle.std.proofs.lemmas.List.Folds.{flat_map-map}
-use Rattle.spec_clauses.specs.Variables.{leaves, times}
+use Rattle.spec_clauses.specs.Variables.{leaves}
+use Rattle.spec_clauses.specs.FirstPhase.{times}
 use Rattle.term_tree.specs.Bank.{tree_at}
 use Rattle.clause_form.proofs.Walks.{known_at}
 use Rattle.clause_form.proofs.Counting.{leaves_at}

@@ -1,5 +1,5 @@
 use Rattle.std.proofs.Common.{◌≡◌, ◌+◌, ◌-◌, ◌^◌, min, take, flat_map}
-use Rattle.spec_clauses.specs.Variables.{times}
+use Rattle.spec_clauses.specs.FirstPhase.{times}
 use Rattle.clause_form.proofs.Counting.{leaves_at}
 use Rattle.clause_form.proofs.normality.times_in_terms.Given as goal
 

@@ -1,6 +1,6 @@
 use Rattle.std.proofs.Common.{◌≡◌, ℕ, ◌≤◌, nat_eq, length, drop}
 use Rattle.std.specs.HashMap.{get}
-use Rattle.spec_clauses.specs.Variables.{times}
+use Rattle.spec_clauses.specs.FirstPhase.{times}
 use Rattle.clause_form.specs.Tables.{count_of}
 use Rattle.clause_form.proofs.numbers.counts_of.Given as goal
 

@@ -1,5 +1,5 @@
 use Rattle.std.proofs.Common.{◌≡◌, ◌+◌, ◌≤◌, drop}
-use Rattle.spec_clauses.specs.Variables.{times}
+use Rattle.spec_clauses.specs.FirstPhase.{times}
 use Rattle.clause_form.proofs.numbers.times_among.Given as goal
 
 abbrev pub invariant-loop-one : goal.invariant-loop-one

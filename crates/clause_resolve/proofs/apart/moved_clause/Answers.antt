@@ -1,4 +1,4 @@
-use Rattle.std.proofs.Common.{◌≡◌, sym, subst, List, map, rules}
+use Rattle.std.proofs.Common.{◌≡◌, [], sym, subst, List, map, rules}
 use Rattle.spec_clauses.specs.Fact.{Fact}
 use Rattle.term_tree.specs.declared.bank.Id.{Id}
 use Rattle.term_tree.proofs.BankLaws.{Grows_trans}
@@ -24,8 +24,9 @@ pub returns-clause-names : goal.returns-clause-names
 returns-clause-names g c =
     let hyps_are : map fact_of c.deref.result.now ≡ c.args.clause.now.hypotheses = search rules in
     let concl_is : fact_of c.clause-inside.inside.0.1.0 ≡ c.args.clause.now.conclusion = search rules in
+    let none : c.args.clause.now.diffs ≡ [] = search rules in
     clause_moved (g.B.Bank.trees c.args.bank.now) (g.B.Bank.trees c.shifted_facts.new.bank) (g.B.Bank.trees c.shifted_fact.new.bank) c.args.clause.now c.deref.result.now (fact_of c.clause-inside.inside.0.1.0)
-    c.in_ok-hyps.hyps (fact_of c.in_ok-concl.concl) hyps_are concl_is c.requires.known c.shifted_facts.ensures.grows c.shifted_fact.ensures.grows c.in_ok-hyps.ensures.names c.in_ok-concl.ensures.names
+    c.in_ok-hyps.hyps (fact_of c.in_ok-concl.concl) hyps_are concl_is none c.requires.known c.shifted_facts.ensures.grows c.shifted_fact.ensures.grows c.in_ok-hyps.ensures.names c.in_ok-concl.ensures.names
 
 pub returns-in_err-concl-clause-grows : goal.returns-in_err-concl-clause-grows
 returns-in_err-concl-clause-grows g c = Grows_trans (g.B.Bank.trees c.args.bank.now) (g.B.Bank.trees c.shifted_facts.new.bank) (g.B.Bank.trees c.shifted_fact.new.bank) c.shifted_facts.ensures.grows c.shifted_fact.ensures.grows

@@ -1,4 +1,4 @@
-use Rattle.std.proofs.Common.{◌≡◌, sym, subst, List, map, arith, rules}
+use Rattle.std.proofs.Common.{◌≡◌, [], sym, subst, List, map, arith, rules}
 use Rattle.spec_clauses.specs.Fact.{Fact}
 use Rattle.term_tree.specs.declared.bank.Id.{Id}
 use Rattle.term_tree.proofs.BankLaws.{Grows_trans}
@@ -47,8 +47,9 @@ pub returns-clause-apart : goal.returns-clause-apart
 returns-clause-apart g c =
     let hyps_are : map fact_of c.as_slice-facts.result.now ≡ c.args.unsolved.now.hypotheses = search rules in
     let concl_is : fact_of c.unsolved-inside.inside.0.1.0 ≡ c.args.unsolved.now.conclusion = search rules in
+    let none : c.args.unsolved.now.diffs ≡ [] = search rules in
     clause_set_apart (g.B.Bank.trees c.args.bank.now) (g.B.Bank.trees c.shifted_fact.new.bank) (g.B.Bank.trees c.shifted_others.new.bank) (g.B.Bank.trees c.shifted_fact-2.new.bank) c.args.unsolved.now c.args.at c.as_slice-facts.result.now c.index-facts-at.result (fact_of c.unsolved-inside.inside.0.1.0)
-    c.in_ok-selected.selected c.in_ok-hyps.hyps c.in_ok-concl.concl hyps_are concl_is c.requires.known c.requires.selected c.index-facts-at.is c.shifted_fact.ensures.grows c.shifted_others.ensures.grows c.shifted_fact-2.ensures.grows c.in_ok-selected.ensures.names c.in_ok-hyps.ensures.names c.in_ok-concl.ensures.names
+    c.in_ok-selected.selected c.in_ok-hyps.hyps c.in_ok-concl.concl hyps_are concl_is none c.requires.known c.requires.selected c.index-facts-at.is c.shifted_fact.ensures.grows c.shifted_others.ensures.grows c.shifted_fact-2.ensures.grows c.in_ok-selected.ensures.names c.in_ok-hyps.ensures.names c.in_ok-concl.ensures.names
 
 pub returns-in_err-hyps-clause-grows : goal.returns-in_err-hyps-clause-grows
 returns-in_err-hyps-clause-grows g c = Grows_trans (g.B.Bank.trees c.args.bank.now) (g.B.Bank.trees c.shifted_fact.new.bank) (g.B.Bank.trees c.shifted_others.new.bank) c.shifted_fact.ensures.grows c.shifted_others.ensures.grows

@@ -5,18 +5,22 @@ use Rattle.spec_placements.specs.Placing.{loose_variables}
 use Rattle.clause_form.specs.Facts.{fact_of}
 use Rattle.clause_form.specs.Seen.{fact_at}
 use Rattle.clause_form.proofs.Walks.{fact_known_at}
+use Rattle.fact_placing.specs.Boards.{facts_at, in_first}
+use Rattle.fact_placing.proofs.Listing.{loose_on}
 use Rattle.fact_placing.proofs.board.loose_of.Goals as goal
 
 pub loop-hyp-init : goal.loop-hyp-init
 loop-hyp-init g c =
     let all = g.B.Bank.trees c.args.bank.now in
-    ap (λ (found : List ℕ). found ++ loose_variables (map (λ f. fact_at all (fact_of f)) c.args.hyps.now)) c.new-found.ensures.items ∙ ap loose_variables (sym (map-map (fact_at all) fact_of c.args.hyps.now))
+    ap (λ (found : List ℕ). map in_first found ++ loose_variables (map (λ f. fact_at all (fact_of f)) c.args.hyps.now)) c.new-found.ensures.items ∙ ap loose_variables (sym (map-map (fact_at all) fact_of c.args.hyps.now))
 
-pub known_variable-requires : goal.known_variable-requires
-known_variable-requires g c = fact_known_at (g.B.Bank.trees c.args.bank.now) c.args.hyps.now c.loop-hyp.hyp-index c.hyp-item.result c.hyp-item.is c.requires c.loop-hyp-test.true
+pub add_loose-requires : goal.add_loose-requires
+add_loose-requires g c = fact_known_at (g.B.Bank.trees c.args.bank.now) c.args.hyps.now c.loop-hyp.hyp-index c.hyp-item.result c.hyp-item.is c.requires c.loop-hyp-test.true
 
 pub loop-hyp-preserved : goal.loop-hyp-preserved
-loop-hyp-preserved g c = grind (arith, common_steps)
+loop-hyp-preserved g c =
+    let all = g.B.Bank.trees c.args.bank.now in
+    loose_on all c.args.hyps.now c.loop-hyp.hyp-index c.hyp-item.result c.loop-hyp.found.items c.add_loose.new.found.items (loose_variables (facts_at all (map fact_of c.args.hyps.now))) c.loop-hyp-test.true c.hyp-item.is c.in_ok-add_loose.ensures c.loop-hyp.invariant
 
 pub returns : goal.returns
 returns g c = grind (arith, common_steps)

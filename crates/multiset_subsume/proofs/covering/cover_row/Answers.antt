@@ -42,10 +42,10 @@ returns-in-None-clause-row g c =
     let general : Clause Id = with_hypotheses c.args.general.now.hypotheses (fact_of c.general-inside.inside.0.1.0) in
     let special : Clause Id = with_hypotheses (map fact_of c.deref.result.now) (fact_of c.special-inside.inside.0.1.0) in
     let concl : fact_of c.general-inside.inside.0.1.0 ≡ c.args.general.now.conclusion = (λ i. fact_of (c.general-inside.view_is i).concl) ∙ (λ i. (c.general.view_is i).conclusion) in
-    let general_is : general ≡ c.args.general.now = λ i. with_hypotheses c.args.general.now.hypotheses (concl i) in
+    let general_is : general ≡ c.args.general.now = λ i. record { hypotheses = c.args.general.now.hypotheses; diffs = (c.general.view_is i).diffs; conclusion = concl i } in
     let special_hyps : map fact_of c.deref.result.now ≡ c.args.special.now.hypotheses = ap (map fact_of) c.deref.ensures.value ∙ ((λ i. (c.special-inside.view_is i).hyps) ∙ (λ i. (c.special.view_is i).hypotheses)) in
     let special_concl : fact_of c.special-inside.inside.0.1.0 ≡ c.args.special.now.conclusion = (λ i. fact_of (c.special-inside.view_is i).concl) ∙ (λ i. (c.special.view_is i).conclusion) in
-    let special_is : special ≡ c.args.special.now = λ i. with_hypotheses (special_hyps i) (special_concl i) in
+    let special_is : special ≡ c.args.special.now = λ i. record { hypotheses = special_hyps i; diffs = (c.special.view_is i).diffs; conclusion = special_concl i } in
     let none : NoFactMatch [] (fact_at all (fact_of c.general-inside.inside.0.1.0)) (fact_at all (fact_of c.special-inside.inside.0.1.0)) = at_none _ c.in_ok-begun.field-0 (λ placing. IsBegun all (map fact_of c.deref.result.now) (fact_of c.general-inside.inside.0.1.0) (fact_of c.special-inside.inside.0.1.0) placing.binds.pairs placing.taken.items) c.in-None.is c.in_ok-begun.ensures in
     no_row_apart all c.args.general.now c.args.special.now general special general_is special_is (λ s e. none s tt e)
 
@@ -76,10 +76,10 @@ first_row-requires-clause-linked g c =
     let general : Clause Id = with_hypotheses (map fact_of c.deref-in-Some.result.now) (fact_of c.general-inside.inside.0.1.0) in
     let hyps : map fact_of c.deref-in-Some.result.now ≡ c.args.general.now.hypotheses = ap (map fact_of) c.deref-in-Some.ensures.value ∙ ((λ i. (c.general-inside.view_is i).hyps) ∙ (λ i. (c.general.view_is i).hypotheses)) in
     let concl : fact_of c.general-inside.inside.0.1.0 ≡ c.args.general.now.conclusion = (λ i. fact_of (c.general-inside.view_is i).concl) ∙ (λ i. (c.general.view_is i).conclusion) in
-    let e : general ≡ c.args.general.now = λ i. with_hypotheses (hyps i) (concl i) in
+    let e : general ≡ c.args.general.now = λ i. record { hypotheses = hyps i; diffs = (c.general.view_is i).diffs; conclusion = concl i } in
     let begun : IsBegun all (map fact_of c.deref.result.now) (fact_of c.general-inside.inside.0.1.0) (fact_of c.special-inside.inside.0.1.0) c.in-Some.placing.binds.pairs c.in-Some.placing.taken.items = at_some _ c.in_ok-begun.field-0 c.in-Some.placing (λ placing. IsBegun all (map fact_of c.deref.result.now) (fact_of c.general-inside.inside.0.1.0) (fact_of c.special-inside.inside.0.1.0) placing.binds.pairs placing.taken.items) c.in-Some.is c.in_ok-begun.ensures in
     linked_with all c.args.general.now general (fact_of c.special-inside.inside.0.1.0) (map unref c.deref-in-Some-4.result.now) (map unref c.in_ok-facts-in-Some.facts.items) (map fact_of c.deref-in-Some-2.result.now) c.deref-in-Some-3.result.now c.in_ok-loose-in-Some.loose.items
-    e c.requires.normal c.in_ok-facts-in-Some.ensures (ap (map unref) c.deref-in-Some-4.ensures.value) c.in_ok-loose-in-Some.ensures (ap (map fact_of) (c.deref-in-Some-2.ensures.value ∙ sym c.deref-in-Some.ensures.value)) c.deref-in-Some-3.ensures.value
+    e refl c.requires.normal c.in_ok-facts-in-Some.ensures (ap (map unref) c.deref-in-Some-4.ensures.value) c.in_ok-loose-in-Some.ensures (ap (map fact_of) (c.deref-in-Some-2.ensures.value ∙ sym c.deref-in-Some.ensures.value)) c.deref-in-Some-3.ensures.value
     (seen all c.in-Some.placing.binds.pairs) begun.matched
 
 pub returns-in_ok-loose-in-Some-clause-row : goal.returns-in_ok-loose-in-Some-clause-row
@@ -89,13 +89,13 @@ returns-in_ok-loose-in-Some-clause-row g c =
     let special : Clause Id = with_hypotheses (map fact_of c.deref.result.now) (fact_of c.special-inside.inside.0.1.0) in
     let hyps : map fact_of c.deref-in-Some.result.now ≡ c.args.general.now.hypotheses = ap (map fact_of) c.deref-in-Some.ensures.value ∙ ((λ i. (c.general-inside.view_is i).hyps) ∙ (λ i. (c.general.view_is i).hypotheses)) in
     let concl : fact_of c.general-inside.inside.0.1.0 ≡ c.args.general.now.conclusion = (λ i. fact_of (c.general-inside.view_is i).concl) ∙ (λ i. (c.general.view_is i).conclusion) in
-    let general_is : general ≡ c.args.general.now = λ i. with_hypotheses (hyps i) (concl i) in
+    let general_is : general ≡ c.args.general.now = λ i. record { hypotheses = hyps i; diffs = (c.general.view_is i).diffs; conclusion = concl i } in
     let special_hyps : map fact_of c.deref.result.now ≡ c.args.special.now.hypotheses = ap (map fact_of) c.deref.ensures.value ∙ ((λ i. (c.special-inside.view_is i).hyps) ∙ (λ i. (c.special.view_is i).hypotheses)) in
     let special_concl : fact_of c.special-inside.inside.0.1.0 ≡ c.args.special.now.conclusion = (λ i. fact_of (c.special-inside.view_is i).concl) ∙ (λ i. (c.special.view_is i).conclusion) in
-    let special_is : special ≡ c.args.special.now = λ i. with_hypotheses (special_hyps i) (special_concl i) in
+    let special_is : special ≡ c.args.special.now = λ i. record { hypotheses = special_hyps i; diffs = (c.special.view_is i).diffs; conclusion = special_concl i } in
     let begun : IsBegun all (map fact_of c.deref.result.now) (fact_of c.general-inside.inside.0.1.0) (fact_of c.special-inside.inside.0.1.0) c.in-Some.placing.binds.pairs c.in-Some.placing.taken.items = at_some _ c.in_ok-begun.field-0 c.in-Some.placing (λ placing. IsBegun all (map fact_of c.deref.result.now) (fact_of c.general-inside.inside.0.1.0) (fact_of c.special-inside.inside.0.1.0) placing.binds.pairs placing.taken.items) c.in-Some.is c.in_ok-begun.ensures in
     firsts_told all c.args.general.now c.args.special.now general special (map unref c.deref-in-Some-4.result.now) (map unref c.in_ok-facts-in-Some.facts.items) (map fact_of c.deref-in-Some-2.result.now) c.deref-in-Some-3.result.now c.in_ok-loose-in-Some.loose.items c.first_row.result
-    general_is special_is c.in_ok-facts-in-Some.ensures (ap (map unref) c.deref-in-Some-4.ensures.value) c.in_ok-loose-in-Some.ensures (ap (map fact_of) (c.deref-in-Some-2.ensures.value ∙ sym c.deref-in-Some.ensures.value)) c.deref-in-Some-3.ensures.value
+    general_is special_is refl refl c.in_ok-facts-in-Some.ensures (ap (map unref) c.deref-in-Some-4.ensures.value) c.in_ok-loose-in-Some.ensures (ap (map fact_of) (c.deref-in-Some-2.ensures.value ∙ sym c.deref-in-Some.ensures.value)) c.deref-in-Some-3.ensures.value
     (first_with all (map fact_of c.deref.result.now) c.deref-in-Some-3.result.now (map unref c.deref-in-Some-4.result.now) (fact_of c.general-inside.inside.0.1.0) (fact_of c.special-inside.inside.0.1.0) c.in-Some.placing.binds.pairs c.in-Some.placing.taken.items c.first_row.result begun c.first_row.ensures)
 
 pub returns-in_ok-loose-in-Some-clause-subsumes : goal.returns-in_ok-loose-in-Some-clause-subsumes

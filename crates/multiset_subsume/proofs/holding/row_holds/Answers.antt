@@ -1,4 +1,4 @@
-use Rattle.std.proofs.Common.{◌≡◌, ◌∙◌, ap, List, sym, subst, map, Bor}
+use Rattle.std.proofs.Common.{◌≡◌, ◌∙◌, refl, ap, List, sym, subst, map, Bor}
 use Rattle.spec_clauses.specs.Fact as horn
 use Rattle.spec_clauses.specs.Fact.{Clause}
 use Rattle.term_tree.specs.declared.bank.Id.{Id}
@@ -23,9 +23,9 @@ holds_matched-requires-clause-linked g c =
     let general : Clause Id = with_hypotheses (map fact_of c.deref.result.now) (fact_of c.general-inside.inside.0.1.0) in
     let hyps : map fact_of c.deref.result.now ≡ c.args.general.now.hypotheses = ap (map fact_of) c.deref.ensures.value ∙ ((λ i. (c.general-inside.view_is i).hyps) ∙ (λ i. (c.general.view_is i).hypotheses)) in
     let concl : fact_of c.general-inside.inside.0.1.0 ≡ c.args.general.now.conclusion = (λ i. fact_of (c.general-inside.view_is i).concl) ∙ (λ i. (c.general.view_is i).conclusion) in
-    let e : general ≡ c.args.general.now = λ i. with_hypotheses (hyps i) (concl i) in
+    let e : general ≡ c.args.general.now = λ i. record { hypotheses = hyps i; diffs = (c.general.view_is i).diffs; conclusion = concl i } in
     linked_with all c.args.general.now general (fact_of c.special-inside.inside.0.1.0) (map unref c.deref-5.result.now) (map unref c.in_ok-facts.facts.items) (map fact_of c.deref-2.result.now) c.deref-4.result.now c.in_ok-loose.loose.items
-    e c.requires.normal c.in_ok-facts.ensures (ap (map unref) c.deref-5.ensures.value) c.in_ok-loose.ensures (ap (map fact_of) (c.deref-2.ensures.value ∙ sym c.deref.ensures.value)) c.deref-4.ensures.value
+    e refl c.requires.normal c.in_ok-facts.ensures (ap (map unref) c.deref-5.ensures.value) c.in_ok-loose.ensures (ap (map fact_of) (c.deref-2.ensures.value ∙ sym c.deref.ensures.value)) c.deref-4.ensures.value
 
 pub returns : goal.returns
 returns g c =
@@ -34,13 +34,13 @@ returns g c =
     let special : Clause Id = with_hypotheses (map fact_of c.deref-3.result.now) (fact_of c.special-inside.inside.0.1.0) in
     let hyps : map fact_of c.deref.result.now ≡ c.args.general.now.hypotheses = ap (map fact_of) c.deref.ensures.value ∙ ((λ i. (c.general-inside.view_is i).hyps) ∙ (λ i. (c.general.view_is i).hypotheses)) in
     let concl : fact_of c.general-inside.inside.0.1.0 ≡ c.args.general.now.conclusion = (λ i. fact_of (c.general-inside.view_is i).concl) ∙ (λ i. (c.general.view_is i).conclusion) in
-    let general_is : general ≡ c.args.general.now = λ i. with_hypotheses (hyps i) (concl i) in
+    let general_is : general ≡ c.args.general.now = λ i. record { hypotheses = hyps i; diffs = (c.general.view_is i).diffs; conclusion = concl i } in
     let special_hyps : map fact_of c.deref-3.result.now ≡ c.args.special.now.hypotheses = ap (map fact_of) c.deref-3.ensures.value ∙ ((λ i. (c.special-inside.view_is i).hyps) ∙ (λ i. (c.special.view_is i).hypotheses)) in
     let special_concl : fact_of c.special-inside.inside.0.1.0 ≡ c.args.special.now.conclusion = (λ i. fact_of (c.special-inside.view_is i).concl) ∙ (λ i. (c.special.view_is i).conclusion) in
-    let special_is : special ≡ c.args.special.now = λ i. with_hypotheses (special_hyps i) (special_concl i) in
+    let special_is : special ≡ c.args.special.now = λ i. record { hypotheses = special_hyps i; diffs = (c.special.view_is i).diffs; conclusion = special_concl i } in
     let row_is : c.deref-6.result.now ≡ c.args.row.now = c.deref-6.ensures.value ∙ c.row.view_is in
     rows_told all c.args.general.now c.args.special.now general special (map unref c.deref-5.result.now) (map unref c.in_ok-facts.facts.items) (map fact_of c.deref-2.result.now) c.deref-4.result.now c.in_ok-loose.loose.items c.args.row.now c.deref-6.result.now c.holds_matched.result
-    general_is special_is c.in_ok-facts.ensures (ap (map unref) c.deref-5.ensures.value) c.in_ok-loose.ensures (ap (map fact_of) (c.deref-2.ensures.value ∙ sym c.deref.ensures.value)) c.deref-4.ensures.value row_is c.holds_matched.ensures
+    general_is special_is refl refl c.in_ok-facts.ensures (ap (map unref) c.deref-5.ensures.value) c.in_ok-loose.ensures (ap (map fact_of) (c.deref-2.ensures.value ∙ sym c.deref.ensures.value)) c.deref-4.ensures.value row_is c.holds_matched.ensures
 
 pub firm_of-requires : goal.firm_of-requires
 firm_of-requires g c =

@@ -6,12 +6,10 @@ use Rattle.clause_form.specs.declared.facts.Fact.{Fact}
 use Rattle.std.proofs.lemmas.Bool.{MatchBool-at_true, MatchBool-at_false}
 use Rattle.clause_form.specs.Facts.{fact_of}
 use Rattle.clause_form.specs.Seen.{AreFactsIn}
-use Rattle.unify_match.specs.Seen.{seen}
-use Rattle.spec_placements.proofs.Removing.{loose_unplaced}
-use Rattle.fact_placing.specs.Boards.{facts_at, HoldsOn, CanPlaceOn}
+use Rattle.fact_placing.specs.Boards.{HoldsOn, CanPlaceOn}
 use Rattle.fact_placing.proofs.Listing.{unref}
 use Rattle.fact_placing.proofs.Putting.{linked_on, known_ref}
-use Rattle.multiset_subsume.proofs.Along.{at_some}
+use Rattle.multiset_subsume.proofs.Along.{at_some, loose_nowhere}
 use Rattle.multiset_subsume.proofs.Keeping.{is_taken_back_later, as_before-trans, as_back, placing_as, linked_as}
 use Rattle.multiset_subsume.proofs.Searching.{placed_nothing, stand_told, placed_told, linked_front, known_removed, row_length, cannot_stand}
 use Rattle.multiset_subsume.proofs.Parting.{at_none}
@@ -20,7 +18,7 @@ use Rattle.multiset_subsume.proofs.search.+placing.Goals as goal
 pub can_place-returns-then-not-branch-clause-outcome : goal.can_place-returns-then-not-branch-clause-outcome
 can_place-returns-then-not-branch-clause-outcome g t c =
     let all = g.B.Bank.trees c.args.board.now.bank.now in
-    loose_unplaced (seen all c.args.placing.now.binds.pairs) c.args.placing.now.taken.items (facts_at all (map fact_of c.args.board.now.hyps.now)) (facts_at all (map unref c.args.unplaced.now)) c.args.board.now.loose.now
+    loose_nowhere all (map fact_of c.args.board.now.hyps.now) c.args.board.now.loose.now c.args.placing.now.binds.pairs c.args.placing.now.taken.items (map unref c.args.unplaced.now)
     (MatchBool-at_false _ _ c.if-not-branch.true c.in_ok-loose_may_stand.ensures)
 
 pub can_place-returns-then-is_empty-clause-outcome : goal.can_place-returns-then-is_empty-clause-outcome

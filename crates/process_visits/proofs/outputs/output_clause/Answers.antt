@@ -1,4 +1,4 @@
-use Rattle.std.proofs.Common.{sym, subst}
+use Rattle.std.proofs.Common.{refl, sym, subst}
 use Rattle.pi_tree.specs.Terms.{term_of}
 use Rattle.spec_translation.specs.Conversion.{term_in}
 use Rattle.spec_translation.specs.Visit.{sent}
@@ -17,8 +17,8 @@ returns-clause-names g c =
     let new = g.B.Bank.trees c.sent_in.new.bank in
     let P = protocol_at c.args.place.now in
     let v = visit_at old c.args.visit.now in
-    raw_named new c.in_ok-hyps.hyps (fact_of c.in_ok-concl.concl) v (sent P (term_in P v.scope (term_of c.args.channel.now)) (term_in P v.scope (term_of c.args.message.now)))
-    (subst (λ hs. NameFacts new hs v.hypotheses) (sym c.in_ok-hyps.ensures) (hypotheses_later old new c.args.visit.now c.sent_in.ensures.grows c.requires.visit)) c.in_ok-concl.ensures.names
+    raw_named new c.in_ok-hyps.hyps (fact_of c.in_ok-concl.concl) v (sent P 0 (term_in P v.scope (term_of c.args.channel.now)) (term_in P v.scope (term_of c.args.message.now)))
+    (subst (λ hs. NameFacts new hs v.hypotheses) (sym c.in_ok-hyps.ensures) (hypotheses_later old new c.args.visit.now c.sent_in.ensures.grows c.requires.visit)) c.in_ok-concl.ensures.names refl
 
 pub returns-in_err-hyps-clause-grows : goal.returns-in_err-hyps-clause-grows
 returns-in_err-hyps-clause-grows g c = Grows_refl (g.B.Bank.trees c.args.bank.now)

@@ -23,7 +23,7 @@ returns-clause-names g c =
     let scope = c.args.scope.now in
     let first = (Names-grows mid new c.in_ok-channel.channel (term_in P (scope_at old scope) (term_of c.args.channel.now)) c.term_in-2.ensures.grows c.in_ok-channel.ensures.names).is in
     let second = c.in_ok-message.ensures.names.is ∙ ap (λ bound. term_in P bound (term_of c.args.message.now)) (scope_at-grows old mid scope c.term_in.ensures.grows c.requires.scope) in
-    subst (λ f. NamesFact new (fact_of c.sent.result) f) (λ i. sent P (first i) (second i)) c.sent.ensures
+    subst (λ f. NamesFact new (fact_of c.sent.result) f) (λ i. sent P 0 (first i) (second i)) c.sent.ensures
 
 pub returns-in_err-message-clause-grows : goal.returns-in_err-message-clause-grows
 returns-in_err-message-clause-grows g c = Grows_trans (g.B.Bank.trees c.args.bank.now) (g.B.Bank.trees c.term_in.new.bank) (g.B.Bank.trees c.term_in-2.new.bank) c.term_in.ensures.grows c.term_in-2.ensures.grows

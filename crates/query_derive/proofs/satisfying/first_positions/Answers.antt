@@ -38,7 +38,7 @@ returns-clause-none g c =
     let concl_is = ap (λ k. fact_at all (fact_of k.concl)) c.clause-inside.view_is ∙ ap (λ k. fact_at all k.conclusion) c.clause.view_is in
     let step = concluded all sought seen c.in_ok-binds.binds.pairs new _ c.in_ok-binds.ensures.none concl_is (c.in_ok-match_bad.ensures.yes c.if-not-branch.false) in
     if_ok_map c.place.result (λ found. found ≡ None → (row : List ℕ) → ArePlaced all new es hs row → ⊥) (λ found. found ≡ None → (row : List ℕ) → IsRowFor sought seen row → ⊥)
-    (λ found never none row k. never none row (placed_seen all record { conclusion = sought.conclusion; events = es } record { hypotheses = hs; conclusion = seen.conclusion } new sought.events seen.hypotheses row events_are hyps_are (placed_for all new sought seen row step k)))
+    (λ found never none row k. never none row (placed_seen all record { conclusion = sought.conclusion; events = es } record { hypotheses = hs; diffs = seen.diffs; conclusion = seen.conclusion } new sought.events seen.hypotheses row events_are hyps_are (placed_for all new sought seen row step k)))
     c.place.ensures.none
 
 pub returns-then-not-branch-clause-none : goal.returns-then-not-branch-clause-none

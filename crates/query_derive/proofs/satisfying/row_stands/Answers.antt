@@ -24,7 +24,7 @@ returns g c =
     let step = concluded all sought seen c.in_ok-binds.binds.pairs new _ c.in_ok-binds.ensures.none concl_is (c.in_ok-match_bad.ensures.yes c.if-not-branch.false) in
     told_both c.stand_at.result (ArePlaced all new es hs c.deref-3.result.now) (IsRowFor sought seen row)
     (λ k. row_for all new sought seen row step (subst (λ (r : List ℕ). ArePlaced all new sought.events seen.hypotheses r) row_is (placed_seen all sought seen new es hs c.deref-3.result.now events_are hyps_are k)))
-    (λ h. placed_seen all record { conclusion = sought.conclusion; events = es } record { hypotheses = hs; conclusion = seen.conclusion } new sought.events seen.hypotheses c.deref-3.result.now (sym events_are) (sym hyps_are)
+    (λ h. placed_seen all record { conclusion = sought.conclusion; events = es } record { hypotheses = hs; diffs = seen.diffs; conclusion = seen.conclusion } new sought.events seen.hypotheses c.deref-3.result.now (sym events_are) (sym hyps_are)
     (subst (λ (r : List ℕ). ArePlaced all new sought.events seen.hypotheses r) (sym row_is) (placed_for all new sought seen row step h)))
     c.stand_at.ensures.yes c.stand_at.ensures.no
 

@@ -43,4 +43,4 @@ gone_on-answer-requires g c = λ κs h. (
 pub returns-clause-kept : goal.returns-clause-kept
 returns-clause-kept g c =
     kept_back (g.B.Bank.trees c.args.bank.now) (g.B.Bank.trees c.with_goal.new.bank) c.args.sharing.now.known c.gone_on-answer.new.sharing.known c.gone_on-answer.result (c.known_rows_outlast_growth.ensures.back _ _)
-    c.in_ok-all.ensures.grows c.requires.1.1.1.1.1.1 c.gone_on-answer.ensures.live c.gone_on-answer.ensures.kept
+    c.in_ok-all.ensures.grows c.requires.1.1.1.1.1.1 c.gone_on-answer.ensures.live c.gone_on-answer.ensures.given c.gone_on-answer.ensures.kept

@@ -44,4 +44,4 @@ told-answer-requires-clause-kept g c =
 pub returns-clause-kept : goal.returns-clause-kept
 returns-clause-kept g c =
     kept_back (g.B.Bank.trees c.args.bank.now) (g.B.Bank.trees c.finish.new.bank) c.args.sharing.now.known c.told-answer.new.sharing.known c.told-answer.result (c.known_rows_outlast_growth.ensures.back _ _)
-    c.finish.ensures.grows c.requires.1.1.1.1.1.1 c.told-answer.ensures.live c.told-answer.ensures.kept
+    c.finish.ensures.grows c.requires.1.1.1.1.1.1 c.told-answer.ensures.live c.told-answer.ensures.given c.told-answer.ensures.kept
