@@ -2,9 +2,9 @@
 use Rattle.std.proofs.Common.{◌≡◌, ◌≢◌, ℕ, suc, ◌+◌, ◌-◌, ◌<◌, ◌≤◌, List, [], ◌∷◌, ◌++◌, refl, sym, ap, subst, ◌∙◌, arith, Result, map, codes}
 use Rattle.std.proofs.lemmas.List.{map-append}
 use Rattle.spec_certificates.specs.Certificate.{Certificate}
-use Rattle.spec_certificate_reading.specs.Terms as terms
-use Rattle.spec_certificate_reading.specs.Outcomes.{Outcome, Found, Faulty, next, read_fixed, read_number, Reader}
-use Rattle.spec_certificate_reading.specs.Reports.{Claim, claim_by, behind_claims, claims_by}
+use Rattle.spec_certificate_text.specs.Terms as terms
+use Rattle.spec_certificate_text.specs.Outcomes.{Outcome, Found, Faulty, next, read_fixed, read_number, Reader}
+use Rattle.spec_certificate_text.specs.Reports.{Claim, claim_by, behind_claims, claims_by}
 use Rattle.fact_reader.specs.declared.error.CertError.{CertError}
 use Rattle.fact_reader.specs.Gives.{HasFault}
 use Rattle.cert_text.specs.Seen.{GivesShared}

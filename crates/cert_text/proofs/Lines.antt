@@ -2,8 +2,8 @@
 use Rattle.std.proofs.Common.{◌≡◌, ◌≢◌, ℕ, zero, suc, ◌+◌, ◌-◌, ◌<◌, ◌≤◌, ◌==◌, if◌then◌else◌, true, false, List, [], ◌∷◌, ◌++◌, length, map, drop, refl, sym, ap, subst, ◌∙◌, arith, length-drop}
 use Rattle.std.proofs.lemmas.Bool.Decides.{nat_tests}
 use Rattle.std.proofs.lemmas.List.{map-append}
-use Rattle.spec_certificate_reading.specs.Terms as terms
-use Rattle.spec_certificate_reading.specs.Outcomes.{Outcome, Found, Faulty, next, Reader, front, lines_from}
+use Rattle.spec_certificate_text.specs.Terms as terms
+use Rattle.spec_certificate_text.specs.Outcomes.{Outcome, Found, Faulty, next, Reader, front, lines_from}
 use Rattle.fact_reader.specs.declared.error.CertError.{CertError}
 use Rattle.fact_reader.specs.Gives.{HasFault}
 use Rattle.fact_reader.proofs.Things.{next_fault}

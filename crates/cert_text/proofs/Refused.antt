@@ -1,9 +1,9 @@
 -- What is refused is refused for the first fault.
 use Rattle.std.proofs.Common.{◌≡◌, ◌⊎◌, inl, inr, ℕ, List, [], drop, Option, Some, Result, Ok, Err, IfErr, sym, ◌∙◌, ap}
-use Rattle.spec_certificate_reading.specs.Terms as terms
-use Rattle.spec_certificate_reading.specs.Terms.{Code}
-use Rattle.spec_certificate_reading.specs.Outcomes.{Outcome, Found, Faulty}
-use Rattle.spec_certificate_reading.specs.Reports as reports
+use Rattle.spec_certificate_text.specs.Terms as terms
+use Rattle.spec_certificate_text.specs.Terms.{Code}
+use Rattle.spec_certificate_text.specs.Outcomes.{Outcome, Found, Faulty}
+use Rattle.spec_certificate_text.specs.Reports as reports
 use Rattle.spec_certificate_faults.specs.First.{Kind, IsFirstFault}
 use Rattle.fact_reader.specs.declared.error.CertError.{CertError}
 use Rattle.fact_reader.specs.declared.error.CertError.TheVariants.{Syntax, Number, Symbol, Arity, Count, NodeOrder, NodeLarge, Memory}

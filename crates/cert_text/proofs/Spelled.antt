@@ -2,8 +2,8 @@
 use Rattle.std.proofs.Common.{◌≡◌, ℕ, List, [], drop, map, Result, Ok, Err, IfOk, sym, ◌∙◌}
 use Rattle.spec_calculus.specs.Syntax.{Protocol}
 use Rattle.spec_certificates.specs.Certificate.{Certificate}
-use Rattle.spec_certificate_reading.specs.Outcomes.{Outcome, Found}
-use Rattle.spec_certificate_reading.specs.Reports as reports
+use Rattle.spec_certificate_text.specs.Outcomes.{Outcome, Found}
+use Rattle.spec_certificate_text.specs.Reports as reports
 use Rattle.spec_node_reading.specs.Readable.{SpellsCertificate}
 use Rattle.spec_node_reading.specs.Reading.{read_in_both}
 use Rattle.spec_node_reading.specs.Reports.{SpellsReport, read_report_in_both}

@@ -1,6 +1,6 @@
 -- Why bytes are refused, by the first fault that stands in them.
 use Rattle.std.specs.Prelude.{◌≡◌, ◌⊎◌, ℕ, List, Option, Some, None, Result, Ok, Err}
-use Rattle.spec_certificate_reading.specs.Terms.{Code}
+use Rattle.spec_certificate_text.specs.Terms.{Code}
 use Rattle.spec_certificate_faults.specs.First.{Kind, IsFirstFault}
 use Rattle.fact_reader.specs.declared.error.CertError.{CertError}
 use Rattle.fact_reader.specs.Errors.{refusal_of}

@@ -1,7 +1,7 @@
 -- What contracts see of numbers and claims.
 use Rattle.std.specs.Prelude.{◌≡◌, ℕ, List, [], map, Result, Ok, Err}
-use Rattle.spec_certificate_reading.specs.Outcomes.{Outcome, Found}
-use Rattle.spec_certificate_reading.specs.Reports as reports
+use Rattle.spec_certificate_text.specs.Outcomes.{Outcome, Found}
+use Rattle.spec_certificate_text.specs.Reports as reports
 use Rattle.fact_reader.specs.declared.error.CertError.{CertError}
 use Rattle.fact_reader.specs.Gives.{HasFault}
 use Rattle.cert_text.specs.declared.rows.Numbers.{Numbers}

@@ -1,7 +1,7 @@
 -- What comes of texts that spell something.
 use Rattle.std.specs.Prelude.{◌≡◌, ℕ, List, drop, map, Result, Ok, Err}
 use Rattle.spec_certificates.specs.Certificate.{Certificate}
-use Rattle.spec_certificate_reading.specs.Reports as reports
+use Rattle.spec_certificate_text.specs.Reports as reports
 use Rattle.fact_reader.specs.declared.error.CertError.{CertError}
 use Rattle.fact_reader.specs.declared.error.CertError.TheVariants.{Memory}
 use Rattle.cert_text.specs.Seen.{claim_of, shared_claim_of}

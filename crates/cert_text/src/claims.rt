@@ -3,11 +3,11 @@
 ghost use Rattle.std.specs.Prelude.{◌≡◌, ℕ, List, length, map, IfOk, IfErr};
 ghost use Rattle.pi_tree.specs.Protocols.{protocol_of};
 ghost use Rattle.term_reader.specs.Few.{HasFewNames};
-ghost use Rattle.spec_certificate_reading.specs.Reports as reading;
+ghost use Rattle.spec_certificate_text.specs.Reports as reading;
 ghost use Rattle.spec_certificate_text.specs.OfProtocol.{HasNames, IsShort};
 ghost use Rattle.spec_node_reading.specs.Reports.{SpellsReport, read_report_in_both, reports_of_both};
 ghost use Rattle.cert_text.specs.Seen.{claim_of, shared_claim_of, GivesClaims};
-ghost use Rattle.spec_certificate_reading.specs.Terms.{Code};
+ghost use Rattle.spec_certificate_text.specs.Terms.{Code};
 ghost use Rattle.spec_certificate_faults.specs.First.{IsFirstFault};
 ghost use Rattle.fact_reader.specs.Errors.{refusal_of};
 ghost use Rattle.cert_text.specs.Spelled.{GivesReport};

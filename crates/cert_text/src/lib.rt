@@ -1,5 +1,5 @@
 //! The texts of certificates, of either format, and of reports, read: exactly what the definitions of the crates
-//! `spec_certificate_reading` and `spec_node_reading` read.
+//! `spec_certificate_text` and `spec_node_reading` read.
 //!
 //! The crates `term_reader`, `fact_reader`, `node_reader`, `numbered_reader` and `cert_text` belong together: they read terms,
 //! facts and clauses, nodes, clauses by numbers, and certificates and reports. What the crate `cert_form` writes is read here, and offered.

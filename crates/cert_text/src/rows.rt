@@ -1,8 +1,8 @@
 //! Rows of numbers.
 
 ghost use Rattle.std.specs.Prelude.{◌≡◌};
-ghost use Rattle.spec_certificate_reading.specs.Certificates as reading;
-ghost use Rattle.spec_certificate_reading.specs.Outcomes.{things};
+ghost use Rattle.spec_certificate_text.specs.Certificates as reading;
+ghost use Rattle.spec_certificate_text.specs.Outcomes.{things};
 ghost use Rattle.fact_reader.specs.Gives.{same};
 ghost use Rattle.fact_reader.specs.Reads.{Reads};
 ghost use Rattle.cert_text.specs.Seen.{numbers_of};

@@ -3,12 +3,12 @@ use Rattle.std.proofs.Common.{◌≡◌, ℕ, zero, suc, ◌+◌, ◌-◌, ◌<�
 use Rattle.std.specs.List.{prefix_len}
 use Rattle.std.proofs.lemmas.Bool.Decides.{nat_tests}
 use Rattle.std.proofs.lemmas.List.{drop-drop}
-use Rattle.spec_certificate_reading.specs.Terms.{Syntax}
+use Rattle.spec_certificate_text.specs.Terms.{Syntax}
 use Rattle.spec_calculus.specs.Syntax.{Protocol}
 use Rattle.spec_protocol_tokens.specs.Bytes.{begins_word, is_in_word}
-use Rattle.spec_certificate_reading.specs.Names.{CalledEvent, event_called}
-use Rattle.spec_certificate_reading.specs.Outcomes.{Found, Faulty, front, ended, read_fixed}
-use Rattle.spec_certificate_reading.specs.Facts.{event_named, read_event}
+use Rattle.spec_certificate_text.specs.Names.{CalledEvent, event_called}
+use Rattle.spec_certificate_text.specs.Outcomes.{Found, Faulty, front, ended, read_fixed}
+use Rattle.spec_certificate_text.specs.Facts.{event_named, read_event}
 use Rattle.term_reader.proofs.Walk.{next_byte, all_dropped}
 
 pub some_left : (bytes : List ℕ) (place : ℕ) → place < length bytes → drop place bytes ≢ []

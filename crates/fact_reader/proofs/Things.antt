@@ -1,8 +1,8 @@
 -- Things in a row, of which some are read already.
 use Rattle.std.proofs.Common.{◌≡◌, ℕ, suc, ◌+◌, ◌-◌, ◌<◌, ◌≤◌, if◌then◌else◌, Bool, true, false, List, [], ◌∷◌, ◌++◌, length, map, drop, refl, sym, ap, subst, ◌∙◌, arith, length-drop}
 use Rattle.std.proofs.lemmas.List.{map-append}
-use Rattle.spec_certificate_reading.specs.Terms as terms
-use Rattle.spec_certificate_reading.specs.Outcomes.{Outcome, Found, Faulty, next, Reader, things_from, things}
+use Rattle.spec_certificate_text.specs.Terms as terms
+use Rattle.spec_certificate_text.specs.Outcomes.{Outcome, Found, Faulty, next, Reader, things_from, things}
 use Rattle.fact_reader.specs.declared.error.CertError.{CertError}
 use Rattle.fact_reader.specs.declared.error.CertError.TheVariants.{Syntax, Number, Symbol, Arity, Count, NodeOrder, NodeLarge, Memory}
 use Rattle.fact_reader.specs.Gives.{HasFault}

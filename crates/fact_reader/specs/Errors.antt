@@ -1,7 +1,7 @@
 -- What errors say.
 use Rattle.std.specs.Prelude.{ℕ, Option, Some, None}
-use Rattle.spec_certificate_reading.specs.Terms as terms
-use Rattle.spec_certificate_reading.specs.Terms.{Code}
+use Rattle.spec_certificate_text.specs.Terms as terms
+use Rattle.spec_certificate_text.specs.Terms.{Code}
 use Rattle.fact_reader.specs.declared.error.CertError.{CertError}
 use Rattle.fact_reader.specs.declared.error.CertError.TheVariants.{Syntax, Number, Symbol, Arity, Count, NodeOrder, NodeLarge, Memory}
 

@@ -1,7 +1,7 @@
 -- What the parts of the reader give: what the definition finds, or its fault.
 use Rattle.std.specs.Prelude.{◌≡◌, ℕ, ◌≤◌, List, drop, length, Result, Ok, Err}
-use Rattle.spec_certificate_reading.specs.Terms as terms
-use Rattle.spec_certificate_reading.specs.Outcomes.{Outcome, Found, Faulty}
+use Rattle.spec_certificate_text.specs.Terms as terms
+use Rattle.spec_certificate_text.specs.Outcomes.{Outcome, Found, Faulty}
 use Rattle.fact_reader.specs.declared.error.CertError.{CertError}
 use Rattle.fact_reader.specs.declared.error.CertError.TheVariants.{Syntax, Number, Symbol, Arity, Count, NodeOrder, NodeLarge, Memory}
 

@@ -1,6 +1,6 @@
 -- What is read of bytes from one cursor to another: what the definition finds, or its fault.
 use Rattle.std.specs.Prelude.{◌≡◌, ℕ, List, drop, Result, Ok, Err}
-use Rattle.spec_certificate_reading.specs.Outcomes.{Outcome, Found, Reader}
+use Rattle.spec_certificate_text.specs.Outcomes.{Outcome, Found, Reader}
 use Rattle.fact_reader.specs.declared.error.CertError.{CertError}
 use Rattle.fact_reader.specs.declared.cursor.Cursor.{Cursor}
 use Rattle.fact_reader.specs.Gives.{HasFault}

@@ -6,7 +6,7 @@ use Rattle.clause_form.specs.Plain.{term_of}
 use Rattle.clause_form.specs.PlainFacts.{plain_fact_of}
 use Rattle.clause_form.specs.declared.plain.Tree.{Tree}
 use Rattle.clause_form.specs.declared.plain.PlainFact.{PlainFact}
-use Rattle.spec_certificate_reading.specs.Facts as facts
+use Rattle.spec_certificate_text.specs.Facts as facts
 use Rattle.fact_reader.specs.declared.events.Performed.{Performed}
 
 abbrev pub performed_of : Performed → facts.Performed

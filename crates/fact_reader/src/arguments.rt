@@ -3,7 +3,7 @@
 ghost use Rattle.std.specs.Prelude.{◌≡◌};
 ghost use Rattle.clause_form.specs.Plain.{term_of};
 ghost use Rattle.term_reader.specs.Naming.{protocol_in};
-ghost use Rattle.spec_certificate_reading.specs.Facts as reading;
+ghost use Rattle.spec_certificate_text.specs.Facts as reading;
 ghost use Rattle.fact_reader.specs.Gives.{same};
 ghost use Rattle.fact_reader.specs.Reads.{Reads};
 ghost use Rattle.fact_reader.specs.Seen.{argument_of};

@@ -3,8 +3,8 @@
 ghost use Rattle.std.specs.Prelude.{◌≡◌, ◌+◌, ◌<◌, ◌≤◌, ◌==◌, drop, length};
 ghost use Rattle.std.specs.Char.{is_ascii_digit};
 ghost use Rattle.std.specs.List.{prefix_len};
-ghost use Rattle.spec_certificate_reading.specs.Outcomes as outcomes;
-ghost use Rattle.spec_certificate_reading.specs.Outcomes.{read_fixed, read_number};
+ghost use Rattle.spec_certificate_text.specs.Outcomes as outcomes;
+ghost use Rattle.spec_certificate_text.specs.Outcomes.{read_fixed, read_number};
 ghost use Rattle.fact_reader.specs.Gives.{Gives, GivesPlace, StopsWithin, PlaceWithin, same};
 
 use crate::error::CertError;

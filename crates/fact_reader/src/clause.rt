@@ -2,8 +2,8 @@
 
 ghost use Rattle.std.specs.Prelude.{◌≡◌};
 ghost use Rattle.term_reader.specs.Naming.{protocol_in};
-ghost use Rattle.spec_certificate_reading.specs.Clauses as reading;
-ghost use Rattle.spec_certificate_reading.specs.Outcomes.{things};
+ghost use Rattle.spec_certificate_text.specs.Clauses as reading;
+ghost use Rattle.spec_certificate_text.specs.Outcomes.{things};
 ghost use Rattle.fact_reader.specs.Gives.{same};
 ghost use Rattle.fact_reader.specs.Reads.{Reads};
 ghost use Rattle.fact_reader.specs.Seen.{hypothesis_of};

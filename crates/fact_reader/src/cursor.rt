@@ -14,8 +14,8 @@ pub struct Cursor<'a> {
 }
 
 impl<'a> Cursor<'a> {
-    ghost use Rattle.spec_certificate_reading.specs.Outcomes as outcomes;
-    ghost use Rattle.spec_certificate_reading.specs.Outcomes.{read_fixed, read_number};
+    ghost use Rattle.spec_certificate_text.specs.Outcomes as outcomes;
+    ghost use Rattle.spec_certificate_text.specs.Outcomes.{read_fixed, read_number};
     ghost use Rattle.fact_reader.specs.Gives.{same};
     ghost use Rattle.fact_reader.specs.Reads.{left_of, Reads, Passes};
 

@@ -5,8 +5,8 @@ ghost use Rattle.std.specs.List.{prefix_len};
 ghost use Rattle.term_reader.specs.Naming.{protocol_in};
 ghost use Rattle.spec_protocol_tokens.specs.Bytes.{is_in_word};
 ghost use Rattle.term_reader.specs.Seen.{called_of, event_of};
-ghost use Rattle.spec_certificate_reading.specs.Facts as facts;
-ghost use Rattle.spec_certificate_reading.specs.Facts.{event_named, read_event};
+ghost use Rattle.spec_certificate_text.specs.Facts as facts;
+ghost use Rattle.spec_certificate_text.specs.Facts.{event_named, read_event};
 ghost use Rattle.fact_reader.specs.Reads.{Finds, Reads};
 ghost use Rattle.fact_reader.specs.Seen.{performed_of};
 

@@ -1,7 +1,7 @@
 //! A reader of the texts of facts and clauses, and of what stands between them.
 //!
 //! The crates `term_reader` and `fact_reader` belong together: they read terms, and facts and clauses, and each meets the
-//! definitions of the crate `spec_certificate_reading`. Certificates and reports are to be read by what comes above.
+//! definitions of the crate `spec_certificate_text`. Certificates and reports are to be read by what comes above.
 #![tactic(auto)]
 
 mod arguments;

@@ -1,7 +1,7 @@
 -- Whether another byte stands behind what was read.
 use Rattle.std.proofs.Common.{◌≡◌, ◌≢◌, ℕ, List, [], ◌∷◌, refl, ap}
-use Rattle.spec_certificate_reading.specs.Terms.{Syntax}
-use Rattle.spec_certificate_reading.specs.Outcomes.{Outcome, Faulty, ended}
+use Rattle.spec_certificate_text.specs.Terms.{Syntax}
+use Rattle.spec_certificate_text.specs.Outcomes.{Outcome, Faulty, ended}
 
 pub ended_none : {A : Type 0} (place : ℕ) (rest : List ℕ) (o : Outcome A) → rest ≡ [] → ended place rest o ≡ Faulty place Syntax
 ended_none place rest o none = ap (λ r. ended place r o) none

@@ -6,8 +6,8 @@ use Rattle.std.proofs.lemmas.List.{drop-drop}
 use Rattle.spec_calculus.specs.Syntax.{Protocol}
 use Rattle.spec_terms.specs.Term.{Tuple}
 use Rattle.spec_protocol_tokens.specs.Bytes.{begins_word, is_in_word}
-use Rattle.spec_certificate_reading.specs.Terms.{Syntax}
-use Rattle.spec_certificate_reading.specs.Outcomes.{Found, Faulty, next, front, ended, read_fixed}
+use Rattle.spec_certificate_text.specs.Terms.{Syntax}
+use Rattle.spec_certificate_text.specs.Outcomes.{Found, Faulty, next, front, ended, read_fixed}
 use Rattle.spec_node_reading.specs.ReadNodes.{Names, word_head, read_head}
 use Rattle.spec_node_counts.specs.Words.{word_of, read_word, read_word_head}
 use Rattle.term_reader.proofs.Walk.{next_byte, all_dropped}

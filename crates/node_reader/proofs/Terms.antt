@@ -9,8 +9,8 @@ use Rattle.spec_calculus.specs.Bounds.{most_symbols}
 use Rattle.spec_terms.specs.Term.{Sym, Term}
 use Rattle.spec_clauses.specs.Fact.{same_term}
 use Rattle.spec_clauses.proofs.Equality.{same_term-decides}
-use Rattle.spec_certificate_reading.specs.Terms.{NodeOrder, NodeLarge}
-use Rattle.spec_certificate_reading.specs.Outcomes.{Outcome, Found, Faulty}
+use Rattle.spec_certificate_text.specs.Terms.{NodeOrder, NodeLarge}
+use Rattle.spec_certificate_text.specs.Outcomes.{Outcome, Found, Faulty}
 use Rattle.spec_node_tables.specs.Nodes.{TableNode, term_at, term_of}
 use Rattle.spec_node_tables.specs.Text.{node_numbers}
 use Rattle.spec_node_tables.specs.Large.{is_over}

@@ -1,7 +1,7 @@
 //! Words.
 
 ghost use Rattle.std.specs.Prelude.{◌≡◌, ◌-◌, ◌<◌, ◌≤◌, take, drop, length, IfOk, IfErr};
-ghost use Rattle.spec_certificate_reading.specs.Outcomes.{Found};
+ghost use Rattle.spec_certificate_text.specs.Outcomes.{Found};
 ghost use Rattle.spec_node_counts.specs.Words.{read_word};
 ghost use Rattle.fact_reader.specs.Gives.{HasFault};
 

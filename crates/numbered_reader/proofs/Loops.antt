@@ -1,8 +1,8 @@
 -- Rounds and lines of which some are read already.
 use Rattle.std.proofs.Common.{◌≡◌, ◌≢◌, ℕ, suc, ◌+◌, ◌-◌, ◌<◌, ◌≤◌, if◌then◌else◌, Bool, true, false, List, [], ◌∷◌, ◌++◌, length, map, drop, sym, ap, subst, ◌∙◌, arith, length-drop}
 use Rattle.std.proofs.lemmas.List.{map-append}
-use Rattle.spec_certificate_reading.specs.Terms as terms
-use Rattle.spec_certificate_reading.specs.Outcomes.{Outcome, Found, Faulty, next, front, Reader}
+use Rattle.spec_certificate_text.specs.Terms as terms
+use Rattle.spec_certificate_text.specs.Outcomes.{Outcome, Found, Faulty, next, front, Reader}
 use Rattle.spec_node_reading.specs.Loops.{lines_through}
 use Rattle.spec_node_counts.specs.Rounds.{rounds, collects, puts}
 use Rattle.spec_node_counts.proofs.Steps.{behind_round, one_more, none_left}

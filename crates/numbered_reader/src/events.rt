@@ -6,7 +6,7 @@ ghost use Rattle.term_tree.specs.Bank.{tree_at, AreKnown};
 ghost use Rattle.term_reader.specs.Naming.{protocol_in};
 ghost use Rattle.term_reader.specs.Seen.{called_of};
 ghost use Rattle.fact_reader.specs.Reads.{Finds};
-ghost use Rattle.spec_certificate_reading.specs.Facts as facts;
+ghost use Rattle.spec_certificate_text.specs.Facts as facts;
 ghost use Rattle.spec_node_counts.specs.ReadFacts as reading;
 ghost use Rattle.node_reader.specs.Tables.{table_of};
 ghost use Rattle.numbered_reader.specs.Walks.{Walks};

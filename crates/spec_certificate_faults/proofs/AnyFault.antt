@@ -2,8 +2,8 @@
 use Rattle.std.proofs.Common.{ℕ, suc, ◌≤◌, inl, inr, List, [], ◌∷◌, length, sym, ap, subst, arith, length-append}
 use Rattle.spec_calculus.specs.Syntax.{Protocol}
 use Rattle.spec_certificate_text.specs.OfProtocol.{HasNames}
-use Rattle.spec_certificate_reading.specs.Terms.{Code, Syntax, Number, Symbol, Arity, Count, NodeOrder, NodeLarge, Open, Begins}
-use Rattle.spec_certificate_reading.proofs.Complete.{reading}
+use Rattle.spec_certificate_text.specs.Terms.{Code, Syntax, Number, Symbol, Arity, Count, NodeOrder, NodeLarge, Open, Begins}
+use Rattle.spec_certificate_text.proofs.Complete.{reading}
 use Rattle.spec_certificate_faults.specs.TermFaults.{TermFault, StandsInTerm}
 use Rattle.spec_certificate_faults.proofs.Comes.{either, StandsBefore}
 use Rattle.spec_certificate_faults.proofs.Fronts.{front_read}

@@ -8,11 +8,11 @@ use Rattle.spec_terms.specs.Term.{Term}
 use Rattle.spec_certificate_text.specs.Spelled.{IsWord}
 use Rattle.spec_certificate_text.proofs.Runs.{both_right}
 use Rattle.spec_certificate_text.proofs.Apart.{no_word}
-use Rattle.spec_certificate_reading.specs.Terms.{Code, Syntax, Count, Open, Begins, InWord, Ended, Reading, Step, Goes, Fault}
-use Rattle.spec_certificate_reading.specs.Steps.{is_deep, goes, unless_deep, may_be_empty, closed, begin_term, at_begin, step}
-use Rattle.spec_certificate_reading.specs.Runs.{Refused, followed, read_on}
+use Rattle.spec_certificate_text.specs.Terms.{Code, Syntax, Count, Open, Begins, InWord, Ended, Reading, Step, Goes, Fault}
+use Rattle.spec_certificate_text.specs.Steps.{is_deep, goes, unless_deep, may_be_empty, closed, begin_term, at_begin, step}
+use Rattle.spec_certificate_text.specs.Runs.{Refused, followed, read_on}
 use Rattle.spec_certificate_faults.specs.TermFaults.{begins_term}
-use Rattle.spec_certificate_reading.proofs.Complete.{reading, goes_to, taken, passed, word_read}
+use Rattle.spec_certificate_text.proofs.Complete.{reading, goes_to, taken, passed, word_read}
 
 pub either : {A B C : Type 0} → A ⊎ B → (A → C) → (B → C) → C
 either (inl a) first second = first a

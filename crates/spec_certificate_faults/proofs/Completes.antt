@@ -5,7 +5,7 @@ use Rattle.spec_trees.specs.Tree.{Leaf, Node, none, more, items_of}
 use Rattle.spec_protocol_tokens.specs.Bytes.{begins_word}
 use Rattle.spec_protocol_tokens.proofs.Sizes.{begins_word-in_word}
 use Rattle.spec_certificate_text.specs.Loose.{Head, Applied, Tupled, Made, Attackers, Loose, LooseRow, opening, closing, onto, row, behind}
-use Rattle.spec_certificate_reading.proofs.Long.{behind_long}
+use Rattle.spec_certificate_text.proofs.Long.{behind_long}
 use Rattle.spec_certificate_faults.specs.Grammar.{IsWritten, MayHave, IsInGrammar, AreInGrammar, EndsBefore, with_commas, MayGoOn, IsOpen, MayBegin, whole, within}
 use Rattle.spec_certificate_faults.specs.First.{IsTermText}
 use Rattle.spec_certificate_text.proofs.Followed.{opening_followed, onto_followed}

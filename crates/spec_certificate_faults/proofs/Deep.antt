@@ -9,11 +9,11 @@ use Rattle.spec_protocol_tokens.specs.Bytes.{begins_word, is_in_word}
 use Rattle.spec_protocol_scope.specs.Names.{is_variable}
 use Rattle.spec_terms.specs.Term.{Tuple}
 use Rattle.spec_run_text.specs.Reading.{numeral}
-use Rattle.spec_certificate_reading.specs.Names.{Named, symbol_called, name_called}
-use Rattle.spec_certificate_reading.specs.Terms.{Code, Syntax, Symbol, Arity, Count, Open, Begins, InWord, InDigits, AtBracket, Ended, Reading, Step, Goes, Fault}
-use Rattle.spec_certificate_reading.specs.Steps.{is_deep, goes, unless_deep, opened, with_parts, has_arity, closed, may_be_empty, apply, after_term, after_variable, after_name, after_word, after_point, after_number, after_digits, begin_term, step}
-use Rattle.spec_certificate_reading.specs.Runs.{Refused, followed, cut_off, read_on}
-use Rattle.spec_certificate_reading.proofs.Complete.{reading, taken, head_over}
+use Rattle.spec_certificate_text.specs.Names.{Named, symbol_called, name_called}
+use Rattle.spec_certificate_text.specs.Terms.{Code, Syntax, Symbol, Arity, Count, Open, Begins, InWord, InDigits, AtBracket, Ended, Reading, Step, Goes, Fault}
+use Rattle.spec_certificate_text.specs.Steps.{is_deep, goes, unless_deep, opened, with_parts, has_arity, closed, may_be_empty, apply, after_term, after_variable, after_name, after_word, after_point, after_number, after_digits, begin_term, step}
+use Rattle.spec_certificate_text.specs.Runs.{Refused, followed, cut_off, read_on}
+use Rattle.spec_certificate_text.proofs.Complete.{reading, taken, head_over}
 use Rattle.spec_certificate_faults.specs.TermFaults.{IsTooDeep}
 use Rattle.spec_certificate_faults.specs.First.{code_number}
 use Rattle.spec_certificate_faults.proofs.Comes.{either, StandsBefore, begins_no_bracket, begins_or}

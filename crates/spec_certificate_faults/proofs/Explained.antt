@@ -20,16 +20,16 @@ use Rattle.spec_certificate_text.specs.Text.{term_text}
 use Rattle.spec_certificate_text.specs.OfProtocol.{IsShort, IsSymbolOf, HasNames}
 use Rattle.spec_certificate_text.proofs.Runs.{both_left, both_right}
 use Rattle.spec_certificate_text.proofs.Apart.{no_word}
-use Rattle.spec_certificate_reading.specs.Names.{Named, symbol_called, name_called}
-use Rattle.spec_certificate_reading.specs.Terms.{Code, Syntax, Number, Symbol, Arity, Count, Open, Mode, Begins, InWord, InDigits, AtBracket, Ended, Reading, Step, Goes, Ends, Fault, head_text, arguments_text, heads_text, mode_text, so_far}
-use Rattle.spec_certificate_reading.specs.Steps.{is_deep, goes, unless_deep, opened, with_parts, has_arity, closed, closing_byte, may_close, may_go_on, may_be_empty, after_term, begin_term, at_begin, after_variable, after_name, after_word, apply, in_word, after_point, after_number, after_digits, in_digits, at_bracket, step_in, step}
-use Rattle.spec_certificate_reading.specs.Runs.{Refused, followed, cut_off, at_end, read_on, read_term}
-use Rattle.spec_certificate_reading.specs.Sound.{IsSound}
-use Rattle.spec_certificate_reading.proofs.Called.{free_called, constructor_called, point_called}
-use Rattle.spec_certificate_reading.proofs.Named.{IsWorded, symbol_called_is, name_called_is}
-use Rattle.spec_certificate_reading.proofs.Sound.{same_byte, arguments_text-push, closed_text, empty_name}
-use Rattle.spec_certificate_reading.proofs.SoundWords.{variable_rest, alone_text, applied_text, step-sound}
-use Rattle.spec_certificate_reading.proofs.Kept.{IsHeld, AreHeld, not_deep, held_push, step-kept, StepOf, IsHeadOf, HeadsOf, ModeOf, ReadingOf}
+use Rattle.spec_certificate_text.specs.Names.{Named, symbol_called, name_called}
+use Rattle.spec_certificate_text.specs.Terms.{Code, Syntax, Number, Symbol, Arity, Count, Open, Mode, Begins, InWord, InDigits, AtBracket, Ended, Reading, Step, Goes, Ends, Fault, head_text, arguments_text, heads_text, mode_text, so_far}
+use Rattle.spec_certificate_text.specs.Steps.{is_deep, goes, unless_deep, opened, with_parts, has_arity, closed, closing_byte, may_close, may_go_on, may_be_empty, after_term, begin_term, at_begin, after_variable, after_name, after_word, apply, in_word, after_point, after_number, after_digits, in_digits, at_bracket, step_in, step}
+use Rattle.spec_certificate_text.specs.Runs.{Refused, followed, cut_off, at_end, read_on, read_term}
+use Rattle.spec_certificate_text.specs.Sound.{IsSound}
+use Rattle.spec_certificate_text.proofs.Called.{free_called, constructor_called, point_called}
+use Rattle.spec_certificate_text.proofs.Named.{IsWorded, symbol_called_is, name_called_is}
+use Rattle.spec_certificate_text.proofs.Sound.{same_byte, arguments_text-push, closed_text, empty_name}
+use Rattle.spec_certificate_text.proofs.SoundWords.{variable_rest, alone_text, applied_text, step-sound}
+use Rattle.spec_certificate_text.proofs.Kept.{IsHeld, AreHeld, not_deep, held_push, step-kept, StepOf, IsHeadOf, HeadsOf, ModeOf, ReadingOf}
 use Rattle.spec_certificate_faults.specs.Grammar.{EndsBefore, MayBegin}
 use Rattle.spec_certificate_faults.specs.TermFaults.{AreNoNumber, IsPlain, TakesOthers, MayStandBelow, TermFault, StandsInTerm}
 use Rattle.spec_certificate_faults.proofs.Misapplied.{positive_depth}

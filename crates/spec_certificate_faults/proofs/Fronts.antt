@@ -4,10 +4,10 @@ use Rattle.std.specs.List.{AllByRecursion}
 use Rattle.spec_trees.specs.Tree.{Leaf, Node}
 use Rattle.spec_calculus.specs.Syntax.{Protocol}
 use Rattle.spec_certificate_text.specs.Loose.{Head, Applied, Tupled, Made, Attackers, Loose, opening, onto}
-use Rattle.spec_certificate_reading.specs.Terms.{Open, Begins, Ended, Reading}
-use Rattle.spec_certificate_reading.specs.Steps.{may_go_on}
-use Rattle.spec_certificate_reading.proofs.Complete.{reading, head_over}
-use Rattle.spec_certificate_reading.proofs.Long.{onto_long}
+use Rattle.spec_certificate_text.specs.Terms.{Open, Begins, Ended, Reading}
+use Rattle.spec_certificate_text.specs.Steps.{may_go_on}
+use Rattle.spec_certificate_text.proofs.Complete.{reading, head_over}
+use Rattle.spec_certificate_text.proofs.Long.{onto_long}
 use Rattle.spec_certificate_faults.specs.Grammar.{IsWritten, MayHave, IsInGrammar, EndsBefore, with_commas, MayGoOn, IsOpen, MayBegin, whole, within}
 use Rattle.spec_certificate_faults.proofs.Comes.{either, Through, Stopped, through_both, stopped_behind, stopped_sooner, StandsBefore, stands_before, none_before}
 use Rattle.spec_certificate_faults.proofs.Heads.{Opened, head_read}

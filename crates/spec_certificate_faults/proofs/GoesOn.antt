@@ -9,13 +9,13 @@ use Rattle.spec_certificate_text.specs.Written.{written}
 use Rattle.spec_certificate_text.specs.Text.{term_text}
 use Rattle.spec_certificate_text.specs.OfProtocol.{HasNames}
 use Rattle.spec_certificate_text.proofs.Runs.{both_left, both_right}
-use Rattle.spec_certificate_reading.specs.Terms.{Syntax, Count, Open, Mode, Begins, InWord, InDigits, AtBracket, Ended, Reading, Step, Goes, Ends, Fault, heads_text, mode_text, so_far}
-use Rattle.spec_certificate_reading.specs.Steps.{is_deep, step}
-use Rattle.spec_certificate_reading.specs.Runs.{Refused, followed, cut_off, at_end, read_on, read_term}
-use Rattle.spec_certificate_reading.specs.Sound.{IsSound}
-use Rattle.spec_certificate_reading.proofs.SoundWords.{step-sound}
-use Rattle.spec_certificate_reading.proofs.Kept.{ModeOf, ReadingOf, StepOf, step-kept}
-use Rattle.spec_certificate_reading.proofs.Long.{onto_long}
+use Rattle.spec_certificate_text.specs.Terms.{Syntax, Count, Open, Mode, Begins, InWord, InDigits, AtBracket, Ended, Reading, Step, Goes, Ends, Fault, heads_text, mode_text, so_far}
+use Rattle.spec_certificate_text.specs.Steps.{is_deep, step}
+use Rattle.spec_certificate_text.specs.Runs.{Refused, followed, cut_off, at_end, read_on, read_term}
+use Rattle.spec_certificate_text.specs.Sound.{IsSound}
+use Rattle.spec_certificate_text.proofs.SoundWords.{step-sound}
+use Rattle.spec_certificate_text.proofs.Kept.{ModeOf, ReadingOf, StepOf, step-kept}
+use Rattle.spec_certificate_text.proofs.Long.{onto_long}
 use Rattle.spec_reading_faults.proofs.Terms.{Ahead, step-ahead}
 use Rattle.spec_certificate_faults.specs.Grammar.{IsInGrammar, MayBegin}
 use Rattle.spec_certificate_faults.specs.First.{IsTermText}

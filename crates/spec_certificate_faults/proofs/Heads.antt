@@ -6,11 +6,11 @@ use Rattle.spec_terms.specs.Term.{Sym, Ctor, Data, Tuple, Free, Point, Attacker}
 use Rattle.spec_run_text.specs.Reading.{numeral}
 use Rattle.spec_certificate_text.specs.Loose.{Head, Applied, Tupled, Made, Attackers, opening, closing}
 use Rattle.spec_certificate_text.specs.Spelled.{IsWord, AreDigits}
-use Rattle.spec_certificate_reading.specs.Names.{Named, symbol_called, name_called}
-use Rattle.spec_certificate_reading.specs.Terms.{Number, Symbol, Count, Open, Begins, InWord, InDigits, AtBracket, Reading, Fault}
-use Rattle.spec_certificate_reading.specs.Steps.{goes, unless_deep, opened, closing_byte, may_close, may_go_on, may_be_empty, apply, after_point, after_number, step}
-use Rattle.spec_certificate_reading.proofs.Complete.{reading, digits_read, head_over}
-use Rattle.spec_certificate_reading.proofs.Named.{IsWorded, symbol_called_is, name_called_is}
+use Rattle.spec_certificate_text.specs.Names.{Named, symbol_called, name_called}
+use Rattle.spec_certificate_text.specs.Terms.{Number, Symbol, Count, Open, Begins, InWord, InDigits, AtBracket, Reading, Fault}
+use Rattle.spec_certificate_text.specs.Steps.{goes, unless_deep, opened, closing_byte, may_close, may_go_on, may_be_empty, apply, after_point, after_number, step}
+use Rattle.spec_certificate_text.proofs.Complete.{reading, digits_read, head_over}
+use Rattle.spec_certificate_text.proofs.Named.{IsWorded, symbol_called_is, name_called_is}
 use Rattle.spec_certificate_faults.specs.Grammar.{IsWritten, MayHave}
 use Rattle.spec_certificate_faults.proofs.Comes.{either, Through, Stopped, through_both, stopped_behind, stopped_sooner, one_byte, halts, StandsBefore, deep_or, begins_or, word_through}
 

@@ -18,13 +18,13 @@ use Rattle.spec_certificate_text.specs.Text.{term_text}
 use Rattle.spec_certificate_text.specs.Spelled.{IsWord, goes_on}
 use Rattle.spec_certificate_text.specs.OfProtocol.{IsShort, HasNames}
 use Rattle.spec_certificate_text.proofs.Names.{constructor_word, free_word, symbol_word_is_word, restriction_word_is_word, decimal_digits}
-use Rattle.spec_certificate_reading.specs.Names.{Named, symbol_called, name_called}
-use Rattle.spec_certificate_reading.specs.Terms.{Syntax, Arity, Open, Begins, InWord, InDigits, Ended, Reading, Goes, Fault, head_text}
-use Rattle.spec_certificate_reading.specs.Steps.{goes, unless_deep, opened, with_parts, has_arity, closed, closing_byte, may_close, may_go_on, after_name, after_term, after_point, after_number, step}
-use Rattle.spec_certificate_reading.specs.Runs.{Refused, followed, read_on}
-use Rattle.spec_certificate_reading.proofs.Complete.{reading, goes_to, taken, passed, shallow, begins_at, head_over, applied_read, digits_start}
-use Rattle.spec_certificate_reading.proofs.Called.{free_called, constructor_called, point_called}
-use Rattle.spec_certificate_reading.proofs.Read.{itself, close_ends, close_no_comma, goes_on_at, node_text, term_read}
+use Rattle.spec_certificate_text.specs.Names.{Named, symbol_called, name_called}
+use Rattle.spec_certificate_text.specs.Terms.{Syntax, Arity, Open, Begins, InWord, InDigits, Ended, Reading, Goes, Fault, head_text}
+use Rattle.spec_certificate_text.specs.Steps.{goes, unless_deep, opened, with_parts, has_arity, closed, closing_byte, may_close, may_go_on, after_name, after_term, after_point, after_number, step}
+use Rattle.spec_certificate_text.specs.Runs.{Refused, followed, read_on}
+use Rattle.spec_certificate_text.proofs.Complete.{reading, goes_to, taken, passed, shallow, begins_at, head_over, applied_read, digits_start}
+use Rattle.spec_certificate_text.proofs.Called.{free_called, constructor_called, point_called}
+use Rattle.spec_certificate_text.proofs.Read.{itself, close_ends, close_no_comma, goes_on_at, node_text, term_read}
 use Rattle.spec_certificate_faults.specs.Grammar.{EndsBefore}
 use Rattle.spec_certificate_faults.specs.TermFaults.{TakesOthers, MayStandBelow, IsMisapplied}
 use Rattle.spec_certificate_faults.proofs.Comes.{either, StandsBefore, word_through, through_both, one_byte}

@@ -15,9 +15,9 @@ use Rattle.spec_certificate_text.specs.Text.{term_text}
 use Rattle.spec_certificate_text.specs.OfProtocol.{IsSymbolOf, IsTermOf, AreTermsOf, HasNames}
 use Rattle.spec_certificate_text.proofs.Apart.{no_word}
 use Rattle.spec_certificate_text.proofs.Names.{constructor_word, free_word, symbol_word_is_word, restriction_word_is_word, decimal_digits, variable_is_word}
-use Rattle.spec_certificate_reading.specs.Terms.{Open, head_text, arguments_text, heads_text}
-use Rattle.spec_certificate_reading.specs.Steps.{is_deep, may_go_on}
-use Rattle.spec_certificate_reading.proofs.Kept.{AreHeld, IsHeadOf, HeadsOf}
+use Rattle.spec_certificate_text.specs.Terms.{Open, head_text, arguments_text, heads_text}
+use Rattle.spec_certificate_text.specs.Steps.{is_deep, may_go_on}
+use Rattle.spec_certificate_text.proofs.Kept.{AreHeld, IsHeadOf, HeadsOf}
 use Rattle.spec_certificate_faults.specs.Grammar.{IsWritten, IsInGrammar, AreInGrammar, with_commas, MayGoOn, MayBegin, whole, within}
 use Rattle.spec_certificate_faults.specs.TermFaults.{begins_term, IsTooDeep}
 use Rattle.spec_certificate_faults.proofs.Told.{some_decimal}

@@ -9,13 +9,13 @@ use Rattle.spec_certificate_text.specs.Loose.{Loose, onto}
 use Rattle.spec_certificate_text.specs.Spelled.{IsWord, goes_on}
 use Rattle.spec_certificate_text.specs.Written.{written}
 use Rattle.spec_certificate_text.specs.OfProtocol.{HasNames}
-use Rattle.spec_certificate_reading.specs.Terms.{Code, Syntax, Number, Symbol, Arity, Count, NodeOrder, NodeLarge, Begins, InWord, InDigits, Ended, Reading, Step, Goes, Ends, Fault}
-use Rattle.spec_certificate_reading.specs.Names.{Named, symbol_called}
-use Rattle.spec_certificate_reading.specs.Steps.{goes, apply, step}
-use Rattle.spec_certificate_reading.specs.Runs.{Read, Done, Refused, followed, read_on, read_term}
-use Rattle.spec_certificate_reading.proofs.Complete.{reading, taken, passed}
-use Rattle.spec_certificate_reading.proofs.Runs.{none_at_end, read_term-sound, read_on-place}
-use Rattle.spec_certificate_reading.proofs.Kept.{read_term-kept}
+use Rattle.spec_certificate_text.specs.Terms.{Code, Syntax, Number, Symbol, Arity, Count, NodeOrder, NodeLarge, Begins, InWord, InDigits, Ended, Reading, Step, Goes, Ends, Fault}
+use Rattle.spec_certificate_text.specs.Names.{Named, symbol_called}
+use Rattle.spec_certificate_text.specs.Steps.{goes, apply, step}
+use Rattle.spec_certificate_text.specs.Runs.{Read, Done, Refused, followed, read_on, read_term}
+use Rattle.spec_certificate_text.proofs.Complete.{reading, taken, passed}
+use Rattle.spec_certificate_text.proofs.ReadRuns.{none_at_end, read_term-sound, read_on-place}
+use Rattle.spec_certificate_text.proofs.Kept.{read_term-kept}
 use Rattle.spec_reading_faults.proofs.Shared.{shares_behind}
 use Rattle.spec_reading_faults.proofs.Terms.{read_fault, read_passed}
 use Rattle.spec_certificate_faults.specs.Grammar.{IsInGrammar, EndsAt, EndsBefore}

@@ -15,12 +15,12 @@ use Rattle.spec_certificate_text.specs.OfProtocol.{IsShort}
 use Rattle.spec_certificate_text.specs.Spelled.{IsWord, goes_on}
 use Rattle.spec_certificate_text.proofs.Names.{decimal_digits}
 use Rattle.spec_certificate_text.proofs.Runs.{both_left, both_right}
-use Rattle.spec_certificate_reading.specs.Names.{Named, symbol_called, name_called}
-use Rattle.spec_certificate_reading.specs.Terms.{Code, Number, Symbol, Count, Open, Begins, InWord, InDigits, Reading, Fault}
-use Rattle.spec_certificate_reading.specs.Steps.{goes, unless_deep, apply, after_variable, after_name, after_word, after_point, after_number, step}
-use Rattle.spec_certificate_reading.specs.Runs.{Refused, followed, read_on}
-use Rattle.spec_certificate_reading.proofs.Complete.{reading, taken, passed}
-use Rattle.spec_certificate_reading.proofs.Named.{IsWorded, symbol_called_is, name_called_is}
+use Rattle.spec_certificate_text.specs.Names.{Named, symbol_called, name_called}
+use Rattle.spec_certificate_text.specs.Terms.{Code, Number, Symbol, Count, Open, Begins, InWord, InDigits, Reading, Fault}
+use Rattle.spec_certificate_text.specs.Steps.{goes, unless_deep, apply, after_variable, after_name, after_word, after_point, after_number, step}
+use Rattle.spec_certificate_text.specs.Runs.{Refused, followed, read_on}
+use Rattle.spec_certificate_text.proofs.Complete.{reading, taken, passed}
+use Rattle.spec_certificate_text.proofs.Named.{IsWorded, symbol_called_is, name_called_is}
 use Rattle.spec_certificate_faults.specs.Grammar.{EndsAt}
 use Rattle.spec_certificate_faults.specs.TermFaults.{AreNoNumber, IsNoVariable, IsNoPoint, IsPlain, NamesNothing, NamesNoRestriction}
 use Rattle.spec_certificate_faults.specs.First.{code_number}

@@ -9,12 +9,12 @@ use Rattle.spec_terms.specs.Term.{Term}
 use Rattle.spec_run_text.specs.Reading.{numeral}
 use Rattle.spec_certificate_text.specs.Loose.{Head, Applied, Tupled, Made, Attackers, Loose, LooseRow, opening, closing, onto, behind}
 use Rattle.spec_certificate_text.specs.Spelled.{IsWord, goes_on}
-use Rattle.spec_certificate_reading.specs.Names.{Named, symbol_called}
-use Rattle.spec_certificate_reading.specs.Terms.{Code, Syntax, Number, Symbol, Arity, Count, Open, Begins, InWord, InDigits, Ended, Reading, Fault}
-use Rattle.spec_certificate_reading.specs.Steps.{goes, unless_deep, with_parts, has_arity, closed, closing_byte, may_close, may_go_on, may_be_empty, apply, after_term, after_variable, after_name, after_word, step}
-use Rattle.spec_certificate_reading.proofs.Complete.{reading, taken, passed, same_step, head_over}
-use Rattle.spec_certificate_reading.proofs.Read.{itself}
-use Rattle.spec_certificate_reading.proofs.Long.{onto_long, behind_long}
+use Rattle.spec_certificate_text.specs.Names.{Named, symbol_called}
+use Rattle.spec_certificate_text.specs.Terms.{Code, Syntax, Number, Symbol, Arity, Count, Open, Begins, InWord, InDigits, Ended, Reading, Fault}
+use Rattle.spec_certificate_text.specs.Steps.{goes, unless_deep, with_parts, has_arity, closed, closing_byte, may_close, may_go_on, may_be_empty, apply, after_term, after_variable, after_name, after_word, step}
+use Rattle.spec_certificate_text.proofs.Complete.{reading, taken, passed, same_step, head_over}
+use Rattle.spec_certificate_text.proofs.Read.{itself}
+use Rattle.spec_certificate_text.proofs.Long.{onto_long, behind_long}
 use Rattle.spec_certificate_faults.specs.Grammar.{IsWritten, MayHave, IsInGrammar, AreInGrammar, EndsAt, EndsBefore}
 use Rattle.spec_certificate_faults.proofs.Comes.{either, Through, Comes, stopped_sooner, comes_behind, one_byte, halts, StandsBefore, stands_before, deep_or, word_through}
 use Rattle.spec_certificate_faults.proofs.Heads.{IsLike, head_read}

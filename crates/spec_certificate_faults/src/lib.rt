@@ -17,8 +17,8 @@ ghost use Rattle.std.specs.Prelude.{◌≡◌, ◌↔◌, ℕ, List};
 ghost use Rattle.spec_calculus.specs.Syntax.{Protocol};
 ghost use Rattle.spec_terms.specs.Term.{Term};
 ghost use Rattle.spec_certificate_text.specs.OfProtocol.{HasNames};
-ghost use Rattle.spec_certificate_reading.specs.Terms.{Code};
-ghost use Rattle.spec_certificate_reading.specs.Runs.{Done, Refused, read_term};
+ghost use Rattle.spec_certificate_text.specs.Terms.{Code};
+ghost use Rattle.spec_certificate_text.specs.Runs.{Done, Refused, read_term};
 ghost use Rattle.spec_certificate_faults.specs.First.{StandsAt, IsFirstFault, IsTermText, terms};
 
 /// Of a term the first fault is told, and it is told exactly where there is one: what is read is a text of the grammar, and no

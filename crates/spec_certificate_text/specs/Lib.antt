@@ -6,3 +6,15 @@ pub mod Text
 pub mod Spelled
 pub mod OfProtocol
 pub mod Examples
+pub mod Names
+pub mod Terms
+pub mod Steps
+pub mod Runs
+pub mod Sound
+pub mod Outcomes
+pub mod Facts
+pub mod Clauses
+pub mod Certificates
+pub mod Reports
+pub mod Readable
+pub mod ReportText

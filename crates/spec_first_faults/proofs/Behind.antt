@@ -1,7 +1,7 @@
 -- One kind behind another, and one of two: readers of both tell the first fault.
 use Rattle.std.proofs.Common.{◌≡◌, ℕ, ◌+◌, ◌≤◌, inl, inr, List, [], ◌∷◌, ◌++◌, length, refl, sym, ◌∙◌, ap, subst, arith, append_assoc, length-append}
-use Rattle.spec_certificate_reading.specs.Terms.{Code}
-use Rattle.spec_certificate_reading.specs.Outcomes.{Outcome, Found, Faulty, next, Reader}
+use Rattle.spec_certificate_text.specs.Terms.{Code}
+use Rattle.spec_certificate_text.specs.Outcomes.{Outcome, Found, Faulty, next, Reader}
 use Rattle.spec_reading_faults.proofs.Shared.{next_local}
 use Rattle.spec_certificate_faults.specs.First.{Kind}
 use Rattle.spec_certificate_faults.proofs.Comes.{either}

@@ -7,11 +7,11 @@ use Rattle.spec_terms.specs.Term.{Term}
 use Rattle.spec_clauses.specs.Fact.{Clause}
 use Rattle.spec_certificates.specs.Certificate.{Certificate}
 use Rattle.spec_certificate_text.specs.OfProtocol.{HasNames}
-use Rattle.spec_certificate_reading.specs.Terms.{Code, Syntax}
-use Rattle.spec_certificate_reading.specs.Outcomes.{Found, Faulty, next, front, read_fixed, read_number, things}
-use Rattle.spec_certificate_reading.specs.Facts.{read_hypothesis, read_conclusion}
-use Rattle.spec_certificate_reading.specs.Clauses.{one_hypothesis, read_hypotheses, read_clause}
-use Rattle.spec_certificate_reading.specs.Certificates.{clause_line, one_number, row_line, read_rows, certificate_end, read_certificate}
+use Rattle.spec_certificate_text.specs.Terms.{Code, Syntax}
+use Rattle.spec_certificate_text.specs.Outcomes.{Found, Faulty, next, front, read_fixed, read_number, things}
+use Rattle.spec_certificate_text.specs.Facts.{read_hypothesis, read_conclusion}
+use Rattle.spec_certificate_text.specs.Clauses.{one_hypothesis, read_hypotheses, read_clause}
+use Rattle.spec_certificate_text.specs.Certificates.{clause_line, one_number, row_line, read_rows, certificate_end, read_certificate}
 use Rattle.spec_reading_faults.proofs.Parts.{things_local}
 use Rattle.spec_reading_faults.proofs.Certificates.{one_hypothesis-local, one_hypothesis-moves, numbers_local, row_line-moves}
 use Rattle.spec_certificate_faults.specs.Grammar.{EndsAt}

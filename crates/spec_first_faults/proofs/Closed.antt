@@ -1,6 +1,6 @@
 -- Fixed bytes before a thing, and behind it: readers tell the first fault.
 use Rattle.std.proofs.Common.{ℕ, List, ◌++◌, sym, subst}
-use Rattle.spec_certificate_reading.specs.Outcomes.{Reader, read_fixed}
+use Rattle.spec_certificate_text.specs.Outcomes.{Reader, read_fixed}
 use Rattle.spec_certificate_faults.specs.First.{Kind}
 use Rattle.spec_first_faults.specs.Kinds.{fixed, behind}
 use Rattle.spec_first_faults.proofs.Tells.{Anything, Forms, Tells, mapped, mapped_tells}

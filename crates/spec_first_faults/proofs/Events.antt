@@ -14,15 +14,15 @@ use Rattle.spec_certificate_text.specs.OfProtocol.{HasNames, IsEvent}
 use Rattle.spec_certificate_text.specs.Words.{event_word}
 use Rattle.spec_certificate_text.specs.Written.{written_row, written_event}
 use Rattle.spec_certificate_text.proofs.Names.{event_word_is_word}
-use Rattle.spec_certificate_reading.specs.Names.{CalledEvent, event_called}
-use Rattle.spec_certificate_reading.specs.Terms.{Code, Syntax, Number, Symbol, Arity, Count, NodeOrder, NodeLarge}
-use Rattle.spec_certificate_reading.specs.Outcomes.{Outcome, Found, Faulty, next, front, ended, Reader, read_fixed}
-use Rattle.spec_certificate_reading.specs.Facts.{one_term, argument, read_terms, Performed, performed, event_named, read_event}
-use Rattle.spec_certificate_reading.specs.Readable.{MayStand}
-use Rattle.spec_certificate_reading.proofs.Parts.{Finds, parts, equal_byte, other_byte, same_byte, front_is, when_false}
-use Rattle.spec_certificate_reading.proofs.Called.{event_word_called, event_called_is}
-use Rattle.spec_certificate_reading.proofs.FactsThere.{terms_there}
-use Rattle.spec_certificate_reading.proofs.FactsFound.{terms_found}
+use Rattle.spec_certificate_text.specs.Names.{CalledEvent, event_called}
+use Rattle.spec_certificate_text.specs.Terms.{Code, Syntax, Number, Symbol, Arity, Count, NodeOrder, NodeLarge}
+use Rattle.spec_certificate_text.specs.Outcomes.{Outcome, Found, Faulty, next, front, ended, Reader, read_fixed}
+use Rattle.spec_certificate_text.specs.Facts.{one_term, argument, read_terms, Performed, performed, event_named, read_event}
+use Rattle.spec_certificate_text.specs.Readable.{MayStand}
+use Rattle.spec_certificate_text.proofs.Parts.{Finds, parts, equal_byte, other_byte, same_byte, front_is, when_false}
+use Rattle.spec_certificate_text.proofs.Called.{event_word_called, event_called_is}
+use Rattle.spec_certificate_text.proofs.FactsThere.{terms_there}
+use Rattle.spec_certificate_text.proofs.FactsFound.{terms_found}
 use Rattle.spec_reading_faults.proofs.Shared.{choice_local, found_local}
 use Rattle.spec_reading_faults.proofs.Facts.{terms_local}
 use Rattle.spec_certificate_faults.specs.Grammar.{EndsAt}

@@ -8,10 +8,10 @@ use Rattle.spec_clauses.specs.Fact.{Fact, Ev, Mev, Bad}
 use Rattle.spec_certificate_text.specs.Loose.{Applied, Tupled, Made, Attackers, Loose, onto}
 use Rattle.spec_certificate_text.specs.Spelled.{IsWord}
 use Rattle.spec_certificate_text.specs.OfProtocol.{HasNames}
-use Rattle.spec_certificate_reading.specs.Terms.{Syntax}
-use Rattle.spec_certificate_reading.specs.Outcomes.{Found, Faulty, next, front, Reader, read_fixed}
-use Rattle.spec_certificate_reading.specs.Facts.{read_terms, Performed, read_event, read_att, read_mess, read_ev, read_mev, bad_arguments, read_bad, read_mev_or_mess, read_hypothesis, read_conclusion}
-use Rattle.spec_certificate_reading.proofs.Parts.{other_byte}
+use Rattle.spec_certificate_text.specs.Terms.{Syntax}
+use Rattle.spec_certificate_text.specs.Outcomes.{Found, Faulty, next, front, Reader, read_fixed}
+use Rattle.spec_certificate_text.specs.Facts.{read_terms, Performed, read_event, read_att, read_mess, read_ev, read_mev, bad_arguments, read_bad, read_mev_or_mess, read_hypothesis, read_conclusion}
+use Rattle.spec_certificate_text.proofs.Parts.{other_byte}
 use Rattle.spec_reading_faults.proofs.Shared.{IsLocal, choice_local}
 use Rattle.spec_reading_faults.proofs.Facts.{mev_or_mess-local}
 use Rattle.spec_certificate_faults.specs.Grammar.{IsInGrammar, EndsAt}

@@ -1,8 +1,8 @@
 -- What is told by a reader that tells the first fault of a kind is the first fault.
 use Rattle.std.proofs.Common.{◌≡◌, ℕ, ◌+◌, ◌≤◌, ◌⊎◌, inl, inr, List, [], ◌∷◌, ◌++◌, length, refl, sym, ◌∙◌, ap, subst, arith, append_assoc, length-append}
 use Rattle.std.proofs.lemmas.List.{append-nil}
-use Rattle.spec_certificate_reading.specs.Terms.{Code, Syntax, Number, Symbol, Arity, Count, NodeOrder, NodeLarge}
-use Rattle.spec_certificate_reading.specs.Outcomes.{Outcome, Found, Faulty, Reader}
+use Rattle.spec_certificate_text.specs.Terms.{Code, Syntax, Number, Symbol, Arity, Count, NodeOrder, NodeLarge}
+use Rattle.spec_certificate_text.specs.Outcomes.{Outcome, Found, Faulty, Reader}
 use Rattle.spec_reading_faults.proofs.Shared.{shares_behind}
 use Rattle.spec_certificate_faults.specs.First.{Kind, NoneGoesOn, IsFault, StandsAt, code_number, NotAfter, IsFirstFault}
 use Rattle.spec_certificate_faults.proofs.Comes.{either}

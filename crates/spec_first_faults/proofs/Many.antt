@@ -1,9 +1,9 @@
 -- So many of one kind and one of another behind them, as lines are: readers of them tell the first fault.
 use Rattle.std.proofs.Common.{◌≡◌, ℕ, zero, suc, ◌+◌, ◌≤◌, ◌==◌, ◌⊎◌, inl, inr, if◌then◌else◌, Bool, true, false, List, [], ◌∷◌, ◌++◌, length, refl, sym, ◌∙◌, ap, subst, arith, append_assoc}
-use Rattle.spec_certificate_reading.specs.Terms.{Code, Syntax, Count}
-use Rattle.spec_certificate_reading.specs.Outcomes.{Outcome, Found, Faulty, next, Reader, front, lines_from}
-use Rattle.spec_certificate_reading.proofs.Parts.{equal_byte, same_byte}
-use Rattle.spec_certificate_reading.proofs.Things.{lines_full}
+use Rattle.spec_certificate_text.specs.Terms.{Code, Syntax, Count}
+use Rattle.spec_certificate_text.specs.Outcomes.{Outcome, Found, Faulty, next, Reader, front, lines_from}
+use Rattle.spec_certificate_text.proofs.Parts.{equal_byte, same_byte}
+use Rattle.spec_certificate_text.proofs.Things.{lines_full}
 use Rattle.spec_reading_faults.proofs.Shared.{IsLocal, Moves, next_local, choice_local}
 use Rattle.spec_reading_faults.proofs.Parts.{lines_more, all_lines_local}
 use Rattle.spec_certificate_faults.specs.First.{Kind, code_number}

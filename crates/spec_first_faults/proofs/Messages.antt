@@ -4,8 +4,8 @@ use Rattle.spec_calculus.specs.Syntax.{Protocol}
 use Rattle.spec_terms.specs.Term.{Term}
 use Rattle.spec_clauses.specs.Fact.{Fact, Att, Mess}
 use Rattle.spec_certificate_text.specs.OfProtocol.{HasNames}
-use Rattle.spec_certificate_reading.specs.Outcomes.{read_fixed}
-use Rattle.spec_certificate_reading.specs.Facts.{one_term, read_att, read_mess}
+use Rattle.spec_certificate_text.specs.Outcomes.{read_fixed}
+use Rattle.spec_certificate_text.specs.Facts.{one_term, read_att, read_mess}
 use Rattle.spec_certificate_faults.specs.First.{terms}
 use Rattle.spec_first_faults.specs.Kinds.{fixed, behind}
 use Rattle.spec_first_faults.specs.Facts.{known, sent}

@@ -7,9 +7,9 @@ use Rattle.std.specs.List.{prefix_len}
 use Rattle.spec_run_text.specs.Reading.{numeral}
 use Rattle.spec_run_text.proofs.Numbers.{numeral-decimal, numeral_some}
 use Rattle.spec_certificate_text.specs.OfProtocol.{IsShort}
-use Rattle.spec_certificate_reading.specs.Terms.{Code, Syntax, Number, Symbol, Arity, Count, NodeOrder, NodeLarge}
-use Rattle.spec_certificate_reading.specs.Outcomes.{Found, Faulty, next, front, ended, as_number, number_before, read_number}
-use Rattle.spec_certificate_reading.proofs.Parts.{parts}
+use Rattle.spec_certificate_text.specs.Terms.{Code, Syntax, Number, Symbol, Arity, Count, NodeOrder, NodeLarge}
+use Rattle.spec_certificate_text.specs.Outcomes.{Found, Faulty, next, front, ended, as_number, number_before, read_number}
+use Rattle.spec_certificate_text.proofs.Parts.{parts}
 use Rattle.spec_certificate_faults.specs.Grammar.{EndsAt}
 use Rattle.spec_certificate_faults.proofs.Told.{no_numeral}
 use Rattle.spec_certificate_faults.proofs.Explained.{no_number}

@@ -1,7 +1,7 @@
 -- One of two kinds, told apart by the bytes: a reader of either tells the first fault.
 use Rattle.std.proofs.Common.{◌≡◌, ℕ, ◌+◌, inl, inr, Bool, true, false, if◌then◌else◌, List, [], ◌∷◌, ◌++◌, length, refl, sym, ◌∙◌, ap, subst}
-use Rattle.spec_certificate_reading.specs.Terms.{Code}
-use Rattle.spec_certificate_reading.specs.Outcomes.{Outcome, Found, Faulty, Reader, front}
+use Rattle.spec_certificate_text.specs.Terms.{Code}
+use Rattle.spec_certificate_text.specs.Outcomes.{Outcome, Found, Faulty, Reader, front}
 use Rattle.spec_reading_faults.proofs.Shared.{IsLocal}
 use Rattle.spec_certificate_faults.specs.First.{Kind}
 use Rattle.spec_certificate_faults.proofs.Comes.{either}

@@ -7,12 +7,12 @@ use Rattle.std.specs.List.{prefix_len}
 use Rattle.spec_calculus.specs.Syntax.{Protocol}
 use Rattle.spec_certificates.specs.Certificate.{Certificate}
 use Rattle.spec_certificate_text.specs.OfProtocol.{HasNames}
-use Rattle.spec_certificate_reading.specs.Terms.{Code, Syntax, Number, Symbol, Arity, Count, NodeOrder, NodeLarge}
-use Rattle.spec_certificate_reading.specs.Outcomes.{Outcome, Found, Faulty, next, front, ended, Reader, read_fixed, read_number}
-use Rattle.spec_certificate_reading.specs.Certificates.{read_certificate}
-use Rattle.spec_certificate_reading.specs.Reports.{Claim, Proved, Bare, Unknown, read_text, proof_by, read_unknown, proved_by, verdict_by, claim_by, claims_by, claims_from}
-use Rattle.spec_certificate_reading.proofs.Parts.{other_byte, same_byte}
-use Rattle.spec_report_text.specs.Text.{in_line}
+use Rattle.spec_certificate_text.specs.Terms.{Code, Syntax, Number, Symbol, Arity, Count, NodeOrder, NodeLarge}
+use Rattle.spec_certificate_text.specs.Outcomes.{Outcome, Found, Faulty, next, front, ended, Reader, read_fixed, read_number}
+use Rattle.spec_certificate_text.specs.Certificates.{read_certificate}
+use Rattle.spec_certificate_text.specs.Reports.{Claim, Proved, Bare, Unknown, read_text, proof_by, read_unknown, proved_by, verdict_by, claim_by, claims_by, claims_from}
+use Rattle.spec_certificate_text.proofs.Parts.{other_byte, same_byte}
+use Rattle.spec_certificate_text.specs.ReportText.{in_line}
 use Rattle.spec_reading_faults.proofs.Shared.{Shares, IsLocal, choice_local}
 use Rattle.spec_reading_faults.proofs.Parts.{same_local}
 use Rattle.spec_reading_faults.proofs.Reports.{verdict_local, claims_local}

@@ -1,8 +1,8 @@
 -- Rows: one thing at least, behind each but the last the same bytes, and others behind the last.
 use Rattle.std.proofs.Common.{◌≡◌, ℕ, zero, suc, ◌+◌, ◌≤◌, ◌==◌, inl, inr, if◌then◌else◌, Bool, true, false, List, [], ◌∷◌, ◌++◌, length, refl, sym, ◌∙◌, ap, subst, arith, length-append}
-use Rattle.spec_certificate_reading.specs.Terms.{Code, Syntax}
-use Rattle.spec_certificate_reading.specs.Outcomes.{Outcome, Found, Faulty, next, Reader, front, read_fixed, things_from, things}
-use Rattle.spec_certificate_reading.proofs.Parts.{same_byte}
+use Rattle.spec_certificate_text.specs.Terms.{Code, Syntax}
+use Rattle.spec_certificate_text.specs.Outcomes.{Outcome, Found, Faulty, next, Reader, front, read_fixed, things_from, things}
+use Rattle.spec_certificate_text.proofs.Parts.{same_byte}
 use Rattle.spec_reading_faults.proofs.Shared.{IsLocal, choice_local, never_local}
 use Rattle.spec_reading_faults.proofs.Parts.{things_more, things_none}
 use Rattle.spec_certificate_faults.specs.First.{Kind}

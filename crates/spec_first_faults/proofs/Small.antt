@@ -9,14 +9,14 @@ use Rattle.spec_calculus.specs.Syntax.{Protocol}
 use Rattle.spec_certificate_text.specs.Loose.{Loose, onto}
 use Rattle.spec_certificate_text.specs.Spelled.{Stops, goes_on}
 use Rattle.spec_certificate_text.specs.OfProtocol.{HasNames}
-use Rattle.spec_certificate_reading.specs.Terms.{Code, Syntax, Begins, Ended}
-use Rattle.spec_certificate_reading.specs.Runs.{Done, Refused, read_on, read_term}
-use Rattle.spec_certificate_reading.specs.Outcomes.{Outcome, Found, Faulty, next, front, ended, Reader, read_fixed}
-use Rattle.spec_certificate_reading.specs.Facts.{term_outcome, one_term}
-use Rattle.spec_certificate_reading.proofs.Complete.{reading}
-use Rattle.spec_certificate_reading.proofs.Runs.{read_on-place}
-use Rattle.spec_certificate_reading.proofs.FactsThere.{as_done}
-use Rattle.spec_certificate_reading.proofs.Parts.{equal_byte, fixed_there, fixed_found, run_stops}
+use Rattle.spec_certificate_text.specs.Terms.{Code, Syntax, Begins, Ended}
+use Rattle.spec_certificate_text.specs.Runs.{Done, Refused, read_on, read_term}
+use Rattle.spec_certificate_text.specs.Outcomes.{Outcome, Found, Faulty, next, front, ended, Reader, read_fixed}
+use Rattle.spec_certificate_text.specs.Facts.{term_outcome, one_term}
+use Rattle.spec_certificate_text.proofs.Complete.{reading}
+use Rattle.spec_certificate_text.proofs.ReadRuns.{read_on-place}
+use Rattle.spec_certificate_text.proofs.FactsThere.{as_done}
+use Rattle.spec_certificate_text.proofs.Parts.{equal_byte, fixed_there, fixed_found, run_stops}
 use Rattle.spec_reading_faults.proofs.Shared.{IsLocal, next_local, choice_local, found_local, never_local, ended_local}
 use Rattle.spec_reading_faults.proofs.Terms.{as_refused, term_local}
 use Rattle.spec_reading_faults.proofs.Parts.{fixed_local, run, run_local}

@@ -1,7 +1,7 @@
 -- Readers that tell the first fault of a kind of texts.
 use Rattle.std.proofs.Common.{◌≡◌, ◌≢◌, ℕ, ◌+◌, ◌≤◌, ◌⊎◌, inl, inr, List, [], ◌∷◌, ◌++◌, length, sym, ◌∙◌, ap, arith, length-append}
-use Rattle.spec_certificate_reading.specs.Terms.{Code, Syntax}
-use Rattle.spec_certificate_reading.specs.Outcomes.{Outcome, Found, Faulty, next, Reader}
+use Rattle.spec_certificate_text.specs.Terms.{Code, Syntax}
+use Rattle.spec_certificate_text.specs.Outcomes.{Outcome, Found, Faulty, next, Reader}
 use Rattle.spec_reading_faults.proofs.Shared.{IsLocal, next_local, found_local}
 use Rattle.spec_reading_faults.proofs.Parts.{same_local}
 use Rattle.spec_certificate_faults.specs.First.{Kind, code_number}

@@ -1,6 +1,6 @@
 -- The laws of first faults, of readers that tell them.
 use Rattle.std.proofs.Common.{◌≡◌, ℕ, List, inl, inr}
-use Rattle.spec_certificate_reading.specs.Outcomes.{Found, Reader}
+use Rattle.spec_certificate_text.specs.Outcomes.{Found, Reader}
 use Rattle.spec_certificate_faults.specs.First.{Kind}
 use Rattle.spec_first_faults.specs.Told.{IsToldFirst, IsFaultless}
 use Rattle.spec_first_faults.proofs.Tells.{Anything, TextRead, Tells}

@@ -8,8 +8,8 @@ use Rattle.spec_certificate_text.specs.Loose.{onto}
 use Rattle.spec_certificate_text.specs.OfProtocol.{IsEvent}
 use Rattle.spec_certificate_text.specs.Words.{event_word}
 use Rattle.spec_certificate_text.specs.Written.{written_event}
-use Rattle.spec_certificate_reading.specs.Terms.{Code, Symbol, Arity}
-use Rattle.spec_certificate_reading.specs.Readable.{MayStand}
+use Rattle.spec_certificate_text.specs.Terms.{Code, Symbol, Arity}
+use Rattle.spec_certificate_text.specs.Readable.{MayStand}
 use Rattle.spec_certificate_faults.specs.Grammar.{EndsAt}
 use Rattle.spec_certificate_faults.specs.First.{Kind, terms}
 use Rattle.spec_first_faults.specs.Kinds.{fixed, IsRun, runs, nothing_before, behind, one_of, marked, row_of}

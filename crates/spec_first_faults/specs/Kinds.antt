@@ -1,8 +1,8 @@
 -- Kinds of texts, made of others: fixed bytes, runs of bytes, one behind another, one of two, so many, and rows.
 use Rattle.std.specs.Prelude.{◌≡◌, ℕ, zero, suc, ◌≤◌, ◌⊎◌, Bool, true, List, ◌++◌, length}
 use Rattle.std.specs.List.{list_all}
-use Rattle.spec_certificate_reading.specs.Terms.{Code, Count}
-use Rattle.spec_certificate_reading.specs.Outcomes.{front}
+use Rattle.spec_certificate_text.specs.Terms.{Code, Count}
+use Rattle.spec_certificate_text.specs.Outcomes.{front}
 use Rattle.spec_certificate_faults.specs.Grammar.{EndsAt}
 use Rattle.spec_certificate_faults.specs.First.{Kind}
 

@@ -4,9 +4,9 @@ use Rattle.std.specs.Char.{is_ascii_digit}
 use Rattle.std.specs.Fmt.{decimal}
 use Rattle.spec_calculus.specs.Syntax.{Protocol}
 use Rattle.spec_certificate_text.specs.OfProtocol.{IsShort}
-use Rattle.spec_certificate_reading.specs.Terms.{Code, Count}
-use Rattle.spec_certificate_reading.specs.Outcomes.{front}
-use Rattle.spec_report_text.specs.Text.{in_line}
+use Rattle.spec_certificate_text.specs.Terms.{Code, Count}
+use Rattle.spec_certificate_text.specs.Outcomes.{front}
+use Rattle.spec_certificate_text.specs.ReportText.{in_line}
 use Rattle.spec_certificate_faults.specs.Grammar.{EndsAt}
 use Rattle.spec_certificate_faults.specs.First.{Kind}
 use Rattle.spec_first_faults.specs.Kinds.{fixed, IsRun, runs, nothing_before, behind, one_of, marked}

@@ -1,7 +1,7 @@
 -- What readers tell of a kind of texts.
 use Rattle.std.specs.Prelude.{◌≡◌, ◌↔◌, ℕ, List}
-use Rattle.spec_certificate_reading.specs.Terms.{Code}
-use Rattle.spec_certificate_reading.specs.Outcomes.{Faulty, Reader}
+use Rattle.spec_certificate_text.specs.Terms.{Code}
+use Rattle.spec_certificate_text.specs.Outcomes.{Faulty, Reader}
 use Rattle.spec_certificate_faults.specs.First.{Kind, StandsAt, IsFirstFault}
 
 -- the first fault is told, exactly where there is one

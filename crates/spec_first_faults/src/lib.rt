@@ -20,15 +20,15 @@ ghost use Rattle.spec_clauses.specs.Fact.{Fact};
 ghost use Rattle.spec_certificates.specs.Certificate.{Certificate};
 ghost use Rattle.spec_certificate_text.specs.OfProtocol.{HasNames, IsShort};
 ghost use Rattle.spec_certificate_text.specs.Text.{certificate_text};
-ghost use Rattle.spec_certificate_reading.specs.Terms.{Code};
-ghost use Rattle.spec_certificate_reading.specs.Outcomes.{Found, Faulty, read_number};
-ghost use Rattle.spec_certificate_reading.specs.Facts.{read_att, read_mess, read_event};
-ghost use Rattle.spec_certificate_reading.specs.Facts.{read_hypothesis, read_conclusion};
-ghost use Rattle.spec_certificate_reading.specs.Clauses.{read_clause};
-ghost use Rattle.spec_certificate_reading.specs.Certificates.{read_certificate};
-ghost use Rattle.spec_certificate_reading.specs.Readable.{IsReadableCertificate};
-ghost use Rattle.spec_certificate_reading.specs.Reports.{Claim, read_report};
-ghost use Rattle.spec_report_text.specs.Text.{SpellsReport};
+ghost use Rattle.spec_certificate_text.specs.Terms.{Code};
+ghost use Rattle.spec_certificate_text.specs.Outcomes.{Found, Faulty, read_number};
+ghost use Rattle.spec_certificate_text.specs.Facts.{read_att, read_mess, read_event};
+ghost use Rattle.spec_certificate_text.specs.Facts.{read_hypothesis, read_conclusion};
+ghost use Rattle.spec_certificate_text.specs.Clauses.{read_clause};
+ghost use Rattle.spec_certificate_text.specs.Certificates.{read_certificate};
+ghost use Rattle.spec_certificate_text.specs.Readable.{IsReadableCertificate};
+ghost use Rattle.spec_certificate_text.specs.Reports.{Claim, read_report};
+ghost use Rattle.spec_certificate_text.specs.ReportText.{SpellsReport};
 ghost use Rattle.spec_certificate_faults.specs.First.{StandsAt, IsFirstFault};
 ghost use Rattle.spec_first_faults.specs.Numbers.{numbers};
 ghost use Rattle.spec_first_faults.specs.Facts.{known, sent, events, hypotheses, conclusions};
@@ -36,8 +36,7 @@ ghost use Rattle.spec_first_faults.specs.Clauses.{clauses, certificates};
 ghost use Rattle.spec_first_faults.specs.Reports.{reports};
 ghost use Rattle.spec_first_faults.specs.Told.{IsToldFirst, IsFaultless};
 
-use spec_certificate_reading::certificates_are_read;
-use spec_report_text::reports_are_read;
+use spec_certificate_text::{certificates_are_read, reports_are_read};
 
 /// Of a fact that speaks of terms alone the first fault is told, and it is told exactly where there is one.
 pub fn the_first_fault_of_a_message_is_told()

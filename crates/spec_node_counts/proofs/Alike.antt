@@ -1,7 +1,7 @@
 -- Two readers that go on alike: each finds what the other finds, and tells the same faults.
 use Rattle.std.proofs.Common.{◌≡◌, ℕ, zero, suc, ◌==◌, if◌then◌else◌, Bool, true, false, List, refl, sym, subst}
-use Rattle.spec_certificate_reading.specs.Terms.{Code, Count}
-use Rattle.spec_certificate_reading.specs.Outcomes.{Outcome, Found, Faulty, next, front, Reader}
+use Rattle.spec_certificate_text.specs.Terms.{Code, Count}
+use Rattle.spec_certificate_text.specs.Outcomes.{Outcome, Found, Faulty, next, front, Reader}
 use Rattle.spec_node_reading.specs.Loops.{lines_through}
 use Rattle.spec_node_counts.proofs.Steps.{behind_line, line_more, line_full}
 

@@ -8,9 +8,9 @@ use Rattle.spec_terms.specs.Term.{Term}
 use Rattle.spec_clauses.specs.Fact.{same_term, Clause}
 use Rattle.spec_clauses.proofs.Equality.{same_term-decides}
 use Rattle.spec_certificates.specs.Certificate.{Certificate}
-use Rattle.spec_certificate_reading.specs.Terms.{Arity, NodeOrder, NodeLarge}
-use Rattle.spec_certificate_reading.specs.Outcomes.{Outcome, Found, Faulty, next, front, read_fixed}
-use Rattle.spec_certificate_reading.specs.Certificates.{certificate_end}
+use Rattle.spec_certificate_text.specs.Terms.{Arity, NodeOrder, NodeLarge}
+use Rattle.spec_certificate_text.specs.Outcomes.{Outcome, Found, Faulty, next, front, read_fixed}
+use Rattle.spec_certificate_text.specs.Certificates.{certificate_end}
 use Rattle.spec_node_tables.specs.Nodes.{term_of}
 use Rattle.spec_node_tables.specs.Large.{is_over}
 use Rattle.spec_node_tables.specs.Order.{IsNumberOf}

@@ -5,9 +5,9 @@ use Rattle.std.proofs.lemmas.Bool.Decides.{nat_tests}
 use Rattle.spec_calculus.specs.Syntax.{Protocol}
 use Rattle.spec_calculus.proofs.Items.{each-append}
 use Rattle.spec_terms.specs.Term.{Attacker}
-use Rattle.spec_certificate_reading.specs.Terms.{Count, NodeOrder}
-use Rattle.spec_certificate_reading.specs.Outcomes.{Outcome, Found, Faulty, next, front, ended, read_fixed, read_number, Reader}
-use Rattle.spec_certificate_reading.proofs.Parts.{parts, chosen}
+use Rattle.spec_certificate_text.specs.Terms.{Count, NodeOrder}
+use Rattle.spec_certificate_text.specs.Outcomes.{Outcome, Found, Faulty, next, front, ended, read_fixed, read_number, Reader}
+use Rattle.spec_certificate_text.proofs.Parts.{parts, chosen}
 use Rattle.spec_node_tables.specs.Text.{node_numbers}
 use Rattle.spec_node_tables.specs.Order.{IsNumberOf}
 use Rattle.spec_node_reading.specs.Loops.{lines_through}

@@ -1,7 +1,7 @@
 -- The steps of rounds and of lines.
 use Rattle.std.proofs.Common.{◌≡◌, ℕ, suc, ◌==◌, if◌then◌else◌, Bool, List, refl}
-use Rattle.spec_certificate_reading.specs.Terms.{Syntax, Count}
-use Rattle.spec_certificate_reading.specs.Outcomes.{Outcome, Found, Faulty, next, front, Reader}
+use Rattle.spec_certificate_text.specs.Terms.{Syntax, Count}
+use Rattle.spec_certificate_text.specs.Outcomes.{Outcome, Found, Faulty, next, front, Reader}
 use Rattle.spec_node_reading.specs.Loops.{lines_through}
 use Rattle.spec_node_counts.specs.Rounds.{rounds}
 

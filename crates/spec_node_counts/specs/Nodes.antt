@@ -6,8 +6,8 @@ use Rattle.spec_calculus.specs.Bounds.{most_symbols}
 use Rattle.spec_calculus.specs.Syntax.{Protocol}
 use Rattle.spec_terms.specs.Term.{Attacker, Term}
 use Rattle.spec_clauses.specs.Fact.{same_term}
-use Rattle.spec_certificate_reading.specs.Terms.{Arity, NodeOrder, NodeLarge}
-use Rattle.spec_certificate_reading.specs.Outcomes.{Outcome, Found, Faulty, next, read_fixed, Reader}
+use Rattle.spec_certificate_text.specs.Terms.{Arity, NodeOrder, NodeLarge}
+use Rattle.spec_certificate_text.specs.Outcomes.{Outcome, Found, Faulty, next, read_fixed, Reader}
 use Rattle.spec_node_tables.specs.Nodes.{TableNode, term_of}
 use Rattle.spec_node_tables.specs.Text.{node_numbers}
 use Rattle.spec_node_tables.specs.Large.{is_over}

@@ -4,8 +4,8 @@ use Rattle.spec_calculus.specs.Bounds.{most_clauses}
 use Rattle.spec_calculus.specs.Syntax.{Protocol}
 use Rattle.spec_terms.specs.Term.{Term}
 use Rattle.spec_clauses.specs.Fact.{Fact, Clause}
-use Rattle.spec_certificate_reading.specs.Terms.{NodeOrder}
-use Rattle.spec_certificate_reading.specs.Outcomes.{Outcome, Found, Faulty, next, front, read_fixed, Reader}
+use Rattle.spec_certificate_text.specs.Terms.{NodeOrder}
+use Rattle.spec_certificate_text.specs.Outcomes.{Outcome, Found, Faulty, next, front, read_fixed, Reader}
 use Rattle.spec_node_reading.specs.Loops.{lines_through}
 use Rattle.spec_node_counts.specs.Rounds.{rounds, collects, puts}
 use Rattle.spec_node_counts.specs.Nodes.{Table, table_read}

@@ -3,10 +3,10 @@ use Rattle.std.specs.Prelude.{ℕ, suc, ◌==◌, if◌then◌else◌, Bool, tru
 use Rattle.spec_calculus.specs.Syntax.{Protocol}
 use Rattle.spec_terms.specs.Term.{Term}
 use Rattle.spec_clauses.specs.Fact.{Fact, Att, Mess, Ev, Mev, Bad}
-use Rattle.spec_certificate_reading.specs.Names.{CalledEvent, event_called}
-use Rattle.spec_certificate_reading.specs.Terms.{Symbol}
-use Rattle.spec_certificate_reading.specs.Outcomes.{Found, Faulty, next, front, read_fixed, Reader}
-use Rattle.spec_certificate_reading.specs.Facts.{Performed, performed}
+use Rattle.spec_certificate_text.specs.Names.{CalledEvent, event_called}
+use Rattle.spec_certificate_text.specs.Terms.{Symbol}
+use Rattle.spec_certificate_text.specs.Outcomes.{Found, Faulty, next, front, read_fixed, Reader}
+use Rattle.spec_certificate_text.specs.Facts.{Performed, performed}
 use Rattle.spec_node_counts.specs.Words.{read_word}
 use Rattle.spec_node_counts.specs.Rounds.{rounds, collects}
 use Rattle.spec_node_counts.specs.Nodes.{Table}

@@ -1,7 +1,7 @@
 -- Reading in rounds, each of which goes on from what the one before left.
 use Rattle.std.specs.Prelude.{ℕ, zero, suc, if◌then◌else◌, Bool, List, [], ◌∷◌, ◌++◌}
-use Rattle.spec_certificate_reading.specs.Terms.{Syntax}
-use Rattle.spec_certificate_reading.specs.Outcomes.{Found, Faulty, next, Reader}
+use Rattle.spec_certificate_text.specs.Terms.{Syntax}
+use Rattle.spec_certificate_text.specs.Outcomes.{Found, Faulty, next, Reader}
 
 -- A round reads something from a state, and tells whether another comes: there are at most so many.
 unfoldable pub rounds : {S : Type 0} → (S → Reader (S × Bool)) → ℕ → S → Reader S

@@ -3,8 +3,8 @@ use Rattle.std.specs.Prelude.{ℕ, ◌+◌, if◌then◌else◌, List, take, dro
 use Rattle.std.specs.List.{prefix_len}
 use Rattle.spec_calculus.specs.Syntax.{Protocol}
 use Rattle.spec_protocol_tokens.specs.Bytes.{begins_word, is_in_word}
-use Rattle.spec_certificate_reading.specs.Terms.{Syntax}
-use Rattle.spec_certificate_reading.specs.Outcomes.{Found, Faulty, next, front, ended, Reader}
+use Rattle.spec_certificate_text.specs.Terms.{Syntax}
+use Rattle.spec_certificate_text.specs.Outcomes.{Found, Faulty, next, front, ended, Reader}
 use Rattle.spec_node_reading.specs.ReadNodes.{HeadRead, word_head}
 
 -- a word, which these bytes begin with, and so many of them are

@@ -7,8 +7,8 @@
 
 ghost use Rattle.std.specs.Prelude.{◌≡◌, ℕ, List};
 ghost use Rattle.spec_calculus.specs.Syntax.{Protocol};
-ghost use Rattle.spec_certificate_reading.specs.Outcomes.{next};
-ghost use Rattle.spec_certificate_reading.specs.Certificates.{certificate_end};
+ghost use Rattle.spec_certificate_text.specs.Outcomes.{next};
+ghost use Rattle.spec_certificate_text.specs.Certificates.{certificate_end};
 ghost use Rattle.spec_node_reading.specs.Reading.{read_numbered};
 ghost use Rattle.spec_node_counts.specs.ReadClauses.{clauses_read};
 

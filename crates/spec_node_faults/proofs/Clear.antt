@@ -17,8 +17,8 @@ use Rattle.spec_certificate_text.specs.Loose.{Applied}
 use Rattle.spec_certificate_text.specs.Words.{word_at}
 use Rattle.spec_certificate_text.specs.OfProtocol.{IsShort, IsSymbolOf, HasNames}
 use Rattle.spec_certificate_text.proofs.Names.{variable_is_variable}
-use Rattle.spec_certificate_reading.specs.Names.{name_called}
-use Rattle.spec_certificate_reading.proofs.Called.{point_called}
+use Rattle.spec_certificate_text.specs.Names.{name_called}
+use Rattle.spec_certificate_text.proofs.Called.{point_called}
 use Rattle.spec_node_tables.specs.Table.{place_in, number_in, arguments_of}
 use Rattle.spec_node_tables.specs.Nodes.{TableNode, Variable, Over, node_of, term_of}
 use Rattle.spec_node_tables.specs.Text.{symbol_head, node_head, head_text, node_numbers}

@@ -15,8 +15,8 @@ use Rattle.spec_clauses.proofs.Inclusion.{all_has}
 use Rattle.spec_clauses.proofs.Lists.{all_append, all_weaker, all_first, all_second}
 use Rattle.spec_certificates.specs.Certificate.{Certificate}
 use Rattle.spec_certificate_text.specs.OfProtocol.{IsShort, IsEvent, IsSymbolOf, IsTermOf, AreTermsOf, IsFactOf, IsClauseOf, HasNames}
-use Rattle.spec_certificate_reading.specs.Terms.{Code, Number, Symbol, Arity, Count, NodeOrder, NodeLarge}
-use Rattle.spec_certificate_reading.specs.Readable.{IsRow}
+use Rattle.spec_certificate_text.specs.Terms.{Code, Number, Symbol, Arity, Count, NodeOrder, NodeLarge}
+use Rattle.spec_certificate_text.specs.Readable.{IsRow}
 use Rattle.spec_node_tables.specs.Nodes.{TableNode, Variable, Over, NodeCertificate, with_nodes, term_at, term_of, terms_from, without_nodes}
 use Rattle.spec_node_tables.specs.Text.{text_with_nodes}
 use Rattle.spec_node_tables.specs.OfProtocol.{IsNodeOf, HasPredicate, IsFactOver, IsClauseOver}

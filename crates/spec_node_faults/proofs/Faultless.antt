@@ -25,7 +25,7 @@ use Rattle.spec_node_tables.proofs.Ordered.{apart_nothing}
 use Rattle.spec_node_faults.specs.Loose.{LooseCertificate, row_line, written}
 use Rattle.spec_node_faults.specs.Nodes.{place_if, node_numbers, node_symbols, node_arities, node_orders, node_larges}
 use Rattle.spec_node_faults.specs.Clauses.{item_symbols, item_arities, item_orders, item_larges, has_unreached}
-use Rattle.spec_certificate_reading.specs.Terms.{Code, Syntax, Number, Symbol, Arity, Count, NodeOrder, NodeLarge}
+use Rattle.spec_certificate_text.specs.Terms.{Code, Syntax, Number, Symbol, Arity, Count, NodeOrder, NodeLarge}
 use Rattle.spec_node_faults.specs.Faults.{nodes_place, clauses_place, rows_place, goals_place, table_of, all_nodes, all_items, row_numbers, clause_numbers, clause_orders, clause_larges, places}
 use Rattle.spec_node_faults.proofs.Meant.{terms_meant_are}
 use Rattle.spec_node_faults.proofs.Clear as nodes

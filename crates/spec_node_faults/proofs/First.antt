@@ -8,7 +8,7 @@ use Rattle.spec_clauses.specs.Inclusion.{here, there, Has}
 use Rattle.spec_clauses.proofs.Lists.{all_append}
 use Rattle.spec_clauses.proofs.Inclusion.{all_has, Has-append, Has-map, Has-map_source, Has-flat_map, Has-flat_map_source, Has-one}
 use Rattle.spec_node_faults.specs.Loose.{LooseCertificate}
-use Rattle.spec_certificate_reading.specs.Terms.{Code, Syntax, Number, Symbol, Arity, Count, NodeOrder, NodeLarge}
+use Rattle.spec_certificate_text.specs.Terms.{Code, Syntax, Number, Symbol, Arity, Count, NodeOrder, NodeLarge}
 use Rattle.spec_certificate_faults.specs.First.{code_number}
 use Rattle.spec_node_faults.specs.Faults.{Fault, places, faults_of, faults, NotAfter, sooner, first_of, first_fault}
 

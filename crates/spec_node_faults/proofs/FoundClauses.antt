@@ -12,8 +12,8 @@ use Rattle.spec_clauses.specs.Fact.{Fact, Clause, terms_of}
 use Rattle.spec_clauses.specs.Fact as fact
 use Rattle.spec_clauses.proofs.Lists.{all_first, all_second}
 use Rattle.spec_certificate_text.specs.OfProtocol.{IsShort, IsEvent}
-use Rattle.spec_certificate_reading.specs.Names.{CalledEvent, event_called}
-use Rattle.spec_certificate_reading.proofs.Called.{event_called_is}
+use Rattle.spec_certificate_text.specs.Names.{CalledEvent, event_called}
+use Rattle.spec_certificate_text.proofs.Called.{event_called_is}
 use Rattle.spec_node_tables.specs.OfProtocol.{IsFactOver, IsClauseOver}
 use Rattle.spec_node_faults.specs.Loose.{Predicate, Att, Mess, Tab, Ev, Mev, Bad, LooseFact, LooseClause, fact_onto, clause_line, written_fact, written_clause}
 use Rattle.spec_node_faults.specs.Nodes.{place_if}

@@ -18,9 +18,9 @@ use Rattle.spec_clauses.proofs.Lists.{all_append}
 use Rattle.spec_certificate_text.specs.Loose.{Head, Applied, Tupled, Made, Attackers}
 use Rattle.spec_certificate_text.specs.Words.{symbol_word}
 use Rattle.spec_certificate_text.specs.OfProtocol.{IsShort, IsSymbolOf, IsRestriction, HasNames}
-use Rattle.spec_certificate_reading.specs.Names.{Named, symbol_called, name_called}
-use Rattle.spec_certificate_reading.proofs.Named.{IsWorded, symbol_called_is, name_called_is}
-use Rattle.spec_certificate_reading.proofs.SoundWords.{variable_rest}
+use Rattle.spec_certificate_text.specs.Names.{Named, symbol_called, name_called}
+use Rattle.spec_certificate_text.proofs.Named.{IsWorded, symbol_called_is, name_called_is}
+use Rattle.spec_certificate_text.proofs.SoundWords.{variable_rest}
 use Rattle.spec_node_tables.specs.Nodes.{TableNode, Variable, Over, term_of, terms_from}
 use Rattle.spec_node_tables.specs.Text.{symbol_head}
 use Rattle.spec_node_tables.specs.Text as table

@@ -16,8 +16,8 @@ use Rattle.spec_clauses.specs.Fact as fact
 use Rattle.spec_clauses.proofs.Lists.{all_append}
 use Rattle.spec_certificate_text.specs.Words.{event_word}
 use Rattle.spec_certificate_text.specs.OfProtocol.{IsShort, IsEvent, HasNames}
-use Rattle.spec_certificate_reading.specs.Names.{CalledEvent, event_called}
-use Rattle.spec_certificate_reading.proofs.Called.{event_word_called}
+use Rattle.spec_certificate_text.specs.Names.{CalledEvent, event_called}
+use Rattle.spec_certificate_text.proofs.Called.{event_word_called}
 use Rattle.spec_node_tables.specs.OfProtocol.{IsFactOver, IsClauseOver}
 use Rattle.spec_node_faults.specs.Loose.{fact_onto, clause_line, written_fact, written_clause}
 use Rattle.spec_node_faults.specs.Nodes.{place_if}

@@ -13,8 +13,8 @@ use Rattle.spec_certificate_text.specs.Loose.{Applied}
 use Rattle.spec_certificate_text.specs.Words.{declared_word, word_at}
 use Rattle.spec_certificate_text.specs.OfProtocol.{IsShort, IsSymbolOf, HasNames}
 use Rattle.spec_certificate_text.proofs.Names.{constructor_word, free_word, variable_is_variable}
-use Rattle.spec_certificate_reading.specs.Names.{symbol_called, name_called}
-use Rattle.spec_certificate_reading.proofs.Called.{free_called, constructor_called, point_called}
+use Rattle.spec_certificate_text.specs.Names.{symbol_called, name_called}
+use Rattle.spec_certificate_text.proofs.Called.{free_called, constructor_called, point_called}
 use Rattle.spec_node_tables.specs.Nodes.{TableNode, Variable, Over, term_at, term_of, terms_from}
 use Rattle.spec_node_tables.specs.Text.{symbol_head}
 use Rattle.spec_node_tables.specs.OfProtocol.{IsNodeOf}

@@ -11,7 +11,7 @@ use Rattle.spec_clauses.specs.Fact as fact
 use Rattle.spec_certificates.specs.Certificate.{Certificate}
 use Rattle.spec_certificate_text.specs.OfProtocol.{IsShort, HasNames}
 use Rattle.spec_certificate_text.proofs.Names.{decimal_digits, event_word_is_word}
-use Rattle.spec_certificate_reading.specs.Readable.{IsRow}
+use Rattle.spec_certificate_text.specs.Readable.{IsRow}
 use Rattle.spec_node_tables.specs.Table.{table, number_in}
 use Rattle.spec_node_tables.specs.Nodes.{TableNode, Variable, Over, with_nodes}
 use Rattle.spec_node_tables.specs.Text.{symbol_head, node_head}

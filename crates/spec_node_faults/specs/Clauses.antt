@@ -9,7 +9,7 @@ use Rattle.spec_run_text.specs.Reading.{numeral}
 use Rattle.spec_terms.specs.Term.{Term}
 use Rattle.spec_clauses.specs.Fact.{same_term}
 use Rattle.spec_clauses.specs.Norm.{distinct}
-use Rattle.spec_certificate_reading.specs.Names.{event_called}
+use Rattle.spec_certificate_text.specs.Names.{event_called}
 use Rattle.spec_node_tables.specs.Table.{walk}
 use Rattle.spec_node_tables.specs.Nodes.{term_at}
 use Rattle.spec_node_tables.specs.Large.{is_over, most_certificate_symbols}

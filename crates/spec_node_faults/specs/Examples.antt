@@ -3,7 +3,7 @@ use Rattle.std.specs.Prelude.{◌≡◌, ℕ, Some, List, [], ◌∷◌, map, co
 use Rattle.spec_calculus.specs.Syntax.{Protocol}
 use Rattle.spec_certificate_text.specs.Loose.{Head, Applied, Tupled, Attackers}
 use Rattle.spec_node_faults.specs.Loose.{LooseNode, Predicate, Att, Mess, Mev, Bad, LooseFact, LooseClause, LooseCertificate, certificate_onto}
-use Rattle.spec_certificate_reading.specs.Terms.{Code}
+use Rattle.spec_certificate_text.specs.Terms.{Code}
 use Rattle.spec_node_faults.specs.Faults.{Fault, first_fault}
 
 abbrev pub over : Head → List (List ℕ) → LooseNode

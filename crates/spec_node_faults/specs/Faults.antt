@@ -2,7 +2,7 @@
 use Rattle.std.specs.Prelude.{ℕ, ◌+◌, nat_le, cond, Option, Some, None, List, [], ◌∷◌, ◌++◌, map, flat_map, length, codes}
 use Rattle.spec_calculus.specs.Syntax.{Protocol}
 use Rattle.spec_terms.specs.Term.{Term}
-use Rattle.spec_certificate_reading.specs.Terms.{Code, Syntax, Number, Symbol, Arity, Count, NodeOrder, NodeLarge}
+use Rattle.spec_certificate_text.specs.Terms.{Code, Syntax, Number, Symbol, Arity, Count, NodeOrder, NodeLarge}
 use Rattle.spec_certificate_faults.specs.First as first
 use Rattle.spec_node_faults.specs.Loose.{LooseCertificate, node_line, clause_line, row_line, lines}
 use Rattle.spec_node_faults.specs.Nodes.{NodeAt, place_if, placed, no_number, nodes_at, terms_meant, node_numbers, node_symbols, node_arities, node_orders, node_larges}

@@ -9,7 +9,7 @@ use Rattle.spec_certificates.specs.Certificate.{Certificate}
 use Rattle.spec_certificate_text.specs.Loose.{Head, Applied, Tupled, Made, Attackers}
 use Rattle.spec_certificate_text.specs.Spelled.{IsWord, AreDigits}
 use Rattle.spec_certificate_text.specs.OfProtocol.{IsCertificateOf}
-use Rattle.spec_certificate_reading.specs.Readable.{IsRow}
+use Rattle.spec_certificate_text.specs.Readable.{IsRow}
 use Rattle.spec_node_tables.specs.Large.{FitsInNodes}
 use Rattle.spec_node_faults.specs.Loose.{LooseNode, Predicate, Att, Mess, Tab, Ev, Mev, Bad, LooseFact, LooseClause, LooseCertificate}
 

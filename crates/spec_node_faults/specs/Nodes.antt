@@ -10,7 +10,7 @@ use Rattle.spec_run_text.specs.Reading.{numeral}
 use Rattle.spec_terms.specs.Term.{Tuple, Attacker, Term}
 use Rattle.spec_clauses.specs.Fact.{same_term}
 use Rattle.spec_certificate_text.specs.Loose.{Head, Applied, Tupled, Made, Attackers}
-use Rattle.spec_certificate_reading.specs.Names.{Named, symbol_called, name_called}
+use Rattle.spec_certificate_text.specs.Names.{Named, symbol_called, name_called}
 use Rattle.spec_node_tables.specs.Nodes.{term_at}
 use Rattle.spec_node_tables.specs.Text.{head_text}
 use Rattle.spec_node_tables.specs.Large.{is_over}

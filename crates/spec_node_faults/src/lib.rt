@@ -17,7 +17,7 @@ ghost use Rattle.spec_certificate_text.specs.Loose.{Applied, Tupled, Made};
 ghost use Rattle.spec_certificate_text.specs.Examples.{sending, answering};
 ghost use Rattle.spec_node_tables.specs.Examples.{silent};
 ghost use Rattle.spec_node_faults.specs.Loose.{Att, Mess, Bad, LooseCertificate, certificate_onto, written};
-ghost use Rattle.spec_certificate_reading.specs.Terms.{Code, Number, Symbol, Arity, Count, NodeOrder, NodeLarge};
+ghost use Rattle.spec_certificate_text.specs.Terms.{Code, Number, Symbol, Arity, Count, NodeOrder, NodeLarge};
 ghost use Rattle.spec_node_faults.specs.Faults.{Fault, NotAfter, places, first_fault};
 ghost use Rattle.spec_node_faults.specs.Grammar.{IsInGrammar, IsNumberable};
 ghost use Rattle.spec_node_faults.specs.Examples.{over, alone, of, concludes, from, certificate, pair, enc, happened, silent_nodes, four_clauses, last_clause, Tells, fault, got, nodes, c, v0, twice, doubled};

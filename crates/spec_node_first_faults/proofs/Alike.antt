@@ -1,7 +1,7 @@
 -- Two readers of fixed bytes that begin alike, told apart by the byte behind what they share.
 use Rattle.std.proofs.Common.{◌≡◌, ℕ, ◌+◌, ◌==◌, if◌then◌else◌, Bool, true, false, List, [], ◌∷◌, ◌++◌, length, drop, refl}
-use Rattle.spec_certificate_reading.specs.Terms.{Syntax}
-use Rattle.spec_certificate_reading.specs.Outcomes.{Faulty, next, front, Reader, read_fixed}
+use Rattle.spec_certificate_text.specs.Terms.{Syntax}
+use Rattle.spec_certificate_text.specs.Outcomes.{Faulty, next, front, Reader, read_fixed}
 use Rattle.spec_reading_faults.proofs.Shared.{IsLocal, next_local, choice_local}
 use Rattle.spec_reading_faults.proofs.Parts.{same_local, fixed_local}
 use Rattle.spec_first_faults.proofs.Behind.{then_read}

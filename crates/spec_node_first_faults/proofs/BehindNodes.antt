@@ -6,8 +6,8 @@ use Rattle.spec_terms.specs.Term.{Term}
 use Rattle.spec_clauses.specs.Fact.{Clause}
 use Rattle.spec_certificates.specs.Certificate.{Certificate}
 use Rattle.spec_certificate_text.specs.OfProtocol.{HasNames}
-use Rattle.spec_certificate_reading.specs.Terms.{Code}
-use Rattle.spec_certificate_reading.specs.Outcomes.{front}
+use Rattle.spec_certificate_text.specs.Terms.{Code}
+use Rattle.spec_certificate_text.specs.Outcomes.{front}
 use Rattle.spec_first_faults.specs.Clauses.{rows_and_end}
 use Rattle.spec_first_faults.proofs.Tells.{Anything, Tells, there_shorter, kind_tells}
 use Rattle.spec_first_faults.proofs.OneOf.{told_alone}

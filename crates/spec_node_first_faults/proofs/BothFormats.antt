@@ -3,9 +3,9 @@ use Rattle.std.proofs.Common.{◌≡◌, ℕ, ◌==◌, inl, inr, Bool, true, fa
 use Rattle.spec_calculus.specs.Bounds.{most_clauses}
 use Rattle.spec_calculus.specs.Syntax.{Protocol}
 use Rattle.spec_certificate_text.specs.OfProtocol.{HasNames}
-use Rattle.spec_certificate_reading.specs.Certificates.{read_certificate}
-use Rattle.spec_certificate_reading.specs.Outcomes.{front}
-use Rattle.spec_certificate_reading.specs.Reports.{claims_by}
+use Rattle.spec_certificate_text.specs.Certificates.{read_certificate}
+use Rattle.spec_certificate_text.specs.Outcomes.{front}
+use Rattle.spec_certificate_text.specs.Reports.{claims_by}
 use Rattle.spec_certificate_faults.proofs.Comes.{either}
 use Rattle.spec_first_faults.specs.Kinds.{one_of}
 use Rattle.spec_first_faults.specs.Clauses.{certificates}

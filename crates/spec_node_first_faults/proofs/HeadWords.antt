@@ -9,8 +9,8 @@ use Rattle.spec_certificate_text.specs.OfProtocol.{IsShort}
 use Rattle.spec_certificate_text.specs.Spelled.{IsWord, AreDigits, Stops}
 use Rattle.spec_certificate_text.proofs.Names.{decimal_digits}
 use Rattle.spec_certificate_text.proofs.Runs.{both_left, both_right, RunsApart}
-use Rattle.spec_certificate_reading.specs.Outcomes.{Found, next, front, Reader, read_fixed, read_number}
-use Rattle.spec_certificate_reading.proofs.Parts.{parts, equal_byte, front_is}
+use Rattle.spec_certificate_text.specs.Outcomes.{Found, next, front, Reader, read_fixed, read_number}
+use Rattle.spec_certificate_text.proofs.Parts.{parts, equal_byte, front_is}
 use Rattle.spec_reading_faults.proofs.Shared.{IsLocal, choice_local, found_local}
 use Rattle.spec_reading_faults.proofs.Parts.{same_local}
 use Rattle.spec_certificate_faults.specs.Grammar.{EndsAt}

@@ -1,8 +1,8 @@
 -- Fixed bytes before a thing and behind it, one of two things, and faults that the whole of a thing makes: readers that go from a state to others tell the first fault.
 use Rattle.std.proofs.Common.{◌≡◌, ℕ, ◌+◌, ◌≤◌, ◌==◌, ◌⊎◌, inl, inr, Bool, true, false, List, length, ◌++◌, refl, sym, ◌∙◌, ap, subst, arith}
-use Rattle.spec_certificate_reading.specs.Terms.{Code, Syntax}
-use Rattle.spec_certificate_reading.specs.Outcomes.{Outcome, Found, Faulty, next, front, Reader, read_fixed}
-use Rattle.spec_certificate_reading.proofs.Parts.{parts}
+use Rattle.spec_certificate_text.specs.Terms.{Code, Syntax}
+use Rattle.spec_certificate_text.specs.Outcomes.{Outcome, Found, Faulty, next, front, Reader, read_fixed}
+use Rattle.spec_certificate_text.proofs.Parts.{parts}
 use Rattle.spec_reading_faults.proofs.Shared.{IsLocal, choice_local}
 use Rattle.spec_certificate_faults.specs.First.{Kind, code_number}
 use Rattle.spec_certificate_faults.proofs.Comes.{either}

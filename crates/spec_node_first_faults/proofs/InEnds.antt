@@ -1,7 +1,7 @@
 -- What is read last leads nowhere: of a kind behind lines the state that it leads to does not count for texts and faults.
 use Rattle.std.proofs.Common.{◌≡◌, inl, inr, ℕ, List, refl, sym}
-use Rattle.spec_certificate_reading.specs.Terms.{Code}
-use Rattle.spec_certificate_reading.specs.Outcomes.{Reader}
+use Rattle.spec_certificate_text.specs.Terms.{Code}
+use Rattle.spec_certificate_text.specs.Outcomes.{Reader}
 use Rattle.spec_certificate_faults.proofs.Comes.{either}
 use Rattle.spec_first_faults.proofs.Tells.{Forms, Tells, IsSameKind}
 use Rattle.spec_node_reading.specs.Kinds.{KindIn, in_state, FaultThrough, in_last, in_one, later, many, at_most}

@@ -1,8 +1,8 @@
 -- So many of one kind and one of another behind them, as lines are: readers that go through them tell the first fault.
 use Rattle.std.proofs.Common.{◌≡◌, ℕ, zero, suc, ◌+◌, ◌≤◌, ◌==◌, ◌⊎◌, inl, inr, if◌then◌else◌, Bool, true, false, List, [], ◌∷◌, ◌++◌, length, refl, sym, ◌∙◌, ap, subst, arith, append_assoc}
-use Rattle.spec_certificate_reading.specs.Terms.{Code, Syntax, Count}
-use Rattle.spec_certificate_reading.specs.Outcomes.{Outcome, Found, Faulty, next, Reader, front}
-use Rattle.spec_certificate_reading.proofs.Parts.{equal_byte, same_byte}
+use Rattle.spec_certificate_text.specs.Terms.{Code, Syntax, Count}
+use Rattle.spec_certificate_text.specs.Outcomes.{Outcome, Found, Faulty, next, Reader, front}
+use Rattle.spec_certificate_text.proofs.Parts.{equal_byte, same_byte}
 use Rattle.spec_reading_faults.proofs.Shared.{IsLocal, next_local, choice_local, found_local}
 use Rattle.spec_reading_faults.proofs.Parts.{same_local}
 use Rattle.spec_certificate_faults.specs.First.{Kind, code_number}

@@ -1,8 +1,8 @@
 -- Rows in which what stands before counts: readers of them tell the first fault.
 use Rattle.std.proofs.Common.{◌≡◌, ℕ, zero, suc, ◌+◌, ◌≤◌, ◌==◌, inl, inr, if◌then◌else◌, true, false, List, [], ◌∷◌, ◌++◌, length, refl, sym, ◌∙◌, ap, subst, arith, length-append}
-use Rattle.spec_certificate_reading.specs.Terms.{Code, Syntax}
-use Rattle.spec_certificate_reading.specs.Outcomes.{Found, Faulty, Reader, front, read_fixed}
-use Rattle.spec_certificate_reading.proofs.Parts.{same_byte}
+use Rattle.spec_certificate_text.specs.Terms.{Code, Syntax}
+use Rattle.spec_certificate_text.specs.Outcomes.{Found, Faulty, Reader, front, read_fixed}
+use Rattle.spec_certificate_text.proofs.Parts.{same_byte}
 use Rattle.spec_reading_faults.proofs.Shared.{IsLocal, next_local, choice_local, never_local, found_local}
 use Rattle.spec_reading_faults.proofs.Parts.{same_local, fixed_local}
 use Rattle.spec_first_faults.specs.Kinds.{fixed, last, further}

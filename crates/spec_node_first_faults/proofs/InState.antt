@@ -1,7 +1,7 @@
 -- Readers that go from a state to others, and tell the first fault of a kind in that state.
 use Rattle.std.proofs.Common.{◌≡◌, ◌⊎◌, inl, inr, ℕ, ◌+◌, Bool, true, false, if◌then◌else◌, List, length, refl, sym, ◌∙◌, ap, subst, arith}
-use Rattle.spec_certificate_reading.specs.Terms.{Code}
-use Rattle.spec_certificate_reading.specs.Outcomes.{Outcome, Found, Faulty, next, Reader}
+use Rattle.spec_certificate_text.specs.Terms.{Code}
+use Rattle.spec_certificate_text.specs.Outcomes.{Outcome, Found, Faulty, next, Reader}
 use Rattle.spec_reading_faults.proofs.Shared.{IsLocal, next_local}
 use Rattle.spec_certificate_faults.specs.First.{Kind}
 use Rattle.spec_certificate_faults.proofs.Comes.{either}

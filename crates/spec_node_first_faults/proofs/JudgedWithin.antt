@@ -1,8 +1,8 @@
 -- Faults that the whole of a thing makes, and that stand so many bytes behind its beginning: a reader that judges what it found tells them.
 use Rattle.std.proofs.Common.{◌≡◌, ◌≢◌, ℕ, ◌+◌, ◌≤◌, ◌⊎◌, inl, inr, List, length, refl, ◌∙◌, ap, subst, arith}
-use Rattle.spec_certificate_reading.specs.Terms.{Code, Syntax}
-use Rattle.spec_certificate_reading.specs.Outcomes.{Outcome, Found, Faulty, next, Reader}
-use Rattle.spec_certificate_reading.proofs.Parts.{parts}
+use Rattle.spec_certificate_text.specs.Terms.{Code, Syntax}
+use Rattle.spec_certificate_text.specs.Outcomes.{Outcome, Found, Faulty, next, Reader}
+use Rattle.spec_certificate_text.proofs.Parts.{parts}
 use Rattle.spec_reading_faults.proofs.Shared.{IsLocal, next_local, found_local}
 use Rattle.spec_certificate_faults.specs.First.{Kind}
 use Rattle.spec_certificate_faults.proofs.Comes.{either}

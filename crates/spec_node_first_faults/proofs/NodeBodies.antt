@@ -12,12 +12,12 @@ use Rattle.spec_terms.specs.Term.{Sym, Ctor, Data, Tuple, Free, Point, Attacker}
 use Rattle.spec_certificate_text.specs.OfProtocol.{IsShort, HasNames, IsSymbolOf}
 use Rattle.spec_certificate_text.specs.Text.{numbers_text}
 use Rattle.spec_certificate_text.specs.Words.{symbol_word, word_at}
-use Rattle.spec_certificate_reading.specs.Names.{Named}
-use Rattle.spec_certificate_reading.specs.Outcomes.{Found, next, front, ended, Reader, read_fixed}
-use Rattle.spec_certificate_reading.specs.Steps.{with_parts}
-use Rattle.spec_certificate_reading.proofs.Named.{IsWorded, symbol_called_is, name_called_is}
-use Rattle.spec_certificate_reading.proofs.Parts.{parts, equal_byte, other_byte, ended_found, fixed_there}
-use Rattle.spec_certificate_reading.proofs.SoundWords.{variable_rest}
+use Rattle.spec_certificate_text.specs.Names.{Named}
+use Rattle.spec_certificate_text.specs.Outcomes.{Found, next, front, ended, Reader, read_fixed}
+use Rattle.spec_certificate_text.specs.Steps.{with_parts}
+use Rattle.spec_certificate_text.proofs.Named.{IsWorded, symbol_called_is, name_called_is}
+use Rattle.spec_certificate_text.proofs.Parts.{parts, equal_byte, other_byte, ended_found, fixed_there}
+use Rattle.spec_certificate_text.proofs.SoundWords.{variable_rest}
 use Rattle.spec_reading_faults.proofs.Shared.{choice_local}
 use Rattle.spec_certificate_faults.specs.Grammar.{EndsAt}
 use Rattle.spec_certificate_faults.specs.First.{Kind}

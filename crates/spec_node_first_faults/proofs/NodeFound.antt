@@ -13,10 +13,10 @@ use Rattle.spec_certificate_text.specs.Text.{numbers_text}
 use Rattle.spec_certificate_text.specs.Words.{symbol_word, word_at}
 use Rattle.spec_certificate_text.proofs.Names.{constructor_word, free_word, symbol_word_is_word, restriction_word_is_word, variable_is_word, decimal_digits}
 use Rattle.spec_certificate_text.proofs.Runs.{run_apart}
-use Rattle.spec_certificate_reading.specs.Names.{Named, symbol_called}
-use Rattle.spec_certificate_reading.specs.Outcomes.{Found, next, front, read_fixed}
-use Rattle.spec_certificate_reading.proofs.Called.{free_called, constructor_called, point_called}
-use Rattle.spec_certificate_reading.proofs.Parts.{Finds, joined, when_false, other_byte, fixed_found}
+use Rattle.spec_certificate_text.specs.Names.{Named, symbol_called}
+use Rattle.spec_certificate_text.specs.Outcomes.{Found, next, front, read_fixed}
+use Rattle.spec_certificate_text.proofs.Called.{free_called, constructor_called, point_called}
+use Rattle.spec_certificate_text.proofs.Parts.{Finds, joined, when_false, other_byte, fixed_found}
 use Rattle.spec_certificate_faults.specs.Grammar.{EndsAt}
 use Rattle.spec_first_faults.specs.Kinds.{IsRun}
 use Rattle.spec_node_tables.specs.Nodes.{Variable, Over}

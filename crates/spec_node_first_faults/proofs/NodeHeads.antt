@@ -13,13 +13,13 @@ use Rattle.spec_certificate_text.specs.Spelled.{IsWord, AreDigits}
 use Rattle.spec_certificate_text.specs.Words.{symbol_word}
 use Rattle.spec_certificate_text.proofs.Names.{variable_is_variable}
 use Rattle.spec_certificate_text.proofs.Runs.{both_left}
-use Rattle.spec_certificate_reading.specs.Names.{Named, symbol_called, name_called}
-use Rattle.spec_certificate_reading.specs.Terms.{Code, Syntax, Number, Symbol, Arity, Count, NodeOrder, NodeLarge}
-use Rattle.spec_certificate_reading.specs.Outcomes.{Found, Faulty, next, front, ended, Reader, read_fixed, read_number}
-use Rattle.spec_certificate_reading.proofs.Parts.{Finds, parts, equal_byte, fixed_there, fixed_found}
-use Rattle.spec_certificate_reading.proofs.Called.{free_called, constructor_called, point_called}
-use Rattle.spec_certificate_reading.proofs.Named.{symbol_called_is}
-use Rattle.spec_certificate_reading.proofs.SoundWords.{variable_rest}
+use Rattle.spec_certificate_text.specs.Names.{Named, symbol_called, name_called}
+use Rattle.spec_certificate_text.specs.Terms.{Code, Syntax, Number, Symbol, Arity, Count, NodeOrder, NodeLarge}
+use Rattle.spec_certificate_text.specs.Outcomes.{Found, Faulty, next, front, ended, Reader, read_fixed, read_number}
+use Rattle.spec_certificate_text.proofs.Parts.{Finds, parts, equal_byte, fixed_there, fixed_found}
+use Rattle.spec_certificate_text.proofs.Called.{free_called, constructor_called, point_called}
+use Rattle.spec_certificate_text.proofs.Named.{symbol_called_is}
+use Rattle.spec_certificate_text.proofs.SoundWords.{variable_rest}
 use Rattle.spec_reading_faults.proofs.Shared.{choice_local}
 use Rattle.spec_certificate_faults.specs.Grammar.{EndsAt}
 use Rattle.spec_certificate_faults.specs.TermFaults.{IsPlain, NamesNoRestriction}

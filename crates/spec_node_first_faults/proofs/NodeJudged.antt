@@ -12,9 +12,9 @@ use Rattle.spec_clauses.specs.Inclusion.{here, there, Has}
 use Rattle.spec_clauses.proofs.Equality.{same_term-decides}
 use Rattle.spec_clauses.proofs.Inclusion.{all_has}
 use Rattle.spec_certificate_text.specs.OfProtocol.{IsShort, HasNames, IsSymbolOf}
-use Rattle.spec_certificate_reading.specs.Terms.{Code, Syntax, Number, Symbol, Arity, Count, NodeOrder, NodeLarge}
-use Rattle.spec_certificate_reading.specs.Outcomes.{Found, Faulty}
-use Rattle.spec_certificate_reading.proofs.Parts.{Finds, other_byte, same_byte}
+use Rattle.spec_certificate_text.specs.Terms.{Code, Syntax, Number, Symbol, Arity, Count, NodeOrder, NodeLarge}
+use Rattle.spec_certificate_text.specs.Outcomes.{Found, Faulty}
+use Rattle.spec_certificate_text.proofs.Parts.{Finds, other_byte, same_byte}
 use Rattle.spec_certificate_faults.specs.Grammar.{EndsAt}
 use Rattle.spec_certificate_faults.proofs.Comes.{either}
 use Rattle.spec_first_faults.specs.Kinds.{marked}

@@ -8,9 +8,9 @@ use Rattle.spec_clauses.specs.Inclusion.{here, there, Has}
 use Rattle.spec_clauses.proofs.Equality.{same_term-decides}
 use Rattle.spec_clauses.proofs.Inclusion.{all_has}
 use Rattle.spec_certificate_text.specs.OfProtocol.{HasNames}
-use Rattle.spec_certificate_reading.specs.Terms.{Code}
-use Rattle.spec_certificate_reading.specs.Outcomes.{Found, next, front, Reader, read_fixed}
-use Rattle.spec_certificate_reading.proofs.Parts.{Finds}
+use Rattle.spec_certificate_text.specs.Terms.{Code}
+use Rattle.spec_certificate_text.specs.Outcomes.{Found, next, front, Reader, read_fixed}
+use Rattle.spec_certificate_text.proofs.Parts.{Finds}
 use Rattle.spec_certificate_faults.specs.Grammar.{EndsAt}
 use Rattle.spec_certificate_faults.specs.First.{Kind}
 use Rattle.spec_first_faults.specs.Kinds.{fixed, behind, marked, last, further}

@@ -5,9 +5,9 @@ use Rattle.std.specs.Fmt.{decimal}
 use Rattle.std.proofs.lemmas.Bool.Decides.{nat_tests}
 use Rattle.spec_trees.proofs.Occurrence.{or_true}
 use Rattle.spec_certificate_text.specs.OfProtocol.{IsShort}
-use Rattle.spec_certificate_reading.specs.Terms.{Code, Syntax, Number, Symbol, Arity, Count, NodeOrder, NodeLarge}
-use Rattle.spec_certificate_reading.specs.Outcomes.{Found, Faulty, read_number}
-use Rattle.spec_certificate_reading.proofs.Parts.{Finds, joined, when_false, equal_byte}
+use Rattle.spec_certificate_text.specs.Terms.{Code, Syntax, Number, Symbol, Arity, Count, NodeOrder, NodeLarge}
+use Rattle.spec_certificate_text.specs.Outcomes.{Found, Faulty, read_number}
+use Rattle.spec_certificate_text.proofs.Parts.{Finds, joined, when_false, equal_byte}
 use Rattle.spec_certificate_faults.specs.Grammar.{EndsAt}
 use Rattle.spec_certificate_faults.proofs.Comes.{either}
 use Rattle.spec_first_faults.specs.Numbers.{numbers}

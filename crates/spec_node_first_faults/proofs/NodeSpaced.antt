@@ -10,9 +10,9 @@ use Rattle.spec_certificate_text.specs.OfProtocol.{IsShort}
 use Rattle.spec_certificate_text.specs.Text.{numbers_text}
 use Rattle.spec_certificate_text.proofs.Names.{decimal_digits}
 use Rattle.spec_certificate_text.proofs.Runs.{run_apart}
-use Rattle.spec_certificate_reading.specs.Terms.{Code, Syntax, Count}
-use Rattle.spec_certificate_reading.specs.Outcomes.{Found, Faulty, next, front, ended, read_fixed, Reader}
-use Rattle.spec_certificate_reading.proofs.Parts.{Finds, joined, fixed_found}
+use Rattle.spec_certificate_text.specs.Terms.{Code, Syntax, Count}
+use Rattle.spec_certificate_text.specs.Outcomes.{Found, Faulty, next, front, ended, read_fixed, Reader}
+use Rattle.spec_certificate_text.proofs.Parts.{Finds, joined, fixed_found}
 use Rattle.spec_reading_faults.proofs.Shared.{IsLocal, next_local, choice_local, ended_local, found_local}
 use Rattle.spec_certificate_faults.specs.Grammar.{EndsAt}
 use Rattle.spec_certificate_faults.specs.First.{Kind}

@@ -4,7 +4,7 @@ use Rattle.spec_calculus.specs.Syntax.{Protocol}
 use Rattle.spec_terms.specs.Term.{Term}
 use Rattle.spec_certificates.specs.Certificate.{Certificate}
 use Rattle.spec_certificate_text.specs.OfProtocol.{HasNames}
-use Rattle.spec_certificate_reading.specs.Outcomes.{front, Reader}
+use Rattle.spec_certificate_text.specs.Outcomes.{front, Reader}
 use Rattle.spec_first_faults.specs.Kinds.{last, further}
 use Rattle.spec_first_faults.proofs.Tells.{Anything, Tells, kind_tells}
 use Rattle.spec_first_faults.proofs.Behind.{then_read}

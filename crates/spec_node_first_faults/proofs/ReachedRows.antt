@@ -5,10 +5,10 @@ use Rattle.spec_calculus.specs.Syntax.{Protocol}
 use Rattle.spec_terms.specs.Term.{Term}
 use Rattle.spec_clauses.specs.Fact.{Clause}
 use Rattle.spec_certificates.specs.Certificate.{Certificate}
-use Rattle.spec_certificate_reading.specs.Terms.{Code, Syntax, Number, Symbol, Arity, Count, NodeOrder, NodeLarge}
-use Rattle.spec_certificate_reading.specs.Outcomes.{Found, Faulty, front, Reader}
-use Rattle.spec_certificate_reading.specs.Certificates.{certificate_end}
-use Rattle.spec_certificate_reading.proofs.Parts.{equal_byte, front_is}
+use Rattle.spec_certificate_text.specs.Terms.{Code, Syntax, Number, Symbol, Arity, Count, NodeOrder, NodeLarge}
+use Rattle.spec_certificate_text.specs.Outcomes.{Found, Faulty, front, Reader}
+use Rattle.spec_certificate_text.specs.Certificates.{certificate_end}
+use Rattle.spec_certificate_text.proofs.Parts.{equal_byte, front_is}
 use Rattle.spec_reading_faults.proofs.Shared.{IsLocal, choice_local}
 use Rattle.spec_certificate_faults.proofs.Comes.{either}
 use Rattle.spec_first_faults.specs.Kinds.{fixed, marked, last, further, in_last, in_one, later}

@@ -10,12 +10,12 @@ use Rattle.spec_certificate_text.specs.OfProtocol.{IsShort, HasNames, IsEvent}
 use Rattle.spec_certificate_text.specs.Words.{event_word}
 use Rattle.spec_certificate_text.proofs.Names.{event_word_is_word}
 use Rattle.spec_certificate_text.proofs.Runs.{both_left, both_right}
-use Rattle.spec_certificate_reading.specs.Names.{CalledEvent, event_called}
-use Rattle.spec_certificate_reading.specs.Terms.{Code, Syntax, Number, Symbol, Arity, Count, NodeOrder, NodeLarge}
-use Rattle.spec_certificate_reading.specs.Outcomes.{Outcome, Found, Faulty, next, front, ended, Reader, read_fixed}
-use Rattle.spec_certificate_reading.specs.Facts.{Performed, performed}
-use Rattle.spec_certificate_reading.proofs.Parts.{Finds, parts, other_byte, same_byte, when_false}
-use Rattle.spec_certificate_reading.proofs.Called.{event_word_called, event_called_is}
+use Rattle.spec_certificate_text.specs.Names.{CalledEvent, event_called}
+use Rattle.spec_certificate_text.specs.Terms.{Code, Syntax, Number, Symbol, Arity, Count, NodeOrder, NodeLarge}
+use Rattle.spec_certificate_text.specs.Outcomes.{Outcome, Found, Faulty, next, front, ended, Reader, read_fixed}
+use Rattle.spec_certificate_text.specs.Facts.{Performed, performed}
+use Rattle.spec_certificate_text.proofs.Parts.{Finds, parts, other_byte, same_byte, when_false}
+use Rattle.spec_certificate_text.proofs.Called.{event_word_called, event_called_is}
 use Rattle.spec_reading_faults.proofs.Shared.{choice_local, found_local}
 use Rattle.spec_certificate_faults.specs.Grammar.{EndsAt}
 use Rattle.spec_first_faults.specs.Kinds as plain

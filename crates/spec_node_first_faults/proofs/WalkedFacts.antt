@@ -5,9 +5,9 @@ use Rattle.spec_calculus.specs.Syntax.{Protocol}
 use Rattle.spec_terms.specs.Term.{Term}
 use Rattle.spec_clauses.specs.Fact.{Fact, Att, Mess, Ev, Mev, Bad}
 use Rattle.spec_certificate_text.specs.OfProtocol.{HasNames}
-use Rattle.spec_certificate_reading.specs.Outcomes.{front, Reader, read_fixed}
-use Rattle.spec_certificate_reading.specs.Facts.{Performed}
-use Rattle.spec_certificate_reading.proofs.Parts.{other_byte}
+use Rattle.spec_certificate_text.specs.Outcomes.{front, Reader, read_fixed}
+use Rattle.spec_certificate_text.specs.Facts.{Performed}
+use Rattle.spec_certificate_text.proofs.Parts.{other_byte}
 use Rattle.spec_reading_faults.proofs.Shared.{next_local}
 use Rattle.spec_certificate_faults.specs.Grammar.{EndsAt}
 use Rattle.spec_first_faults.specs.Kinds.{fixed, IsRun, last, further}

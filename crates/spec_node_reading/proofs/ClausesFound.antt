@@ -6,9 +6,9 @@ use Rattle.spec_terms.specs.Term.{Term}
 use Rattle.std.specs.Fmt.{decimal}
 use Rattle.spec_clauses.specs.Fact.{Fact, Att, Mess, Tab, Ev, Mev, Bad, Clause, map_fact, map_clause}
 use Rattle.spec_certificate_text.specs.OfProtocol.{HasNames}
-use Rattle.spec_certificate_reading.specs.Terms.{Count}
-use Rattle.spec_certificate_reading.specs.Outcomes.{Outcome, Found, Faulty, next, front, read_fixed}
-use Rattle.spec_certificate_reading.proofs.Parts.{Finds, joined, when_false, fixed_found}
+use Rattle.spec_certificate_text.specs.Terms.{Count}
+use Rattle.spec_certificate_text.specs.Outcomes.{Outcome, Found, Faulty, next, front, read_fixed}
+use Rattle.spec_certificate_text.proofs.Parts.{Finds, joined, when_false, fixed_found}
 use Rattle.spec_node_tables.specs.Nodes.{term_at}
 use Rattle.spec_certificate_text.specs.Words.{event_word}
 use Rattle.spec_node_tables.specs.Text.{number_text, later_terms, terms_text, event_over, later_hypotheses, hypotheses_over, fact_over, clause_over, clause_lines_over}

@@ -10,9 +10,9 @@ use Rattle.spec_terms.specs.Term.{Term}
 use Rattle.spec_clauses.specs.Fact.{Fact, Clause, terms_of, map_fact, map_clause, total, fact_size, clause_size}
 use Rattle.spec_clauses.proofs.Lists.{all_append, all_first, all_second}
 use Rattle.spec_certificate_text.specs.OfProtocol.{IsShort}
-use Rattle.spec_certificate_reading.specs.Terms.{Syntax, Count}
-use Rattle.spec_certificate_reading.specs.Outcomes.{Outcome, Found, Faulty, next, front, read_fixed}
-use Rattle.spec_certificate_reading.proofs.Parts.{parts, chosen, fixed_there}
+use Rattle.spec_certificate_text.specs.Terms.{Syntax, Count}
+use Rattle.spec_certificate_text.specs.Outcomes.{Outcome, Found, Faulty, next, front, read_fixed}
+use Rattle.spec_certificate_text.proofs.Parts.{parts, chosen, fixed_there}
 use Rattle.spec_node_tables.specs.Table.{facts_in_order}
 use Rattle.spec_node_tables.specs.Nodes.{term_at}
 use Rattle.spec_node_tables.specs.Text.{number_text, hypotheses_over, fact_over, clause_over, clause_lines_over}

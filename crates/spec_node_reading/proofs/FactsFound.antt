@@ -18,12 +18,12 @@ use Rattle.spec_certificate_text.specs.Spelled.{IsWord, Stops}
 use Rattle.spec_certificate_text.specs.OfProtocol.{IsShort, IsEvent, HasNames}
 use Rattle.spec_certificate_text.proofs.Names.{decimal_digits, event_word_is_word}
 use Rattle.spec_certificate_text.proofs.Runs.{both_left}
-use Rattle.spec_certificate_reading.specs.Names.{CalledEvent, event_called}
-use Rattle.spec_certificate_reading.specs.Terms.{Syntax, Arity, NodeOrder, NodeLarge}
-use Rattle.spec_certificate_reading.specs.Outcomes.{Outcome, Found, Faulty, next, front, ended, read_fixed, read_number}
-use Rattle.spec_certificate_reading.specs.Facts.{Performed, performed}
-use Rattle.spec_certificate_reading.proofs.Parts.{Finds, joined, when_true, when_false, other_byte, same_byte, fixed_found, run_stops, number_found}
-use Rattle.spec_certificate_reading.proofs.Called.{event_word_called}
+use Rattle.spec_certificate_text.specs.Names.{CalledEvent, event_called}
+use Rattle.spec_certificate_text.specs.Terms.{Syntax, Arity, NodeOrder, NodeLarge}
+use Rattle.spec_certificate_text.specs.Outcomes.{Outcome, Found, Faulty, next, front, ended, read_fixed, read_number}
+use Rattle.spec_certificate_text.specs.Facts.{Performed, performed}
+use Rattle.spec_certificate_text.proofs.Parts.{Finds, joined, when_true, when_false, other_byte, same_byte, fixed_found, run_stops, number_found}
+use Rattle.spec_certificate_text.proofs.Called.{event_word_called}
 use Rattle.spec_node_tables.specs.Nodes.{term_at}
 use Rattle.spec_node_tables.specs.Text.{number_text, later_terms, terms_text, event_over, fact_over}
 use Rattle.spec_node_tables.specs.OfProtocol.{HasPredicate}

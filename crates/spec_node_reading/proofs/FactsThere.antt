@@ -12,12 +12,12 @@ use Rattle.spec_terms.specs.Term.{Term}
 use Rattle.spec_clauses.specs.Fact.{Fact, Att, Mess, Ev, Mev, Bad, terms_of, map_fact, total, fact_size}
 use Rattle.spec_certificate_text.specs.Words.{event_word}
 use Rattle.spec_certificate_text.specs.OfProtocol.{IsShort, IsEvent}
-use Rattle.spec_certificate_reading.specs.Names.{CalledEvent, event_called}
-use Rattle.spec_certificate_reading.specs.Terms.{Syntax, Arity, NodeOrder, NodeLarge}
-use Rattle.spec_certificate_reading.specs.Outcomes.{Found, Faulty, next, front, ended, read_fixed, read_number}
-use Rattle.spec_certificate_reading.specs.Facts.{Performed, performed}
-use Rattle.spec_certificate_reading.proofs.Parts.{parts, chosen, equal_byte, fixed_there, ended_found, number_there}
-use Rattle.spec_certificate_reading.proofs.Called.{event_called_is}
+use Rattle.spec_certificate_text.specs.Names.{CalledEvent, event_called}
+use Rattle.spec_certificate_text.specs.Terms.{Syntax, Arity, NodeOrder, NodeLarge}
+use Rattle.spec_certificate_text.specs.Outcomes.{Found, Faulty, next, front, ended, read_fixed, read_number}
+use Rattle.spec_certificate_text.specs.Facts.{Performed, performed}
+use Rattle.spec_certificate_text.proofs.Parts.{parts, chosen, equal_byte, fixed_there, ended_found, number_there}
+use Rattle.spec_certificate_text.proofs.Called.{event_called_is}
 use Rattle.spec_node_tables.specs.Nodes.{term_at}
 use Rattle.spec_node_tables.specs.Text.{number_text, terms_text, event_over, fact_over}
 use Rattle.spec_node_tables.specs.OfProtocol.{IsFactOver}

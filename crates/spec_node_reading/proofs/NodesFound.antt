@@ -20,11 +20,11 @@ use Rattle.spec_certificate_text.specs.Words.{symbol_word, word_at}
 use Rattle.spec_certificate_text.specs.Text.{numbers_text}
 use Rattle.spec_certificate_text.specs.OfProtocol.{IsShort, IsSymbolOf, HasNames}
 use Rattle.spec_certificate_text.proofs.Names.{constructor_word, free_word, symbol_word_is_word, restriction_word_is_word, variable_is_word, variable_is_variable}
-use Rattle.spec_certificate_reading.specs.Names.{Named, symbol_called, name_called}
-use Rattle.spec_certificate_reading.proofs.Called.{free_called, constructor_called, point_called}
-use Rattle.spec_certificate_reading.specs.Terms.{Arity, Count, NodeOrder, NodeLarge}
-use Rattle.spec_certificate_reading.specs.Outcomes.{Outcome, Found, Faulty, next, front, ended, read_fixed, read_number}
-use Rattle.spec_certificate_reading.proofs.Parts.{Finds, joined, when_true, when_false, other_byte, same_byte, fixed_found, run_stops, number_found}
+use Rattle.spec_certificate_text.specs.Names.{Named, symbol_called, name_called}
+use Rattle.spec_certificate_text.proofs.Called.{free_called, constructor_called, point_called}
+use Rattle.spec_certificate_text.specs.Terms.{Arity, Count, NodeOrder, NodeLarge}
+use Rattle.spec_certificate_text.specs.Outcomes.{Outcome, Found, Faulty, next, front, ended, read_fixed, read_number}
+use Rattle.spec_certificate_text.proofs.Parts.{Finds, joined, when_true, when_false, other_byte, same_byte, fixed_found, run_stops, number_found}
 use Rattle.spec_node_tables.specs.Nodes.{TableNode, Variable, Over, term_of, terms_from}
 use Rattle.spec_node_tables.specs.Text.{node_numbers, node_text, node_lines}
 use Rattle.spec_node_tables.specs.OfProtocol.{IsNodeOf}

@@ -17,13 +17,13 @@ use Rattle.spec_clauses.proofs.Lists.{all_append}
 use Rattle.spec_certificate_text.specs.Words.{symbol_word, word_at}
 use Rattle.spec_certificate_text.specs.Text.{numbers_text}
 use Rattle.spec_certificate_text.specs.OfProtocol.{IsShort, IsSymbolOf, IsRestriction}
-use Rattle.spec_certificate_reading.specs.Names.{Named, symbol_called, name_called}
-use Rattle.spec_certificate_reading.specs.Terms.{Arity, Count, NodeOrder, NodeLarge}
-use Rattle.spec_certificate_reading.specs.Steps.{with_parts}
-use Rattle.spec_certificate_reading.specs.Outcomes.{Outcome, Found, Faulty, next, front, ended, read_fixed, read_number}
-use Rattle.spec_certificate_reading.proofs.Parts.{parts, chosen, equal_byte, front_is, fixed_there, ended_found, number_there}
-use Rattle.spec_certificate_reading.proofs.Named.{IsWorded, symbol_called_is, name_called_is}
-use Rattle.spec_certificate_reading.proofs.SoundWords.{variable_rest}
+use Rattle.spec_certificate_text.specs.Names.{Named, symbol_called, name_called}
+use Rattle.spec_certificate_text.specs.Terms.{Arity, Count, NodeOrder, NodeLarge}
+use Rattle.spec_certificate_text.specs.Steps.{with_parts}
+use Rattle.spec_certificate_text.specs.Outcomes.{Outcome, Found, Faulty, next, front, ended, read_fixed, read_number}
+use Rattle.spec_certificate_text.proofs.Parts.{parts, chosen, equal_byte, front_is, fixed_there, ended_found, number_there}
+use Rattle.spec_certificate_text.proofs.Named.{IsWorded, symbol_called_is, name_called_is}
+use Rattle.spec_certificate_text.proofs.SoundWords.{variable_rest}
 use Rattle.spec_node_tables.specs.Nodes.{TableNode, term_of, terms_from}
 use Rattle.spec_node_tables.specs.Text.{symbol_head, head_text, node_numbers, node_text, node_lines}
 use Rattle.spec_node_tables.specs.OfProtocol.{IsNodeOf}

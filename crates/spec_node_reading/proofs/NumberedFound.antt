@@ -15,11 +15,11 @@ use Rattle.spec_certificates.specs.Certificate.{Certificate}
 use Rattle.spec_certificate_text.specs.Loose.{Head, Applied, Tupled, Made, Attackers}
 use Rattle.spec_certificate_text.specs.Text.{numbers_text, row_lines}
 use Rattle.spec_certificate_text.specs.OfProtocol.{IsShort, HasNames}
-use Rattle.spec_certificate_reading.specs.Terms.{NodeOrder}
-use Rattle.spec_certificate_reading.specs.Outcomes.{Faulty, next, front, read_fixed}
-use Rattle.spec_certificate_reading.specs.Certificates.{certificate_end}
-use Rattle.spec_certificate_reading.proofs.Parts.{Finds, joined, when_false, fixed_found}
-use Rattle.spec_certificate_reading.proofs.CertificatesRead.{read_certificate-found}
+use Rattle.spec_certificate_text.specs.Terms.{NodeOrder}
+use Rattle.spec_certificate_text.specs.Outcomes.{Faulty, next, front, read_fixed}
+use Rattle.spec_certificate_text.specs.Certificates.{certificate_end}
+use Rattle.spec_certificate_text.proofs.Parts.{Finds, joined, when_false, fixed_found}
+use Rattle.spec_certificate_text.proofs.CertificatesRead.{read_certificate-found}
 use Rattle.spec_node_tables.specs.Table.{facts_in_order, terms_in_order, table, number_in}
 use Rattle.spec_node_tables.specs.Nodes.{TableNode, node_of, term_at, term_of, terms_from}
 use Rattle.spec_node_tables.specs.Text.{node_head, head_text, node_numbers, node_lines, number_text, clause_lines_over, text_with_nodes}

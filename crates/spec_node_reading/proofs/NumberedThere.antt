@@ -12,12 +12,12 @@ use Rattle.spec_clauses.proofs.Lists.{all_weaker}
 use Rattle.spec_certificates.specs.Certificate.{Certificate}
 use Rattle.spec_certificate_text.specs.Text.{row_lines}
 use Rattle.spec_certificate_text.specs.OfProtocol.{IsShort, IsTermOf}
-use Rattle.spec_certificate_reading.specs.Terms.{NodeOrder}
-use Rattle.spec_certificate_reading.specs.Outcomes.{Found, Faulty, next, front, read_fixed}
-use Rattle.spec_certificate_reading.specs.Certificates.{read_rows, read_certificate, certificate_end}
-use Rattle.spec_certificate_reading.specs.Readable.{IsRow}
-use Rattle.spec_certificate_reading.proofs.Parts.{parts, chosen, fixed_there}
-use Rattle.spec_certificate_reading.proofs.CertificatesRead.{rows_there, read_certificate-there}
+use Rattle.spec_certificate_text.specs.Terms.{NodeOrder}
+use Rattle.spec_certificate_text.specs.Outcomes.{Found, Faulty, next, front, read_fixed}
+use Rattle.spec_certificate_text.specs.Certificates.{read_rows, read_certificate, certificate_end}
+use Rattle.spec_certificate_text.specs.Readable.{IsRow}
+use Rattle.spec_certificate_text.proofs.Parts.{parts, chosen, fixed_there}
+use Rattle.spec_certificate_text.proofs.CertificatesRead.{rows_there, read_certificate-there}
 use Rattle.spec_node_tables.specs.Nodes.{NodeCertificate, term_at, terms_from, without_nodes}
 use Rattle.spec_node_tables.specs.Text.{number_text, node_lines, clause_lines_over, numbered_text, text_with_nodes}
 use Rattle.spec_node_tables.specs.Table.{facts_in_order}

@@ -6,9 +6,9 @@ use Rattle.spec_calculus.specs.Syntax.{Protocol}
 use Rattle.spec_certificates.specs.Certificate.{Certificate}
 use Rattle.spec_certificate_text.specs.OfProtocol.{HasNames}
 use Rattle.spec_certificate_text.proofs.Runs.{run_apart}
-use Rattle.spec_certificate_reading.specs.Outcomes.{front}
-use Rattle.spec_certificate_reading.specs.Reports.{Claim, Proved, Bare, Unknown}
-use Rattle.spec_report_text.specs.Text.{query_text, in_line}
+use Rattle.spec_certificate_text.specs.Outcomes.{front}
+use Rattle.spec_certificate_text.specs.Reports.{Claim, Proved, Bare, Unknown}
+use Rattle.spec_certificate_text.specs.ReportText.{query_text, in_line}
 use Rattle.spec_node_reading.specs.Readable.{SpellsCertificate}
 use Rattle.spec_node_reading.specs.Reports.{SpellsClaim, SpellsClaims, SpellsReport}
 use Rattle.spec_node_reading.proofs.Spelled.{one_spelled}

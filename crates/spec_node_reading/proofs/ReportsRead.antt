@@ -2,11 +2,11 @@
 use Rattle.std.proofs.Common.{◌≡◌, ℕ, List, [], length, sym, ◌∙◌, ap, subst, arith}
 use Rattle.spec_calculus.specs.Syntax.{Protocol}
 use Rattle.spec_certificate_text.specs.OfProtocol.{IsShort, HasNames}
-use Rattle.spec_certificate_reading.specs.Outcomes.{Found}
-use Rattle.spec_certificate_reading.specs.Reports.{Claim}
-use Rattle.spec_certificate_reading.proofs.Parts.{Finds}
-use Rattle.spec_report_text.specs.Text.{SpellsClaimsBy}
-use Rattle.spec_report_text.proofs.ReportsRead.{ReadIsSpelled, SpelledIsRead, claims_there, claims_found}
+use Rattle.spec_certificate_text.specs.Outcomes.{Found}
+use Rattle.spec_certificate_text.specs.Reports.{Claim}
+use Rattle.spec_certificate_text.proofs.Parts.{Finds}
+use Rattle.spec_certificate_text.specs.ReportText.{SpellsClaimsBy}
+use Rattle.spec_certificate_text.proofs.ReportsRead.{ReadIsSpelled, SpelledIsRead, claims_there, claims_found}
 use Rattle.spec_node_reading.specs.Readable.{SpellsCertificate}
 use Rattle.spec_node_reading.specs.Reading.{read_in_both}
 use Rattle.spec_node_reading.specs.Reports.{SpellsReport, read_report_in_both}

@@ -7,12 +7,12 @@ use Rattle.spec_clauses.specs.Fact.{Clause}
 use Rattle.spec_certificates.specs.Certificate.{Certificate}
 use Rattle.spec_certificate_text.specs.OfProtocol.{IsShort}
 use Rattle.spec_certificate_text.specs.Text.{numbers_text, row_lines}
-use Rattle.spec_certificate_reading.specs.Outcomes.{Outcome, Found, next, front, read_fixed, read_number, things}
-use Rattle.spec_certificate_reading.specs.Certificates.{one_number, row_line, read_rows, certificate_end}
-use Rattle.spec_certificate_reading.specs.Readable.{IsRow}
-use Rattle.spec_certificate_reading.proofs.Parts.{Finds, joined, fixed_found, number_text, number_found}
-use Rattle.spec_certificate_reading.proofs.Things.{things_text, IsOne, Complete, things_found, lines_text, lines_found}
-use Rattle.spec_certificate_reading.proofs.Long.{things_long, lines_long}
+use Rattle.spec_certificate_text.specs.Outcomes.{Outcome, Found, next, front, read_fixed, read_number, things}
+use Rattle.spec_certificate_text.specs.Certificates.{one_number, row_line, read_rows, certificate_end}
+use Rattle.spec_certificate_text.specs.Readable.{IsRow}
+use Rattle.spec_certificate_text.proofs.Parts.{Finds, joined, fixed_found, number_text, number_found}
+use Rattle.spec_certificate_text.proofs.Things.{things_text, IsOne, Complete, things_found, lines_text, lines_found}
+use Rattle.spec_certificate_text.proofs.Long.{things_long, lines_long}
 
 abbrev one_number_text : ℕ × Bool → List ℕ → List ℕ
 one_number_text (n, true) rest = number_text n (32 ∷ rest)

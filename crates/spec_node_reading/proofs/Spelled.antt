@@ -3,7 +3,7 @@ use Rattle.std.proofs.Common.{◌≡◌, inl, inr, ℕ, List, sym, ◌∙◌, ar
 use Rattle.spec_calculus.specs.Syntax.{Protocol}
 use Rattle.spec_certificates.specs.Certificate.{Certificate}
 use Rattle.spec_certificate_text.specs.OfProtocol.{HasNames}
-use Rattle.spec_certificate_reading.proofs.CertificatesRead.{one_certificate}
+use Rattle.spec_certificate_text.proofs.CertificatesRead.{one_certificate}
 use Rattle.spec_node_tables.specs.Nodes.{with_nodes}
 use Rattle.spec_node_tables.proofs.Sizes.{few_nodes}
 use Rattle.spec_node_tables.proofs.Certificates.{certificates_apart, formats_apart}

@@ -3,8 +3,8 @@ use Rattle.std.specs.Prelude.{◌≡◌, ℕ, ◌⊎◌, false, List, [], codes}
 use Rattle.spec_calculus.specs.Bounds.{most_clauses}
 use Rattle.spec_calculus.specs.Syntax.{Protocol}
 use Rattle.spec_terms.specs.Term.{Term}
-use Rattle.spec_certificate_reading.specs.Terms.{Code, NodeOrder}
-use Rattle.spec_certificate_reading.specs.Outcomes.{front}
+use Rattle.spec_certificate_text.specs.Terms.{Code, NodeOrder}
+use Rattle.spec_certificate_text.specs.Outcomes.{front}
 use Rattle.spec_certificate_faults.specs.First.{Kind}
 use Rattle.spec_first_faults.specs.Kinds.{fixed}
 use Rattle.spec_first_faults.specs.Kinds as plain

@@ -3,7 +3,7 @@ use Rattle.std.specs.Prelude.{◌≡◌, ◌≢◌, ℕ, List, length, codes}
 use Rattle.spec_calculus.specs.Syntax.{Protocol}
 use Rattle.spec_terms.specs.Term.{Term}
 use Rattle.spec_certificate_text.specs.OfProtocol.{IsEvent}
-use Rattle.spec_certificate_reading.specs.Terms.{Code, Arity}
+use Rattle.spec_certificate_text.specs.Terms.{Code, Arity}
 use Rattle.spec_certificate_faults.specs.Grammar.{EndsAt}
 use Rattle.spec_first_faults.specs.Kinds.{fixed, nothing_before}
 use Rattle.spec_first_faults.specs.Kinds as plain

@@ -1,7 +1,7 @@
 -- Kinds of texts in which what stands before counts: it has led to a state, and a text leads on to another.
 use Rattle.std.specs.Prelude.{◌≡◌, ℕ, zero, suc, ◌⊎◌, List}
-use Rattle.spec_certificate_reading.specs.Terms.{Code, Count}
-use Rattle.spec_certificate_reading.specs.Outcomes.{front}
+use Rattle.spec_certificate_text.specs.Terms.{Code, Count}
+use Rattle.spec_certificate_text.specs.Outcomes.{front}
 use Rattle.spec_certificate_faults.specs.First.{Kind}
 use Rattle.spec_first_faults.specs.Kinds as plain
 use Rattle.spec_first_faults.specs.Kinds.{fixed}

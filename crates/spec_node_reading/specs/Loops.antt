@@ -1,7 +1,7 @@
 -- Readers of lines and rows, in which what was read counts for what follows.
 use Rattle.std.specs.Prelude.{ℕ, zero, suc, ◌==◌, if◌then◌else◌, List, [], ◌∷◌, ◌++◌}
-use Rattle.spec_certificate_reading.specs.Terms.{Syntax, Count}
-use Rattle.spec_certificate_reading.specs.Outcomes.{Found, Faulty, next, front, read_fixed, Reader}
+use Rattle.spec_certificate_text.specs.Terms.{Syntax, Count}
+use Rattle.spec_certificate_text.specs.Outcomes.{Found, Faulty, next, front, read_fixed, Reader}
 use Rattle.spec_node_reading.specs.Walked.{Walked}
 
 -- lines that begin with the letter, at most so many, each of which makes something of what there is: a further one is one too many

@@ -11,7 +11,7 @@ use Rattle.spec_clauses.specs.Inclusion.{Has}
 use Rattle.spec_certificate_text.specs.Words.{symbol_word}
 use Rattle.spec_certificate_text.specs.OfProtocol.{IsShort, IsSymbolOf}
 use Rattle.spec_certificate_text.specs.Spelled.{IsWord}
-use Rattle.spec_certificate_reading.specs.Terms.{Code, Number, Symbol, Arity, NodeOrder, NodeLarge}
+use Rattle.spec_certificate_text.specs.Terms.{Code, Number, Symbol, Arity, NodeOrder, NodeLarge}
 use Rattle.spec_certificate_faults.specs.Grammar.{EndsAt}
 use Rattle.spec_certificate_faults.specs.TermFaults.{AreNoNumber, IsPlain, NamesNoRestriction}
 use Rattle.spec_certificate_faults.specs.First.{Kind}

@@ -7,10 +7,10 @@ use Rattle.spec_calculus.specs.Syntax.{Protocol}
 use Rattle.spec_protocol_tokens.specs.Bytes.{begins_word, is_in_word}
 use Rattle.spec_terms.specs.Term.{Term}
 use Rattle.spec_clauses.specs.Fact.{Fact, Att, Mess, Ev, Mev, Bad, Clause}
-use Rattle.spec_certificate_reading.specs.Names.{CalledEvent, event_called}
-use Rattle.spec_certificate_reading.specs.Terms.{Syntax, Symbol, NodeOrder, NodeLarge}
-use Rattle.spec_certificate_reading.specs.Outcomes.{Outcome, Found, Faulty, next, front, ended, read_fixed, read_number, Reader}
-use Rattle.spec_certificate_reading.specs.Facts.{Performed, performed}
+use Rattle.spec_certificate_text.specs.Names.{CalledEvent, event_called}
+use Rattle.spec_certificate_text.specs.Terms.{Syntax, Symbol, NodeOrder, NodeLarge}
+use Rattle.spec_certificate_text.specs.Outcomes.{Outcome, Found, Faulty, next, front, ended, read_fixed, read_number, Reader}
+use Rattle.spec_certificate_text.specs.Facts.{Performed, performed}
 use Rattle.spec_node_tables.specs.Nodes.{term_at}
 use Rattle.spec_node_tables.specs.Large.{is_over, most_certificate_symbols}
 use Rattle.spec_node_faults.specs.Clauses.{is_out_of_order}

@@ -9,10 +9,10 @@ use Rattle.spec_protocol_scope.specs.Names.{is_variable}
 use Rattle.spec_run_text.specs.Reading.{numeral}
 use Rattle.spec_terms.specs.Term.{Sym, Tuple, Attacker, Term}
 use Rattle.spec_clauses.specs.Fact.{same_term}
-use Rattle.spec_certificate_reading.specs.Names.{Named, symbol_called, name_called}
-use Rattle.spec_certificate_reading.specs.Terms.{Number, Symbol, Arity, NodeOrder, NodeLarge}
-use Rattle.spec_certificate_reading.specs.Steps.{with_parts}
-use Rattle.spec_certificate_reading.specs.Outcomes.{Outcome, Found, Faulty, next, front, ended, read_fixed, read_number, Reader}
+use Rattle.spec_certificate_text.specs.Names.{Named, symbol_called, name_called}
+use Rattle.spec_certificate_text.specs.Terms.{Number, Symbol, Arity, NodeOrder, NodeLarge}
+use Rattle.spec_certificate_text.specs.Steps.{with_parts}
+use Rattle.spec_certificate_text.specs.Outcomes.{Outcome, Found, Faulty, next, front, ended, read_fixed, read_number, Reader}
 use Rattle.spec_node_tables.specs.Nodes.{TableNode, Variable, Over, term_of}
 use Rattle.spec_node_tables.specs.Large.{is_over}
 use Rattle.spec_node_reading.specs.Nodes.{own_number}

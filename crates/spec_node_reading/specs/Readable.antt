@@ -3,7 +3,7 @@ use Rattle.std.specs.Prelude.{◌≡◌, ℕ, ◌⊎◌, List}
 use Rattle.spec_calculus.specs.Syntax.{Protocol}
 use Rattle.spec_certificates.specs.Certificate.{Certificate}
 use Rattle.spec_certificate_text.specs.Text.{certificate_text}
-use Rattle.spec_certificate_reading.specs.Readable.{IsReadableCertificate}
+use Rattle.spec_certificate_text.specs.Readable.{IsReadableCertificate}
 use Rattle.spec_node_tables.specs.Text.{text_with_nodes}
 use Rattle.spec_node_faults.specs.Grammar.{IsNumberable}
 

@@ -5,9 +5,9 @@ use Rattle.spec_calculus.specs.Syntax.{Protocol}
 use Rattle.spec_terms.specs.Term.{Term}
 use Rattle.spec_clauses.specs.Fact.{Clause}
 use Rattle.spec_certificates.specs.Certificate.{Certificate}
-use Rattle.spec_certificate_reading.specs.Terms.{NodeOrder}
-use Rattle.spec_certificate_reading.specs.Outcomes.{Faulty, next, front, read_fixed, Reader}
-use Rattle.spec_certificate_reading.specs.Certificates.{read_certificate, certificate_end}
+use Rattle.spec_certificate_text.specs.Terms.{NodeOrder}
+use Rattle.spec_certificate_text.specs.Outcomes.{Faulty, next, front, read_fixed, Reader}
+use Rattle.spec_certificate_text.specs.Certificates.{read_certificate, certificate_end}
 use Rattle.spec_node_faults.specs.Clauses.{is_front, completed}
 use Rattle.spec_node_reading.specs.Walked.{nothing_yet}
 use Rattle.spec_node_reading.specs.Loops.{Behind, with, lines_through}

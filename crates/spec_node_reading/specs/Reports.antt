@@ -1,9 +1,9 @@
 -- The texts of reports whose certificates are of either format, reading them, and their kind.
 use Rattle.std.specs.Prelude.{◌≡◌, ℕ, List, [], length}
 use Rattle.spec_calculus.specs.Syntax.{Protocol}
-use Rattle.spec_certificate_reading.specs.Outcomes.{Outcome}
-use Rattle.spec_certificate_reading.specs.Reports.{Claim, claims_by}
-use Rattle.spec_report_text.specs.Text.{SpellsClaimBy, SpellsClaimsBy}
+use Rattle.spec_certificate_text.specs.Outcomes.{Outcome}
+use Rattle.spec_certificate_text.specs.Reports.{Claim, claims_by}
+use Rattle.spec_certificate_text.specs.ReportText.{SpellsClaimBy, SpellsClaimsBy}
 use Rattle.spec_certificate_faults.specs.First.{Kind}
 use Rattle.spec_first_faults.specs.Reports.{claims_with}
 use Rattle.spec_node_reading.specs.Clauses.{certificates_of_both}

@@ -4,7 +4,7 @@ use Rattle.spec_trees.specs.Tree.{size}
 use Rattle.spec_calculus.specs.Bounds.{most_symbols}
 use Rattle.spec_terms.specs.Term.{Term}
 use Rattle.spec_certificate_text.specs.OfProtocol.{IsShort}
-use Rattle.spec_certificate_reading.specs.Terms.{Code, NodeOrder, NodeLarge}
+use Rattle.spec_certificate_text.specs.Terms.{Code, NodeOrder, NodeLarge}
 use Rattle.spec_first_faults.specs.Numbers.{numbers}
 use Rattle.spec_node_tables.specs.Nodes.{term_at}
 use Rattle.spec_node_tables.specs.Large.{most_certificate_symbols}

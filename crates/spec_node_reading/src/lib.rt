@@ -17,9 +17,9 @@ ghost use Rattle.std.specs.Prelude.{◌≡◌, ℕ, List, [], ◌++◌, length, 
 ghost use Rattle.spec_calculus.specs.Syntax.{Protocol};
 ghost use Rattle.spec_certificates.specs.Certificate.{Certificate};
 ghost use Rattle.spec_certificate_text.specs.OfProtocol.{HasNames, IsShort};
-ghost use Rattle.spec_certificate_reading.specs.Terms.{Code, Syntax, Number, Symbol, Arity, NodeOrder};
-ghost use Rattle.spec_certificate_reading.specs.Outcomes.{Found, Faulty};
-ghost use Rattle.spec_certificate_reading.specs.Reports.{Claim};
+ghost use Rattle.spec_certificate_text.specs.Terms.{Code, Syntax, Number, Symbol, Arity, NodeOrder};
+ghost use Rattle.spec_certificate_text.specs.Outcomes.{Found, Faulty};
+ghost use Rattle.spec_certificate_text.specs.Reports.{Claim};
 ghost use Rattle.spec_certificate_text.specs.Examples.{sending, answering};
 ghost use Rattle.spec_node_tables.specs.Text.{text_with_nodes};
 ghost use Rattle.spec_node_tables.specs.Examples.{silent, silent_certificate};

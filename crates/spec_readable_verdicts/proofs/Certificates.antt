@@ -32,7 +32,7 @@ use Rattle.spec_verdicts.specs.First.{resolvents_of, AllGive}
 use Rattle.spec_verdicts.specs.FirstRows.{AreFirstCovers, AreFirstGoals}
 use Rattle.spec_certificate_text.specs.OfProtocol.{IsShort, IsSymbolOf}
 use Rattle.spec_certificate_text.specs.OfProtocol as text
-use Rattle.spec_certificate_reading.specs.Readable.{MayStand, IsHypothesisOf, IsConclusionOf, IsReadable, IsRow}
+use Rattle.spec_certificate_text.specs.Readable.{MayStand, IsHypothesisOf, IsConclusionOf, IsReadable, IsRow}
 use Rattle.spec_readable_verdicts.proofs.Facts.{IsTermOver, AreTermsOver, IsFactOver}
 use Rattle.spec_readable_verdicts.proofs.Resolution.{IsKept, are_norms}
 

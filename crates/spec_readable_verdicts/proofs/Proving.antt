@@ -24,7 +24,7 @@ use Rattle.spec_verdicts.specs.First.{all_pairs}
 use Rattle.spec_verdicts.specs.FirstRows.{bad_clauses}
 use Rattle.spec_verdicts.specs.Verdict.{Proved, IsProved, IsVerdict}
 use Rattle.spec_verdicts.proofs.Entries.{live_shape}
-use Rattle.spec_certificate_reading.specs.Readable.{IsReadable, IsReadableCertificate}
+use Rattle.spec_certificate_text.specs.Readable.{IsReadable, IsReadableCertificate}
 use Rattle.spec_readable_verdicts.proofs.Facts.{IsClauseOver}
 use Rattle.spec_readable_verdicts.proofs.Resolution.{IsKept, live_kept}
 use Rattle.spec_readable_verdicts.proofs.Visited.{translation_over}

@@ -10,7 +10,7 @@ ghost use Rattle.spec_calculus.specs.Syntax.{Query, Protocol};
 ghost use Rattle.spec_protocol_scope.specs.Spells.{Spells};
 ghost use Rattle.spec_certificates.specs.Certificate.{Certificate};
 ghost use Rattle.spec_verdicts.specs.Verdict.{Proved, IsVerdict};
-ghost use Rattle.spec_certificate_reading.specs.Readable.{IsReadableCertificate};
+ghost use Rattle.spec_certificate_text.specs.Readable.{IsReadableCertificate};
 
 use spec_protocol_scope::{plain_protocols, query_leaves, well_scoped, within_limits};
 

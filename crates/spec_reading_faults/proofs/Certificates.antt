@@ -7,16 +7,16 @@ use Rattle.spec_clauses.specs.Fact.{Fact, Clause}
 use Rattle.spec_certificates.specs.Certificate.{Certificate}
 use Rattle.spec_certificate_text.specs.OfProtocol.{HasNames}
 use Rattle.spec_certificate_text.specs.Text.{fact_text, clause_text, certificate_text}
-use Rattle.spec_certificate_reading.specs.Terms.{Syntax}
-use Rattle.spec_certificate_reading.specs.Outcomes.{Found, Faulty, next, front, read_fixed, read_number, Reader, things, lines_from}
-use Rattle.spec_certificate_reading.specs.Facts.{read_hypothesis, read_conclusion}
-use Rattle.spec_certificate_reading.specs.Clauses.{one_hypothesis, read_hypotheses, read_clause}
-use Rattle.spec_certificate_reading.specs.Certificates.{clause_line, one_number, row_line, read_rows, certificate_end, certificate_within, read_certificate}
-use Rattle.spec_certificate_reading.specs.Readable.{IsHypothesisOf, IsConclusionOf, IsReadable, IsReadableCertificate}
-use Rattle.spec_certificate_reading.proofs.Things.{Complete}
-use Rattle.spec_certificate_reading.proofs.FactsFound.{hypothesis_found, conclusion_found}
-use Rattle.spec_certificate_reading.proofs.ClausesRead.{clause_found}
-use Rattle.spec_certificate_reading.proofs.CertificatesRead.{read_certificate-found}
+use Rattle.spec_certificate_text.specs.Terms.{Syntax}
+use Rattle.spec_certificate_text.specs.Outcomes.{Found, Faulty, next, front, read_fixed, read_number, Reader, things, lines_from}
+use Rattle.spec_certificate_text.specs.Facts.{read_hypothesis, read_conclusion}
+use Rattle.spec_certificate_text.specs.Clauses.{one_hypothesis, read_hypotheses, read_clause}
+use Rattle.spec_certificate_text.specs.Certificates.{clause_line, one_number, row_line, read_rows, certificate_end, certificate_within, read_certificate}
+use Rattle.spec_certificate_text.specs.Readable.{IsHypothesisOf, IsConclusionOf, IsReadable, IsReadableCertificate}
+use Rattle.spec_certificate_text.proofs.Things.{Complete}
+use Rattle.spec_certificate_text.proofs.FactsFound.{hypothesis_found, conclusion_found}
+use Rattle.spec_certificate_text.proofs.ClausesRead.{clause_found}
+use Rattle.spec_certificate_text.proofs.CertificatesRead.{read_certificate-found}
 use Rattle.spec_reading_faults.proofs.Shared.{shares_behind, IsLocal, Moves, next_local, moves_first, moves_second, choice_local, choice_moves, found_local, skip_local, skip_moves}
 use Rattle.spec_reading_faults.proofs.Parts.{fixed_moves, number_local, things_local, lines_local, all_lines_local}
 use Rattle.spec_reading_faults.proofs.Facts.{behind_fixed, closing_local, hypothesis_local, conclusion_local}

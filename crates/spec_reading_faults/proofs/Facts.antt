@@ -4,10 +4,10 @@ use Rattle.spec_calculus.specs.Syntax.{Protocol}
 use Rattle.spec_protocol_tokens.specs.Bytes.{begins_word, is_in_word}
 use Rattle.spec_terms.specs.Term.{Term}
 use Rattle.spec_clauses.specs.Fact.{Fact, Att, Mess, Ev, Mev, Bad}
-use Rattle.spec_certificate_reading.specs.Names.{CalledEvent, event_called}
-use Rattle.spec_certificate_reading.specs.Terms.{Syntax, Symbol, Arity}
-use Rattle.spec_certificate_reading.specs.Outcomes.{Outcome, Found, Faulty, next, front, ended, read_fixed, Reader}
-use Rattle.spec_certificate_reading.specs.Facts.{one_term, argument, read_terms, Performed, performed, event_named, read_event, read_att, read_mess, read_ev, bad_arguments, read_bad, read_mev_or_mess, read_hypothesis, read_conclusion}
+use Rattle.spec_certificate_text.specs.Names.{CalledEvent, event_called}
+use Rattle.spec_certificate_text.specs.Terms.{Syntax, Symbol, Arity}
+use Rattle.spec_certificate_text.specs.Outcomes.{Outcome, Found, Faulty, next, front, ended, read_fixed, Reader}
+use Rattle.spec_certificate_text.specs.Facts.{one_term, argument, read_terms, Performed, performed, event_named, read_event, read_att, read_mess, read_ev, bad_arguments, read_bad, read_mev_or_mess, read_hypothesis, read_conclusion}
 use Rattle.spec_reading_faults.proofs.Shared.{IsLocal, Moves, next_local, moves_second, choice_local, choice_moves, found_local, skip_local, skip_moves, never_local, other_local, ended_local}
 use Rattle.spec_reading_faults.proofs.Terms.{term_local}
 use Rattle.spec_reading_faults.proofs.Parts.{same_local, either_local, fixed_local, run, run_local, things_local}

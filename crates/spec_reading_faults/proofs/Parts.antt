@@ -5,9 +5,9 @@ use Rattle.std.proofs.lemmas.List.{drop-drop}
 use Rattle.std.specs.Char.{is_ascii_digit}
 use Rattle.std.specs.List.{prefix_len}
 use Rattle.spec_run_text.specs.Reading.{numeral}
-use Rattle.spec_certificate_reading.specs.Terms.{Syntax, Number, Count}
-use Rattle.spec_certificate_reading.specs.Outcomes.{Outcome, Found, Faulty, next, Reader, front, ended, read_fixed, as_number, number_before, read_number, things_from, things, lines_from}
-use Rattle.spec_certificate_reading.proofs.Things.{lines_full}
+use Rattle.spec_certificate_text.specs.Terms.{Syntax, Number, Count}
+use Rattle.spec_certificate_text.specs.Outcomes.{Outcome, Found, Faulty, next, Reader, front, ended, read_fixed, as_number, number_before, read_number, things_from, things, lines_from}
+use Rattle.spec_certificate_text.proofs.Things.{lines_full}
 use Rattle.spec_reading_faults.proofs.Shared.{Shares, shares_less, shares_drop, shares_some, Passed, IsLocal, Moves, passed_on, as_told, next_local, choice_local, found_local, never_local, other_local, ended_local}
 
 -- a reader that answers the same is as local

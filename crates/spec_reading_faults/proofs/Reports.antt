@@ -6,12 +6,12 @@ use Rattle.std.proofs.lemmas.List.Recursion.{is_position_or_len}
 use Rattle.spec_calculus.specs.Syntax.{Protocol}
 use Rattle.spec_certificates.specs.Certificate.{Certificate}
 use Rattle.spec_certificate_text.specs.OfProtocol.{HasNames, IsShort}
-use Rattle.spec_certificate_reading.specs.Terms.{Syntax, Count}
-use Rattle.spec_certificate_reading.specs.Outcomes.{Outcome, Found, Faulty, next, front, read_fixed, read_number, Reader}
-use Rattle.spec_certificate_reading.specs.Certificates.{read_certificate}
-use Rattle.spec_certificate_reading.specs.Reports.{Claim, Proved, Bare, Unknown, query_number, read_text, proof_by, verdict_by, claim_by, behind_claims, claims_by, read_report}
-use Rattle.spec_report_text.specs.Text.{SpellsReport, in_line}
-use Rattle.spec_report_text.proofs.ReportsRead.{refused_is_none}
+use Rattle.spec_certificate_text.specs.Terms.{Syntax, Count}
+use Rattle.spec_certificate_text.specs.Outcomes.{Outcome, Found, Faulty, next, front, read_fixed, read_number, Reader}
+use Rattle.spec_certificate_text.specs.Certificates.{read_certificate}
+use Rattle.spec_certificate_text.specs.Reports.{Claim, Proved, Bare, Unknown, query_number, read_text, proof_by, verdict_by, claim_by, behind_claims, claims_by, read_report}
+use Rattle.spec_certificate_text.specs.ReportText.{SpellsReport, in_line}
+use Rattle.spec_certificate_text.proofs.ReportsRead.{refused_is_none}
 use Rattle.spec_reading_faults.proofs.Shared.{Shares, shares_behind, Passed, IsLocal, next_local, choice_local, found_local, never_local, other_local}
 use Rattle.spec_reading_faults.proofs.Parts.{same_local, either_local, fixed_local, number_local, run, run_local}
 use Rattle.spec_reading_faults.proofs.Facts.{behind_fixed}

@@ -7,14 +7,14 @@ use Rattle.spec_protocol_tokens.specs.Bytes.{begins_word, is_in_word}
 use Rattle.spec_protocol_scope.specs.Names.{is_variable}
 use Rattle.spec_terms.specs.Term.{Tuple, Attacker, Term}
 use Rattle.spec_run_text.specs.Reading.{numeral}
-use Rattle.spec_certificate_reading.specs.Names.{Named, symbol_called, name_called}
-use Rattle.spec_certificate_reading.specs.Terms.{Code, Syntax, Number, Symbol, Arity, Count, Open, Mode, Begins, InWord, InDigits, AtBracket, Ended, Reading, Step, Goes, Ends, Fault}
-use Rattle.spec_certificate_reading.specs.Steps.{is_deep, goes, unless_deep, opened, with_parts, has_arity, closed, closing_byte, may_close, may_go_on, may_be_empty, after_term, begin_term, at_begin, after_variable, after_name, after_word, apply, in_word, after_point, after_number, after_digits, step_in, step}
-use Rattle.spec_certificate_reading.specs.Runs.{Read, Done, Refused, followed, cut_off, at_end, read_on, read_term}
-use Rattle.spec_certificate_reading.specs.Outcomes.{Faulty}
-use Rattle.spec_certificate_reading.specs.Facts.{term_outcome, one_term}
-use Rattle.spec_certificate_reading.proofs.Runs.{none_at_end}
-use Rattle.spec_certificate_reading.proofs.FactsThere.{as_done}
+use Rattle.spec_certificate_text.specs.Names.{Named, symbol_called, name_called}
+use Rattle.spec_certificate_text.specs.Terms.{Code, Syntax, Number, Symbol, Arity, Count, Open, Mode, Begins, InWord, InDigits, AtBracket, Ended, Reading, Step, Goes, Ends, Fault}
+use Rattle.spec_certificate_text.specs.Steps.{is_deep, goes, unless_deep, opened, with_parts, has_arity, closed, closing_byte, may_close, may_go_on, may_be_empty, after_term, begin_term, at_begin, after_variable, after_name, after_word, apply, in_word, after_point, after_number, after_digits, step_in, step}
+use Rattle.spec_certificate_text.specs.Runs.{Read, Done, Refused, followed, cut_off, at_end, read_on, read_term}
+use Rattle.spec_certificate_text.specs.Outcomes.{Faulty}
+use Rattle.spec_certificate_text.specs.Facts.{term_outcome, one_term}
+use Rattle.spec_certificate_text.proofs.ReadRuns.{none_at_end}
+use Rattle.spec_certificate_text.proofs.FactsThere.{as_done}
 use Rattle.spec_reading_faults.proofs.Shared.{Shares, Passed, IsLocal}
 
 -- a fault of syntax stands at the byte that is looked at

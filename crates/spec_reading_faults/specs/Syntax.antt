@@ -1,10 +1,10 @@
 -- Faults of syntax: by which bytes they are told, and that no text goes on with these.
 use Rattle.std.specs.Prelude.{◌≡◌, ℕ, ◌+◌, List, ◌∷◌, ◌++◌, length}
 use Rattle.spec_calculus.specs.Syntax.{Protocol}
-use Rattle.spec_certificate_reading.specs.Terms.{Syntax}
-use Rattle.spec_certificate_reading.specs.Outcomes.{Reader, Faulty}
-use Rattle.spec_certificate_reading.specs.Reports.{Claim, read_report}
-use Rattle.spec_report_text.specs.Text.{SpellsReport}
+use Rattle.spec_certificate_text.specs.Terms.{Syntax}
+use Rattle.spec_certificate_text.specs.Outcomes.{Reader, Faulty}
+use Rattle.spec_certificate_text.specs.Reports.{Claim, read_report}
+use Rattle.spec_certificate_text.specs.ReportText.{SpellsReport}
 
 -- a fault of syntax at a byte is told by it and the bytes before it: it is the same whatever follows
 abbrev pub IsToldThere : {A : Type 0} → Reader A → Type 0

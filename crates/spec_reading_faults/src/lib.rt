@@ -8,12 +8,12 @@ ghost use Rattle.std.specs.Prelude.{length};
 ghost use Rattle.spec_calculus.specs.Syntax.{Protocol};
 ghost use Rattle.spec_certificate_text.specs.OfProtocol.{HasNames, IsShort};
 ghost use Rattle.spec_certificate_text.specs.Text.{fact_text, clause_text, certificate_text};
-ghost use Rattle.spec_certificate_reading.specs.Outcomes.{read_number};
-ghost use Rattle.spec_certificate_reading.specs.Facts.{one_term, read_hypothesis, read_conclusion};
-ghost use Rattle.spec_certificate_reading.specs.Clauses.{read_clause};
-ghost use Rattle.spec_certificate_reading.specs.Certificates.{read_certificate};
-ghost use Rattle.spec_certificate_reading.specs.Readable.{IsHypothesisOf, IsConclusionOf};
-ghost use Rattle.spec_certificate_reading.specs.Readable.{IsReadable, IsReadableCertificate};
+ghost use Rattle.spec_certificate_text.specs.Outcomes.{read_number};
+ghost use Rattle.spec_certificate_text.specs.Facts.{one_term, read_hypothesis, read_conclusion};
+ghost use Rattle.spec_certificate_text.specs.Clauses.{read_clause};
+ghost use Rattle.spec_certificate_text.specs.Certificates.{read_certificate};
+ghost use Rattle.spec_certificate_text.specs.Readable.{IsHypothesisOf, IsConclusionOf};
+ghost use Rattle.spec_certificate_text.specs.Readable.{IsReadable, IsReadableCertificate};
 ghost use Rattle.spec_reading_faults.specs.Syntax.{IsToldThere, NoneGoesOn};
 ghost use Rattle.spec_reading_faults.specs.Syntax.{IsReportToldThere, NoReportGoesOn};
 

@@ -8,7 +8,7 @@ use Rattle.spec_clauses.specs.Fact.{Fact, Att, Mess, Tab, Ev, Mev, Bad, Clause}
 use Rattle.spec_clauses.proofs.Lists.{all_weaker}
 use Rattle.spec_certificates.specs.Certificate.{Certificate}
 use Rattle.spec_certificate_text.specs.OfProtocol.{IsShort, AreTermsOf, IsFactOf, IsClauseOf}
-use Rattle.spec_certificate_reading.specs.Readable.{MayStand, IsHypothesisOf, IsConclusionOf, IsReadable, IsRow, IsReadableCertificate}
+use Rattle.spec_certificate_text.specs.Readable.{MayStand, IsHypothesisOf, IsConclusionOf, IsReadable, IsRow, IsReadableCertificate}
 use Rattle.spec_node_tables.specs.Large.{FitsInNodes}
 use Rattle.spec_node_faults.specs.Grammar.{MayBeHypothesis, MayBeConclusion, StandsRight, IsNumberable}
 

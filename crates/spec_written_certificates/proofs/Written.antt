@@ -7,7 +7,7 @@ use Rattle.spec_clauses.specs.Fact.{Clause}
 use Rattle.spec_certificates.specs.Certificate.{Certificate}
 use Rattle.spec_certificate_text.specs.Text.{certificate_text}
 use Rattle.spec_certificate_text.proofs.Followed.{certificate_followed}
-use Rattle.spec_certificate_reading.specs.Readable.{IsReadableCertificate}
+use Rattle.spec_certificate_text.specs.Readable.{IsReadableCertificate}
 use Rattle.spec_node_tables.specs.Large.{FitsInNodes, is_large_in_nodes}
 use Rattle.spec_node_tables.specs.Text.{text_with_nodes}
 use Rattle.spec_node_reading.specs.Readable.{SpellsNumbered, SpellsPlain, SpellsCertificate}

@@ -8,7 +8,7 @@
 ghost use Rattle.std.specs.Prelude.{◌≡◌, ℕ, List, [], ◌++◌};
 ghost use Rattle.spec_calculus.specs.Syntax.{Protocol};
 ghost use Rattle.spec_certificates.specs.Certificate.{Certificate};
-ghost use Rattle.spec_certificate_reading.specs.Readable.{IsReadableCertificate};
+ghost use Rattle.spec_certificate_text.specs.Readable.{IsReadableCertificate};
 ghost use Rattle.spec_node_tables.specs.Large.{FitsInNodes};
 ghost use Rattle.spec_node_reading.specs.Readable.{SpellsNumbered, SpellsPlain, SpellsCertificate};
 ghost use Rattle.cert_form.specs.Writing.{format_for, text_in};

@@ -2,7 +2,7 @@
 use Rattle.std.proofs.Common.{◌≡◌, ℕ, ◌<◌, ◌^◌, true, List, [], ◌∷◌, refl, arith}
 use Rattle.std.proofs.lemmas.Bool.Decides.{nat_tests}
 use Rattle.spec_terms.specs.Term.{Sym, Ctor, Data, Tuple, Free, Point, Attacker, Term}
-use Rattle.spec_certificate_reading.specs.Steps.{has_arity, may_be_empty}
+use Rattle.spec_certificate_text.specs.Steps.{has_arity, may_be_empty}
 
 few_parts : (s : Sym) (arity parts : ℕ) → has_arity s arity parts ≡ true → arity < 2 ^ 32 → parts < 2 ^ 32
 few_parts (Ctor f) arity parts e small = let same : parts ≡ arity = grind (arith, nat_tests) in omega (arith, same, small)

@@ -4,7 +4,7 @@ use Rattle.spec_calculus.specs.Syntax as calculus
 use Rattle.spec_calculus.specs.Points.{numbered, nodes, name_arguments}
 use Rattle.spec_calculus.proofs.Items.{numbered-past}
 use Rattle.spec_terms.specs.Term.{Point}
-use Rattle.spec_certificate_reading.specs.Names.{Named, is_restriction_of, if_restriction, name_called}
+use Rattle.spec_certificate_text.specs.Names.{Named, is_restriction_of, if_restriction, name_called}
 
 pub past_nodes : (P : calculus.Protocol) (word : List ℕ) (point : ℕ) → length (nodes P.main) < point → None ≡ name_called P word point
 past_nodes P word point past = sym (ap (option_and_then (λ node. if_restriction word point node (numbered (name_arguments 0 P.main) point))) (numbered-past (nodes P.main) point past))

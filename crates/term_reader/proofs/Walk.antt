@@ -2,9 +2,9 @@
 use Rattle.std.proofs.Common.{◌≡◌, ℕ, zero, suc, ◌+◌, ◌<◌, ◌≤◌, List, [], ◌∷◌, length, drop, get_or, refl, sym, ◌∙◌, ap, arith, add-one}
 use Rattle.spec_calculus.specs.Syntax as calculus
 use Rattle.spec_terms.specs.Term.{Term}
-use Rattle.spec_certificate_reading.specs.Terms.{Code, Reading, Goes, Ends, Fault}
-use Rattle.spec_certificate_reading.specs.Steps.{step}
-use Rattle.spec_certificate_reading.specs.Runs.{Read, Done, Refused, followed, at_end, read_on}
+use Rattle.spec_certificate_text.specs.Terms.{Code, Reading, Goes, Ends, Fault}
+use Rattle.spec_certificate_text.specs.Steps.{step}
+use Rattle.spec_certificate_text.specs.Runs.{Read, Done, Refused, followed, at_end, read_on}
 
 pub next_byte : (bytes : List ℕ) (place : ℕ) → place < length bytes → drop place bytes ≡ get_or bytes place 0 ∷ drop (place + 1) bytes
 next_byte [] place below = absurd (omega (arith, below))

@@ -2,8 +2,8 @@
 use Rattle.std.specs.Prelude.{List, map, reverse, Option, Some, None}
 use Rattle.term_tree.specs.Bank.{symbol_of}
 use Rattle.clause_form.specs.Plain.{term_of}
-use Rattle.spec_certificate_reading.specs.Names as names
-use Rattle.spec_certificate_reading.specs.Terms as terms
+use Rattle.spec_certificate_text.specs.Names as names
+use Rattle.spec_certificate_text.specs.Terms as terms
 use Rattle.term_reader.specs.declared.words.Named.{Named}
 use Rattle.term_reader.specs.declared.words.CalledEvent.{CalledEvent}
 use Rattle.term_reader.specs.declared.state.Open.{Open}

@@ -1,8 +1,8 @@
 -- What contracts see of steps, and of what was read.
 use Rattle.std.specs.Prelude.{◌≡◌, ℕ, ◌≤◌, List, [], ◌∷◌, drop}
 use Rattle.clause_form.specs.Plain.{term_of}
-use Rattle.spec_certificate_reading.specs.Terms as terms
-use Rattle.spec_certificate_reading.specs.Runs as runs
+use Rattle.spec_certificate_text.specs.Terms as terms
+use Rattle.spec_certificate_text.specs.Runs as runs
 use Rattle.term_reader.specs.declared.state.Code.{Code}
 use Rattle.term_reader.specs.declared.state.Code.TheVariants.{Syntax, Number, Symbol, Arity, Count}
 use Rattle.term_reader.specs.declared.state.Step.{Step}

@@ -4,7 +4,7 @@ ghost use Rattle.std.specs.Prelude.{◌≡◌, ◌+◌, ◌<◌, ◌^◌, drop};
 ghost use Rattle.spec_protocol_tokens.specs.Bytes.{begins_word, is_in_word};
 ghost use Rattle.spec_protocol_scope.specs.Names.{is_variable};
 ghost use Rattle.term_tree.specs.Bank.{symbol_of};
-ghost use Rattle.spec_certificate_reading.specs.Steps.{with_parts, has_arity, closing_byte, may_close, may_go_on, may_be_empty};
+ghost use Rattle.spec_certificate_text.specs.Steps.{with_parts, has_arity, closing_byte, may_close, may_go_on, may_be_empty};
 
 use clause_form::Trees;
 use numerals::all_digits;

@@ -3,7 +3,7 @@
 ghost use Rattle.std.specs.Prelude.{◌≡◌, ◌≤◌, length, drop, IfOk};
 ghost use Rattle.pi_tree.specs.Protocols.{protocol_of};
 ghost use Rattle.term_reader.specs.Naming.{protocol_in};
-ghost use Rattle.spec_certificate_reading.specs.Runs.{Refused, cut_off, cut_before, at_end, read_term};
+ghost use Rattle.spec_certificate_text.specs.Runs.{Refused, cut_off, cut_before, at_end, read_term};
 ghost use Rattle.term_reader.specs.Few.{HasFewNames};
 ghost use Rattle.term_reader.specs.Seen.{heads_of, mode_of};
 ghost use Rattle.term_reader.specs.SeenSteps.{code_of, read_of, EndsWithin};

@@ -1,7 +1,7 @@
 //! How far a term was read.
 
 ghost use Rattle.std.specs.Prelude.{◌≡◌, [], ◌∷◌, IfOk};
-ghost use Rattle.spec_certificate_reading.specs.Steps.{is_deep};
+ghost use Rattle.spec_certificate_text.specs.Steps.{is_deep};
 ghost use Rattle.term_reader.specs.Seen.{open_of, heads_of};
 ghost use Rattle.term_reader.specs.SeenSteps.{IsPopped};
 

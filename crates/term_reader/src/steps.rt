@@ -5,9 +5,9 @@ ghost use Rattle.term_tree.specs.Bank.{symbol_of};
 ghost use Rattle.clause_form.specs.Plain.{term_of};
 ghost use Rattle.term_reader.specs.Naming.{protocol_in};
 ghost use Rattle.spec_run_text.specs.Reading.{numeral};
-ghost use Rattle.spec_certificate_reading.specs.Names as called;
-ghost use Rattle.spec_certificate_reading.specs.Steps as steps;
-ghost use Rattle.spec_certificate_reading.specs.Terms as terms;
+ghost use Rattle.spec_certificate_text.specs.Names as called;
+ghost use Rattle.spec_certificate_text.specs.Steps as steps;
+ghost use Rattle.spec_certificate_text.specs.Terms as terms;
 ghost use Rattle.term_reader.specs.Seen.{named_of, found_of, open_of, heads_of, mode_of, reading_of};
 ghost use Rattle.term_reader.specs.SeenSteps.{code_of, step_of};
 

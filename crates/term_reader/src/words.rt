@@ -6,7 +6,7 @@ ghost use Rattle.spec_calculus.specs.Bounds.{most_names};
 ghost use Rattle.pi_tree.specs.Names.{declared_of};
 ghost use Rattle.pi_tree.specs.Processes.{process_of};
 ghost use Rattle.pi_tree.specs.Protocols.{protocol_of};
-ghost use Rattle.spec_certificate_reading.specs.Names.{find_from, symbol_called, is_restriction_of, name_called, event_called};
+ghost use Rattle.spec_certificate_text.specs.Names.{find_from, symbol_called, is_restriction_of, name_called, event_called};
 ghost use Rattle.term_reader.specs.Few.{HasFewNames};
 ghost use Rattle.term_reader.specs.Seen.{found_of, event_of};
 

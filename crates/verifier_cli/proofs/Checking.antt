@@ -10,8 +10,8 @@ use Rattle.spec_certificates.specs.Shown.{IsProper}
 use Rattle.spec_certificates.specs.Certificate.{Certificate}
 use Rattle.spec_certificates.specs.Ruling as certificates
 use Rattle.spec_certificates.specs.Ruling.{IsRuled}
-use Rattle.spec_certificate_reading.specs.Terms.{Code}
-use Rattle.spec_certificate_reading.specs.Reports.{Claim, Proved, Bare, Unknown}
+use Rattle.spec_certificate_text.specs.Terms.{Code}
+use Rattle.spec_certificate_text.specs.Reports.{Claim, Proved, Bare, Unknown}
 use Rattle.spec_node_reading.specs.Reports.{SpellsReport, reports_of_both}
 use Rattle.spec_certificate_faults.specs.First.{IsFirstFault}
 use Rattle.fact_reader.specs.Errors.{refusal_of}

@@ -2,7 +2,7 @@
 use Rattle.std.proofs.Common.{◌≡◌, ◌≢◌, ◌⊎◌, ℕ, List, Option, Bool, true, false, if◌then◌else◌, inl, inr, refl, sym, subst}
 use Rattle.std.specs.List.{list_all}
 use Rattle.spec_calculus.specs.Syntax.{Protocol}
-use Rattle.spec_certificate_reading.specs.Reports.{Claim}
+use Rattle.spec_certificate_text.specs.Reports.{Claim}
 use Rattle.spec_calculus.specs.Runs.{Step}
 use Rattle.command_words.specs.Request.{Request, Verify, Check, ListOf, Replay, RingOf}
 use Rattle.verifier_cli.specs.Outside.{Outside, IsFaulty}

@@ -18,8 +18,8 @@ use Rattle.spec_certificate_text.specs.Words.{declared_word, word_of_process, sy
 use Rattle.spec_certificate_text.specs.Written.{applied, headed, written, written_row, written_event, written_fact}
 use Rattle.spec_certificate_text.specs.Text.{fact_text, later_hypotheses, hypotheses_text, clause_text}
 use Rattle.spec_certificate_text.proofs.Runs.{both_left, both_right}
-use Rattle.spec_certificate_reading.proofs.Parts.{equal_byte}
-use Rattle.spec_report_text.specs.Text.{in_line}
+use Rattle.spec_certificate_text.proofs.Parts.{equal_byte}
+use Rattle.spec_certificate_text.specs.ReportText.{in_line}
 
 -- no byte of it ends a line
 abbrev pub IsOneLine : List ℕ → Type 0

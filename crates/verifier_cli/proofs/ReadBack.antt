@@ -18,10 +18,10 @@ use Rattle.spec_certificates.specs.Ruling.{IsRuled}
 use Rattle.spec_verdicts.specs.Verdict as defined
 use Rattle.spec_verdicts.specs.Verdict.{IsVerdict}
 use Rattle.spec_certificate_text.specs.OfProtocol.{HasNames}
-use Rattle.spec_certificate_reading.specs.Readable.{IsReadableCertificate}
-use Rattle.spec_certificate_reading.specs.Reports as reports
-use Rattle.spec_certificate_reading.specs.Reports.{Claim, Unknown}
-use Rattle.spec_report_text.specs.Text.{query_text, IsReason}
+use Rattle.spec_certificate_text.specs.Readable.{IsReadableCertificate}
+use Rattle.spec_certificate_text.specs.Reports as reports
+use Rattle.spec_certificate_text.specs.Reports.{Claim, Unknown}
+use Rattle.spec_certificate_text.specs.ReportText.{query_text, IsReason}
 use Rattle.spec_node_reading.specs.Readable.{SpellsCertificate}
 use Rattle.spec_node_reading.specs.Reports.{SpellsClaim, SpellsClaims, SpellsReport}
 use Rattle.cert_form.specs.Writing.{format_for, text_in}

@@ -6,7 +6,7 @@ use Rattle.hv_io.specs.Place.{line_at}
 use Rattle.spec_protocol_scope.specs.Spells as spells
 use Rattle.spec_protocol_scope.specs.Spells.{Spells, Refuses}
 use Rattle.spec_certificates.specs.Ruling.{IsRuled}
-use Rattle.spec_certificate_reading.specs.Reports.{Claim, Proved, Bare, Unknown}
+use Rattle.spec_certificate_text.specs.Reports.{Claim, Proved, Bare, Unknown}
 use Rattle.spec_node_reading.specs.Reports.{SpellsReport, reports_of_both}
 use Rattle.spec_certificate_faults.specs.First.{IsFirstFault}
 use Rattle.cert_checker.specs.Rulings.{ruling_of}

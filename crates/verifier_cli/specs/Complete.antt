@@ -3,7 +3,7 @@ use Rattle.std.specs.Prelude.{◌≡◌, ◌⊎◌, ℕ, List}
 use Rattle.spec_calculus.specs.Syntax.{Protocol}
 use Rattle.spec_calculus.specs.Runs.{Step}
 use Rattle.spec_protocol_scope.specs.Spells.{Spells}
-use Rattle.spec_certificate_reading.specs.Reports.{Claim}
+use Rattle.spec_certificate_text.specs.Reports.{Claim}
 use Rattle.command_words.specs.Request.{Request, Verify, Check, ListOf, Replay, RingOf}
 use Rattle.verifier_cli.specs.Outcome.{Outcome, Verified, Checked, Listed, ListLarge, NoQuery, Replayed, Ring, Memory}
 use Rattle.verifier_cli.specs.Checking.{MakesClaims}

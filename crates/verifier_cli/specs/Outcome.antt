@@ -6,7 +6,7 @@ use Rattle.spec_protocol_scope.specs.Spells as spells
 use Rattle.spec_run_text.specs.Faults.{Fault}
 use Rattle.spec_terms.specs.Term.{Term}
 use Rattle.spec_clauses.specs.Fact.{Clause}
-use Rattle.spec_certificate_reading.specs.Terms.{Code}
+use Rattle.spec_certificate_text.specs.Terms.{Code}
 use Rattle.query_verify.specs.declared.answers.Verdict.{Verdict}
 use Rattle.verifier_cli.specs.declared.outcome.Finding.{Finding}
 use Rattle.verifier_cli.specs.declared.outcome.Ring.{Ring as Summary}

@@ -3,7 +3,7 @@ use Rattle.std.specs.Prelude.{ℕ, List}
 use Rattle.spec_calculus.specs.Bounds.{most_report_bytes}
 use Rattle.spec_calculus.specs.Syntax as syntax
 use Rattle.hv_io.specs.Place.{line_at}
-use Rattle.spec_certificate_reading.specs.Terms as report
+use Rattle.spec_certificate_text.specs.Terms as report
 use Rattle.fact_reader.specs.declared.error.CertError.{CertError}
 use Rattle.fact_reader.specs.declared.error.CertError.TheVariants as error
 use Rattle.verifier_cli.specs.declared.loading.Unloaded.{Unloaded}

@@ -8,7 +8,7 @@ use Rattle.pi_model.specs.Errors.{refusal_of}
 use Rattle.run_replay.specs.declared.replaying.Replayed.{Replayed}
 use Rattle.run_replay.specs.declared.replaying.Replayed.TheVariants.{Done, Stuck}
 use Rattle.spec_run_text.specs.Faults as run
-use Rattle.spec_certificate_reading.specs.Terms as report
+use Rattle.spec_certificate_text.specs.Terms as report
 use Rattle.verifier_cli.specs.declared.outcome.ReportCode.{ReportCode}
 use Rattle.verifier_cli.specs.declared.outcome.ReportCode.TheVariants as text
 use Rattle.verifier_cli.specs.declared.outcome.RunCode.{RunCode}

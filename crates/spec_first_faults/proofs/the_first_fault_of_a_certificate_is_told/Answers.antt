@@ -1,5 +1,5 @@
 use Rattle.spec_certificate_text.specs.Text.{certificate_text}
-use Rattle.spec_certificate_reading.specs.Certificates.{read_certificate}
+use Rattle.spec_certificate_text.specs.Certificates.{read_certificate}
 use Rattle.spec_certificate_faults.proofs.TermFirst.{first_is_one}
 use Rattle.spec_first_faults.specs.Clauses.{certificates}
 use Rattle.spec_first_faults.proofs.Tells.{Anything}

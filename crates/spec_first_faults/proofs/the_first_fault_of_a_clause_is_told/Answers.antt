@@ -1,7 +1,7 @@
 use Rattle.std.specs.Char.{is_ascii_digit}
-use Rattle.spec_certificate_reading.specs.Outcomes.{read_number}
-use Rattle.spec_certificate_reading.specs.Facts.{read_event, read_hypothesis, read_conclusion}
-use Rattle.spec_certificate_reading.specs.Clauses.{read_clause}
+use Rattle.spec_certificate_text.specs.Outcomes.{read_number}
+use Rattle.spec_certificate_text.specs.Facts.{read_event, read_hypothesis, read_conclusion}
+use Rattle.spec_certificate_text.specs.Clauses.{read_clause}
 use Rattle.spec_certificate_faults.specs.Grammar.{EndsAt}
 use Rattle.spec_first_faults.specs.Numbers.{numbers}
 use Rattle.spec_first_faults.specs.Facts.{event_goes_on, events, hypotheses, conclusions}

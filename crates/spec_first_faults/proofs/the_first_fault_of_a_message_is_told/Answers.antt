@@ -1,4 +1,4 @@
-use Rattle.spec_certificate_reading.specs.Facts.{read_att, read_mess}
+use Rattle.spec_certificate_text.specs.Facts.{read_att, read_mess}
 use Rattle.spec_first_faults.specs.Facts.{known, sent}
 use Rattle.spec_first_faults.proofs.Law.{told_is_first, first_is_told, found_has_none}
 use Rattle.spec_first_faults.proofs.Tells.{Anything}

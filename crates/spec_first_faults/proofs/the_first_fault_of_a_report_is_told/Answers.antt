@@ -1,5 +1,5 @@
 use Rattle.std.proofs.Common.{[], length}
-use Rattle.spec_certificate_reading.specs.Reports.{claims_from}
+use Rattle.spec_certificate_text.specs.Reports.{claims_from}
 use Rattle.spec_certificate_faults.proofs.TermFirst.{first_is_one}
 use Rattle.spec_first_faults.specs.Reports.{AtEnd, reports}
 use Rattle.spec_first_faults.proofs.Told.{first_told, found_faultless, faultless_found}

@@ -1,5 +1,5 @@
 use Rattle.std.proofs.Common.{[], length}
-use Rattle.spec_certificate_reading.specs.Reports.{claims_by}
+use Rattle.spec_certificate_text.specs.Reports.{claims_by}
 use Rattle.spec_first_faults.specs.Reports.{AtEnd}
 use Rattle.spec_first_faults.proofs.Told.{first_told, found_faultless, faultless_found}
 use Rattle.spec_node_reading.specs.Reading.{read_in_both}

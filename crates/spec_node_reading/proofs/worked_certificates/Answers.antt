@@ -1,5 +1,5 @@
 use Rattle.std.proofs.Common.{refl}
-use Rattle.spec_certificate_reading.specs.Outcomes.{read_fixed, lines_from, things_from}
+use Rattle.spec_certificate_text.specs.Outcomes.{read_fixed, lines_from, things_from}
 use Rattle.spec_node_reading.specs.Loops.{lines_through, row_from}
 use Rattle.spec_node_reading.proofs.worked_certificates.Goals as goal
 

@@ -1,7 +1,7 @@
-use Rattle.spec_certificate_reading.specs.Outcomes.{read_number}
-use Rattle.spec_certificate_reading.specs.Facts.{one_term, read_hypothesis, read_conclusion}
-use Rattle.spec_certificate_reading.specs.Clauses.{read_clause}
-use Rattle.spec_certificate_reading.specs.Certificates.{read_certificate}
+use Rattle.spec_certificate_text.specs.Outcomes.{read_number}
+use Rattle.spec_certificate_text.specs.Facts.{one_term, read_hypothesis, read_conclusion}
+use Rattle.spec_certificate_text.specs.Clauses.{read_clause}
+use Rattle.spec_certificate_text.specs.Certificates.{read_certificate}
 use Rattle.spec_reading_faults.proofs.Terms.{term_local}
 use Rattle.spec_reading_faults.proofs.Parts.{number_local}
 use Rattle.spec_reading_faults.proofs.Facts.{hypothesis_local, conclusion_local}

@@ -1,8 +1,8 @@
 -- the lines so far are read, and reading goes on
 use Rattle.std.proofs.Common.{◌≡◌, ◌-◌, []}
 use Rattle.pi_tree.specs.Protocols.{protocol_of}
-use Rattle.spec_certificate_reading.specs.Outcomes.{lines_from}
-use Rattle.spec_certificate_reading.specs.Certificates.{clause_line}
+use Rattle.spec_certificate_text.specs.Outcomes.{lines_from}
+use Rattle.spec_certificate_text.specs.Certificates.{clause_line}
 use Rattle.fact_reader.specs.Reads.{left_of}
 use Rattle.cert_text.proofs.Lines.{AreRead}
 use Rattle.cert_text.proofs.certs.clauses.Given as goal

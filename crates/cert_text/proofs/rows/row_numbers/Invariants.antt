@@ -1,7 +1,7 @@
 -- the numbers so far are read, and reading goes on
 use Rattle.std.proofs.Common.{◌≡◌, ◌-◌, length}
-use Rattle.spec_certificate_reading.specs.Outcomes.{things}
-use Rattle.spec_certificate_reading.specs.Certificates.{one_number}
+use Rattle.spec_certificate_text.specs.Outcomes.{things}
+use Rattle.spec_certificate_text.specs.Certificates.{one_number}
 use Rattle.fact_reader.specs.Reads.{left_of}
 use Rattle.fact_reader.proofs.Things.{IsGoing}
 use Rattle.cert_text.proofs.rows.row_numbers.Given as goal

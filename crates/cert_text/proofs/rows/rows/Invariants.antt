@@ -1,6 +1,6 @@
 -- the rows so far are read, and reading goes on
 use Rattle.std.proofs.Common.{◌≡◌, ◌-◌, length, map}
-use Rattle.spec_certificate_reading.specs.Certificates.{row_line, read_rows}
+use Rattle.spec_certificate_text.specs.Certificates.{row_line, read_rows}
 use Rattle.fact_reader.specs.Reads.{left_of}
 use Rattle.cert_text.proofs.Lines.{AreRead}
 use Rattle.cert_text.proofs.rows.rows.Given as goal

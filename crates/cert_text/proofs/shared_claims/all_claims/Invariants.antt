@@ -1,7 +1,7 @@
 -- the claims so far are read, and reading goes on
 use Rattle.std.proofs.Common.{[], ◌+◌, ◌-◌, length, map}
 use Rattle.pi_tree.specs.Protocols.{protocol_of}
-use Rattle.spec_certificate_reading.specs.Reports.{claims_by}
+use Rattle.spec_certificate_text.specs.Reports.{claims_by}
 use Rattle.spec_node_reading.specs.Reading.{read_in_both}
 use Rattle.fact_reader.specs.Reads.{left_of}
 use Rattle.cert_text.specs.Seen.{shared_claim_of}

@@ -1,6 +1,6 @@
 use Rattle.std.proofs.Common.{subst, sym, ap, ◌∙◌, rules}
-use Rattle.spec_certificate_reading.specs.Terms as terms
-use Rattle.spec_certificate_reading.specs.Outcomes.{Faulty, next, read_number}
+use Rattle.spec_certificate_text.specs.Terms as terms
+use Rattle.spec_certificate_text.specs.Outcomes.{Faulty, next, read_number}
 use Rattle.cert_text.specs.Seen.{GivesShared}
 use Rattle.cert_text.proofs.Claimed.{more_claims}
 use Rattle.cert_text.proofs.shared_claims.further.Goals as goal

@@ -2,8 +2,8 @@
 use Rattle.std.proofs.Common.{◌≡◌, ◌-◌, length, map}
 use Rattle.clause_form.specs.Plain.{term_of}
 use Rattle.pi_tree.specs.Protocols.{protocol_of}
-use Rattle.spec_certificate_reading.specs.Outcomes.{things}
-use Rattle.spec_certificate_reading.specs.Facts.{argument}
+use Rattle.spec_certificate_text.specs.Outcomes.{things}
+use Rattle.spec_certificate_text.specs.Facts.{argument}
 use Rattle.fact_reader.specs.Reads.{left_of}
 use Rattle.fact_reader.proofs.Things.{IsGoing}
 use Rattle.fact_reader.proofs.arguments.terms.Given as goal

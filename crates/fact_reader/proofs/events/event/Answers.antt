@@ -1,8 +1,8 @@
 use Rattle.std.proofs.Common.{◌≡◌, true, drop, sym, subst, arith}
 use Rattle.spec_protocol_tokens.specs.Bytes.{begins_word}
 use Rattle.std.proofs.lemmas.Grind.{common_steps}
-use Rattle.spec_certificate_reading.specs.Facts as facts
-use Rattle.spec_certificate_reading.specs.Outcomes.{Outcome, front}
+use Rattle.spec_certificate_text.specs.Facts as facts
+use Rattle.spec_certificate_text.specs.Outcomes.{Outcome, front}
 use Rattle.term_reader.specs.Naming.{protocol_in}
 use Rattle.term_reader.specs.Seen.{event_of}
 use Rattle.fact_reader.specs.Reads.{Finds, left_of}

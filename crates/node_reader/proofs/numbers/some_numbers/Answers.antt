@@ -2,7 +2,7 @@ use Rattle.std.proofs.Common.{◌∷◌, [], ◌∙◌, sym, ap, subst, rules}
 use Rattle.std.specs.List.{AllByRecursion}
 use Rattle.spec_calculus.proofs.Items.{each-append}
 use Rattle.spec_node_tables.specs.Order.{IsNumberOf}
-use Rattle.spec_certificate_reading.specs.Outcomes.{Found}
+use Rattle.spec_certificate_text.specs.Outcomes.{Found}
 use Rattle.fact_reader.specs.Reads.{left_of}
 use Rattle.node_reader.proofs.Loops.{lines_on, lines_fault, lines_end, lines_over}
 use Rattle.node_reader.proofs.numbers.some_numbers.Goals as goal

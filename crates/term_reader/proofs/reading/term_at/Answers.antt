@@ -1,6 +1,6 @@
 use Rattle.std.proofs.Common.{◌≡◌, length, drop, ◌∙◌, subst, arith}
 use Rattle.pi_tree.specs.Protocols.{protocol_of}
-use Rattle.spec_certificate_reading.specs.Runs.{read_on, read_term}
+use Rattle.spec_certificate_text.specs.Runs.{read_on, read_term}
 use Rattle.term_reader.specs.Seen.{reading_of}
 use Rattle.term_reader.proofs.Walk.{at_last}
 use Rattle.term_reader.proofs.reading.term_at.Goals as goal

@@ -1,7 +1,7 @@
 -- none of the names so far is spelled so
 use Rattle.std.proofs.Common.{◌≡◌, ◌+◌, map, drop}
 use Rattle.pi_tree.specs.Names.{declared_of}
-use Rattle.spec_certificate_reading.specs.Names.{find_from}
+use Rattle.spec_certificate_text.specs.Names.{find_from}
 use Rattle.term_reader.proofs.words.find_declared.Given as goal
 
 abbrev pub invariant-loop-declared : goal.invariant-loop-declared

@@ -1,0 +1,188 @@
+-- The texts of facts are read as these facts.
+use Rattle.std.proofs.Common.{◌≡◌, ℕ, zero, suc, ◌+◌, ◌≤◌, ◌==◌, if◌then◌else◌, Bool, true, false, List, [], ◌∷◌, ◌++◌, length, take, drop, Some, refl, sym, ◌∙◌, ap, subst, arith, codes}
+use Rattle.std.proofs.Math.Seq.{drop-append_seam, take-append_seam}
+use Rattle.std.specs.List.{AllByRecursion, prefix_len}
+use Rattle.spec_trees.specs.Tree.{trees}
+use Rattle.spec_calculus.specs.Syntax.{Protocol}
+use Rattle.spec_protocol_tokens.specs.Bytes.{begins_word, is_in_word}
+use Rattle.spec_terms.specs.Term.{Term}
+use Rattle.spec_clauses.specs.Fact.{Att, Mess, Tab, Ev, Mev, Bad}
+use Rattle.spec_certificate_text.specs.Spelled.{IsWord, Stops, goes_on}
+use Rattle.spec_certificate_text.specs.Loose.{onto, row}
+use Rattle.spec_certificate_text.specs.OfProtocol.{HasNames}
+use Rattle.spec_certificate_text.specs.Words.{declared_word}
+use Rattle.spec_certificate_text.specs.Written.{written, written_row, written_event}
+use Rattle.spec_certificate_text.specs.Text.{term_text, fact_text}
+use Rattle.spec_certificate_text.proofs.Names.{event_word_is_word}
+use Rattle.spec_certificate_text.specs.Names.{CalledEvent, event_called}
+use Rattle.spec_certificate_text.specs.Terms.{Syntax, Arity}
+use Rattle.spec_certificate_text.specs.Outcomes.{Outcome, Found, Faulty, next, front, read_fixed}
+use Rattle.spec_certificate_text.specs.Facts.{term_outcome, one_term, argument, read_terms, Performed, performed, event_named, event_before, read_event, read_att, read_mess, read_ev, read_mev, bad_arguments, read_bad, read_hypothesis, read_conclusion}
+use Rattle.spec_certificate_text.specs.Readable.{MayStand, IsHypothesisOf, IsConclusionOf}
+use Rattle.spec_certificate_text.proofs.Read.{term_text-read}
+use Rattle.spec_certificate_text.proofs.Called.{event_word_called}
+use Rattle.spec_certificate_text.proofs.Parts.{Finds, joined, when_true, when_false, same_byte, other_byte, fixed_found, run_stops}
+use Rattle.spec_certificate_text.proofs.Things.{things_text, IsOne, Complete, things_found}
+use Rattle.spec_certificate_text.proofs.Long.{onto_long, things_long}
+use Rattle.spec_certificate_text.proofs.FactsThere.{argument_text, row_is, event_text, IsPerformed}
+
+-- a term before a byte with which no word alone could go on
+term_found : (P : Protocol) → HasNames P → (t : Term) → MayStand P t → (at b : ℕ) (k : List ℕ) → goes_on b ≡ false → Finds (one_term P (term_text P t (b ∷ k)) at) t (b ∷ k)
+term_found P names t may at b k stops =
+    let read = term_text-read P names t may.0 may.1 at b k stops in
+    record { place = read.0; is = ap term_outcome read.1 }
+
+abbrev behind_term : Term → ℕ → List ℕ → Outcome (Term × Bool)
+behind_term t place rest = if front rest == 44 then Found (t, true) (place + 1) (drop 1 rest) else (if front rest == 41 then Found (t, false) (place + 1) (drop 1 rest) else Faulty place Syntax)
+
+argument_found : (P : Protocol) → HasNames P → Complete (argument_text P) (IsOne (MayStand P)) (argument P)
+argument_found P names (t, true) rest at may =
+    joined (one_term P (term_text P t (44 ∷ rest)) at) behind_term t (44 ∷ rest) (t, true) rest (term_found P names t may at 44 rest refl) (λ p. record { place = p + 1; is = refl })
+argument_found P names (t, false) rest at may =
+    joined (one_term P (term_text P t (41 ∷ rest)) at) behind_term t (41 ∷ rest) (t, false) rest (term_found P names t may at 41 rest refl) (λ p. record { place = p + 1; is = refl })
+
+argument_long : (P : Protocol) (x : Term × Bool) (k : List ℕ) → length k + 1 ≤ length (argument_text P x k)
+argument_long P (t, true) k = omega (arith, onto_long (written P t) (44 ∷ k))
+argument_long P (t, false) k = omega (arith, onto_long (written P t) (41 ∷ k))
+
+pub terms_found : (P : Protocol) → HasNames P → (t : Term) (ts : List Term) (rest : List ℕ) (at : ℕ) → AllByRecursion (MayStand P) (t ∷ ts) → Finds (read_terms P (row (written_row P (trees (t ∷ ts))) (41 ∷ rest)) at) (t ∷ ts) rest
+terms_found P names t ts rest at each =
+    subst (λ bytes. Finds (read_terms P bytes at) (t ∷ ts) rest) (row_is P t ts rest)
+    (things_found (argument_text P) (MayStand P) (argument P) (argument_found P names) (length (things_text (argument_text P) t ts rest)) [] t ts rest at (things_long (argument_text P) (argument_long P) t ts rest) each)
+
+-- Events.
+
+performed_found : (from : ℕ) (e : Performed) (called : CalledEvent) (q : ℕ) (k : List ℕ) → called.number ≡ e.event → called.arity ≡ length e.arguments → Finds (performed from called e.arguments q k) e k
+performed_found from e called q k number arity =
+    let made : Performed = record { event = called.number; arguments = e.arguments } in
+    let same : made ≡ e = ap (λ n. record { event = n; arguments = e.arguments }) number in
+    subst (λ x. Finds (performed from called e.arguments q k) x k) same
+    (when_true (length e.arguments == called.arity) (Found made q k) (Faulty from Arity) made k (ap (λ n. length e.arguments == n) arity ∙ same_byte (length e.arguments)) record { place = q; is = refl })
+
+abbrev called_as : Performed → CalledEvent
+called_as e = record { number = e.event; arity = length e.arguments }
+
+-- what stands behind the word of an event
+abbrev behind_word : Protocol → List Term → List ℕ → List ℕ
+behind_word P [] k = k
+behind_word P (t ∷ ts) k = 40 ∷ row (written_row P (trees (t ∷ ts))) (41 ∷ k)
+
+event_is : (P : Protocol) (e : Performed) (k : List ℕ) → event_text P e k ≡ declared_word P.events e.event ++ behind_word P e.arguments k
+event_is P e k = by e.event e.arguments
+  where
+    by : (n : ℕ) (ts : List Term) → onto (written_event P n ts) k ≡ declared_word P.events n ++ behind_word P ts k
+    by n [] = refl
+    by n (t ∷ ts) = refl
+
+named_found : (P : Protocol) → HasNames P → (n : ℕ) (ts : List Term) (from q : ℕ) (k : List ℕ) → AllByRecursion (MayStand P) ts
+    → Finds (event_named P (Some record { number = n; arity = length ts }) from q (behind_word P ts (41 ∷ k))) (record { event = n; arguments = ts }) (41 ∷ k)
+named_found P names n [] from q k each = performed_found from record { event = n; arguments = [] } record { number = n; arity = 0 } q (41 ∷ k) refl refl
+named_found P names n (t ∷ ts) from q k each =
+    let called : CalledEvent = record { number = n; arity = length (t ∷ ts) } in
+    joined (read_terms P (row (written_row P (trees (t ∷ ts))) (41 ∷ 41 ∷ k)) (q + 1)) (λ us p r. performed from called us p r) (t ∷ ts) (41 ∷ k) (record { event = n; arguments = t ∷ ts }) (41 ∷ k)
+    (terms_found P names t ts (41 ∷ k) (q + 1) each)
+    (λ p. performed_found from record { event = n; arguments = t ∷ ts } called p (41 ∷ k) refl refl)
+
+stops_there : (P : Protocol) (ts : List Term) (k : List ℕ) → Stops is_in_word (behind_word P ts (41 ∷ k))
+stops_there P [] k = refl
+stops_there P (t ∷ ts) k = refl
+
+begins_there : (w k : List ℕ) → IsWord w → begins_word (front (w ++ k)) ≡ true
+begins_there [] k is = absurd (let never : false ≡ true = is.begins in cc)
+begins_there (b ∷ w) k is = is.begins
+
+-- behind its word more bytes stand
+before_found : (P : Protocol) (w : List ℕ) (called : CalledEvent) (ts : List Term) (from q : ℕ) (k : List ℕ) (e : Performed) (r : List ℕ) → event_called P w ≡ Some called → Finds (event_named P (Some called) from q (behind_word P ts (41 ∷ k))) e r → Finds (event_before P w from q (behind_word P ts (41 ∷ k))) e r
+before_found P w called [] from q k e r names found = record { place = found.place; is = ap (λ o. event_named P o from q (41 ∷ k)) names ∙ found.is }
+before_found P w called (t ∷ ts) from q k e r names found = record { place = found.place; is = ap (λ o. event_named P o from q (behind_word P (t ∷ ts) (41 ∷ k))) names ∙ found.is }
+
+word_found : (P : Protocol) (w k : List ℕ) (at : ℕ) (e : Performed) (r : List ℕ) → IsWord w → Stops is_in_word k → ((q : ℕ) → Finds (event_before P w at q k) e r) → Finds (read_event P (w ++ k) at) e r
+word_found P w k at e r is stops named =
+    let long = prefix_len is_in_word (w ++ k) in
+    let so : long ≡ length w = run_stops is_in_word w k is.goes_on stops in
+    let whole : take long (w ++ k) ≡ w = ap (λ n. take n (w ++ k)) so ∙ take-append_seam w k in
+    let behind : drop long (w ++ k) ≡ k = ap (λ n. drop n (w ++ k)) so ∙ drop-append_seam w k in
+    let found = named (at + long) in
+    when_true (begins_word (front (w ++ k))) (event_before P (take long (w ++ k)) at (at + long) (drop long (w ++ k))) (Faulty at Syntax) e r (begins_there w k is)
+    record { place = found.place; is = ap (λ v. event_before P v at (at + long) (drop long (w ++ k))) whole ∙ (ap (event_before P w at (at + long)) behind ∙ found.is) }
+
+pub event_found : (P : Protocol) → HasNames P → (e : Performed) (k : List ℕ) (at : ℕ) → IsPerformed P e → Finds (read_event P (event_text P e (41 ∷ k)) at) e (41 ∷ k)
+event_found P names e k at is =
+    subst (λ bytes. Finds (read_event P bytes at) e (41 ∷ k)) (sym (event_is P e (41 ∷ k)))
+    (word_found P (declared_word P.events e.event) (behind_word P e.arguments (41 ∷ k)) at e (41 ∷ k) (event_word_is_word P e.event (length e.arguments) names is.event) (stops_there P e.arguments k)
+    (λ q. before_found P (declared_word P.events e.event) (called_as e) e.arguments at q k e (41 ∷ k) (event_word_called P names e.event (length e.arguments) is.event) (named_found P names e.event e.arguments at q k is.each)))
+
+-- Facts of each kind.
+
+att_found : (P : Protocol) → HasNames P → (t : Term) (k : List ℕ) (at : ℕ) → MayStand P t → Finds (read_att P (fact_text P (Att 0 t) k) at) (Att 0 t) k
+att_found P names t k at may =
+    joined (read_fixed (codes "att(") (fact_text P (Att 0 t) k) at) _ tt (term_text P t (41 ∷ k)) (Att 0 t) k (fixed_found (codes "att(") (term_text P t (41 ∷ k)) at) (λ p.
+    joined (one_term P (term_text P t (41 ∷ k)) p) _ t (41 ∷ k) (Att 0 t) k (term_found P names t may p 41 k refl) (λ q.
+    joined (read_fixed (codes ")") (41 ∷ k) q) _ tt k (Att 0 t) k (fixed_found (codes ")") k q) (λ z. record { place = z; is = refl })))
+
+mess_found : (P : Protocol) → HasNames P → (t u : Term) (k : List ℕ) (at : ℕ) → MayStand P t → MayStand P u → Finds (read_mess P (fact_text P (Mess 0 t u) k) at) (Mess 0 t u) k
+mess_found P names t u k at may also =
+    joined (read_fixed (codes "mess(") (fact_text P (Mess 0 t u) k) at) _ tt (term_text P t (44 ∷ term_text P u (41 ∷ k))) (Mess 0 t u) k (fixed_found (codes "mess(") (term_text P t (44 ∷ term_text P u (41 ∷ k))) at) (λ p.
+    joined (one_term P (term_text P t (44 ∷ term_text P u (41 ∷ k))) p) _ t (44 ∷ term_text P u (41 ∷ k)) (Mess 0 t u) k (term_found P names t may p 44 (term_text P u (41 ∷ k)) refl) (λ q.
+    joined (read_fixed (codes ",") (44 ∷ term_text P u (41 ∷ k)) q) _ tt (term_text P u (41 ∷ k)) (Mess 0 t u) k (fixed_found (codes ",") (term_text P u (41 ∷ k)) q) (λ y.
+    joined (one_term P (term_text P u (41 ∷ k)) y) _ u (41 ∷ k) (Mess 0 t u) k (term_found P names u also y 41 k refl) (λ x.
+    joined (read_fixed (codes ")") (41 ∷ k) x) _ tt k (Mess 0 t u) k (fixed_found (codes ")") k x) (λ z. record { place = z; is = refl })))))
+
+ev_found : (P : Protocol) → HasNames P → (e : Performed) (k : List ℕ) (at : ℕ) → IsPerformed P e → Finds (read_ev P (fact_text P (Ev e.event e.arguments) k) at) (Ev e.event e.arguments) k
+ev_found P names e k at is =
+    joined (read_fixed (codes "ev(") (fact_text P (Ev e.event e.arguments) k) at) _ tt (event_text P e (41 ∷ k)) (Ev e.event e.arguments) k (fixed_found (codes "ev(") (event_text P e (41 ∷ k)) at) (λ p.
+    joined (read_event P (event_text P e (41 ∷ k)) p) _ e (41 ∷ k) (Ev e.event e.arguments) k (event_found P names e k p is) (λ q.
+    joined (read_fixed (codes ")") (41 ∷ k) q) _ tt k (Ev e.event e.arguments) k (fixed_found (codes ")") k q) (λ z. record { place = z; is = refl })))
+
+mev_found : (P : Protocol) → HasNames P → (e : Performed) (k : List ℕ) (at : ℕ) → IsPerformed P e → Finds (read_mev P (fact_text P (Mev e.event e.arguments) k) at) (Mev e.event e.arguments) k
+mev_found P names e k at is =
+    joined (read_fixed (codes "mev(") (fact_text P (Mev e.event e.arguments) k) at) _ tt (event_text P e (41 ∷ k)) (Mev e.event e.arguments) k (fixed_found (codes "mev(") (event_text P e (41 ∷ k)) at) (λ p.
+    joined (read_event P (event_text P e (41 ∷ k)) p) _ e (41 ∷ k) (Mev e.event e.arguments) k (event_found P names e k p is) (λ q.
+    joined (read_fixed (codes ")") (41 ∷ k) q) _ tt k (Mev e.event e.arguments) k (fixed_found (codes ")") k q) (λ z. record { place = z; is = refl })))
+
+-- no term begins with `)`
+no_close : (P : Protocol) → HasNames P → (t : Term) → MayStand P t → (b : ℕ) (k : List ℕ) → goes_on b ≡ false → (front (term_text P t (b ∷ k)) == 41) ≡ false
+no_close P names t may b k stops = by (term_text P t (b ∷ k)) (term_found P names t may 0 b k stops)
+  where
+    by : (bytes : List ℕ) → Finds (one_term P bytes 0) t (b ∷ k) → (front bytes == 41) ≡ false
+    by [] found = refl
+    by (c ∷ bytes) found = other_byte c 41 (λ is.
+        let refused : one_term P (41 ∷ bytes) 0 ≡ Faulty 0 Syntax = refl in
+        let never : Faulty 0 Syntax ≡ Found t found.place (b ∷ k) = sym refused ∙ (ap (λ d. one_term P (d ∷ bytes) 0) (sym is) ∙ found.is) in
+        absurd (cc))
+
+row_front : (P : Protocol) → HasNames P → (t : Term) (ts : List Term) (k : List ℕ) → MayStand P t → (front (row (written_row P (trees (t ∷ ts))) (41 ∷ k)) == 41) ≡ false
+row_front P names t [] k may = no_close P names t may 41 k refl
+row_front P names t (u ∷ us) k may = no_close P names t may 44 (row (written_row P (trees (u ∷ us))) (41 ∷ k)) refl
+
+bad_arguments_found : (P : Protocol) → HasNames P → (ts : List Term) (k : List ℕ) (at : ℕ) → AllByRecursion (MayStand P) ts → Finds (bad_arguments P (row (written_row P (trees ts)) (41 ∷ k)) at) ts k
+bad_arguments_found P names [] k at each = record { place = at + 1; is = refl }
+bad_arguments_found P names (t ∷ ts) k at each =
+    let bytes = row (written_row P (trees (t ∷ ts))) (41 ∷ k) in
+    when_false (front bytes == 41) (Found [] (at + 1) (drop 1 bytes)) (read_terms P bytes at) (t ∷ ts) k (row_front P names t ts k each.0) (terms_found P names t ts k at each)
+
+bad_found : (P : Protocol) → HasNames P → (ts : List Term) (k : List ℕ) (at : ℕ) → AllByRecursion (MayStand P) ts → Finds (read_bad P (fact_text P (Bad ts) k) at) (Bad ts) k
+bad_found P names ts k at each =
+    let behind = row (written_row P (trees ts)) (41 ∷ k) in
+    joined (read_fixed (codes "bad(") (fact_text P (Bad ts) k) at) (λ _ p r. next (bad_arguments P r p) (λ us q s. Found (Bad us) q s)) tt behind (Bad ts) k (fixed_found (codes "bad(") behind at) (λ p.
+    joined (bad_arguments P behind p) (λ us q s. Found (Bad us) q s) ts k (Bad ts) k (bad_arguments_found P names ts k p each) (λ q. record { place = q; is = refl }))
+
+pub hypothesis_found : (P : Protocol) → HasNames P → Complete (fact_text P) (IsHypothesisOf P) (read_hypothesis P)
+hypothesis_found P names (Att zero t) k at may = att_found P names t k at may
+hypothesis_found P names (Mess zero t u) k at may = mess_found P names t u k at may.0 may.1
+hypothesis_found P names (Att (suc n) t) k at may = absurd may
+hypothesis_found P names (Mess (suc n) t u) k at may = absurd may
+hypothesis_found P names (Tab n ts) k at may = absurd may
+hypothesis_found P names (Ev e ts) k at may = ev_found P names record { event = e; arguments = ts } k at record { event = may.0; each = may.1 }
+hypothesis_found P names (Mev e ts) k at may = mev_found P names record { event = e; arguments = ts } k at record { event = may.0; each = may.1 }
+hypothesis_found P names (Bad ts) k at may = absurd may
+
+pub conclusion_found : (P : Protocol) → HasNames P → Complete (fact_text P) (IsConclusionOf P) (read_conclusion P)
+conclusion_found P names (Att zero t) k at may = att_found P names t k at may
+conclusion_found P names (Mess zero t u) k at may = mess_found P names t u k at may.0 may.1
+conclusion_found P names (Att (suc n) t) k at may = absurd may
+conclusion_found P names (Mess (suc n) t u) k at may = absurd may
+conclusion_found P names (Tab n ts) k at may = absurd may
+conclusion_found P names (Ev e ts) k at may = ev_found P names record { event = e; arguments = ts } k at record { event = may.0; each = may.1 }
+conclusion_found P names (Mev e ts) k at may = absurd may
+conclusion_found P names (Bad ts) k at may = bad_found P names ts k at may

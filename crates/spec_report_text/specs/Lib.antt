@@ -1,2 +1,0 @@
--- The texts of reports.
-pub mod Text
