@@ -17,8 +17,8 @@ fn heard_facts(alloc: Global, channel: Id, message: Id) -> Result<Facts, AllocEr
     ensures { IfOk result (λ facts. facts ≡ Mess 0 channel message ∷ Att 0 channel ∷ []) }
 {
     let mut facts = Facts::new(alloc);
-    facts.push(Fact::Mess(channel, message))?;
-    facts.push(Fact::Att(channel))?;
+    facts.push(Fact::Mess(0, channel, message))?;
+    facts.push(Fact::Att(0, channel))?;
     Ok(facts)
 }
 
@@ -27,8 +27,8 @@ fn sent_facts(alloc: Global, channel: Id, message: Id) -> Result<Facts, AllocErr
     ensures { IfOk result (λ facts. facts ≡ Att 0 channel ∷ Att 0 message ∷ []) }
 {
     let mut facts = Facts::new(alloc);
-    facts.push(Fact::Att(channel))?;
-    facts.push(Fact::Att(message))?;
+    facts.push(Fact::Att(0, channel))?;
+    facts.push(Fact::Att(0, message))?;
     Ok(facts)
 }
 
@@ -49,7 +49,7 @@ fn add_heard<B: Bank>(
     let hyps = heard_facts(alloc, channel, message)?;
     let raw = Clause {
         hyps,
-        concl: Fact::Att(message),
+        concl: Fact::Att(0, message),
     };
     add_raw(alloc, bank, raw, list)
 }
@@ -71,7 +71,7 @@ fn add_sent<B: Bank>(
     let hyps = sent_facts(alloc, channel, message)?;
     let raw = Clause {
         hyps,
-        concl: Fact::Mess(channel, message),
+        concl: Fact::Mess(0, channel, message),
     };
     add_raw(alloc, bank, raw, list)
 }

@@ -51,7 +51,7 @@ fn known_facts(alloc: Global, terms: &[Id]) -> Result<Facts, AllocError>
 {
     let mut facts = Facts::new(alloc);
     for term in terms {
-        facts.push(Fact::Att(*term))?;
+        facts.push(Fact::Att(0, *term))?;
     }
     Ok(facts)
 }
@@ -78,7 +78,7 @@ pub(crate) fn add_known<B: Bank>(
     let hyps = known_facts(alloc, terms)?;
     let raw = Clause {
         hyps,
-        concl: Fact::Att(last),
+        concl: Fact::Att(0, last),
     };
     add_raw(alloc, bank, raw, list)
 }

@@ -23,7 +23,7 @@ fn arguments_of(fact: &Fact) -> usize
 {
     match fact {
         Fact::Bad(arguments) => arguments.items.len(),
-        Fact::Att(_) | Fact::Mess(..) | Fact::Ev(..) | Fact::Mev(..) => 0,
+        Fact::Att(..) | Fact::Mess(..) | Fact::Tab(..) | Fact::Ev(..) | Fact::Mev(..) => 0,
     }
 }
 

@@ -22,7 +22,7 @@ fn has_arguments<B: Bank>(bank: &B, fact: &Fact, arguments: usize) -> bool
 {
     match fact {
         Fact::Bad(terms) => terms.items.len() == arguments,
-        Fact::Att(_) | Fact::Mess(..) | Fact::Ev(..) | Fact::Mev(..) => true,
+        Fact::Att(..) | Fact::Mess(..) | Fact::Tab(..) | Fact::Ev(..) | Fact::Mev(..) => true,
     }
 }
 

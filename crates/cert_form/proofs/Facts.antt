@@ -5,7 +5,7 @@ use Rattle.std.proofs.lemmas.List.{append-nil}
 use Rattle.std.proofs.lemmas.Grind.{flat_map-append}
 use Rattle.spec_calculus.specs.Syntax.{Protocol}
 use Rattle.spec_terms.specs.Term.{Term}
-use Rattle.spec_clauses.specs.Fact.{Fact, Mess, Ev, Mev, Bad, Clause, terms_of}
+use Rattle.spec_clauses.specs.Fact.{Fact, Mess, Tab, Ev, Mev, Bad, Clause, terms_of}
 use Rattle.clause_form.specs.declared.plain.Tree.{Tree}
 use Rattle.clause_form.specs.declared.plain.PlainFact.{PlainFact}
 use Rattle.clause_form.specs.Plain.{term_of}
@@ -82,9 +82,9 @@ module _ (kept_of : List Term → List Term) (all_one : Protocol → List Term �
 
   -- Facts, by what is written before, between and behind their terms.
 
-  pub mess_written : (f : Fact Term) (t u : Term) (k m l : List Term) (a b c d e g : List ℕ) → f ≡ Mess 0 t u → Appends (λ rest. codes "mess(" ++ rest) a b → Writes kept_of one (t ∷ []) (λ o. o t) k m b c → Appends (λ rest. codes "," ++ rest) c d → Writes kept_of one (u ∷ []) (λ o. o u) m l d e → Appends (λ rest. codes ")" ++ rest) e g
+  pub mess_written : (f : Fact Term) (phase : ℕ) (t u : Term) (k m l : List Term) (a b c d e g : List ℕ) → f ≡ Mess phase t u → Appends (λ rest. codes "mess(" ++ rest) a b → Writes kept_of one (t ∷ []) (λ o. o t) k m b c → Appends (λ rest. codes "," ++ rest) c d → Writes kept_of one (u ∷ []) (λ o. o u) m l d e → Appends (λ rest. codes ")" ++ rest) e g
       → Writes kept_of one (terms_of f) (λ o. fact_over o P f) k l a g
-  mess_written f t u k m l a b c d e g is opening first comma second closing = subst (λ h. Writes kept_of one (terms_of h) (λ o. fact_over o P h) k l a g) (sym is)
+  mess_written f phase t u k m l a b c d e g is opening first comma second closing = subst (λ h. Writes kept_of one (terms_of h) (λ o. fact_over o P h) k l a g) (sym is)
       (between kept_of one (λ rest. codes "mess(" ++ rest) (t ∷ u ∷ []) (λ o rest. o t (codes "," ++ o u rest)) (λ rest. codes ")" ++ rest) k l a b e g opening
       (and_then kept_of one (t ∷ []) (u ∷ []) (λ o. o t) (λ o rest. codes "," ++ o u rest) k m l b c e first
       (bytes_then kept_of one (λ rest. codes "," ++ rest) (u ∷ []) (λ o. o u) m l c d e comma second)) closing)
@@ -96,6 +96,10 @@ module _ (kept_of : List Term → List Term) (all_one : Protocol → List Term �
   pub mev_written : (f : Fact Term) (e : ℕ) (ts : List Term) (k l : List Term) (a b c d : List ℕ) → f ≡ Mev e ts → Appends (λ rest. codes "mev(" ++ rest) a b → Writes kept_of one ts (λ o. event_over o P e ts) k l b c → Appends (λ rest. codes ")" ++ rest) c d → Writes kept_of one (terms_of f) (λ o. fact_over o P f) k l a d
   mev_written f e ts k l a b c d is opening text closing = subst (λ g. Writes kept_of one (terms_of g) (λ o. fact_over o P g) k l a d) (sym is)
       (between kept_of one (λ rest. codes "mev(" ++ rest) ts (λ o. event_over o P e ts) (λ rest. codes ")" ++ rest) k l a b c d opening text closing)
+
+  pub tab_written : (f : Fact Term) (n : ℕ) (ts : List Term) (k l : List Term) (a b c d : List ℕ) → f ≡ Tab n ts → Appends (λ rest. codes "tab(" ++ rest) a b → Writes kept_of one ts (λ o. terms_text o P ts) k l b c → Appends (λ rest. codes ")" ++ rest) c d → Writes kept_of one (terms_of f) (λ o. fact_over o P f) k l a d
+  tab_written f n ts k l a b c d is opening text closing = subst (λ g. Writes kept_of one (terms_of g) (λ o. fact_over o P g) k l a d) (sym is)
+      (between kept_of one (λ rest. codes "tab(" ++ rest) ts (λ o. terms_text o P ts) (λ rest. codes ")" ++ rest) k l a b c d opening text closing)
 
   pub bad_written : (f : Fact Term) (ts : List Term) (k l : List Term) (a b c d : List ℕ) → f ≡ Bad ts → Appends (λ rest. codes "bad(" ++ rest) a b → Writes kept_of one ts (λ o. terms_text o P ts) k l b c → Appends (λ rest. codes ")" ++ rest) c d → Writes kept_of one (terms_of f) (λ o. fact_over o P f) k l a d
   bad_written f ts k l a b c d is opening text closing = subst (λ g. Writes kept_of one (terms_of g) (λ o. fact_over o P g) k l a d) (sym is)

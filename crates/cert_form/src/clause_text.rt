@@ -68,16 +68,21 @@ fn put_fact<T: TermWriter>(
         (T.kept writer.old) (T.kept writer.new) out.old.items out.new.items) }
 {
     match fact {
-        PlainFact::Att(term) => {
+        PlainFact::Att(_, term) => {
             put(out, b"att(")?;
             writer.put_term(out, protocol, term)?;
             put(out, b")")
         }
-        PlainFact::Mess(channel, message) => {
+        PlainFact::Mess(_, channel, message) => {
             put(out, b"mess(")?;
             writer.put_term(out, protocol, channel)?;
             put(out, b",")?;
             writer.put_term(out, protocol, message)?;
+            put(out, b")")
+        }
+        PlainFact::Tab(_, arguments) => {
+            put(out, b"tab(")?;
+            put_terms(out, protocol, writer, arguments)?;
             put(out, b")")
         }
         PlainFact::Ev(event, arguments) => {

@@ -9,7 +9,7 @@ ghost use Rattle.cert_form.specs.Parts.{is_alone, word_opening, word_closing, ma
 
 use crate::words::{declared_word, word_at};
 use clause_form::Trees;
-use hv_io::put_words;
+use itoa::Buffer;
 use pi_tree::Protocol;
 use std::alloc::AllocError;
 use term_tree::Sym;
@@ -26,7 +26,8 @@ pub fn put_number(out: &mut Vec<u8>, number: u64) -> Result<(), AllocError>
     ensures { OnOk result (Appends (λ rest. decimal_of number ++ rest) out.old.items
         out.new.items) }
 {
-    put_words(out, number)
+    let mut digits = Buffer::new();
+    put(out, digits.format(number).as_bytes())
 }
 
 /// Whether there are no arguments.

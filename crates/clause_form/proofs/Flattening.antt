@@ -1,7 +1,8 @@
 -- Flattening facts over ids.
-use Rattle.std.proofs.Common.{◌≡◌, ℕ, ◌≤◌, true, false, cond, List, [], ◌∷◌, ◌++◌, length, map, flat_map, take, refl, ap, sym, ◌∙◌, subst, Result, Ok, Err, IfOk}
+use Rattle.std.proofs.Common.{◌≡◌, ℕ, ◌≤◌, true, false, cond, List, [], ◌∷◌, ◌++◌, length, map, flat_map, take, refl, ap, sym, ◌∙◌, subst, Result, Ok, Err, IfOk, OnOk, OnErr}
 use Rattle.std.specs.declared.alloc.AllocError.{AllocError}
 use Rattle.std.proofs.lemmas.List.{map-append, map-id}
+use Rattle.std.proofs.lemmas.Result.{on_ok_weaker}
 use Rattle.std.proofs.lemmas.Simd.{map-map}
 use Rattle.std.proofs.lemmas.List.Folds.{flat_map-map}
 use Rattle.spec_trees.specs.Tree.{Leaf, node, trees}
@@ -20,43 +21,59 @@ pub AreFactsIn-append : (all : List Term) (fs gs : List (Fact Id)) → AreFactsI
 AreFactsIn-append all [] gs known more = more
 AreFactsIn-append all (f ∷ fs) gs known more = (known.0, AreFactsIn-append all fs gs known.1 more)
 
--- `att` of the parts of a term that an id names
-abbrev pub parts_at : List Term → Id → List (Fact Term)
-parts_at all id = flat (Att 0 (tree_at all id))
+-- `att` of the parts of a term that an id names, in a phase
+abbrev pub parts_at : List Term → ℕ → Id → List (Fact Term)
+parts_at all phase id = flat (Att phase (tree_at all id))
 
-row_flat : (all : List Term) (ids : List Id) → map (Att 0) (row_parts (trees (map (tree_at all) ids))) ≡ flat_map (parts_at all) ids
-row_flat all [] = refl
-row_flat all (id ∷ ids) = map-append (Att 0) (parts (tree_at all id)) (row_parts (trees (map (tree_at all) ids))) ∙ ap (λ l. parts_at all id ++ l) (row_flat all ids)
+row_flat : (all : List Term) (phase : ℕ) (ids : List Id) → map (Att phase) (row_parts (trees (map (tree_at all) ids))) ≡ flat_map (parts_at all phase) ids
+row_flat all phase [] = refl
+row_flat all phase (id ∷ ids) = map-append (Att phase) (parts (tree_at all id)) (row_parts (trees (map (tree_at all) ids))) ∙ ap (λ l. parts_at all phase id ++ l) (row_flat all phase ids)
 
-pub data_flat : (all : List Term) (id : Id) (f : Sym) (ids : List Id) → tree_at all id ≡ node f (map (tree_at all) ids) → is_data f ≡ true → parts_at all id ≡ flat_map (parts_at all) ids
-data_flat all id f ids is parted = ap (λ t. flat (Att 0 t)) is ∙ (ap (λ b. map (Att 0) (cond b (row_parts (trees (map (tree_at all) ids))) (node f (map (tree_at all) ids) ∷ []))) parted ∙ row_flat all ids)
+pub data_flat : (all : List Term) (phase : ℕ) (id : Id) (f : Sym) (ids : List Id) → tree_at all id ≡ node f (map (tree_at all) ids) → is_data f ≡ true → parts_at all phase id ≡ flat_map (parts_at all phase) ids
+data_flat all phase id f ids is parted = ap (λ t. flat (Att phase t)) is ∙ (ap (λ b. map (Att phase) (cond b (row_parts (trees (map (tree_at all) ids))) (node f (map (tree_at all) ids) ∷ []))) parted ∙ row_flat all phase ids)
 
-pub other_flat : (all : List Term) (id : Id) (f : Sym) (ids : List Id) → tree_at all id ≡ node f (map (tree_at all) ids) → is_data f ≡ false → parts_at all id ≡ Att 0 (tree_at all id) ∷ []
-other_flat all id f ids is other = ap (λ t. flat (Att 0 t)) is ∙ (ap (λ b. map (Att 0) (cond b (row_parts (trees (map (tree_at all) ids))) (node f (map (tree_at all) ids) ∷ []))) other ∙ ap (λ t. Att 0 t ∷ []) (sym is))
+pub other_flat : (all : List Term) (phase : ℕ) (id : Id) (f : Sym) (ids : List Id) → tree_at all id ≡ node f (map (tree_at all) ids) → is_data f ≡ false → parts_at all phase id ≡ Att phase (tree_at all id) ∷ []
+other_flat all phase id f ids is other = ap (λ t. flat (Att phase t)) is ∙ (ap (λ b. map (Att phase) (cond b (row_parts (trees (map (tree_at all) ids))) (node f (map (tree_at all) ids) ∷ []))) other ∙ ap (λ t. Att phase t ∷ []) (sym is))
 
-pub variable_flat : (all : List Term) (id : Id) (x : ℕ) → tree_at all id ≡ Leaf x → parts_at all id ≡ Att 0 (tree_at all id) ∷ []
-variable_flat all id x is = ap (λ t. flat (Att 0 t)) is ∙ ap (λ t. Att 0 t ∷ []) (sym is)
+pub variable_flat : (all : List Term) (phase : ℕ) (id : Id) (x : ℕ) → tree_at all id ≡ Leaf x → parts_at all phase id ≡ Att phase (tree_at all id) ∷ []
+variable_flat all phase id x is = ap (λ t. flat (Att phase t)) is ∙ ap (λ t. Att phase t ∷ []) (sym is)
 
 -- one more fact after those that are there
 pub pushed : (all : List Term) (old new : List (Fact Id)) (f : Fact Id) → new ≡ old ++ f ∷ [] → map (fact_at all) new ≡ map (fact_at all) old ++ fact_at all f ∷ []
 pushed all old new f e = ap (map (fact_at all)) e ∙ map-append (fact_at all) old (f ∷ [])
 
-pub push_known : (all : List Term) (old new : List (Fact Id)) (f : Fact Id) → new ≡ old ++ f ∷ [] → AreFactsIn all old → IsFactIn all f → AreFactsIn all new
+push_known : (all : List Term) (old new : List (Fact Id)) (f : Fact Id) → new ≡ old ++ f ∷ [] → AreFactsIn all old → IsFactIn all f → AreFactsIn all new
 push_known all old new f e known fact = subst (λ (l : List (Fact Id)). AreFactsIn all l) (sym e) (AreFactsIn-append all old (f ∷ []) known (fact, tt))
 
+-- the same where the push may have failed
+pub known_after : (all : List Term) (r : Result (Unit {0}) AllocError) (old new : List (Fact Id)) (f : Fact Id) → OnOk r (new ≡ old ++ f ∷ []) → OnErr r (new ≡ old) → AreFactsIn all old → IsFactIn all f → AreFactsIn all new
+known_after all (Ok done) old new f pushed same known fact = push_known all old new f pushed known fact
+known_after all (Err failed) old new f pushed same known fact = subst (λ (l : List (Fact Id)). AreFactsIn all l) (sym same) known
+
+-- `att` of a term without parts is its only flat fact
+pub pushed_whole : (all : List Term) (r : Result (Unit {0}) AllocError) (phase : ℕ) (id : Id) (old new : List (Fact Id)) → OnOk r (new ≡ old ++ Att phase id ∷ []) → parts_at all phase id ≡ Att phase (tree_at all id) ∷ []
+    → OnOk r (map (fact_at all) new ≡ map (fact_at all) old ++ parts_at all phase id)
+pushed_whole all r phase id old new e whole = on_ok_weaker r (λ (one : new ≡ old ++ Att phase id ∷ []). pushed all old new (Att phase id) one ∙ ap (λ l. map (fact_at all) old ++ l) (sym whole)) e
+
+-- the parts of all arguments are those of the term
+pub parts_done : (all : List Term) (phase : ℕ) (id : Id) (f : Sym) (ids : List Id) (i : ℕ) (old new : List (Fact Id)) → tree_at all id ≡ node f (map (tree_at all) ids) → is_data f ≡ true
+    → map (fact_at all) new ≡ map (fact_at all) old ++ flat_map (parts_at all phase) (take i ids) → length ids ≤ i → map (fact_at all) new ≡ map (fact_at all) old ++ parts_at all phase id
+parts_done all phase id f ids i old new is parted so_far past = so_far ∙ ap (λ l. map (fact_at all) old ++ l) (flat_map_all (parts_at all phase) ids i past ∙ sym (data_flat all phase id f ids is parted))
+
 -- a fact that is no `att` is flat
-pub other_fact_flat : (all : List Term) (f : declared.Fact) → ((t : Id) → f ≡ variants.Att t → ⊥) → flat (fact_at all (fact_of f)) ≡ fact_at all (fact_of f) ∷ []
-other_fact_flat all (variants.Att t) never = absurd (never t refl)
-other_fact_flat all (variants.Mess t u) never = refl
+pub other_fact_flat : (all : List Term) (f : declared.Fact) → ((k : ℕ) (t : Id) → f ≡ variants.Att k t → ⊥) → flat (fact_at all (fact_of f)) ≡ fact_at all (fact_of f) ∷ []
+other_fact_flat all (variants.Att k t) never = absurd (never k t refl)
+other_fact_flat all (variants.Mess k t u) never = refl
+other_fact_flat all (variants.Tab n ts) never = refl
 other_fact_flat all (variants.Ev e ts) never = refl
 other_fact_flat all (variants.Mev e ts) never = refl
 other_fact_flat all (variants.Bad ts) never = refl
 
-pub other_added : (all : List Term) (f : declared.Fact) (old new : List (Fact Id)) → new ≡ old ++ fact_of f ∷ [] → ((t : Id) → f ≡ variants.Att t → ⊥) → IsFactIn all (fact_of f) → AreFactsIn all old
-    → record { known : AreFactsIn all new; parts : map (fact_at all) new ≡ map (fact_at all) old ++ flat (fact_at all (fact_of f)) }
-other_added all f old new e never fact known = record {
-  known = push_known all old new (fact_of f) e known fact;
-  parts = pushed all old new (fact_of f) e ∙ ap (λ l. map (fact_at all) old ++ l) (sym (other_fact_flat all f never));
+pub other_added : (all : List Term) (f : declared.Fact) (r : Result (Unit {0}) AllocError) (old new : List (Fact Id)) → OnOk r (new ≡ old ++ fact_of f ∷ []) → OnErr r (new ≡ old) → ((k : ℕ) (t : Id) → f ≡ variants.Att k t → ⊥) → IsFactIn all (fact_of f) → AreFactsIn all old
+    → record { known : AreFactsIn all new; parts : OnOk r (map (fact_at all) new ≡ map (fact_at all) old ++ flat (fact_at all (fact_of f))) }
+other_added all f r old new e same never fact known = record {
+  known = known_after all r old new (fact_of f) e same known fact;
+  parts = on_ok_weaker r (λ (one : new ≡ old ++ fact_of f ∷ []). pushed all old new (fact_of f) one ∙ ap (λ l. map (fact_at all) old ++ l) (sym (other_fact_flat all f never))) e;
 }
 
 -- flat facts of all facts

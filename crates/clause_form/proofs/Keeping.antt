@@ -4,9 +4,8 @@ use Rattle.std.specs.declared.alloc.AllocError.{AllocError}
 use Rattle.std.specs.List.{list_all}
 use Rattle.spec_terms.specs.Term.{Term}
 use Rattle.spec_clauses.specs.Fact.{Fact, Bad, Clause, same_fact}
-use Rattle.spec_clauses.specs.Norm.{distinct}
+use Rattle.spec_clauses.specs.Norm.{distinct, is_lonely}
 use Rattle.spec_clauses.proofs.Distinct.{filter-all}
-use Rattle.spec_clauses.specs.FirstPhase.{occurs_once}
 use Rattle.term_tree.specs.declared.bank.Id.{Id}
 use Rattle.clause_form.specs.Normality.{are_different}
 use Rattle.clause_form.specs.Seen.{fact_at, AreFactsIn, NameFacts}
@@ -21,10 +20,10 @@ none_repeated all facts k b known is told passed =
     record { known = known; are = sym (ap (λ (d : Clause Term). d.hypotheses) own) }
 
 -- none of them is lonely
-pub none_dropped : (all : List Term) (numbers : List ℕ) (facts k : List (Fact Id)) (b : Bool) → AreFactsIn all facts → k ≡ facts → b ≡ list_all (λ h. not (occurs_once numbers h)) (map (fact_at all) k) → b ≡ true
-    → NameFacts all facts (filter (λ h. not (occurs_once numbers h)) (map (fact_at all) facts))
+pub none_dropped : (all : List Term) (numbers : List ℕ) (facts k : List (Fact Id)) (b : Bool) → AreFactsIn all facts → k ≡ facts → b ≡ list_all (λ h. not (is_lonely numbers h)) (map (fact_at all) k) → b ≡ true
+    → NameFacts all facts (filter (λ h. not (is_lonely numbers h)) (map (fact_at all) facts))
 none_dropped all numbers facts k b known is told passed =
-    let test : Fact Term → Bool = λ h. not (occurs_once numbers h) in
+    let test : Fact Term → Bool = λ h. not (is_lonely numbers h) in
     let pass : list_all test (map (fact_at all) facts) ≡ true = sym (told ∙ ap (λ l. list_all test (map (fact_at all) l)) is) ∙ passed in
     record { known = known; are = sym (filter-all test (map (fact_at all) facts) (all_pass test (map (fact_at all) facts) pass)) }
 

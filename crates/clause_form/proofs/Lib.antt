@@ -1,7 +1,6 @@
 pub mod Walks
 pub mod Lists
 pub mod Flattening
-pub mod First
 pub mod Copying
 pub mod Fit
 pub mod Comparing
@@ -13,7 +12,7 @@ pub mod Remembering
 pub mod Renumber
 pub mod Norming
 pub mod Bounding
-pub mod Occurring
+pub mod Noted
 pub mod Testing
 pub mod Marking
 pub mod Told

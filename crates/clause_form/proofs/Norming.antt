@@ -1,5 +1,5 @@
 -- The rules of the norm over a bank, one after another.
-use Rattle.std.proofs.Common.{◌≡◌, ℕ, zero, suc, ◌+◌, ◌<◌, ◌≤◌, Bool, true, false, not, ◌&&◌, cond, nat_eq, Option, None, Some, Result, IfOk, List, [], ◌∷◌, ◌++◌, length, map, flat_map, filter, take, get_or, refl, ap, sym, ◌∙◌, subst, arith}
+use Rattle.std.proofs.Common.{◌≡◌, ℕ, zero, suc, ◌+◌, ◌<◌, ◌≤◌, Bool, true, false, not, ◌&&◌, cond, nat_eq, Option, None, Some, Result, IfOk, List, [], ◌∷◌, ◌++◌, length, map, filter, take, get_or, refl, ap, sym, ◌∙◌, subst, arith}
 use Rattle.std.specs.declared.alloc.AllocError.{AllocError}
 use Rattle.std.specs.List.{list_any}
 use Rattle.std.proofs.lemmas.List.{map-append, map_more, take_all, length-map}
@@ -8,12 +8,11 @@ use Rattle.spec_trees.specs.Tree.{Leaf, Node}
 use Rattle.spec_terms.specs.Term.{Term}
 use Rattle.spec_terms.proofs.Replace.{eqb_self}
 use Rattle.spec_clauses.specs.Fact.{Fact, Att, Mess, Tab, Ev, Mev, Bad, Clause, same_fact, is_among, is_variable_known, phase_of, fact_under}
-use Rattle.spec_clauses.specs.Variables.{fact_variables, clause_variables}
+use Rattle.spec_clauses.specs.Variables.{fact_variables, clause_variables, firm_variables}
 use Rattle.spec_clauses.specs.Selection.{is_solved}
-use Rattle.spec_clauses.specs.Norm.{distinct, numbered_anew, norm}
+use Rattle.spec_clauses.specs.Norm.{distinct, is_lonely, without_lonely, is_passed_on, everything_known, generalized, numbered_anew, norm}
 use Rattle.spec_clauses.proofs.Equality.{same_fact-decides}
-use Rattle.spec_clauses.proofs.FirstPhase.{counted}
-use Rattle.spec_clauses.specs.FirstPhase.{IsInFirstPhase, occurs_once, without_useless, strengthened}
+use Rattle.spec_trees.proofs.Equality.{and_true}
 use Rattle.term_tree.specs.Bank.{Grows}
 use Rattle.term_tree.specs.declared.bank.Id.{Id}
 use Rattle.clause_form.specs.declared.facts.Fact as declared
@@ -25,7 +24,6 @@ use Rattle.clause_form.specs.Seen.{fact_at, clause_at, IsFactIn, AreFactsIn, Nam
 use Rattle.clause_form.proofs.Flattening.{AreFactsIn-append, with_hypotheses}
 use Rattle.clause_form.proofs.Counting.{distinct_on, filter-append}
 use Rattle.clause_form.proofs.Copying.{fact_at-grows, clause_named}
-use Rattle.clause_form.proofs.First.{AreFirst, first_fact, first_facts, first_of_distinct}
 
 -- what a fact over ids is over the trees
 abbrev pub seen_at : List Term → declared.Fact → Fact Term
@@ -64,19 +62,19 @@ repeats_done all fs i kept known was past = record {
 }
 
 -- a fact that isn't lonely goes to the end
-lonely_at : (all : List Term) (numbers : List ℕ) (kept : List (Fact Id)) (f : Fact Id) (b : Bool) → occurs_once numbers (fact_at all f) ≡ b
-    → map (fact_at all) (kept ++ cond b [] (f ∷ [])) ≡ map (fact_at all) kept ++ filter (λ h. not (occurs_once numbers h)) (fact_at all f ∷ [])
+lonely_at : (all : List Term) (numbers : List ℕ) (kept : List (Fact Id)) (f : Fact Id) (b : Bool) → is_lonely numbers (fact_at all f) ≡ b
+    → map (fact_at all) (kept ++ cond b [] (f ∷ [])) ≡ map (fact_at all) kept ++ filter (λ h. not (is_lonely numbers h)) (fact_at all f ∷ [])
 lonely_at all numbers kept f true e = map-append (fact_at all) kept [] ∙ ap (λ b. map (fact_at all) kept ++ cond (not b) (fact_at all f ∷ []) []) (sym e)
 lonely_at all numbers kept f false e = map-append (fact_at all) kept (f ∷ []) ∙ ap (λ b. map (fact_at all) kept ++ cond (not b) (fact_at all f ∷ []) []) (sym e)
 
-pub lonely_on : (all : List Term) (numbers : List ℕ) (fs : List declared.Fact) (i : ℕ) (f : declared.Fact) (kept new : List (Fact Id)) → map (fact_at all) kept ≡ filter (λ h. not (occurs_once numbers h)) (map (seen_at all) (take i fs)) → i < length fs → f ≡ get_or fs i f
-    → new ≡ kept ++ cond (occurs_once numbers (seen_at all f)) [] (fact_of f ∷ []) → map (fact_at all) new ≡ filter (λ h. not (occurs_once numbers h)) (map (seen_at all) (take (i + 1) fs))
+pub lonely_on : (all : List Term) (numbers : List ℕ) (fs : List declared.Fact) (i : ℕ) (f : declared.Fact) (kept new : List (Fact Id)) → map (fact_at all) kept ≡ filter (λ h. not (is_lonely numbers h)) (map (seen_at all) (take i fs)) → i < length fs → f ≡ get_or fs i f
+    → new ≡ kept ++ cond (is_lonely numbers (seen_at all f)) [] (fact_of f ∷ []) → map (fact_at all) new ≡ filter (λ h. not (is_lonely numbers h)) (map (seen_at all) (take (i + 1) fs))
 lonely_on all numbers fs i f kept new was within is e =
     let more : map (seen_at all) (take (i + 1) fs) ≡ map (seen_at all) (take i fs) ++ seen_at all f ∷ [] = map_more (seen_at all) fs i f within ∙ ap (λ x. map (seen_at all) (take i fs) ++ seen_at all x ∷ []) (sym is) in
     ap (map (fact_at all)) e
-    ∙ (lonely_at all numbers kept (fact_of f) (occurs_once numbers (seen_at all f)) refl
-    ∙ (ap (λ l. l ++ filter (λ h. not (occurs_once numbers h)) (seen_at all f ∷ [])) was
-    ∙ (sym (filter-append (λ h. not (occurs_once numbers h)) (map (seen_at all) (take i fs)) (seen_at all f ∷ [])) ∙ ap (filter (λ h. not (occurs_once numbers h))) (sym more))))
+    ∙ (lonely_at all numbers kept (fact_of f) (is_lonely numbers (seen_at all f)) refl
+    ∙ (ap (λ l. l ++ filter (λ h. not (is_lonely numbers h)) (seen_at all f ∷ [])) was
+    ∙ (sym (filter-append (λ h. not (is_lonely numbers h)) (map (seen_at all) (take i fs)) (seen_at all f ∷ [])) ∙ ap (filter (λ h. not (is_lonely numbers h))) (sym more))))
 
 few_known : (all : List Term) (kept : List (Fact Id)) (f : Fact Id) (b : Bool) → AreFactsIn all kept → IsFactIn all f → AreFactsIn all (kept ++ cond b [] (f ∷ []))
 few_known all kept f true known fact = AreFactsIn-append all kept [] known tt
@@ -85,29 +83,34 @@ few_known all kept f false known fact = AreFactsIn-append all kept (f ∷ []) kn
 pub lonely_known : (all : List Term) (kept new : List (Fact Id)) (f : Fact Id) (b : Bool) → AreFactsIn all kept → IsFactIn all f → new ≡ kept ++ cond b [] (f ∷ []) → AreFactsIn all new
 lonely_known all kept new f b known fact e = subst (λ (l : List (Fact Id)). AreFactsIn all l) (sym e) (few_known all kept f b known fact)
 
-pub lonely_done : (all : List Term) (numbers : List ℕ) (fs : List declared.Fact) (i : ℕ) (kept : List (Fact Id)) → AreFactsIn all kept → map (fact_at all) kept ≡ filter (λ h. not (occurs_once numbers h)) (map (seen_at all) (take i fs)) → length fs ≤ i
-    → NameFacts all kept (filter (λ h. not (occurs_once numbers h)) (map (fact_at all) (map fact_of fs)))
+pub lonely_done : (all : List Term) (numbers : List ℕ) (fs : List declared.Fact) (i : ℕ) (kept : List (Fact Id)) → AreFactsIn all kept → map (fact_at all) kept ≡ filter (λ h. not (is_lonely numbers h)) (map (seen_at all) (take i fs)) → length fs ≤ i
+    → NameFacts all kept (filter (λ h. not (is_lonely numbers h)) (map (fact_at all) (map fact_of fs)))
 lonely_done all numbers fs i kept known was past = record {
   known = known;
-  are = was ∙ ap (filter (λ h. not (occurs_once numbers h))) (ap (map (seen_at all)) (take_all i fs past) ∙ sym (map-map (fact_at all) fact_of fs));
+  are = was ∙ ap (filter (λ h. not (is_lonely numbers h))) (ap (map (seen_at all)) (take_all i fs past) ∙ sym (map-map (fact_at all) fact_of fs));
 }
 
--- a solved clause of the first phase that concludes `att` of a variable, numbered
-general_variable : (hs : List (Fact Term)) (f : Fact Term) (b : Bool) → phase_of f ≡ 0 → is_solved hs ≡ b → (b && is_variable_known f) ≡ true → numbered_anew (strengthened (with_hypotheses hs f)) ≡ numbered_anew (with_hypotheses [] f)
-general_variable hs (Att k (Leaf x)) true first solved e = ap (λ b. numbered_anew (cond (b && true) (with_hypotheses [] (Att 0 (Leaf 0))) (with_hypotheses hs (Att k (Leaf x))))) solved ∙ ap (λ b. with_hypotheses [] (Att 0 (Leaf (cond b 0 1)))) (sym (eqb_self x)) ∙ ap (λ j. with_hypotheses [] (Att j (Leaf (cond (nat_eq x x) 0 1)))) (sym first)
-general_variable hs (Att k (Node g ts)) true first solved e = cc
-general_variable hs (Mess k t u) true first solved e = cc
-general_variable hs (Tab n ts) true first solved e = cc
-general_variable hs (Ev k ts) true first solved e = cc
-general_variable hs (Mev k ts) true first solved e = cc
-general_variable hs (Bad ts) true first solved e = cc
-general_variable hs f false first solved e = cc
+-- a clause that concludes `att` of a variable, as if it had no hypotheses, numbered
+general_variable : (f : Fact Term) → is_variable_known f ≡ true → numbered_anew (everything_known (phase_of f)) ≡ numbered_anew (with_hypotheses [] f)
+general_variable (Att k (Leaf x)) e = ap (λ b. with_hypotheses [] (Att k (Leaf (cond b 0 1)))) (sym (eqb_self x))
+general_variable (Att k (Node g ts)) e = cc
+general_variable (Mess k t u) e = cc
+general_variable (Tab n ts) e = cc
+general_variable (Ev k ts) e = cc
+general_variable (Mev k ts) e = cc
+general_variable (Bad ts) e = cc
 
-pub general_then : (hs : List (Fact Term)) (f : Fact Term) → phase_of f ≡ 0 → (is_solved hs && is_variable_known f) ≡ true → numbered_anew (strengthened (with_hypotheses hs f)) ≡ numbered_anew (with_hypotheses [] f)
-general_then hs f first e = general_variable hs f (is_solved hs) first refl e
+-- whether it is solved, and says more than that what the attacker has passes on
+abbrev is_all : List (Fact Term) → Fact Term → Bool
+is_all hs f = (is_solved hs && is_variable_known f) && not (is_passed_on hs f)
 
-pub general_else : (hs : List (Fact Term)) (f : Fact Term) → (is_solved hs && is_variable_known f) ≡ false → numbered_anew (strengthened (with_hypotheses hs f)) ≡ numbered_anew (with_hypotheses hs f)
-general_else hs f e = ap (λ b. numbered_anew (cond b (with_hypotheses [] (Att 0 (Leaf 0))) (with_hypotheses hs f))) e
+pub general_then : (hs : List (Fact Term)) (f : Fact Term) → is_all hs f ≡ true → numbered_anew (generalized (with_hypotheses hs f)) ≡ numbered_anew (with_hypotheses [] f)
+general_then hs f e =
+    let known = (and_true (is_solved hs) (is_variable_known f) (and_true (is_solved hs && is_variable_known f) (not (is_passed_on hs f)) e).0).1 in
+    ap (λ b. numbered_anew (cond b (everything_known (phase_of f)) (with_hypotheses hs f))) e ∙ general_variable f known
+
+pub general_else : (hs : List (Fact Term)) (f : Fact Term) → is_all hs f ≡ false → numbered_anew (generalized (with_hypotheses hs f)) ≡ numbered_anew (with_hypotheses hs f)
+general_else hs f e = ap (λ b. numbered_anew (cond b (everything_known (phase_of f)) (with_hypotheses hs f))) e
 
 pub named_as : (all : List Term) (r : Result (Clause Id) AllocError) (t u : Clause Term) → t ≡ u → IfOk r (λ made. NamesClause all made t) → IfOk r (λ made. NamesClause all made u)
 named_as all r t u e names = subst (λ (v : Clause Term). IfOk r (λ made. NamesClause all made v)) e names
@@ -122,14 +125,6 @@ numbered_named old now next hyps concl o p made last known grows later first sec
     clause_named now next made last (map (fact_under (placed o)) (map (fact_at old) hyps)) plain later hyps_named (ap (λ q. map (fact_under (placed q)) (map (fact_at old) hyps)) first)
     (subst (λ (t : Fact Term). NamesFact next last t) concl_is concl_named) refl
 
--- the clause is of the first phase, since what is kept of it is
-first_clause_of : (old : List Term) (hyps kept : List (Fact Id)) (facts : List declared.Fact) (concl : declared.Fact) → NameFacts old kept (distinct same_fact (map (fact_at old) hyps)) → map fact_of facts ≡ kept
-    → IsInFirstPhase (with_hypotheses (map (fact_at old) hyps) (seen_at old concl))
-first_clause_of old hyps kept facts concl named is = record {
-  first = (first_fact old concl, first_of_distinct (map (fact_at old) hyps) (subst AreFirst (ap (map (fact_at old)) is ∙ named.are) (first_facts old facts)));
-  no_diffs = refl;
-}
-
 -- where the conclusion is among the hypotheses there is no norm,
 pub no_norm : (old next : List Term) (hyps : List (Fact Id)) (concl : declared.Fact) (kept : List (Fact Id)) (facts : List declared.Fact) (among : Bool) → NameFacts old kept (distinct same_fact (map (fact_at old) hyps)) → map fact_of facts ≡ kept
     → among ≡ is_among (map (fact_at old) (map fact_of facts)) (seen_at old concl) → among ≡ true → NamesNorm next variants.Tautology (norm (with_hypotheses (map (fact_at old) hyps) (seen_at old concl)))
@@ -137,23 +132,21 @@ no_norm old next hyps concl kept facts among named is among_is there =
     let D = distinct same_fact (map (fact_at old) hyps) in
     let C = seen_at old concl in
     let tautology : is_among D C ≡ true = ap (λ l. is_among l C) (sym (ap (map (fact_at old)) is ∙ named.are)) ∙ (sym among_is ∙ there) in
-    counted (with_hypotheses (map (fact_at old) hyps) C) (first_clause_of old hyps kept facts concl named is)
-    ∙ ap (λ b. cond b None (Some (numbered_anew (strengthened (without_useless (with_hypotheses D C)))))) tautology
+    ap (λ b. cond b None (Some (numbered_anew (generalized (without_lonely (with_hypotheses D C)))))) tautology
 
 -- else what is left names the norm.
 pub norm_named : (old next : List Term) (hyps : List (Fact Id)) (concl : declared.Fact) (kept few fewer : List (Fact Id)) (facts : List declared.Fact) (among : Bool) (made : Clause Id)
     → NameFacts old kept (distinct same_fact (map (fact_at old) hyps)) → map fact_of facts ≡ kept → fewer ≡ few
     → among ≡ is_among (map (fact_at old) (map fact_of facts)) (seen_at old concl) → among ≡ false
-    → NameFacts old few (filter (λ h. not (occurs_once (flat_map fact_variables (seen_at old concl ∷ map (fact_at old) kept)) h)) (map (fact_at old) kept)) → NamesClause next made (numbered_anew (strengthened (with_hypotheses (map (fact_at old) fewer) (seen_at old concl))))
+    → NameFacts old few (filter (λ h. not (is_lonely (fact_variables (seen_at old concl) ++ firm_variables (map (fact_at old) kept)) h)) (map (fact_at old) kept)) → NamesClause next made (numbered_anew (generalized (with_hypotheses (map (fact_at old) fewer) (seen_at old concl))))
     → NamesNorm next (variants.Clause made) (norm (with_hypotheses (map (fact_at old) hyps) (seen_at old concl)))
 norm_named old next hyps concl kept few fewer facts among made kept_named is fewer_is among_is absent few_named names =
     let D = distinct same_fact (map (fact_at old) hyps) in
     let C = seen_at old concl in
-    let V = flat_map fact_variables (C ∷ D) in
+    let V = fact_variables C ++ firm_variables D in
     let tautology : is_among D C ≡ false = ap (λ l. is_among l C) (sym (ap (map (fact_at old)) is ∙ kept_named.are)) ∙ (sym among_is ∙ absent) in
-    let few_are : map (fact_at old) fewer ≡ filter (λ h. not (occurs_once V h)) D =
-    ap (map (fact_at old)) fewer_is ∙ (few_named.are ∙ ap (λ l. filter (λ h. not (occurs_once (flat_map fact_variables (C ∷ l)) h)) l) kept_named.are) in
-    let made_is : norm (with_hypotheses (map (fact_at old) hyps) C) ≡ Some (numbered_anew (strengthened (with_hypotheses (map (fact_at old) fewer) C))) =
-    counted (with_hypotheses (map (fact_at old) hyps) C) (first_clause_of old hyps kept facts concl kept_named is)
-    ∙ (ap (λ b. cond b None (Some (numbered_anew (strengthened (with_hypotheses (filter (λ h. not (occurs_once V h)) D) C))))) tautology ∙ ap (λ l. Some (numbered_anew (strengthened (with_hypotheses l C)))) (sym few_are)) in
+    let few_are : map (fact_at old) fewer ≡ filter (λ h. not (is_lonely V h)) D =
+    ap (map (fact_at old)) fewer_is ∙ (few_named.are ∙ ap (λ l. filter (λ h. not (is_lonely (fact_variables C ++ firm_variables l) h)) l) kept_named.are) in
+    let made_is : norm (with_hypotheses (map (fact_at old) hyps) C) ≡ Some (numbered_anew (generalized (with_hypotheses (map (fact_at old) fewer) C))) =
+    (ap (λ b. cond b None (Some (numbered_anew (generalized (with_hypotheses (filter (λ h. not (is_lonely V h)) D) C))))) tautology ∙ ap (λ l. Some (numbered_anew (generalized (with_hypotheses l C)))) (sym few_are)) in
     subst (λ (o : Option (Clause Term)). NamesNorm next (variants.Clause made) o) (sym made_is) names

@@ -1,8 +1,7 @@
--- What is remembered stays so as the bank grows, and with one change more.
-use Rattle.std.proofs.Common.{◌≡◌, ℕ, zero, suc, ◌<◌, Option, Some, None, Result, Ok, Err, OnOk, List, length, get_or, slice_set, replicate, sym, subst, arith}
+-- What is remembered stays so as the bank grows.
+use Rattle.std.proofs.Common.{ℕ, zero, suc, Option, Some, None, Result, Ok, Err, OnOk, List, replicate, sym, subst, arith}
 use Rattle.spec_trees.specs.Tree.{bind}
 use Rattle.spec_terms.specs.Term.{Term, Subst}
-use Rattle.spec_calculus.proofs.Items.{each-get_or, each-slice_set}
 use Rattle.spec_clauses.proofs.Lists.{all_weaker}
 use Rattle.term_tree.specs.Bank.{tree_at, Names, Grows}
 use Rattle.term_tree.proofs.BankLaws.{Grows-length, tree_at-grows, Names-grows}
@@ -23,14 +22,6 @@ change_grows old new s (Some c) grows was = (
 
 pub remembered_grow : (old new : List Term) (s : Subst) (changes : List (Option Change)) → Grows old new → AreRemembered old s changes → AreRemembered new s changes
 remembered_grow old new s changes grows was = all_weaker (IsRemembered old s) (IsRemembered new s) (λ c one. change_grows old new s c grows one) changes was
-
--- the one at a place
-pub remembered_at : (all : List Term) (s : Subst) (changes : List (Option Change)) (place : ℕ) (found : Option Change) → place < length changes → found ≡ get_or changes place found → AreRemembered all s changes → IsRemembered all s found
-remembered_at all s changes place found within is were = subst (λ (c : Option Change). IsRemembered all s c) (sym is) (each-get_or (IsRemembered all s) changes place found within were)
-
--- one more
-pub remembered_more : (all : List Term) (s : Subst) (changes : List (Option Change)) (place : ℕ) (change : Change) → AreRemembered all s changes → change.term.index < length all → Names all change.made (bind s (tree_at all change.term)) → AreRemembered all s (slice_set changes place (Some change))
-remembered_more all s changes place change were known names = each-slice_set (IsRemembered all s) changes place (Some change) (known, names) were
 
 -- what holds in any case holds where there is no error
 pub on_ok : {X E P : Type 0} (r : Result X E) → P → OnOk r P

@@ -1,12 +1,12 @@
 -- Tables of the numbers in a list, filled from its end on; and where numbers stand first.
-use Rattle.std.proofs.Common.{◌≡◌, ℕ, zero, suc, ◌+◌, ◌-◌, ◌<◌, ◌≤◌, Bool, true, false, cond, nat_eq, Option, Some, None, List, [], ◌∷◌, ◌++◌, length, take, drop, get_or, refl, ap, sym, ◌∙◌, add-one, drop-cons, drop_of_length-le, length-drop, eqb-true, eq-eqb, arith}
+use Rattle.std.proofs.Common.{◌≡◌, ℕ, zero, suc, ◌+◌, ◌-◌, ◌<◌, ◌≤◌, Bool, true, false, cond, nat_eq, nat_lt, ◌||◌, Option, Some, None, List, [], ◌∷◌, ◌++◌, length, take, drop, get_or, refl, ap, sym, ◌∙◌, add-one, drop-cons, drop_of_length-le, length-drop, eqb-true, eq-eqb, arith}
 use Rattle.std.specs.List.{list_any}
 use Rattle.std.specs.HashMap.{HashMap, get}
 use Rattle.std.specs.Map.{lookup}
 use Rattle.std.specs.declared.hash.BuildHasherDefault.{BuildHasherDefault}
 use Rattle.std.specs.declared.hash.FoldHasher.{FoldHasher}
 use Rattle.std.proofs.lemmas.List.{take_more}
-use Rattle.std.proofs.lemmas.Bool.{false≢true}
+use Rattle.std.proofs.lemmas.Bool.{false≢true, lt-ltb}
 use Rattle.spec_clauses.specs.FirstPhase.{times}
 use Rattle.spec_clauses.specs.Norm.{distinct, place_of}
 use Rattle.unify_match.proofs.Tables.{eqb_flip}
@@ -77,6 +77,14 @@ times_at_most x (y ∷ ys) = omega (arith, at_most_one (nat_eq x y), times_at_mo
 -- a count of the numbers from i on
 pub count_fits : (ys : List ℕ) (i : ℕ) (table : Numbers) (x : ℕ) → i ≤ length ys → ((z : ℕ) → count_of (get nat_eq table z) ≡ times z (drop i ys)) → count_of (get nat_eq table x) + i ≤ length ys
 count_fits ys i table x within was = omega (arith, was x, times_at_most x (drop i ys), length-drop i ys)
+
+-- a number stands among those of which it is one or more
+pub counted_any : (x : ℕ) (ys : List ℕ) → nat_lt 0 (times x ys) ≡ list_any (nat_eq x) ys
+counted_any x [] = refl
+counted_any x (y ∷ ys) = go (nat_eq x y) (counted_any x ys) where
+  go : (b : Bool) → nat_lt 0 (times x ys) ≡ list_any (nat_eq x) ys → nat_lt 0 (cond b 1 0 + times x ys) ≡ (b || list_any (nat_eq x) ys)
+  go true e = lt-ltb 0 (1 + times x ys) (omega arith)
+  go false e = let same : 0 + times x ys ≡ times x ys = omega arith in ap (nat_lt 0) same ∙ e
 
 -- before its first place a number doesn't stand, and before later ones it does
 first_step : (y z j : ℕ) (zs : List ℕ) (b : Bool) → nat_eq y z ≡ b → cond b 0 (suc (place_of y zs)) ≡ suc j → (place_of y zs ≡ j → list_any (λ x. nat_eq x y) (take j zs) ≡ false) → list_any (λ x. nat_eq x y) (z ∷ take j zs) ≡ false

@@ -1,30 +1,16 @@
 -- The tests of a clause that is its own norm, item by item, and what they tell.
-use Rattle.std.proofs.Common.{◌≡◌, ℕ, zero, suc, ◌+◌, ◌-◌, ◌^◌, ◌<◌, ◌≤◌, min, Bool, not, ◌&&◌, Option, Some, List, [], ◌∷◌, ◌++◌, length, map, flat_map, take, drop, get_or, refl, ap, sym, ◌∙◌, subst, arith}
+use Rattle.std.proofs.Common.{◌≡◌, ℕ, zero, suc, ◌+◌, ◌-◌, ◌<◌, ◌≤◌, Bool, not, ◌&&◌, Option, Some, List, [], ◌∷◌, ◌++◌, length, map, flat_map, take, drop, get_or, refl, ap, sym, ◌∙◌, subst}
 use Rattle.spec_terms.specs.Term.{Term}
 use Rattle.spec_clauses.specs.Fact.{Fact, Clause, is_among}
 use Rattle.clause_form.specs.declared.facts.Fact as declared
 use Rattle.clause_form.specs.Facts.{fact_of}
 use Rattle.clause_form.specs.Seen.{fact_at, AreFactsIn}
 use Rattle.spec_clauses.specs.Variables.{fact_variables, clause_variables}
-use Rattle.spec_clauses.specs.FirstPhase.{times}
 use Rattle.clause_form.specs.Normality.{are_different, number_after, numbers_after}
 use Rattle.std.proofs.lemmas.List.{take_rest}
 use Rattle.std.proofs.lemmas.Simd.{map-map}
 use Rattle.clause_form.proofs.Lists.{flat_map_more, flat_map_all}
 use Rattle.clause_form.proofs.Comparing.{map_drop}
-
-times-append : (x : ℕ) (xs ys : List ℕ) → times x (xs ++ ys) ≡ times x xs + times x ys
-times-append x [] ys = omega arith
-times-append x (y ∷ xs) ys = omega (arith, times-append x xs ys)
-
--- occurrences in one item more, and in all items
-pub times_more : {X : Type 0} (x : ℕ) (f : X → List ℕ) (xs : List X) (i : ℕ) (d : X) (least found next : ℕ) → i < length xs → found ≡ min (least + times x (flat_map f (take i xs))) (2 ^ 64 - 1) → next ≡ min (found + times x (f (get_or xs i d))) (2 ^ 64 - 1)
-    → next ≡ min (least + times x (flat_map f (take (i + 1) xs))) (2 ^ 64 - 1)
-times_more x f xs i d least found next within was e =
-    let more = ap (times x) (flat_map_more f xs i d within) ∙ times-append x (flat_map f (take i xs)) (f (get_or xs i d)) in omega arith
-
-pub times_all : {X : Type 0} (x : ℕ) (f : X → List ℕ) (xs : List X) (i : ℕ) (least found : ℕ) → length xs ≤ i → found ≡ min (least + times x (flat_map f (take i xs))) (2 ^ 64 - 1) → found ≡ min (least + times x (flat_map f xs)) (2 ^ 64 - 1)
-times_all x f xs i least found past was = was ∙ ap (λ l. min (least + times x l) (2 ^ 64 - 1)) (flat_map_all f xs i past)
 
 numbers_after-append : (next : Option ℕ) (xs ys : List ℕ) → numbers_after next (xs ++ ys) ≡ numbers_after (numbers_after next xs) ys
 numbers_after-append next [] ys = refl
@@ -41,9 +27,6 @@ pub after_all : {X : Type 0} (f : X → List ℕ) (xs : List X) (i : ℕ) (first
 after_all f xs i first found past was = was ∙ ap (numbers_after first) (flat_map_all f xs i past)
 
 -- of the conclusion, then of the hypotheses
-pub times_clause : (x : ℕ) (c : Clause Term) (first all : ℕ) → first ≡ min (0 + times x (fact_variables c.conclusion)) (2 ^ 64 - 1) → all ≡ min (first + times x (flat_map fact_variables c.hypotheses)) (2 ^ 64 - 1) → all ≡ min (times x (clause_variables c)) (2 ^ 64 - 1)
-times_clause x c first all e f = omega (arith, times-append x (fact_variables c.conclusion) (flat_map fact_variables c.hypotheses))
-
 pub after_clause : (c : Clause Term) (first all : Option ℕ) → first ≡ numbers_after (Some 0) (fact_variables c.conclusion) → all ≡ numbers_after first (flat_map fact_variables c.hypotheses) → all ≡ numbers_after (Some 0) (clause_variables c)
 after_clause c first all e f = f ∙ (ap (λ o. numbers_after o (flat_map fact_variables c.hypotheses)) e ∙ sym (numbers_after-append (Some 0) (fact_variables c.conclusion) (flat_map fact_variables c.hypotheses)))
 

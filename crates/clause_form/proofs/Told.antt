@@ -8,15 +8,14 @@ use Rattle.spec_terms.specs.Term.{Term}
 use Rattle.spec_clauses.specs.Diff.{Diff, diff_under, diff_variables, numbered_diff, same_diff}
 use Rattle.spec_clauses.specs.Fact.{Fact, Clause, same_fact, is_among, fact_under, clause_under}
 use Rattle.spec_clauses.specs.Variables.{clause_variables}
-use Rattle.spec_clauses.specs.Norm.{distinct, place_of, numbering, without_repeats, numbered_anew, IsNormal}
+use Rattle.spec_clauses.specs.DiffDecision.{is_never_met}
+use Rattle.spec_clauses.specs.Norm.{distinct, place_of, numbering, elsewhere, is_lonely, is_needed, without_repeats, without_lonely, numbered_anew, IsNormal}
 use Rattle.spec_clauses.proofs.Lists.{all_weaker}
 use Rattle.spec_clauses.proofs.Facts.{clause_under-agree, clause_under-Leaf}
 use Rattle.spec_clauses.proofs.Renaming.{clause_variables-renamed, variables_distinct-renamed}
 use Rattle.spec_clauses.proofs.Distinct.{all-filter_passes, filter-all, distinct-distinct, distinct-fixed, nat_eq-decides, stand_all, stands_distinct, at_places, places_of_distinct}
 use Rattle.spec_clauses.proofs.Norm.{names_of, back_of}
 use Rattle.spec_clauses.proofs.NormKeeps.{own_norm}
-use Rattle.spec_clauses.proofs.FirstPhase.{counted_rules}
-use Rattle.spec_clauses.specs.FirstPhase.{IsInFirstPhase, occurs_once, without_useless}
 use Rattle.clause_form.proofs.Flattening.{with_hypotheses}
 use Rattle.clause_form.specs.Normality.{are_different, number_after, numbers_after, KeepsItsFacts, KeepsItsVariables}
 
@@ -62,15 +61,15 @@ pass_all p [] a = refl
 pass_all p (x ∷ xs) a = ap (λ b. b && list_all p xs) a.0 ∙ pass_all p xs a.1
 
 abbrev unlonely : Clause Term → Fact Term → Bool
-unlonely c h = not (occurs_once (clause_variables c) h)
+unlonely c h = not (is_lonely (elsewhere c) h)
 
-pub lonely_told : (c : Clause Term) → (list_all (λ h. not (occurs_once (clause_variables c) h)) c.hypotheses ≡ true) ↔ (without_useless c ≡ c)
+pub lonely_told : (c : Clause Term) → (list_all (λ h. not (is_lonely (elsewhere c) h)) c.hypotheses ≡ true) ↔ (without_lonely c ≡ c)
 lonely_told c = (
   λ e. λ i. record { hypotheses = filter-all (unlonely c) c.hypotheses (all_pass (unlonely c) c.hypotheses e) i; diffs = c.diffs; conclusion = c.conclusion },
   λ e. pass_all (unlonely c) c.hypotheses (subst (λ (hs : List (Fact Term)). AllByRecursion (λ h. unlonely c h ≡ true) hs) (ap (λ (d : Clause Term). d.hypotheses) e) (all-filter_passes (unlonely c) c.hypotheses)),
 )
 
-pub lonely_are : (c : Clause Term) (b : Bool) → b ≡ list_all (λ h. not (occurs_once (clause_variables c) h)) c.hypotheses → (b ≡ true) ↔ (without_useless c ≡ c)
+pub lonely_are : (c : Clause Term) (b : Bool) → b ≡ list_all (λ h. not (is_lonely (elsewhere c) h)) c.hypotheses → (b ≡ true) ↔ (without_lonely c ≡ c)
 lonely_are c b e = (λ f. (lonely_told c).0 (sym e ∙ f), λ k. e ∙ (lonely_told c).1 k)
 
 -- Variables are numbered: those that occur, each once in order, are 0, 1 and so on.
@@ -237,21 +236,29 @@ numbers_told c none = (
 pub numbers_are : (c : Clause Term) (b : Bool) → c.diffs ≡ [] → b ≡ is_some (numbers_after (Some 0) (clause_variables c)) → (b ≡ true) ↔ (numbered_anew c ≡ c)
 numbers_are c b none e = (λ f. (numbers_told c none).0 (sym e ∙ f), λ k. e ∙ (numbers_told c none).1 k)
 
--- All rules together.
-pub normal_told : (c : Clause Term) → IsInFirstPhase c → (KeepsItsFacts c × KeepsItsVariables c) ↔ IsNormal c
-normal_told c first = (
+-- All rules together, where there are no constraints.
+pub normal_told : (c : Clause Term) → c.diffs ≡ [] → (KeepsItsFacts c × KeepsItsVariables c) ↔ IsNormal c
+normal_told c none = (
   λ k. record {
     flat = k.0.flat;
-    own = (counted_rules c first).1 record { no_repeats = k.0.no_repeats; no_tautology = k.0.no_tautology; none_useless = k.1.none_useless; general = k.1.general; numbers = k.1.numbers };
+    own = (own_norm c).1 record {
+      none_void = ap (list_any is_never_met) none;
+      none_needless = λ i. record { hypotheses = c.hypotheses; diffs = (ap (filter (is_needed c)) none ∙ sym none) i; conclusion = c.conclusion };
+      no_repeats = k.0.no_repeats;
+      no_tautology = k.0.no_tautology;
+      none_lonely = k.1.none_lonely;
+      general = k.1.general;
+      numbers = k.1.numbers;
+    };
   },
-  λ n. let k = (counted_rules c first).0 n.own in (
+  λ n. let k = (own_norm c).0 n.own in (
     record { flat = n.flat; no_repeats = k.no_repeats; no_tautology = k.no_tautology },
-    record { none_useless = k.none_useless; general = k.general; numbers = k.numbers },
+    record { none_lonely = k.none_lonely; general = k.general; numbers = k.numbers },
   ),
 )
 
-pub normal_then : (c : Clause Term) (b : Bool) → IsInFirstPhase c → KeepsItsFacts c → (b ≡ true) ↔ KeepsItsVariables c → (b ≡ true) ↔ IsNormal c
-normal_then c b first facts told = (λ e. (normal_told c first).0 (facts, told.0 e), λ n. told.1 ((normal_told c first).1 n).1)
+pub normal_then : (c : Clause Term) (b : Bool) → c.diffs ≡ [] → KeepsItsFacts c → (b ≡ true) ↔ KeepsItsVariables c → (b ≡ true) ↔ IsNormal c
+normal_then c b none facts told = (λ e. (normal_told c none).0 (facts, told.0 e), λ n. told.1 ((normal_told c none).1 n).1)
 
 pub normal_else : (c : Clause Term) (b : Bool) → (b ≡ true) ↔ KeepsItsFacts c → b ≡ false → (b ≡ true) ↔ IsNormal c
 normal_else c b told e = (λ k. let clash : true ≡ false = sym k ∙ e in cc, λ n. let k = (own_norm c).0 n.own in told.1 record { flat = n.flat; no_repeats = k.no_repeats; no_tautology = k.no_tautology })

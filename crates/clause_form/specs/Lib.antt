@@ -12,6 +12,6 @@ pub mod Keys
 pub mod Bounds
 pub mod Normals
 pub mod Normality
-pub mod Occurrences
+pub mod Standing
 pub mod Marks
 pub mod Fit

@@ -3,8 +3,7 @@ use Rattle.std.specs.Prelude.{◌≡◌, ℕ, ◌+◌, Bool, true, false, not, �
 use Rattle.spec_terms.specs.Term.{Term}
 use Rattle.spec_clauses.specs.Fact.{Fact, Clause, is_among}
 use Rattle.spec_clauses.specs.Flat.{is_flat_clause}
-use Rattle.spec_clauses.specs.Norm.{without_repeats, is_tautology, numbered_anew}
-use Rattle.spec_clauses.specs.FirstPhase.{without_useless, strengthened}
+use Rattle.spec_clauses.specs.Norm.{without_repeats, is_tautology, without_lonely, generalized, numbered_anew}
 
 -- whether no fact is the same as a later one
 abbrev pub are_different : List (Fact Term) → Bool
@@ -28,8 +27,8 @@ pub record KeepsItsFacts (c : Clause Term) : Type 0 where
   pub no_repeats : without_repeats c ≡ c
   pub no_tautology : is_tautology c ≡ false
 
--- the rules that speak of variables, of the norm by counting, leave the clause as it is
+-- the rules that speak of variables leave the clause as it is
 pub record KeepsItsVariables (c : Clause Term) : Type 0 where
-  pub none_useless : without_useless c ≡ c
-  pub general : strengthened c ≡ c
+  pub none_lonely : without_lonely c ≡ c
+  pub general : generalized c ≡ c
   pub numbers : numbered_anew c ≡ c

@@ -1,13 +1,16 @@
 //! Clauses read out of a bank, and copied into one.
 
 ghost use Rattle.std.specs.Prelude.{◌≡◌, ◌<◌, length, map, IfOk, OnErr};
+ghost use Rattle.spec_clauses.specs.Head.{made_of};
 ghost use Rattle.term_tree.specs.Bank.{tree_at, AreKnown, Names, Grows};
 ghost use Rattle.clause_form.specs.Facts.{fact_of};
+ghost use Rattle.clause_form.specs.Heads.{head_seen};
 ghost use Rattle.clause_form.specs.Plain.{term_of};
 ghost use Rattle.clause_form.specs.PlainFacts.{plain_fact_of};
 ghost use Rattle.clause_form.specs.Seen.{fact_at, clause_at, IsFactIn, AreFactsIn, IsClauseIn, NameTerms, NamesFact, NameFacts, NamesClause};
 
 use crate::facts::{Clause, Fact, Facts, Ids};
+use crate::heads::Head;
 use crate::plain::{PlainClause, PlainFact, PlainFacts, Tree, Trees};
 use std::alloc::{AllocError, Global};
 use term_tree::{Bank, Id, Node};
@@ -48,11 +51,15 @@ fn read_fact<B: Bank>(alloc: Global, bank: &B, fact: &Fact) -> Result<PlainFact,
         fact_at (B.trees bank.now) (fact_of fact.now)) }
 {
     match fact {
-        Fact::Att(term) => Ok(PlainFact::Att(read_term(alloc, bank, *term)?)),
-        Fact::Mess(channel, message) => {
+        Fact::Att(phase, term) => Ok(PlainFact::Att(*phase, read_term(alloc, bank, *term)?)),
+        Fact::Mess(phase, channel, message) => {
             let channel = read_term(alloc, bank, *channel)?;
             let message = read_term(alloc, bank, *message)?;
-            Ok(PlainFact::Mess(channel, message))
+            Ok(PlainFact::Mess(*phase, channel, message))
+        }
+        Fact::Tab(table, arguments) => {
+            let arguments = read_terms(alloc, bank, &arguments.items)?;
+            Ok(PlainFact::Tab(*table, arguments))
         }
         Fact::Ev(event, arguments) => {
             let arguments = read_terms(alloc, bank, &arguments.items)?;
@@ -127,6 +134,21 @@ fn copy_terms<B: Bank>(alloc: Global, bank: &mut B, trees: &[Tree]) -> Result<Id
     Ok(Ids { items })
 }
 
+/// The fact of a head and of terms, over ids. On `Err` the bank may have grown.
+fn copy_listed<B: Bank>(
+    alloc: Global,
+    bank: &mut B,
+    head: Head,
+    terms: &Trees,
+) -> Result<Fact, AllocError>
+    ensures grows { Grows (B.trees bank.old) (B.trees bank.new) }
+    ensures names { IfOk result (λ fact. NamesFact (B.trees bank.new) (fact_of fact)
+        (made_of (head_seen head) terms.now)) }
+{
+    let ids = copy_terms(alloc, bank, &terms.items)?;
+    Ok(Fact::made_of(head, ids))
+}
+
 /// The fact over ids. On `Err` the bank may have grown.
 fn copy_fact<B: Bank>(alloc: Global, bank: &mut B, plain: &PlainFact) -> Result<Fact, AllocError>
     ensures grows { Grows (B.trees bank.old) (B.trees bank.new) }
@@ -134,24 +156,16 @@ fn copy_fact<B: Bank>(alloc: Global, bank: &mut B, plain: &PlainFact) -> Result<
         (plain_fact_of plain.now)) }
 {
     match plain {
-        PlainFact::Att(term) => Ok(Fact::Att(copy_term(alloc, bank, term)?)),
-        PlainFact::Mess(channel, message) => {
+        PlainFact::Att(phase, term) => Ok(Fact::Att(*phase, copy_term(alloc, bank, term)?)),
+        PlainFact::Mess(phase, channel, message) => {
             let channel = copy_term(alloc, bank, channel)?;
             let message = copy_term(alloc, bank, message)?;
-            Ok(Fact::Mess(channel, message))
+            Ok(Fact::Mess(*phase, channel, message))
         }
-        PlainFact::Ev(event, arguments) => {
-            let arguments = copy_terms(alloc, bank, &arguments.items)?;
-            Ok(Fact::Ev(*event, arguments))
-        }
-        PlainFact::Mev(event, arguments) => {
-            let arguments = copy_terms(alloc, bank, &arguments.items)?;
-            Ok(Fact::Mev(*event, arguments))
-        }
-        PlainFact::Bad(arguments) => {
-            let arguments = copy_terms(alloc, bank, &arguments.items)?;
-            Ok(Fact::Bad(arguments))
-        }
+        PlainFact::Tab(table, terms) => copy_listed(alloc, bank, Head::Tab(*table), terms),
+        PlainFact::Ev(event, terms) => copy_listed(alloc, bank, Head::Ev(*event), terms),
+        PlainFact::Mev(event, terms) => copy_listed(alloc, bank, Head::Mev(*event), terms),
+        PlainFact::Bad(terms) => copy_listed(alloc, bank, Head::Bad, terms),
     }
 }
 

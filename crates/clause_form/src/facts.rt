@@ -7,7 +7,7 @@ use std::marker::Model;
 use term_tree::Id;
 
 /// Ids of terms in order.
-#[derive(Debug, Drop)]
+#[derive(Drop)]
 pub struct Ids {
     pub items: Vec<Id>,
 }
@@ -24,13 +24,15 @@ impl Model for Ids {
     ghost view = { λ a. a.items.items };
 }
 
-/// A fact, of phase 0. Events are numbered from 1.
-#[derive(Debug, Drop)]
+/// A fact. Phases are numbered from 0, tables and events from 1.
+#[derive(Drop)]
 pub enum Fact {
-    /// The attacker has the term.
-    Att(Id),
-    /// The message, which stands second, may be sent on the channel.
-    Mess(Id, Id),
+    /// In the phase the attacker has the term.
+    Att(u32, Id),
+    /// In the phase the message, which stands last, may be sent on the channel.
+    Mess(u32, Id, Id),
+    /// The table may have the entry of these terms.
+    Tab(u32, Ids),
     /// The event may have run.
     Ev(u32, Ids),
     /// The event must have run: stands among hypotheses alone.
@@ -40,7 +42,7 @@ pub enum Fact {
 }
 
 /// Facts in order.
-#[derive(Debug, Drop)]
+#[derive(Drop)]
 pub struct Facts {
     pub items: Vec<Fact>,
 }
@@ -61,7 +63,7 @@ impl Model for Facts {
 }
 
 /// A clause without constraints: where the hypotheses hold, so does the conclusion.
-#[derive(Debug, Drop)]
+#[derive(Drop)]
 pub struct Clause {
     pub hyps: Facts,
     pub concl: Fact,
@@ -117,8 +119,12 @@ impl Fact {
         ensures { IfOk result (λ copied. copied ≡ self.now) }
     {
         match self {
-            Fact::Att(term) => Ok(Fact::Att(*term)),
-            Fact::Mess(channel, message) => Ok(Fact::Mess(*channel, *message)),
+            Fact::Att(phase, term) => Ok(Fact::Att(*phase, *term)),
+            Fact::Mess(phase, channel, message) => Ok(Fact::Mess(*phase, *channel, *message)),
+            Fact::Tab(table, terms) => {
+                let terms = terms.copy(alloc)?;
+                Ok(Fact::Tab(*table, terms))
+            }
             Fact::Ev(event, terms) => {
                 let terms = terms.copy(alloc)?;
                 Ok(Fact::Ev(*event, terms))

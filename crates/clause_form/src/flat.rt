@@ -22,26 +22,23 @@ pub fn is_data_symbol(symbol: Sym) -> bool
     }
 }
 
-/// Adds `att` of the parts of a term.
-fn add_parts<B: Bank>(bank: &B, id: Id, facts: &mut Facts) -> Result<(), AllocError>
+/// Adds `att` of the parts of a term, in a phase.
+fn add_parts<B: Bank>(bank: &B, phase: u32, id: Id, facts: &mut Facts) -> Result<(), AllocError>
     requires term { id.index < length (B.trees bank.now) }
     requires facts { AreFactsIn (B.trees bank.now) facts.old }
     ensures known { AreFactsIn (B.trees bank.now) facts.new }
     ensures parts { OnOk result (map (fact_at (B.trees bank.now)) facts.new ≡
-        map (fact_at (B.trees bank.now)) facts.old ++ flat (Att 0 (tree_at (B.trees bank.now) id))) }
+        map (fact_at (B.trees bank.now)) facts.old ++ flat
+        (Att phase (tree_at (B.trees bank.now) id))) }
 {
     match bank.node(id) {
-        Node::Var(_) => {
-            facts.push(Fact::Att(id))?;
-            Ok(())
-        }
+        Node::Var(_) => facts.push(Fact::Att(phase, id)),
         Node::App(symbol, arguments) => {
             if !is_data_symbol(symbol) {
-                facts.push(Fact::Att(id))?;
-                return Ok(());
+                return facts.push(Fact::Att(phase, id));
             }
             'each: for argument in arguments {
-                add_parts(bank, *argument, facts)?;
+                add_parts(bank, phase, *argument, facts)?;
             }
             Ok(())
         }
@@ -62,13 +59,11 @@ fn add_flat<B: Bank>(
         map (fact_at (B.trees bank.now)) facts.old ++ flat
         (fact_at (B.trees bank.now) (fact_of fact.now))) }
 {
-    if let Fact::Att(term) = fact {
-        add_parts(bank, *term, facts)?;
-        return Ok(());
+    if let Fact::Att(phase, term) = fact {
+        return add_parts(bank, *phase, *term, facts);
     }
     let copied = fact.copy(alloc)?;
-    facts.push(copied)?;
-    Ok(())
+    facts.push(copied)
 }
 
 /// The flat facts that a fact stands for.

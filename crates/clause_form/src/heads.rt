@@ -9,11 +9,12 @@ ghost use Rattle.clause_form.specs.Heads.{head_seen, terms_seen};
 use crate::facts::{Fact, Ids};
 use term_tree::Id;
 
-/// What a fact says besides its terms: its predicate, and the event where there is one.
+/// What a fact says besides its terms: its predicate, and the phase, the table or the event where there is one.
 #[derive(Clone, Copy, PartialEq)]
 pub enum Head {
-    Att,
-    Mess,
+    Att(u32),
+    Mess(u32),
+    Tab(u32),
     Ev(u32),
     Mev(u32),
     Bad,
@@ -46,8 +47,9 @@ impl Fact {
         ensures { head_seen result ≡ head_of (fact_of self.now) }
     {
         match self {
-            Fact::Att(_) => Head::Att,
-            Fact::Mess(..) => Head::Mess,
+            Fact::Att(phase, _) => Head::Att(*phase),
+            Fact::Mess(phase, _, _) => Head::Mess(*phase),
+            Fact::Tab(table, _) => Head::Tab(*table),
             Fact::Ev(event, _) => Head::Ev(*event),
             Fact::Mev(event, _) => Head::Mev(*event),
             Fact::Bad(_) => Head::Bad,
@@ -59,9 +61,11 @@ impl Fact {
         ensures { terms_seen result ≡ terms_of (fact_of self.now) }
     {
         match self {
-            Fact::Att(term) => Parts::One([*term]),
-            Fact::Mess(channel, message) => Parts::Two([*channel, *message]),
-            Fact::Ev(_, terms) | Fact::Mev(_, terms) | Fact::Bad(terms) => Parts::All(&terms.items),
+            Fact::Att(_, term) => Parts::One([*term]),
+            Fact::Mess(_, channel, message) => Parts::Two([*channel, *message]),
+            Fact::Tab(_, terms) | Fact::Ev(_, terms) | Fact::Mev(_, terms) | Fact::Bad(terms) => {
+                Parts::All(&terms.items)
+            }
         }
     }
 
@@ -70,14 +74,15 @@ impl Fact {
         ensures { fact_of result ≡ made_of (head_seen head) terms }
     {
         match head {
-            Head::Att => match terms.items.first() {
-                Some(term) => Fact::Att(*term),
+            Head::Att(phase) => match terms.items.first() {
+                Some(term) => Fact::Att(phase, *term),
                 None => Fact::Bad(terms),
             },
-            Head::Mess => match terms.items.as_slice() {
-                [channel, message, ..] => Fact::Mess(*channel, *message),
+            Head::Mess(phase) => match terms.items.as_slice() {
+                [channel, message, ..] => Fact::Mess(phase, *channel, *message),
                 _ => Fact::Bad(terms),
             },
+            Head::Tab(table) => Fact::Tab(table, terms),
             Head::Ev(event) => Fact::Ev(event, terms),
             Head::Mev(event) => Fact::Mev(event, terms),
             Head::Bad => Fact::Bad(terms),

@@ -71,8 +71,9 @@ fn head_number(head: Head) -> u64
     ensures { result ≡ number_of_head (head_seen head) }
 {
     match head {
-        Head::Att => 0,
-        Head::Mess => 1,
+        Head::Att(phase) => 8 * u64::from(phase),
+        Head::Mess(phase) => 8 * u64::from(phase) + 1,
+        Head::Tab(table) => 8 * u64::from(table) + 5,
         Head::Ev(event) => 8 * u64::from(event) + 2,
         Head::Mev(event) => 8 * u64::from(event) + 3,
         Head::Bad => 4,

@@ -13,13 +13,13 @@ mod memo;
 mod normal;
 mod normality;
 mod numbers;
-mod occurrences;
 pub mod plain;
 mod renumbering;
 mod repeats;
 mod same;
 mod selectable;
 mod size;
+mod standing;
 mod variables;
 
 pub use crate::bounds::above_variables;

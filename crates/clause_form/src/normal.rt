@@ -1,13 +1,13 @@
 //! The norm of a clause (Blanchet 2016, section 3.3.1: elimination of duplicate hypotheses, of tautologies and
 //! of useless hypotheses).
 
-ghost use Rattle.std.specs.Prelude.{◌≡◌, ◌&&◌, not, cond, [], ◌∷◌, ◌++◌, filter, map, flat_map, IfOk, OnOk, OnErr};
-ghost use Rattle.std.specs.List.{list_all};
+ghost use Rattle.std.specs.Prelude.{◌≡◌, ◌&&◌, not, cond, [], ◌∷◌, ◌++◌, filter, map, IfOk, OnOk, OnErr};
+ghost use Rattle.std.specs.List.{list_any, list_all};
 ghost use Rattle.spec_clauses.specs.Fact.{is_variable_known as is_variable_known_fact};
 ghost use Rattle.spec_clauses.specs.Selection.{is_solved};
-ghost use Rattle.spec_clauses.specs.Variables.{fact_variables};
-ghost use Rattle.spec_clauses.specs.Norm.{norm as norm_of, numbered_anew};
-ghost use Rattle.spec_clauses.specs.FirstPhase.{occurs_once as is_lonely_fact, strengthened};
+ghost use Rattle.spec_clauses.specs.Variables.{fact_variables, firm_variables};
+ghost use Rattle.spec_clauses.specs.Norm.{norm as norm_of, numbered_anew, generalized};
+ghost use Rattle.spec_clauses.specs.Norm.{is_lonely as is_lonely_fact, is_known as is_known_fact, is_passed_on as is_passed_on_fact};
 ghost use Rattle.term_tree.specs.Bank.{Grows};
 ghost use Rattle.clause_form.specs.Facts.{fact_of};
 ghost use Rattle.clause_form.specs.Seen.{fact_at, clause_at, IsFactIn, AreFactsIn, IsClauseIn, NameFacts, NamesClause};
@@ -19,7 +19,8 @@ use crate::renumbering::numbered_clause;
 use crate::repeats::without_repeats;
 use crate::same::is_among;
 use crate::selectable::{are_solved, is_variable_known};
-use crate::variables::variables_of;
+use crate::standing::stands_in_hypotheses;
+use crate::variables::variables_elsewhere;
 use std::alloc::{AllocError, Global};
 use term_tree::{Bank, Node};
 
@@ -31,21 +32,21 @@ pub enum Normal {
     Clause(Clause),
 }
 
-/// Whether the fact is `att` of a variable that occurs but once.
+/// Whether the fact is `att` of a variable that isn't among these numbers.
 fn is_lonely<B: Bank>(bank: &B, numbers: &Counts, fact: &Fact) -> bool
     requires { IsFactIn (B.trees bank.now) (fact_of fact.now) }
     ensures { result ≡ is_lonely_fact numbers.now (fact_at (B.trees bank.now) (fact_of fact.now)) }
 {
     match fact {
-        Fact::Att(term) => match bank.node(*term) {
-            Node::Var(number) => numbers.count(number) == 1,
+        Fact::Att(_, term) => match bank.node(*term) {
+            Node::Var(number) => !numbers.has(number),
             Node::App(_, _) => false,
         },
         _ => false,
     }
 }
 
-/// Adds a copy of a fact that is no `att` of a variable that occurs but once.
+/// Adds a copy of a fact, unless it is `att` of a variable that isn't among these numbers.
 fn add_unless_lonely<B: Bank>(
     alloc: Global,
     bank: &B,
@@ -66,7 +67,7 @@ fn add_unless_lonely<B: Bank>(
     Ok(())
 }
 
-/// Copies of the facts that are no `att` of a variable that occurs but once among these numbers.
+/// Copies of the facts but those `att` of a variable that isn't among these numbers.
 fn each_shared<B: Bank>(
     alloc: Global,
     bank: &B,
@@ -85,7 +86,7 @@ fn each_shared<B: Bank>(
     Ok(kept)
 }
 
-/// Whether none of the facts is `att` of a variable that occurs but once among these numbers.
+/// Whether none of the facts is `att` of a variable that isn't among these numbers.
 fn none_lonely<B: Bank>(bank: &B, numbers: &Counts, facts: &[Fact]) -> bool
     requires { AreFactsIn (B.trees bank.now) (map fact_of facts.now) }
     ensures { result ≡ list_all (λ h. not (is_lonely_fact numbers.now h))
@@ -99,7 +100,7 @@ fn none_lonely<B: Bank>(bank: &B, numbers: &Counts, facts: &[Fact]) -> bool
     true
 }
 
-/// The facts that are no `att` of a variable that occurs but once among these numbers.
+/// The facts but those `att` of a variable that isn't among these numbers.
 fn without_lonely<B: Bank>(
     alloc: Global,
     bank: &B,
@@ -117,7 +118,7 @@ fn without_lonely<B: Bank>(
     each_shared(alloc, bank, numbers, &facts.items)
 }
 
-/// The hypotheses that are no `att` of a variable that occurs but once in the clause.
+/// The hypotheses but those `att` of a variable that stands in such hypotheses alone, of whatever phases.
 fn shared_hypotheses<B: Bank>(
     alloc: Global,
     bank: &B,
@@ -127,24 +128,72 @@ fn shared_hypotheses<B: Bank>(
     requires concl { IsFactIn (B.trees bank.now) (fact_of concl.now) }
     requires hyps { AreFactsIn (B.trees bank.now) hyps }
     ensures { let trees = map (fact_at (B.trees bank.now)) hyps in
-        let variables = flat_map fact_variables
-        (fact_at (B.trees bank.now) (fact_of concl.now) ∷ trees) in
+        let variables = fact_variables
+        (fact_at (B.trees bank.now) (fact_of concl.now)) ++ firm_variables trees in
         IfOk result (λ kept. NameFacts (B.trees bank.now) kept
         (filter (λ h. not (is_lonely_fact variables h)) trees)) }
 {
-    let occurring = variables_of(alloc, bank, concl, &hyps.items)?;
+    let occurring = variables_elsewhere(alloc, bank, concl, &hyps.items)?;
     let numbers = Counts::new(alloc, occurring)?;
     without_lonely(alloc, bank, &numbers, hyps)
 }
 
-/// Whether the clause is solved and concludes `att` of a variable.
+/// Whether the fact is `att` of a variable, of whatever phase.
+fn is_known<B: Bank>(bank: &B, number: u32, fact: &Fact) -> bool
+    requires { IsFactIn (B.trees bank.now) (fact_of fact.now) }
+    ensures { result ≡ is_known_fact number (fact_at (B.trees bank.now) (fact_of fact.now)) }
+{
+    match fact {
+        Fact::Att(_, term) => match bank.node(*term) {
+            Node::Var(known) => number == known,
+            Node::App(_, _) => false,
+        },
+        _ => false,
+    }
+}
+
+/// Whether one of the facts is.
+fn is_known_among<B: Bank>(bank: &B, number: u32, facts: &[Fact]) -> bool
+    requires { AreFactsIn (B.trees bank.now) (map fact_of facts.now) }
+    ensures { result ≡ list_any (is_known_fact number) (map (fact_at (B.trees bank.now))
+        (map fact_of facts.now)) }
+{
+    for fact in facts {
+        if is_known(bank, number, fact) {
+            return true;
+        }
+    }
+    false
+}
+
+/// Whether the conclusion is `att` of a variable that stands in hypotheses, and in `att` of it alone.
+fn is_passed_on<B: Bank>(bank: &B, concl: &Fact, hyps: &[Fact]) -> bool
+    requires concl { IsFactIn (B.trees bank.now) (fact_of concl.now) }
+    requires hyps { AreFactsIn (B.trees bank.now) (map fact_of hyps.now) }
+    ensures { result ≡ is_passed_on_fact (map (fact_at (B.trees bank.now)) (map fact_of hyps.now))
+        (fact_at (B.trees bank.now) (fact_of concl.now)) }
+{
+    match concl {
+        Fact::Att(_, term) => match bank.node(*term) {
+            Node::Var(number) => {
+                is_known_among(bank, number, hyps) && !stands_in_hypotheses(bank, number, hyps)
+            }
+            Node::App(_, _) => false,
+        },
+        _ => false,
+    }
+}
+
+/// Whether the clause is solved and concludes `att` of a variable that isn't only passed on.
 pub(crate) fn is_general<B: Bank>(bank: &B, concl: &Fact, hyps: &[Fact]) -> bool
     requires concl { IsFactIn (B.trees bank.now) (fact_of concl.now) }
     requires hyps { AreFactsIn (B.trees bank.now) (map fact_of hyps.now) }
-    ensures { result ≡ (is_solved (map (fact_at (B.trees bank.now)) (map fact_of hyps.now)) &&
-        is_variable_known_fact (fact_at (B.trees bank.now) (fact_of concl.now))) }
+    ensures { let facts = map (fact_at (B.trees bank.now)) (map fact_of hyps.now) in
+        let concluded = fact_at (B.trees bank.now) (fact_of concl.now) in
+        result ≡ ((is_solved facts && is_variable_known_fact concluded) &&
+        not (is_passed_on_fact facts concluded)) }
 {
-    are_solved(bank, hyps) && is_variable_known(bank, concl)
+    are_solved(bank, hyps) && is_variable_known(bank, concl) && !is_passed_on(bank, concl, hyps)
 }
 
 /// The clause, or the one that says that the attacker has everything where this one does, with its
@@ -159,7 +208,7 @@ fn generalized_clause<B: Bank>(
     requires hyps { AreFactsIn (B.trees bank.old) (map fact_of hyps.now) }
     ensures grows { Grows (B.trees bank.old) (B.trees bank.new) }
     ensures names { IfOk result (λ made. NamesClause (B.trees bank.new) made
-        (numbered_anew (strengthened record {
+        (numbered_anew (generalized record {
           hypotheses = map (fact_at (B.trees bank.old))
               (map fact_of hyps.now);
           diffs = [];

@@ -1,33 +1,33 @@
 //! Whether a clause is its own norm: it is flat, and each rule of the norm leaves it as it is.
 
-ghost use Rattle.std.specs.Prelude.{◌≡◌, ◌↔◌, ◌+◌, ◌-◌, ◌^◌, ◌<◌, true, false, not, ◌&&◌, cond, nat_eq, min, length, map, flat_map, Some};
-ghost use Rattle.std.specs.List.{count_by, list_all};
-ghost use Rattle.spec_clauses.specs.Fact.{is_variable_known as is_variable_known_fact};
+ghost use Rattle.std.specs.Prelude.{◌≡◌, ◌↔◌, ◌<◌, true, not, nat_eq, [], length, map, flat_map, Some};
+ghost use Rattle.std.specs.List.{count_by, list_any, list_all};
+ghost use Rattle.spec_clauses.specs.Fact.{is_variable_known as is_variable_known_fact, phase_of};
 ghost use Rattle.spec_clauses.specs.Flat.{is_flat as is_flat_fact, is_flat_clause as is_flat_clause_of};
-ghost use Rattle.spec_clauses.specs.Norm.{without_repeats, is_tautology as is_tautology_of, everything_known, numbered_anew, IsNormal};
-ghost use Rattle.spec_clauses.specs.Variables.{leaves, fact_variables, clause_variables};
-ghost use Rattle.spec_clauses.specs.FirstPhase.{IsInFirstPhase, occurs_once as is_lonely_fact, without_useless, strengthened, times};
+ghost use Rattle.spec_clauses.specs.Norm.{elsewhere, is_lonely as is_lonely_fact, without_lonely, everything_known, generalized};
+ghost use Rattle.spec_clauses.specs.Norm.{without_repeats, is_tautology as is_tautology_of, numbered_anew, IsNormal};
+ghost use Rattle.spec_clauses.specs.Variables.{leaves, fact_variables};
 ghost use Rattle.term_tree.specs.Bank.{tree_at, AreKnown};
 ghost use Rattle.clause_form.specs.Facts.{fact_of};
 ghost use Rattle.clause_form.specs.Seen.{fact_at, clause_at, IsFactIn, AreFactsIn, IsClauseIn};
 ghost use Rattle.clause_form.specs.Normality.{are_different as are_different_facts, number_after, numbers_after, KeepsItsFacts, KeepsItsVariables};
-ghost use Rattle.clause_form.specs.Occurrences.{TellsTimes};
+ghost use Rattle.clause_form.specs.Standing.{TellsNumbers};
 
 use crate::facts::{Clause, Fact};
 use crate::flat::is_data_symbol;
 use crate::marks::are_many_different;
 use crate::normal::is_general;
-use crate::occurrences::count_in_clause;
 use crate::same::is_among;
 use crate::selectable::is_variable_known;
+use crate::standing::{note_elsewhere, stands_elsewhere};
 use limits::MOST_SYMBOLS;
 use term_tree::{Bank, Id, Node};
 
 /// So many hypotheses are marked by their keys.
 const MARKED: usize = 32;
 
-/// The variables are counted in a table where so many hypotheses are `att` of one.
-const COUNTED: usize = 4;
+/// The variables are noted in a table where so many hypotheses are `att` of one.
+const NOTED: usize = 4;
 
 /// So many variables have a place in the table.
 const PLACED: usize = MOST_SYMBOLS as usize;
@@ -38,7 +38,7 @@ fn is_flat<B: Bank>(bank: &B, fact: &Fact) -> bool
     ensures { result ≡ is_flat_fact (fact_at (B.trees bank.now) (fact_of fact.now)) }
 {
     match fact {
-        Fact::Att(term) => match bank.node(*term) {
+        Fact::Att(_, term) => match bank.node(*term) {
             Node::Var(_) => true,
             Node::App(symbol, _) => !is_data_symbol(symbol),
         },
@@ -60,11 +60,11 @@ fn are_flat<B: Bank>(bank: &B, facts: &[Fact]) -> bool
     true
 }
 
-/// Whether a clause is flat. Clauses over ids are of the first phase.
+/// Whether a clause is flat. Clauses over ids have no constraints.
 fn is_flat_clause<B: Bank>(bank: &B, clause: &Clause) -> bool
     requires { IsClauseIn (B.trees bank.now) clause.now }
     ensures flat { result ≡ is_flat_clause_of (clause_at (B.trees bank.now) clause.now) }
-    ensures first { result ≡ true → IsInFirstPhase (clause_at (B.trees bank.now) clause.now) }
+    ensures unconstrained { (clause_at (B.trees bank.now) clause.now).diffs ≡ [] }
 {
     is_flat(bank, &clause.concl) && are_flat(bank, &clause.hyps.items)
 }
@@ -103,122 +103,45 @@ fn is_tautology<B: Bank>(bank: &B, clause: &Clause) -> bool
     is_among(bank, &clause.hyps.items, &clause.concl)
 }
 
-/// One more occurrence where the numbers are the same.
-fn one_more_if(is_same: bool, found: u64) -> u64
-    ensures { result ≡ min (found + cond is_same 1 0) (2 ^ 64 - 1) }
-{
-    if is_same {
-        return found.saturating_add(1);
-    }
-    found
-}
-
-/// So many occurrences of a variable, and those in a term; none are told beyond the greatest number.
-fn times_in_term<B: Bank>(bank: &B, number: u32, id: Id, found: u64) -> u64
-    requires { id.index < length (B.trees bank.now) }
-    ensures { result ≡ min (found + times number (leaves (tree_at (B.trees bank.now) id)))
-        (2 ^ 64 - 1) }
-{
-    match bank.node(id) {
-        Node::Var(other) => one_more_if(number == other, found),
-        Node::App(_, arguments) => {
-            let mut total = found;
-            'each: for argument in arguments {
-                total = times_in_term(bank, number, *argument, total);
-            }
-            total
-        }
-    }
-}
-
-/// The same of terms.
-fn times_in_terms<B: Bank>(bank: &B, number: u32, terms: &[Id], found: u64) -> u64
-    requires { AreKnown (B.trees bank.now) terms.now }
-    ensures { result ≡ min (found + times number
-        (flat_map leaves (map (tree_at (B.trees bank.now)) terms.now))) (2 ^ 64 - 1) }
-{
-    let mut total = found;
-    for term in terms {
-        total = times_in_term(bank, number, *term, total);
-    }
-    total
-}
-
-/// The same of a fact.
-fn times_in_fact<B: Bank>(bank: &B, number: u32, fact: &Fact, found: u64) -> u64
-    requires { IsFactIn (B.trees bank.now) (fact_of fact.now) }
-    ensures { result ≡ min (found + times number
-        (fact_variables (fact_at (B.trees bank.now) (fact_of fact.now)))) (2 ^ 64 - 1) }
-{
-    let terms = fact.terms();
-    times_in_terms(bank, number, terms.as_slice(), found)
-}
-
-/// The same of facts.
-fn times_in_facts<B: Bank>(bank: &B, number: u32, facts: &[Fact], found: u64) -> u64
-    requires { AreFactsIn (B.trees bank.now) (map fact_of facts.now) }
-    ensures { result ≡ min (found + times number
-        (flat_map fact_variables (map (fact_at (B.trees bank.now)) (map fact_of facts.now))))
-        (2 ^ 64 - 1) }
-{
-    let mut total = found;
-    for fact in facts {
-        total = times_in_fact(bank, number, fact, total);
-    }
-    total
-}
-
-/// How often a variable occurs in a clause; none are told beyond the greatest number.
-fn times_in_clause<B: Bank>(bank: &B, number: u32, clause: &Clause) -> u64
-    requires { IsClauseIn (B.trees bank.now) clause.now }
-    ensures { result ≡ min (times number (clause_variables
-        (clause_at (B.trees bank.now) clause.now))) (2 ^ 64 - 1) }
-{
-    let found = times_in_fact(bank, number, &clause.concl, 0);
-    times_in_facts(bank, number, &clause.hyps.items, found)
-}
-
-/// Whether a variable occurs but once in the clause. The table tells it of those that it has a place for.
-fn occurs_once<B: Bank>(bank: &B, clause: &Clause, table: &[u8], number: u32) -> bool
+/// Whether a variable stands in the clause besides its hypotheses `att` of a variable. The table tells it of those that
+/// it has a place for.
+fn is_elsewhere<B: Bank>(bank: &B, clause: &Clause, table: &[bool], number: u32) -> bool
     requires clause { IsClauseIn (B.trees bank.now) clause.now }
-    requires table { TellsTimes table.now (clause_variables
+    requires table { TellsNumbers table.now (elsewhere (clause_at (B.trees bank.now) clause.now)) }
+    ensures { result ≡ list_any (nat_eq number) (elsewhere
         (clause_at (B.trees bank.now) clause.now)) }
-    ensures { result ≡ nat_eq (times number (clause_variables
-        (clause_at (B.trees bank.now) clause.now))) 1 }
 {
     let place = number as usize;
     if place < table.len() {
-        return table[place] == 1;
+        return table[place];
     }
-    times_in_clause(bank, number, clause) == 1
+    stands_elsewhere(bank, number, clause)
 }
 
-/// Whether the fact is `att` of a variable that occurs but once in the clause.
-fn is_lonely<B: Bank>(bank: &B, clause: &Clause, table: &[u8], fact: &Fact) -> bool
+/// Whether the fact is `att` of a variable that stands in such hypotheses alone.
+fn is_lonely<B: Bank>(bank: &B, clause: &Clause, table: &[bool], fact: &Fact) -> bool
     requires clause { IsClauseIn (B.trees bank.now) clause.now }
-    requires table { TellsTimes table.now (clause_variables
-        (clause_at (B.trees bank.now) clause.now)) }
+    requires table { TellsNumbers table.now (elsewhere (clause_at (B.trees bank.now) clause.now)) }
     requires fact { IsFactIn (B.trees bank.now) (fact_of fact.now) }
-    ensures { result ≡ is_lonely_fact (clause_variables (clause_at (B.trees bank.now) clause.now))
+    ensures { result ≡ is_lonely_fact (elsewhere (clause_at (B.trees bank.now) clause.now))
         (fact_at (B.trees bank.now) (fact_of fact.now)) }
 {
     match fact {
-        Fact::Att(term) => match bank.node(*term) {
-            Node::Var(number) => occurs_once(bank, clause, table, number),
+        Fact::Att(_, term) => match bank.node(*term) {
+            Node::Var(number) => !is_elsewhere(bank, clause, table, number),
             Node::App(_, _) => false,
         },
         _ => false,
     }
 }
 
-/// Whether none of the facts is `att` of a variable that occurs but once in the clause.
-fn none_lonely<B: Bank>(bank: &B, clause: &Clause, table: &[u8], facts: &[Fact]) -> bool
+/// Whether none of the facts is `att` of a variable that stands in such hypotheses alone.
+fn none_lonely<B: Bank>(bank: &B, clause: &Clause, table: &[bool], facts: &[Fact]) -> bool
     requires clause { IsClauseIn (B.trees bank.now) clause.now }
-    requires table { TellsTimes table.now (clause_variables
-        (clause_at (B.trees bank.now) clause.now)) }
+    requires table { TellsNumbers table.now (elsewhere (clause_at (B.trees bank.now) clause.now)) }
     requires facts { AreFactsIn (B.trees bank.now) (map fact_of facts.now) }
     ensures { result ≡ list_all (λ h. not (is_lonely_fact
-        (clause_variables (clause_at (B.trees bank.now) clause.now)) h))
+        (elsewhere (clause_at (B.trees bank.now) clause.now)) h))
         (map (fact_at (B.trees bank.now)) (map fact_of facts.now)) }
 {
     for fact in facts {
@@ -244,37 +167,37 @@ fn variables_known<B: Bank>(bank: &B, facts: &[Fact]) -> usize
     count
 }
 
-/// Whether no hypothesis says only that the attacker has something. The variables are counted first.
-fn has_none_lonely_counted<B: Bank>(bank: &B, clause: &Clause) -> bool
+/// Whether no hypothesis says only that the attacker has something. The other variables are noted first.
+fn has_none_lonely_noted<B: Bank>(bank: &B, clause: &Clause) -> bool
     requires { IsClauseIn (B.trees bank.now) clause.now }
-    ensures { (result ≡ true) ↔ (without_useless (clause_at (B.trees bank.now) clause.now) ≡
+    ensures { (result ≡ true) ↔ (without_lonely (clause_at (B.trees bank.now) clause.now) ≡
         clause_at (B.trees bank.now) clause.now) }
 {
-    let mut table = [0u8; PLACED];
-    count_in_clause(bank, clause, &mut table);
+    let mut table = [false; PLACED];
+    note_elsewhere(bank, clause, &mut table);
     none_lonely(bank, clause, &table, &clause.hyps.items)
 }
 
 /// Whether no hypothesis says only that the attacker has something.
 fn has_none_lonely<B: Bank>(bank: &B, clause: &Clause) -> bool
     requires { IsClauseIn (B.trees bank.now) clause.now }
-    ensures { (result ≡ true) ↔ (without_useless (clause_at (B.trees bank.now) clause.now) ≡
+    ensures { (result ≡ true) ↔ (without_lonely (clause_at (B.trees bank.now) clause.now) ≡
         clause_at (B.trees bank.now) clause.now) }
 {
-    if variables_known(bank, &clause.hyps.items) >= COUNTED {
-        return has_none_lonely_counted(bank, clause);
+    if variables_known(bank, &clause.hyps.items) >= NOTED {
+        return has_none_lonely_noted(bank, clause);
     }
     none_lonely(bank, clause, &[], &clause.hyps.items)
 }
 
-/// Whether the fact is `att` of the variable 0.
+/// Whether the fact is `att` of the variable 0, of whatever phase.
 fn is_first_variable_known<B: Bank>(bank: &B, fact: &Fact) -> bool
     requires { IsFactIn (B.trees bank.now) (fact_of fact.now) }
-    ensures { (result ≡ true) ↔ (fact_at (B.trees bank.now) (fact_of fact.now) ≡
-        (everything_known 0).conclusion) }
+    ensures { let seen = fact_at (B.trees bank.now) (fact_of fact.now) in
+        (result ≡ true) ↔ (seen ≡ (everything_known (phase_of seen)).conclusion) }
 {
     match fact {
-        Fact::Att(term) => match bank.node(*term) {
+        Fact::Att(_, term) => match bank.node(*term) {
             Node::Var(number) => number == 0,
             Node::App(_, _) => false,
         },
@@ -285,7 +208,8 @@ fn is_first_variable_known<B: Bank>(bank: &B, fact: &Fact) -> bool
 /// Whether the clause says in the shortest form that the attacker has everything.
 fn is_everything_known<B: Bank>(bank: &B, clause: &Clause) -> bool
     requires { IsClauseIn (B.trees bank.now) clause.now }
-    ensures { (result ≡ true) ↔ (clause_at (B.trees bank.now) clause.now ≡ everything_known 0) }
+    ensures { let seen = clause_at (B.trees bank.now) clause.now in
+        (result ≡ true) ↔ (seen ≡ everything_known (phase_of seen.conclusion)) }
 {
     clause.hyps.items.is_empty() && is_first_variable_known(bank, &clause.concl)
 }
@@ -293,7 +217,7 @@ fn is_everything_known<B: Bank>(bank: &B, clause: &Clause) -> bool
 /// Whether the clause doesn't say that the attacker has everything, or says it in the shortest form.
 fn is_own_general<B: Bank>(bank: &B, clause: &Clause) -> bool
     requires { IsClauseIn (B.trees bank.now) clause.now }
-    ensures { (result ≡ true) ↔ (strengthened (clause_at (B.trees bank.now) clause.now) ≡
+    ensures { (result ≡ true) ↔ (generalized (clause_at (B.trees bank.now) clause.now) ≡
         clause_at (B.trees bank.now) clause.now) }
 {
     !is_general(bank, &clause.concl, &clause.hyps.items) || is_everything_known(bank, clause)
@@ -381,7 +305,7 @@ fn is_numbered<B: Bank>(bank: &B, clause: &Clause) -> bool
 fn keeps_its_facts<B: Bank>(bank: &B, clause: &Clause) -> bool
     requires { IsClauseIn (B.trees bank.now) clause.now }
     ensures keeps { (result ≡ true) ↔ KeepsItsFacts (clause_at (B.trees bank.now) clause.now) }
-    ensures first { result ≡ true → IsInFirstPhase (clause_at (B.trees bank.now) clause.now) }
+    ensures unconstrained { (clause_at (B.trees bank.now) clause.now).diffs ≡ [] }
 {
     is_flat_clause(bank, clause) && has_no_repeats(bank, clause) && !is_tautology(bank, clause)
 }

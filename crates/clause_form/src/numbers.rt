@@ -2,6 +2,7 @@
 
 ghost use Rattle.std.specs.Prelude.{◌≡◌, ◌≤◌, ◌++◌, [], ◌∷◌, nat_eq, cond, IfOk, OnOk};
 ghost use Rattle.std.specs.HashMap.{get};
+ghost use Rattle.std.specs.List.{list_any};
 ghost use Rattle.spec_clauses.specs.FirstPhase.{times};
 ghost use Rattle.spec_clauses.specs.Norm.{distinct, place_of};
 ghost use Rattle.clause_form.specs.Tables.{FindsPlaces, HasPlaces, count_of, CountsTimes};
@@ -207,13 +208,20 @@ impl Counts {
     }
 
     /// How often a number occurs.
-    pub(crate) fn count(&self, number: u32) -> usize
+    fn count(&self, number: u32) -> usize
         ensures { result ≡ times number self.now }
     {
         if self.is_counted {
             return count_in(&self.counts, number);
         }
         times_among(number, &self.numbers)
+    }
+
+    /// Whether a number occurs.
+    pub(crate) fn has(&self, number: u32) -> bool
+        ensures { result ≡ list_any (nat_eq number) self.now }
+    {
+        self.count(number) > 0
     }
 }
 

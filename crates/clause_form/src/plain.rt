@@ -43,8 +43,9 @@ impl Model for Trees {
 /// A fact over owned trees.
 #[derive(Debug, Drop)]
 pub enum PlainFact {
-    Att(Tree),
-    Mess(Tree, Tree),
+    Att(u32, Tree),
+    Mess(u32, Tree, Tree),
+    Tab(u32, Trees),
     Ev(u32, Trees),
     Mev(u32, Trees),
     Bad(Trees),
@@ -90,5 +91,9 @@ impl Model for PlainClause {
 
     ghost use Rattle.clause_form.specs.PlainFacts.{plain_fact_of};
 
-    ghost view = { λ c. record { hypotheses = c.hyps; diffs = []; conclusion = plain_fact_of c.concl } };
+    ghost view = { λ c. record {
+      hypotheses = c.hyps;
+      diffs = [];
+      conclusion = plain_fact_of c.concl;
+    } };
 }

@@ -135,9 +135,9 @@ fn renumbered_fact<B: Bank>(
     ensures changes { OnOk result
         (AreRemembered (B.trees bank.new) (placed order.now) changes.new) }
 {
-    if let Fact::Att(term) = fact {
+    if let Fact::Att(phase, term) = fact {
         let made = renumbered(bank, order, stack, changes, *term)?;
-        return Ok(Fact::Att(made));
+        return Ok(Fact::Att(*phase, made));
     }
     let terms = fact.terms();
     let made = renumbered_terms(bank, order, stack, changes, terms.as_slice())?;

@@ -15,7 +15,7 @@ pub fn is_variable_known<B: Bank>(bank: &B, fact: &Fact) -> bool
     ensures { result ≡ is_variable_known_fact (fact_at (B.trees bank.now) (fact_of fact.now)) }
 {
     match fact {
-        Fact::Att(term) => match bank.node(*term) {
+        Fact::Att(_, term) => match bank.node(*term) {
             Node::Var(_) => true,
             Node::App(_, _) => false,
         },
@@ -29,7 +29,7 @@ pub fn is_selectable<B: Bank>(bank: &B, fact: &Fact) -> bool
     ensures { result ≡ is_selectable_fact (fact_at (B.trees bank.now) (fact_of fact.now)) }
 {
     match fact {
-        Fact::Att(term) => match bank.node(*term) {
+        Fact::Att(_, term) => match bank.node(*term) {
             Node::Var(_) => false,
             Node::App(_, _) => true,
         },

@@ -32,13 +32,13 @@ fn size_of_terms<B: Bank>(bank: &B, terms: &[Id]) -> u64
     symbols
 }
 
-/// The symbols of a head: its predicate, and the event's name.
+/// The symbols of a head: its predicate, and the name of a table or an event.
 pub fn head_symbols(head: Head) -> u64
     ensures { result ≡ head_size (head_seen head) }
 {
     match head {
-        Head::Att | Head::Mess | Head::Bad => 1,
-        Head::Ev(_) | Head::Mev(_) => 2,
+        Head::Att(_) | Head::Mess(_) | Head::Bad => 1,
+        Head::Tab(_) | Head::Ev(_) | Head::Mev(_) => 2,
     }
 }
 
@@ -67,7 +67,7 @@ fn size_of_facts<B: Bank>(bank: &B, facts: &[Fact]) -> u64
     symbols
 }
 
-/// The size of a clause: one for each predicate, event, symbol and occurrence of a variable, or
+/// The size of a clause: one for each predicate, table, event, symbol and occurrence of a variable, or
 /// `SIZE_LIMIT` where it is greater. Takes no memory.
 pub fn size_of<B: Bank>(bank: &B, clause: &Clause) -> u64
     requires { IsClauseIn (B.trees bank.now) clause.now }

@@ -52,10 +52,10 @@ parts_over hypotheses (f ∷ fs) = λ i. is_over (whole i) || parts_over hypothe
   whole = omega arith
 
 -- one of the arguments is over the limit, or none is
-pub some_over_found : (all : List Term) (id : Id) (f : Sym) (ids : List Id) (i n : ℕ) → tree_at all id ≡ node f (map (tree_at all) ids) → is_data f ≡ true → i < length ids → some_over n (flat_map (parts_at all) ids) ≡ some_over n (flat_map (parts_at all) (drop i ids))
-    → some_over n (parts_at all (get_or ids i record { index = 0 })) ≡ true → true ≡ some_over n (parts_at all id)
-some_over_found all id f ids i n is data_root within was here =
-    sym (ap (some_over n) (data_flat all id f ids is data_root) ∙ (was ∙ (over_at (parts_at all) ids i record { index = 0 } n within ∙ ap (λ b. b || some_over n (flat_map (parts_at all) (drop (i + 1) ids))) here)))
+pub some_over_found : (all : List Term) (phase : ℕ) (id : Id) (f : Sym) (ids : List Id) (i n : ℕ) → tree_at all id ≡ node f (map (tree_at all) ids) → is_data f ≡ true → i < length ids → some_over n (flat_map (parts_at all phase) ids) ≡ some_over n (flat_map (parts_at all phase) (drop i ids))
+    → some_over n (parts_at all phase (get_or ids i record { index = 0 })) ≡ true → true ≡ some_over n (parts_at all phase id)
+some_over_found all phase id f ids i n is data_root within was here =
+    sym (ap (some_over n) (data_flat all phase id f ids is data_root) ∙ (was ∙ (over_at (parts_at all phase) ids i record { index = 0 } n within ∙ ap (λ b. b || some_over n (flat_map (parts_at all phase) (drop (i + 1) ids))) here)))
 
-pub none_over_left : (all : List Term) (id : Id) (f : Sym) (ids : List Id) (i n : ℕ) → tree_at all id ≡ node f (map (tree_at all) ids) → is_data f ≡ true → length ids ≤ i → some_over n (flat_map (parts_at all) ids) ≡ some_over n (flat_map (parts_at all) (drop i ids)) → false ≡ some_over n (parts_at all id)
-none_over_left all id f ids i n is data_root past was = sym (ap (some_over n) (data_flat all id f ids is data_root) ∙ (was ∙ over_past (parts_at all) ids i n past))
+pub none_over_left : (all : List Term) (phase : ℕ) (id : Id) (f : Sym) (ids : List Id) (i n : ℕ) → tree_at all id ≡ node f (map (tree_at all) ids) → is_data f ≡ true → length ids ≤ i → some_over n (flat_map (parts_at all phase) ids) ≡ some_over n (flat_map (parts_at all phase) (drop i ids)) → false ≡ some_over n (parts_at all phase id)
+none_over_left all phase id f ids i n is data_root past was = sym (ap (some_over n) (data_flat all phase id f ids is data_root) ∙ (was ∙ over_past (parts_at all phase) ids i n past))

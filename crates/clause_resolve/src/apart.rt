@@ -50,9 +50,9 @@ fn shifted_fact<B: Bank>(alloc: Global, bank: &mut B, fact: &Fact) -> Result<Fac
     ensures names { IfOk result (λ made. NamesFact (B.trees bank.new) (fact_of made)
         (fact_under (moved most_symbols) (fact_at (B.trees bank.old) (fact_of fact.now)))) }
 {
-    if let Fact::Att(term) = fact {
+    if let Fact::Att(phase, term) = fact {
         let made = shifted(alloc, bank, *term, OFFSET)?;
-        return Ok(Fact::Att(made));
+        return Ok(Fact::Att(*phase, made));
     }
     let terms = fact.terms();
     let made = shifted_terms(alloc, bank, terms.as_slice())?;

@@ -104,9 +104,9 @@ fn applied_fact<B: Bank>(
         (λ stop. StopsAt stop (left.old < fact_size tree)) }
 {
     spend(head_symbols(fact.head()), left)?;
-    if let Fact::Att(term) = fact {
+    if let Fact::Att(phase, term) = fact {
         let made = applied(bank, binds, *term, left)?;
-        return Ok(Fact::Att(made));
+        return Ok(Fact::Att(*phase, made));
     }
     let terms = fact.terms();
     let made = applied_terms(alloc, bank, binds, terms.as_slice(), left)?;

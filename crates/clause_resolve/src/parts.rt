@@ -2,6 +2,7 @@
 
 ghost use Rattle.std.specs.Prelude.{◌≡◌, ℕ, ◌+◌, ◌<◌, length, map, flat_map};
 ghost use Rattle.std.specs.List.{list_any};
+ghost use Rattle.spec_trees.specs.Tree.{size};
 ghost use Rattle.spec_clauses.specs.Fact.{Att, total, fact_size};
 ghost use Rattle.spec_clauses.specs.Flat.{flat, flat_parts};
 ghost use Rattle.spec_clauses.specs.Limits.{is_large_clause};
@@ -21,18 +22,19 @@ fn add_symbols(symbols: u64, more: u64) -> u64
     symbols.saturating_add(more).min(SIZE_LIMIT)
 }
 
-/// The size of `att` of a term.
+/// The size of `att` of a term, in whatever phase.
 fn size_of_att<B: Bank>(bank: &B, id: Id) -> u64
     requires { id.index < length (B.trees bank.now) }
-    ensures { result ≡ capped (fact_size (Att 0 (tree_at (B.trees bank.now) id))) }
+    ensures { result ≡ capped (1 + size (tree_at (B.trees bank.now) id)) }
 {
     add_symbols(1, bank.size(id))
 }
 
-/// The size of all flat facts that `att` of a term stands for.
-fn flat_size_of_att<B: Bank>(bank: &B, id: Id) -> u64
+/// The size of all flat facts that `att` of a term stands for, in a phase.
+fn flat_size_of_att<B: Bank>(bank: &B, phase: u32, id: Id) -> u64
     requires { id.index < length (B.trees bank.now) }
-    ensures { result ≡ capped (total fact_size (flat (Att 0 (tree_at (B.trees bank.now) id)))) }
+    ensures { result ≡ capped
+        (total fact_size (flat (Att phase (tree_at (B.trees bank.now) id)))) }
 {
     match bank.node(id) {
         Node::Var(_) => size_of_att(bank, id),
@@ -42,7 +44,7 @@ fn flat_size_of_att<B: Bank>(bank: &B, id: Id) -> u64
             }
             let mut symbols = 0u64;
             'each: for argument in arguments {
-                symbols = add_symbols(symbols, flat_size_of_att(bank, *argument));
+                symbols = add_symbols(symbols, flat_size_of_att(bank, phase, *argument));
             }
             symbols
         }
@@ -56,8 +58,10 @@ fn flat_size_of_fact<B: Bank>(bank: &B, fact: &Fact) -> u64
         (total fact_size (flat (fact_at (B.trees bank.now) (fact_of fact.now)))) }
 {
     match fact {
-        Fact::Att(term) => flat_size_of_att(bank, *term),
-        Fact::Mess(..) | Fact::Ev(..) | Fact::Mev(..) | Fact::Bad(_) => size_of_fact(bank, fact),
+        Fact::Att(phase, term) => flat_size_of_att(bank, *phase, *term),
+        Fact::Mess(..) | Fact::Tab(..) | Fact::Ev(..) | Fact::Mev(..) | Fact::Bad(_) => {
+            size_of_fact(bank, fact)
+        }
     }
 }
 
@@ -82,11 +86,11 @@ fn is_over_limit(symbols: u64) -> bool
     symbols > MOST_SYMBOLS
 }
 
-/// Whether `att` of some flat part of a term has, with so many symbols more, more than the limit.
-fn some_part_over<B: Bank>(bank: &B, id: Id, symbols: u64) -> bool
+/// Whether `att` of some flat part of a term has, in a phase and with so many symbols more, more than the limit.
+fn some_part_over<B: Bank>(bank: &B, phase: u32, id: Id, symbols: u64) -> bool
     requires { id.index < length (B.trees bank.now) }
     ensures { (n : ℕ) → symbols ≡ capped n → result ≡ some_over n
-        (flat (Att 0 (tree_at (B.trees bank.now) id))) }
+        (flat (Att phase (tree_at (B.trees bank.now) id))) }
 {
     match bank.node(id) {
         Node::Var(_) => is_over_limit(add_symbols(size_of_att(bank, id), symbols)),
@@ -95,7 +99,7 @@ fn some_part_over<B: Bank>(bank: &B, id: Id, symbols: u64) -> bool
                 return is_over_limit(add_symbols(size_of_att(bank, id), symbols));
             }
             'each: for argument in arguments {
-                if some_part_over(bank, *argument, symbols) {
+                if some_part_over(bank, phase, *argument, symbols) {
                     return true;
                 }
             }
@@ -111,8 +115,8 @@ fn some_flat_over<B: Bank>(bank: &B, fact: &Fact, symbols: u64) -> bool
         (flat (fact_at (B.trees bank.now) (fact_of fact.now))) }
 {
     match fact {
-        Fact::Att(term) => some_part_over(bank, *term, symbols),
-        Fact::Mess(..) | Fact::Ev(..) | Fact::Mev(..) | Fact::Bad(_) => {
+        Fact::Att(phase, term) => some_part_over(bank, *phase, *term, symbols),
+        Fact::Mess(..) | Fact::Tab(..) | Fact::Ev(..) | Fact::Mev(..) | Fact::Bad(_) => {
             is_over_limit(add_symbols(size_of_fact(bank, fact), symbols))
         }
     }

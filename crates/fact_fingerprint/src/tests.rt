@@ -27,9 +27,9 @@ fn are_told(bank: &mut TreeBank) -> Result<bool, AllocError> {
     let under_first = encrypted(bank, first)?;
     let under_second = encrypted(bank, second)?;
     let under_any = encrypted(bank, any)?;
-    let left = fingerprint_of_fact(bank, &Fact::Att(under_first));
-    let right = fingerprint_of_fact(bank, &Fact::Att(under_second));
-    let other = fingerprint_of_fact(bank, &Fact::Att(under_any));
+    let left = fingerprint_of_fact(bank, &Fact::Att(0, under_first));
+    let right = fingerprint_of_fact(bank, &Fact::Att(0, under_second));
+    let other = fingerprint_of_fact(bank, &Fact::Att(0, under_any));
     Ok(!may_meet(&left, &right) && may_meet(&left, &left) && may_meet(&other, &left))
 }
 

@@ -14,8 +14,10 @@ use Rattle.clause_form.specs.Facts.{fact_of}
 use Rattle.clause_form.specs.Seen.{fact_at, IsFactIn, AreFactsIn, NameFacts}
 use Rattle.clause_form.proofs.Comparing.{map_drop, map_dropped}
 use Rattle.clause_form.proofs.Flattening.{AreFactsIn-append}
-use Rattle.spec_placements.specs.Placing.{Loose, known_variable, loose_variables}
-use Rattle.fact_placing.specs.Boards.{facts_at, in_first}
+use Rattle.spec_placements.specs.Placing as placing
+use Rattle.spec_placements.specs.Placing.{known_variable, loose_variables}
+use Rattle.fact_placing.specs.declared.board.Loose.{Loose}
+use Rattle.fact_placing.specs.Boards.{facts_at, loose_seen}
 
 -- the fact behind a reference
 abbrev pub unref : Bor Fact → horn.Fact Id
@@ -66,23 +68,23 @@ firm_all all hyps i found past so_far =
     }
 
 -- The loose ones, by their variables: one hypothesis that is loose, or isn't,
-pub loose_added : (f : horn.Fact Term) (found new : List ℕ) (x : ℕ) → Some (in_first x) ≡ known_variable f → new ≡ found ++ x ∷ [] → map in_first new ≡ map in_first found ++ loose_variables (f ∷ [])
-loose_added f found new x known e = ap (map in_first) e ∙ (map-append in_first found (x ∷ []) ∙ ap (λ o. map in_first found ++ cons_option o []) known)
+pub loose_added : (f : horn.Fact Term) (found new : List Loose) (x : Loose) → Some (loose_seen x) ≡ known_variable f → new ≡ found ++ x ∷ [] → map loose_seen new ≡ map loose_seen found ++ loose_variables (f ∷ [])
+loose_added f found new x known e = ap (map loose_seen) e ∙ (map-append loose_seen found (x ∷ []) ∙ ap (λ o. map loose_seen found ++ cons_option o []) known)
 
-pub none_added : (f : horn.Fact Term) (found : List ℕ) → None ≡ known_variable f → map in_first found ≡ map in_first found ++ loose_variables (f ∷ [])
-none_added f found known = sym (append-nil (map in_first found)) ∙ ap (λ o. map in_first found ++ cons_option o []) known
+pub none_added : (f : horn.Fact Term) (found : List Loose) → None ≡ known_variable f → map loose_seen found ≡ map loose_seen found ++ loose_variables (f ∷ [])
+none_added f found known = sym (append-nil (map loose_seen found)) ∙ ap (λ o. map loose_seen found ++ cons_option o []) known
 
 -- and with it those of the first of the hypotheses.
-first_loose : (o : Option Loose) (rest : List Loose) → cons_option o [] ++ rest ≡ cons_option o rest
+first_loose : (o : Option placing.Loose) (rest : List placing.Loose) → cons_option o [] ++ rest ≡ cons_option o rest
 first_loose None rest = refl
 first_loose (Some l) rest = refl
 
-pub loose_on : (all : List Term) (hyps : List Fact) (i : ℕ) (h : Fact) (found new : List ℕ) (whole : List Loose) → i < length hyps → h ≡ get_or hyps i h → map in_first new ≡ map in_first found ++ loose_variables (fact_at all (fact_of h) ∷ [])
-    → map in_first found ++ loose_variables (map (λ f. fact_at all (fact_of f)) (drop i hyps)) ≡ whole → map in_first new ++ loose_variables (map (λ f. fact_at all (fact_of f)) (drop (i + 1) hyps)) ≡ whole
+pub loose_on : (all : List Term) (hyps : List Fact) (i : ℕ) (h : Fact) (found new : List Loose) (whole : List placing.Loose) → i < length hyps → h ≡ get_or hyps i h → map loose_seen new ≡ map loose_seen found ++ loose_variables (fact_at all (fact_of h) ∷ [])
+    → map loose_seen found ++ loose_variables (map (λ f. fact_at all (fact_of f)) (drop i hyps)) ≡ whole → map loose_seen new ++ loose_variables (map (λ f. fact_at all (fact_of f)) (drop (i + 1) hyps)) ≡ whole
 loose_on all hyps i h found new whole within is e are =
     let seen : Fact → horn.Fact Term = λ f. fact_at all (fact_of f) in
     let rest = loose_variables (map seen (drop (i + 1) hyps)) in
     let here : map seen (drop i hyps) ≡ seen h ∷ map seen (drop (i + 1) hyps) = map_drop seen hyps i h within ∙ ap (λ f. seen f ∷ map seen (drop (i + 1) hyps)) (sym is) in
     ap (λ l. l ++ rest) e
-    ∙ (append_assoc (map in_first found) (loose_variables (seen h ∷ [])) rest
-    ∙ (ap (λ l. map in_first found ++ l) (first_loose (known_variable (seen h)) rest) ∙ (ap (λ l. map in_first found ++ loose_variables l) (sym here) ∙ are)))
+    ∙ (append_assoc (map loose_seen found) (loose_variables (seen h ∷ [])) rest
+    ∙ (ap (λ l. map loose_seen found ++ l) (first_loose (known_variable (seen h)) rest) ∙ (ap (λ l. map loose_seen found ++ loose_variables l) (sym here) ∙ are)))

@@ -17,7 +17,8 @@ use Rattle.clause_form.specs.Seen.{fact_at, IsFactIn, AreFactsIn}
 use Rattle.spec_placements.specs.Placing.{linked_variables, NoFactMatch}
 use Rattle.spec_placements.proofs.Linked.{linked_next}
 use Rattle.spec_placements.proofs.Standing.{holds_one, one_holds, row_long}
-use Rattle.fact_placing.specs.Boards.{facts_at, in_first, ending_at, IsAsBefore, IsPut, CannotPut, HoldsOn, HoldsNotOn, AreLinkedOn}
+use Rattle.fact_placing.specs.declared.board.Loose.{Loose}
+use Rattle.fact_placing.specs.Boards.{facts_at, loose_seen, ending_at, IsAsBefore, IsPut, CannotPut, HoldsOn, HoldsNotOn, AreLinkedOn}
 
 some_same : {X : Type 0} {x y : X} → Some x ≡ Some y → x ≡ y
 some_same e = cc
@@ -88,7 +89,7 @@ positions_more row k position p within is at so_far =
     let front = ap (map suc) (map-append pred (take k row) (suc p ∷ [])) ∙ (map-append suc (map pred (take k row)) (p ∷ []) ∙ ap (λ l. l ++ suc p ∷ []) so_far) in
     subst (λ (l : List ℕ). map suc (map pred l) ≡ l) (sym more) front
 
-module _ (all : List Term) (hyps : List (horn.Fact Id)) (loose : List ℕ) where
+module _ (all : List Term) (hyps : List (horn.Fact Id)) (loose : List Loose) where
   -- a fact that was put at its position of the row
   pub put_on : (old new : List Bound) (taken_old taken_new : List Bool) (facts rest : List (horn.Fact Id)) (fact : horn.Fact Id) (row more : List ℕ) (position p : ℕ) → facts ≡ fact ∷ rest → row ≡ position ∷ more → position ≡ suc p → IsPut all hyps old new taken_old taken_new fact p
       → HoldsOn all hyps loose old taken_old facts (map pred row) ↔ HoldsOn all hyps loose new taken_new rest (map pred more)
@@ -106,7 +107,7 @@ module _ (all : List Term) (hyps : List (horn.Fact Id)) (loose : List ℕ) where
 
   pub linked_on : (old new : List Bound) (taken_old taken_new : List Bool) (facts rest : List (horn.Fact Id)) (fact : horn.Fact Id) (p : ℕ) → facts ≡ fact ∷ rest → IsPut all hyps old new taken_old taken_new fact p → AreLinkedOn all loose old facts → AreLinkedOn all loose new rest
   linked_on old new taken_old taken_new facts rest fact p facts_are put linked =
-      linked_next (seen all old) (seen all new) (linked_variables (map in_first loose) []) (facts_at all (fact ∷ rest)) (facts_at all rest) (fact_at all fact) put.there here put.matched (subst (λ fs. AreLinkedOn all loose old fs) facts_are linked)
+      linked_next (seen all old) (seen all new) (linked_variables (map loose_seen loose) []) (facts_at all (fact ∷ rest)) (facts_at all rest) (fact_at all fact) put.there here put.matched (subst (λ fs. AreLinkedOn all loose old fs) facts_are linked)
 
   -- positions of a row that counts from 1
   pub positions_back : (inner : List ℕ) → map pred (map suc inner) ≡ inner

@@ -9,22 +9,24 @@ use Rattle.unify_match.specs.declared.bound.Bound.{Bound}
 use Rattle.unify_match.specs.Seen.{seen, AreBindings}
 use Rattle.clause_form.specs.Seen.{fact_at, AreFactsIn}
 use Rattle.spec_placements.specs.LooseParts.{flat_of}
-use Rattle.spec_placements.specs.Placing.{Loose, Ending, linked_variables, FactMatched, NoFactMatch, CanPlace, CanStand, HoldsFrom, IsFirstFrom, AreLinked}
+use Rattle.fact_placing.specs.declared.board.Loose.{Loose}
+use Rattle.spec_placements.specs.Placing as placing
+use Rattle.spec_placements.specs.Placing.{Ending, linked_variables, FactMatched, NoFactMatch, CanPlace, CanStand, HoldsFrom, IsFirstFrom, AreLinked}
 
 -- the facts that facts over ids name
 abbrev pub facts_at : List Term → List (horn.Fact Id) → List (horn.Fact Term)
 facts_at all fs = map (fact_at all) fs
 
--- Hypotheses `att` of a variable are of the first phase, and told by their variables; there are no constraints.
-abbrev pub in_first : ℕ → Loose
-in_first x = record { phase = 0; variable = x }
+-- what contracts see of a hypothesis `att` of a variable, and of all of them: there are no constraints
+abbrev pub loose_seen : Loose → placing.Loose
+loose_seen l = record { phase = l.phase; variable = l.variable }
 
-abbrev pub ending_at : List ℕ → Ending
-ending_at loose = record { loose = map in_first loose; diffs = []; kept_in = [] }
+abbrev pub ending_at : List Loose → Ending
+ending_at loose = record { loose = map loose_seen loose; diffs = []; kept_in = [] }
 
 -- the flat facts that `att` of the variables stands for, where they are bound
-abbrev pub loose_parts : List Binding → List ℕ → List (horn.Fact Term)
-loose_parts bs loose = flat_map (λ x. flat_of 0 (bound_to bs x)) loose
+abbrev pub loose_parts : List Binding → List Loose → List (horn.Fact Term)
+loose_parts bs loose = flat_map (λ l. flat_of l.phase (bound_to bs l.variable)) loose
 
 -- the hypotheses on whose positions facts are placed: each id names a tree, and positions are numbers of 32 bits
 pub record IsBoard (all : List Term) (hyps : List (horn.Fact Id)) : Type 0 where
@@ -48,11 +50,11 @@ pub record IsBegun (all : List Term) (hyps : List (horn.Fact Id)) (general speci
   pub free : taken ≡ replicate (length (facts_at all hyps)) false
 
 -- the conclusions are matched by these bindings, and nothing is placed: what the facts are asked of then
-abbrev pub HoldsFirst : List Term → List (horn.Fact Id) → List ℕ → List Binding → List (horn.Fact Id) → List ℕ → Type 0
+abbrev pub HoldsFirst : List Term → List (horn.Fact Id) → List Loose → List Binding → List (horn.Fact Id) → List ℕ → Type 0
 HoldsFirst all hyps loose bs facts row = HoldsFrom bs (replicate (length (facts_at all hyps)) false) (facts_at all hyps) (facts_at all facts) (ending_at loose) row
 
 -- The conclusions are matched, and the row, whose positions count from 1, holds the facts.
-pub record HoldsWith (all : List Term) (hyps : List (horn.Fact Id)) (loose : List ℕ) (facts : List (horn.Fact Id)) (general special : horn.Fact Id) (row : List ℕ) : Type 0 where
+pub record HoldsWith (all : List Term) (hyps : List (horn.Fact Id)) (loose : List Loose) (facts : List (horn.Fact Id)) (general special : horn.Fact Id) (row : List ℕ) : Type 0 where
   pub bindings : List Binding
   pub matched : FactMatched [] bindings (fact_at all general) (fact_at all special)
   pub inner : List ℕ
@@ -60,13 +62,13 @@ pub record HoldsWith (all : List Term) (hyps : List (horn.Fact Id)) (loose : Lis
   pub holds : HoldsFirst all hyps loose bindings facts inner
 
 -- The conclusions are matched, and the row doesn't hold the facts.
-pub record HoldsNotWith (all : List Term) (hyps : List (horn.Fact Id)) (loose : List ℕ) (facts : List (horn.Fact Id)) (general special : horn.Fact Id) (row : List ℕ) : Type 0 where
+pub record HoldsNotWith (all : List Term) (hyps : List (horn.Fact Id)) (loose : List Loose) (facts : List (horn.Fact Id)) (general special : horn.Fact Id) (row : List ℕ) : Type 0 where
   pub bindings : List Binding
   pub matched : FactMatched [] bindings (fact_at all general) (fact_at all special)
   pub never : (inner : List ℕ) → row ≡ map suc inner → HoldsFirst all hyps loose bindings facts inner → ⊥
 
 -- the conclusions don't match, or the row doesn't hold the facts
-abbrev pub FailsWith : List Term → List (horn.Fact Id) → List ℕ → List (horn.Fact Id) → horn.Fact Id → horn.Fact Id → List ℕ → Type 0
+abbrev pub FailsWith : List Term → List (horn.Fact Id) → List Loose → List (horn.Fact Id) → horn.Fact Id → horn.Fact Id → List ℕ → Type 0
 FailsWith all hyps loose facts general special row = NoFactMatch [] (fact_at all general) (fact_at all special) ⊎ HoldsNotWith all hyps loose facts general special row
 
 -- The fact is placed at position p, which was free: the bindings match it onto what stands there.
@@ -82,49 +84,49 @@ abbrev pub CannotPut : List Term → List (horn.Fact Id) → List Bound → List
 CannotPut all hyps pairs taken fact p = (s : Subst) → Agrees s (seen all pairs) → get_or taken p false ≡ false → slice_get (facts_at all hyps) p ≡ Some (fact_under s (fact_at all fact)) → ⊥
 
 -- the facts, and the loose variables' parts, can be placed; a row holds them; it is the first; a fact can stand at p
-abbrev pub CanPlaceOn : List Term → List (horn.Fact Id) → List ℕ → List Bound → List Bool → List (horn.Fact Id) → Type 0
+abbrev pub CanPlaceOn : List Term → List (horn.Fact Id) → List Loose → List Bound → List Bool → List (horn.Fact Id) → Type 0
 CanPlaceOn all hyps loose pairs taken facts = CanPlace (seen all pairs) taken (facts_at all hyps) (facts_at all facts) (ending_at loose)
 
-abbrev pub HoldsOn : List Term → List (horn.Fact Id) → List ℕ → List Bound → List Bool → List (horn.Fact Id) → List ℕ → Type 0
+abbrev pub HoldsOn : List Term → List (horn.Fact Id) → List Loose → List Bound → List Bool → List (horn.Fact Id) → List ℕ → Type 0
 HoldsOn all hyps loose pairs taken facts row = HoldsFrom (seen all pairs) taken (facts_at all hyps) (facts_at all facts) (ending_at loose) row
 
-abbrev pub IsFirstOn : List Term → List (horn.Fact Id) → List ℕ → List Bound → List Bool → List (horn.Fact Id) → List ℕ → Type 0
+abbrev pub IsFirstOn : List Term → List (horn.Fact Id) → List Loose → List Bound → List Bool → List (horn.Fact Id) → List ℕ → Type 0
 IsFirstOn all hyps loose pairs taken facts row = IsFirstFrom (seen all pairs) taken (facts_at all hyps) (facts_at all facts) (ending_at loose) row
 
-abbrev pub CanStandOn : List Term → List (horn.Fact Id) → List ℕ → List Bound → List Bool → horn.Fact Id → List (horn.Fact Id) → ℕ → Type 0
+abbrev pub CanStandOn : List Term → List (horn.Fact Id) → List Loose → List Bound → List Bool → horn.Fact Id → List (horn.Fact Id) → ℕ → Type 0
 CanStandOn all hyps loose pairs taken fact rest p = CanStand (seen all pairs) taken (facts_at all hyps) (fact_at all fact) (facts_at all rest) (ending_at loose) p
 
 -- each loose variable is bound or stands in one of the facts
-abbrev pub AreLinkedOn : List Term → List ℕ → List Bound → List (horn.Fact Id) → Type 0
-AreLinkedOn all loose pairs facts = AreLinked (seen all pairs) (linked_variables (map in_first loose) []) (facts_at all facts)
+abbrev pub AreLinkedOn : List Term → List Loose → List Bound → List (horn.Fact Id) → Type 0
+AreLinkedOn all loose pairs facts = AreLinked (seen all pairs) (linked_variables (map loose_seen loose) []) (facts_at all facts)
 
 -- The facts are placed at the positions of a row, which count from 1: the row holds them exactly where nothing more
 -- holds with what is placed now.
-pub record ArePut (all : List Term) (hyps : List (horn.Fact Id)) (loose : List ℕ) (old new : List Bound) (taken_old taken_new : List Bool) (facts : List (horn.Fact Id)) (row : List ℕ) : Type 0 where
+pub record ArePut (all : List Term) (hyps : List (horn.Fact Id)) (loose : List Loose) (old new : List Bound) (taken_old taken_new : List Bool) (facts : List (horn.Fact Id)) (row : List ℕ) : Type 0 where
   pub positions : map suc (map pred row) ≡ row
   pub holds : HoldsOn all hyps loose old taken_old facts (map pred row) ↔ HoldsOn all hyps loose new taken_new [] []
   pub linked : AreLinkedOn all loose old facts → AreLinkedOn all loose new []
 
 -- no row of positions that count from 1 holds the facts, if it is this one
-abbrev pub HoldsNotOn : List Term → List (horn.Fact Id) → List ℕ → List Bound → List Bool → List (horn.Fact Id) → List ℕ → Type 0
+abbrev pub HoldsNotOn : List Term → List (horn.Fact Id) → List Loose → List Bound → List Bool → List (horn.Fact Id) → List ℕ → Type 0
 HoldsNotOn all hyps loose pairs taken facts row = (inner : List ℕ) → row ≡ map suc inner → HoldsOn all hyps loose pairs taken facts inner → ⊥
 
 -- the row, whose positions count from 1, holds the facts, and is the first that does
-abbrev pub HoldsByOn : List Term → List (horn.Fact Id) → List ℕ → List Bound → List Bool → List (horn.Fact Id) → List ℕ → Type 0
+abbrev pub HoldsByOn : List Term → List (horn.Fact Id) → List Loose → List Bound → List Bool → List (horn.Fact Id) → List ℕ → Type 0
 HoldsByOn all hyps loose pairs taken facts row = (inner : List ℕ) × (row ≡ map suc inner) × HoldsOn all hyps loose pairs taken facts inner
 
-abbrev pub IsFirstByOn : List Term → List (horn.Fact Id) → List ℕ → List Bound → List Bool → List (horn.Fact Id) → List ℕ → Type 0
+abbrev pub IsFirstByOn : List Term → List (horn.Fact Id) → List Loose → List Bound → List Bool → List (horn.Fact Id) → List ℕ → Type 0
 IsFirstByOn all hyps loose pairs taken facts row = (inner : List ℕ) × (row ≡ map suc inner) × IsFirstOn all hyps loose pairs taken facts inner
 
 -- A row for a fact and the rest, where the fact's position stands at a place among the others.
-pub record HoldsInserted (all : List Term) (hyps : List (horn.Fact Id)) (loose : List ℕ) (pairs : List Bound) (taken : List Bool) (fact : horn.Fact Id) (rest : List (horn.Fact Id)) (at : ℕ) (row : List ℕ) : Type 0 where
+pub record HoldsInserted (all : List Term) (hyps : List (horn.Fact Id)) (loose : List Loose) (pairs : List Bound) (taken : List Bool) (fact : horn.Fact Id) (rest : List (horn.Fact Id)) (at : ℕ) (row : List ℕ) : Type 0 where
   pub position : ℕ
   pub others : List ℕ
   pub inserted : row ≡ insert others at position
   pub holds : HoldsOn all hyps loose pairs taken (fact ∷ rest) (position ∷ others)
 
 -- A row for a fact and the rest, in which the fact has the least position at which it can stand.
-pub record IsLeastRow (all : List Term) (hyps : List (horn.Fact Id)) (loose : List ℕ) (pairs : List Bound) (taken : List Bool) (fact : horn.Fact Id) (rest : List (horn.Fact Id)) (row : List ℕ) : Type 0 where
+pub record IsLeastRow (all : List Term) (hyps : List (horn.Fact Id)) (loose : List Loose) (pairs : List Bound) (taken : List Bool) (fact : horn.Fact Id) (rest : List (horn.Fact Id)) (row : List ℕ) : Type 0 where
   pub position : ℕ
   pub others : List ℕ
   pub are : row ≡ position ∷ others
@@ -132,7 +134,7 @@ pub record IsLeastRow (all : List Term) (hyps : List (horn.Fact Id)) (loose : Li
   pub least : (q : ℕ) → q < position → CanStandOn all hyps loose pairs taken fact rest q → ⊥
 
 -- The fact is placed at the first position of the row, the least at which it could stand, and the others hold the rest.
-pub record IsNextRow (all : List Term) (hyps : List (horn.Fact Id)) (loose : List ℕ) (old new : List Bound) (taken_old taken_new : List Bool) (fact : horn.Fact Id) (rest : List (horn.Fact Id)) (row : List ℕ) : Type 0 where
+pub record IsNextRow (all : List Term) (hyps : List (horn.Fact Id)) (loose : List Loose) (old new : List Bound) (taken_old taken_new : List Bool) (fact : horn.Fact Id) (rest : List (horn.Fact Id)) (row : List ℕ) : Type 0 where
   pub position : ℕ
   pub others : List ℕ
   pub are : row ≡ position ∷ others
@@ -141,7 +143,7 @@ pub record IsNextRow (all : List Term) (hyps : List (horn.Fact Id)) (loose : Lis
   pub least : (q : ℕ) → q < position → CanStandOn all hyps loose old taken_old fact rest q → ⊥
 
 -- The conclusions are matched, and the row, whose positions count from 1, is the first that holds the facts.
-pub record IsFirstWith (all : List Term) (hyps : List (horn.Fact Id)) (loose : List ℕ) (facts : List (horn.Fact Id)) (general special : horn.Fact Id) (row : List ℕ) : Type 0 where
+pub record IsFirstWith (all : List Term) (hyps : List (horn.Fact Id)) (loose : List Loose) (facts : List (horn.Fact Id)) (general special : horn.Fact Id) (row : List ℕ) : Type 0 where
   pub bindings : List Binding
   pub matched : FactMatched [] bindings (fact_at all general) (fact_at all special)
   pub inner : List ℕ
@@ -149,11 +151,11 @@ pub record IsFirstWith (all : List Term) (hyps : List (horn.Fact Id)) (loose : L
   pub first : IsFirstFrom bindings (replicate (length (facts_at all hyps)) false) (facts_at all hyps) (facts_at all facts) (ending_at loose) inner
 
 -- The conclusions are matched, and the facts can't be placed.
-pub record CannotPlaceWith (all : List Term) (hyps : List (horn.Fact Id)) (loose : List ℕ) (facts : List (horn.Fact Id)) (general special : horn.Fact Id) : Type 0 where
+pub record CannotPlaceWith (all : List Term) (hyps : List (horn.Fact Id)) (loose : List Loose) (facts : List (horn.Fact Id)) (general special : horn.Fact Id) : Type 0 where
   pub bindings : List Binding
   pub matched : FactMatched [] bindings (fact_at all general) (fact_at all special)
   pub never : CanPlace bindings (replicate (length (facts_at all hyps)) false) (facts_at all hyps) (facts_at all facts) (ending_at loose) → ⊥
 
 -- the conclusions don't match, or the facts can't be placed
-abbrev pub NowhereWith : List Term → List (horn.Fact Id) → List ℕ → List (horn.Fact Id) → horn.Fact Id → horn.Fact Id → Type 0
+abbrev pub NowhereWith : List Term → List (horn.Fact Id) → List Loose → List (horn.Fact Id) → horn.Fact Id → horn.Fact Id → Type 0
 NowhereWith all hyps loose facts general special = NoFactMatch [] (fact_at all general) (fact_at all special) ⊎ CannotPlaceWith all hyps loose facts general special

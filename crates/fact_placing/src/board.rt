@@ -3,24 +3,32 @@
 ghost use Rattle.std.specs.Prelude.{◌≡◌, ◌++◌, [], ◌∷◌, cond, map, option_map, IfOk, OnOk};
 ghost use Rattle.spec_clauses.specs.Fact.{is_variable_known as is_variable_known_fact};
 ghost use Rattle.spec_clauses.specs.Subsumption.{firm};
-ghost use Rattle.spec_placements.specs.Placing.{known_variable as known_variable_of, loose_variables};
+ghost use Rattle.spec_placements.specs.Placing.{known_variable as known_variable_of};
+ghost use Rattle.spec_placements.specs.Placing.{loose_variables};
 ghost use Rattle.clause_form.specs.Facts.{fact_of};
 ghost use Rattle.clause_form.specs.Seen.{fact_at, IsFactIn, AreFactsIn, NameFacts};
-ghost use Rattle.fact_placing.specs.Boards.{facts_at, in_first};
+ghost use Rattle.fact_placing.specs.Boards.{facts_at, loose_seen};
 
 use clause_form::{Fact, is_variable_known};
 use std::alloc::{AllocError, Global};
 use term_tree::{Bank, Node};
 
-/// The hypotheses of the special clause, at whose positions those of the general one are placed, and the variables of
-/// which the general one has `att` hypotheses: their terms have to be known at further positions. Where it is divided,
+/// A hypothesis `att` of a variable: its phase, and the variable.
+#[derive(Clone, Copy)]
+pub struct Loose {
+    pub phase: u32,
+    pub variable: u32,
+}
+
+/// The hypotheses of the special clause, at whose positions those of the general one are placed, and the hypotheses `att`
+/// of a variable of the general one: their terms have to be known at further positions. Where it is divided,
 /// the hypotheses of the general clause fall into parts that share no variable that isn't bound.
 #[derive(Drop)]
 pub struct Board<'a, B> {
     pub alloc: Global,
     pub bank: &'a B,
     pub hyps: &'a [Fact],
-    pub loose: &'a [u32],
+    pub loose: &'a [Loose],
     pub is_divided: bool,
 }
 
@@ -61,40 +69,43 @@ pub fn firm_of<'a, B: Bank>(
     Ok(found)
 }
 
-/// The variable of which the fact is `att`.
-fn known_variable<B: Bank>(bank: &B, fact: &Fact) -> Option<u32>
+/// The phase and the variable of which the fact is `att`.
+fn known_variable<B: Bank>(bank: &B, fact: &Fact) -> Option<Loose>
     requires { IsFactIn (B.trees bank.now) (fact_of fact.now) }
-    ensures { option_map in_first result ≡
+    ensures { option_map loose_seen result ≡
         known_variable_of (fact_at (B.trees bank.now) (fact_of fact.now)) }
 {
     match fact {
-        Fact::Att(term) => match bank.node(*term) {
-            Node::Var(variable) => Some(variable),
+        Fact::Att(phase, term) => match bank.node(*term) {
+            Node::Var(variable) => Some(Loose {
+                phase: *phase,
+                variable,
+            }),
             Node::App(_, _) => None,
         },
         _ => None,
     }
 }
 
-/// Adds the variable of which a hypothesis is `att`, if it is.
-fn add_loose<B: Bank>(bank: &B, hyp: &Fact, found: &mut Vec<u32>) -> Result<(), AllocError>
+/// Adds a hypothesis, if it is `att` of a variable.
+fn add_loose<B: Bank>(bank: &B, hyp: &Fact, found: &mut Vec<Loose>) -> Result<(), AllocError>
     requires { IsFactIn (B.trees bank.now) (fact_of hyp.now) }
-    ensures { OnOk result (map in_first found.new.items ≡ map in_first found.old.items ++
+    ensures { OnOk result (map loose_seen found.new.items ≡ map loose_seen found.old.items ++
         loose_variables (fact_at (B.trees bank.now) (fact_of hyp.now) ∷ [])) }
 {
     match known_variable(bank, hyp) {
-        Some(variable) => {
-            found.push(variable)?;
+        Some(loose) => {
+            found.push(loose)?;
             Ok(())
         }
         None => Ok(()),
     }
 }
 
-/// The variables of which there is an `att` among the hypotheses, in order.
-pub fn loose_of<B: Bank>(alloc: Global, bank: &B, hyps: &[Fact]) -> Result<Vec<u32>, AllocError>
+/// The hypotheses `att` of a variable, in order.
+pub fn loose_of<B: Bank>(alloc: Global, bank: &B, hyps: &[Fact]) -> Result<Vec<Loose>, AllocError>
     requires { AreFactsIn (B.trees bank.now) (map fact_of hyps.now) }
-    ensures { IfOk result (λ found. map in_first found.items ≡ loose_variables
+    ensures { IfOk result (λ found. map loose_seen found.items ≡ loose_variables
         (facts_at (B.trees bank.now) (map fact_of hyps.now))) }
 {
     let mut found = Vec::new(alloc);

@@ -23,7 +23,7 @@ fn att(names: &Names<'_>, cursor: &mut Cursor<'_>) -> Result<PlainFact, CertErro
     cursor.pass(b"att(")?;
     let known = term(names, cursor)?;
     cursor.pass(b")")?;
-    Ok(PlainFact::Att(known))
+    Ok(PlainFact::Att(0, known))
 }
 
 /// `mess(`, two terms with a comma between, and `)`.
@@ -37,7 +37,7 @@ fn mess(names: &Names<'_>, cursor: &mut Cursor<'_>) -> Result<PlainFact, CertErr
     cursor.pass(b",")?;
     let message = term(names, cursor)?;
     cursor.pass(b")")?;
-    Ok(PlainFact::Mess(channel, message))
+    Ok(PlainFact::Mess(0, channel, message))
 }
 
 /// `ev(`, an event and `)`.

@@ -35,8 +35,8 @@ fn weigh<B: Bank>(bank: &B, hyp: &Fact, lane: Lane, found: u64) -> u64
     }
     let is_one_more = match lane {
         Lane::Symbols => return symbols_of_fact(bank, hyp, found),
-        Lane::Att => matches!(hyp, Fact::Att(_)),
-        Lane::Mess => matches!(hyp, Fact::Mess(..)),
+        Lane::Att => matches!(hyp, Fact::Att(..)),
+        Lane::Mess => matches!(hyp, Fact::Mess(..) | Fact::Tab(..)),
         Lane::Ev => matches!(hyp, Fact::Ev(..)),
         Lane::Mev => matches!(hyp, Fact::Mev(..)),
     };
@@ -82,10 +82,11 @@ fn number_of(fact: &Fact) -> u16
     ensures { result ≡ predicate_number (predicate_of (fact_of fact.now)) }
 {
     match fact {
-        Fact::Att(_) => 0,
+        Fact::Att(..) => 0,
         Fact::Mess(..) => 1,
         Fact::Ev(..) | Fact::Mev(..) => 2,
         Fact::Bad(_) => 3,
+        Fact::Tab(..) => 4,
     }
 }
 

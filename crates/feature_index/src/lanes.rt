@@ -10,9 +10,9 @@ ghost use Rattle.spec_features.specs.Features.{features_of, are_at_most};
 
 use std::simd::prelude::*;
 
-/// The features of a clause. The lanes, in order: the numbers of hypotheses `att`, `mess`, `ev` and `mev`, but for `att` of
-/// a variable; the function and name symbols of these together; those of the conclusion; the number of the conclusion's
-/// predicate (`att` 0, `mess` 1, `ev` 2, `bad` 3, and 4 is that of entries of tables); and 4 less that number.
+/// The features of a clause. The lanes, in order: the numbers of hypotheses `att`, `mess` or `tab`, `ev` and `mev`, but for
+/// `att` of a variable; the function and name symbols of these together; those of the conclusion; the number of the
+/// conclusion's predicate (`att` 0, `mess` 1, `ev` 2, `bad` 3, `tab` 4); and 4 less that number.
 #[derive(Clone, Copy)]
 pub struct Features {
     pub lanes: [u16; 8],

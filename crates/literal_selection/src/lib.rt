@@ -27,7 +27,7 @@ fn is_bad<B: Bank>(bank: &B, fact: &Fact) -> bool
 {
     match fact {
         Fact::Bad(_) => true,
-        Fact::Att(_) | Fact::Mess(..) | Fact::Ev(..) | Fact::Mev(..) => false,
+        Fact::Att(..) | Fact::Mess(..) | Fact::Tab(..) | Fact::Ev(..) | Fact::Mev(..) => false,
     }
 }
 

@@ -24,7 +24,8 @@ use Rattle.spec_placements.proofs.Holding.{inner_row, holds_from, from_holds}
 use Rattle.spec_placements.proofs.Linked.{rules_link, linked_first, linked_loose}
 use Rattle.spec_placements.proofs.Removing.{removed_within, loose_placed, loose_unplaced}
 use Rattle.spec_placements.proofs.Standing.{holds_nothing, row_placed}
-use Rattle.fact_placing.specs.Boards.{facts_at, in_first, ending_at, loose_parts, IsBoard, IsPlacing, IsBegun, ArePut, CanPlaceOn, HoldsOn, AreLinkedOn, HoldsNotOn, HoldsByOn, HoldsFirst, HoldsWith, FailsWith}
+use Rattle.fact_placing.specs.declared.board.Loose.{Loose}
+use Rattle.fact_placing.specs.Boards.{facts_at, loose_seen, ending_at, loose_parts, IsBoard, IsPlacing, IsBegun, ArePut, CanPlaceOn, HoldsOn, AreLinkedOn, HoldsNotOn, HoldsByOn, HoldsFirst, HoldsWith, FailsWith}
 use Rattle.fact_placing.proofs.Putting.{positions_back}
 
 -- what removal of the parts tells of the flags that it began with
@@ -32,22 +33,22 @@ pub may_stand : (hs parts : List (horn.Fact Term)) (taken before now : List Bool
 may_stand hs parts taken before now true e told = subst (λ (flags : List Bool). IsWithin parts (left flags hs)) e (removed_within hs before now parts told)
 may_stand hs parts taken before now false e told = subst (λ (flags : List Bool). HasNoRoom hs flags parts) e told
 
--- the parts of loose hypotheses of the first phase are those of their variables
-pub parts_in_first : (bs : List Binding) (loose : List ℕ) → bound_parts bs (map in_first loose) ≡ loose_parts bs loose
-parts_in_first bs loose = flat_map-map (λ l. flat_of l.phase (bound_to bs l.variable)) in_first loose
+-- the parts of loose hypotheses, as contracts see them
+pub parts_seen : (bs : List Binding) (loose : List Loose) → bound_parts bs (map loose_seen loose) ≡ loose_parts bs loose
+parts_seen bs loose = flat_map-map (λ l. flat_of l.phase (bound_to bs l.variable)) loose_seen loose
 
 -- with no fact left all is placed where they stand, and nothing is where they don't
-pub loose_stand : (all : List Term) (hyps : List (horn.Fact Id)) (loose : List ℕ) (pairs : List Bound) (taken : List Bool) → IsPlacing all hyps pairs taken → AreLinkedOn all loose pairs [] → IsWithin (loose_parts (seen all pairs) loose) (left taken (facts_at all hyps)) → CanPlaceOn all hyps loose pairs taken []
+pub loose_stand : (all : List Term) (hyps : List (horn.Fact Id)) (loose : List Loose) (pairs : List Bound) (taken : List Bool) → IsPlacing all hyps pairs taken → AreLinkedOn all loose pairs [] → IsWithin (loose_parts (seen all pairs) loose) (left taken (facts_at all hyps)) → CanPlaceOn all hyps loose pairs taken []
 loose_stand all hyps loose pairs taken placing linked within =
-    loose_placed (seen all pairs) taken (facts_at all hyps) (ending_at loose) placing.bindings.once (linked_loose (seen all pairs) (map in_first loose) [] [] linked)
-    (subst (λ (ys : List (horn.Fact Term)). IsWithin ys (left taken (facts_at all hyps))) (sym (parts_in_first (seen all pairs) loose)) within) tt
+    loose_placed (seen all pairs) taken (facts_at all hyps) (ending_at loose) placing.bindings.once (linked_loose (seen all pairs) (map loose_seen loose) [] [] linked)
+    (subst (λ (ys : List (horn.Fact Term)). IsWithin ys (left taken (facts_at all hyps))) (sym (parts_seen (seen all pairs) loose)) within) tt
 
-pub loose_nowhere : (all : List Term) (hyps : List (horn.Fact Id)) (loose : List ℕ) (pairs : List Bound) (taken : List Bool) (facts : List (horn.Fact Id)) → HasNoRoom (facts_at all hyps) taken (loose_parts (seen all pairs) loose) → CanPlaceOn all hyps loose pairs taken facts → ⊥
+pub loose_nowhere : (all : List Term) (hyps : List (horn.Fact Id)) (loose : List Loose) (pairs : List Bound) (taken : List Bool) (facts : List (horn.Fact Id)) → HasNoRoom (facts_at all hyps) taken (loose_parts (seen all pairs) loose) → CanPlaceOn all hyps loose pairs taken facts → ⊥
 loose_nowhere all hyps loose pairs taken facts none =
-    loose_unplaced (seen all pairs) taken (facts_at all hyps) (facts_at all facts) (ending_at loose) (subst (λ (ys : List (horn.Fact Term)). HasNoRoom (facts_at all hyps) taken ys) (sym (parts_in_first (seen all pairs) loose)) none)
+    loose_unplaced (seen all pairs) taken (facts_at all hyps) (facts_at all facts) (ending_at loose) (subst (λ (ys : List (horn.Fact Term)). HasNoRoom (facts_at all hyps) taken ys) (sym (parts_seen (seen all pairs) loose)) none)
 
 -- all facts are put along the row: it holds where the loose parts stand
-pub held_along : (all : List Term) (hyps : List (horn.Fact Id)) (loose : List ℕ) (start now : List Bound) (taken_start taken_now : List Bool) (facts : List (horn.Fact Id)) (row : List ℕ) (r : Result Bool AllocError)
+pub held_along : (all : List Term) (hyps : List (horn.Fact Id)) (loose : List Loose) (start now : List Bound) (taken_start taken_now : List Bool) (facts : List (horn.Fact Id)) (row : List ℕ) (r : Result Bool AllocError)
     → IsPlacing all hyps now taken_now → AreLinkedOn all loose start facts → ArePut all hyps loose start now taken_start taken_now facts row
     → IfOk r (λ yes. MatchBool yes (IsWithin (loose_parts (seen all now) loose) (left taken_now (facts_at all hyps))) (HasNoRoom (facts_at all hyps) taken_now (loose_parts (seen all now) loose)))
     → IfOk r (λ yes. MatchBool yes (HoldsByOn all hyps loose start taken_start facts row) (HoldsNotOn all hyps loose start taken_start facts row))
@@ -84,7 +85,7 @@ pub at_some : {X : Type 0} (P : Type 0) (o : Option X) (x : X) (Q : X → Type 0
 at_some {X} P o x Q e told = let here : MatchOption (Some x) P Q = subst (λ (p : Option X). MatchOption p P Q) e told in here
 
 -- what is told once the conclusions are matched
-pub held_with : (all : List Term) (hyps : List (horn.Fact Id)) (loose : List ℕ) (facts : List (horn.Fact Id)) (general special : horn.Fact Id) (pairs : List Bound) (taken : List Bool) (row : List ℕ) (r : Result Bool AllocError) → IsBegun all hyps general special pairs taken
+pub held_with : (all : List Term) (hyps : List (horn.Fact Id)) (loose : List Loose) (facts : List (horn.Fact Id)) (general special : horn.Fact Id) (pairs : List Bound) (taken : List Bool) (row : List ℕ) (r : Result Bool AllocError) → IsBegun all hyps general special pairs taken
     → IfOk r (λ yes. MatchBool yes (HoldsByOn all hyps loose pairs taken facts row) (HoldsNotOn all hyps loose pairs taken facts row)) → IfOk r (λ yes. MatchBool yes (HoldsWith all hyps loose facts general special row) (FailsWith all hyps loose facts general special row))
 held_with all hyps loose facts general special pairs taken row (Ok true) begun (inner, same, held) = record {
   bindings = seen all pairs;
@@ -101,23 +102,23 @@ held_with all hyps loose facts general special pairs taken row (Ok false) begun 
 held_with all hyps loose facts general special pairs taken row (Err e) begun told = tt
 
 -- the loose variables and firm hypotheses of a normal clause without constraints
-pub linked_with : (all : List Term) (general g : Clause Id) (special : horn.Fact Id) (facts found second : List (horn.Fact Id)) (loose variables : List ℕ) → g ≡ general → g.diffs ≡ [] → IsNormal (clause_at all general)
-    → NameFacts all found (firm (facts_at all g.hypotheses)) → facts ≡ found → map in_first variables ≡ loose_variables (facts_at all second) → second ≡ g.hypotheses → loose ≡ variables
-    → (bs : List Binding) → FactMatched [] bs (fact_at all g.conclusion) (fact_at all special) → AreLinked bs (linked_variables (map in_first loose) []) (facts_at all facts)
+pub linked_with : (all : List Term) (general g : Clause Id) (special : horn.Fact Id) (facts found second : List (horn.Fact Id)) (loose variables : List Loose) → g ≡ general → g.diffs ≡ [] → IsNormal (clause_at all general)
+    → NameFacts all found (firm (facts_at all g.hypotheses)) → facts ≡ found → map loose_seen variables ≡ loose_variables (facts_at all second) → second ≡ g.hypotheses → loose ≡ variables
+    → (bs : List Binding) → FactMatched [] bs (fact_at all g.conclusion) (fact_at all special) → AreLinked bs (linked_variables (map loose_seen loose) []) (facts_at all facts)
 linked_with all general g special facts found second loose variables g_is none normal named facts_are variables_are second_is loose_are bs matched =
     let own : IsNormal (clause_at all g) = subst (λ (c : Clause Id). IsNormal (clause_at all c)) (sym g_is) normal in
     let linked = linked_first bs (clause_at all g) (fact_at all special) (rules_link (clause_at all g) ((own_norm (clause_at all g)).0 own.own)) matched in
-    let loose_is : map in_first loose ≡ loose_variables (facts_at all g.hypotheses) = ap (map in_first) loose_are ∙ (variables_are ∙ ap (λ (fs : List (horn.Fact Id)). loose_variables (facts_at all fs)) second_is) in
+    let loose_is : map loose_seen loose ≡ loose_variables (facts_at all g.hypotheses) = ap (map loose_seen) loose_are ∙ (variables_are ∙ ap (λ (fs : List (horn.Fact Id)). loose_variables (facts_at all fs)) second_is) in
     let firm_is : facts_at all facts ≡ firm (facts_at all g.hypotheses) = ap (facts_at all) facts_are ∙ named.are in
-    let variables_of_both : linked_variables (map in_first loose) [] ≡ linked_variables (loose_variables (facts_at all g.hypotheses)) g.diffs = λ i. linked_variables (loose_is i) (sym none i) in
+    let variables_of_both : linked_variables (map loose_seen loose) [] ≡ linked_variables (loose_variables (facts_at all g.hypotheses)) g.diffs = λ i. linked_variables (loose_is i) (sym none i) in
     subst (λ (xs : List ℕ). AreLinked bs xs (facts_at all facts)) (sym variables_of_both) (subst (λ (fs : List (horn.Fact Term)). AreLinked bs (linked_variables (loose_variables (facts_at all g.hypotheses)) g.diffs) fs) (sym firm_is) linked)
 
--- without constraints, loose hypotheses of the first phase are all that is left to decide
-pub ending_told : (all : List Term) (g s : Clause Id) (loose : List ℕ) → map in_first loose ≡ loose_variables (facts_at all g.hypotheses) → g.diffs ≡ [] → s.diffs ≡ [] → ending_at loose ≡ ending_of (clause_at all g) (clause_at all s)
+-- without constraints, the loose hypotheses are all that is left to decide
+pub ending_told : (all : List Term) (g s : Clause Id) (loose : List Loose) → map loose_seen loose ≡ loose_variables (facts_at all g.hypotheses) → g.diffs ≡ [] → s.diffs ≡ [] → ending_at loose ≡ ending_of (clause_at all g) (clause_at all s)
 ending_told all g s loose loose_is none special_none = λ i. record { loose = loose_is i; diffs = sym none i; kept_in = sym special_none i }
 
 -- what is asked of the facts is what is asked of the clauses
-module _ (all : List Term) (g s : Clause Id) (facts : List (horn.Fact Id)) (loose : List ℕ) (firm_is : facts_at all facts ≡ firm (facts_at all g.hypotheses)) (ending_is : ending_at loose ≡ ending_of (clause_at all g) (clause_at all s)) where
+module _ (all : List Term) (g s : Clause Id) (facts : List (horn.Fact Id)) (loose : List Loose) (firm_is : facts_at all facts ≡ firm (facts_at all g.hypotheses)) (ending_is : ending_at loose ≡ ending_of (clause_at all g) (clause_at all s)) where
   abbrev Asked : List Binding → List (horn.Fact Term) → Ending → List ℕ → Type 0
   Asked bs fs ending row = HoldsFrom bs (replicate (length (facts_at all s.hypotheses)) false) (facts_at all s.hypotheses) fs ending row
 
@@ -144,12 +145,12 @@ module _ (all : List Term) (g s : Clause Id) (facts : List (horn.Fact Id)) (loos
   row_told row (Err e) told = tt
 
 -- the same, of clauses that are put together
-pub rows_told : (all : List Term) (general special g s : Clause Id) (facts found second : List (horn.Fact Id)) (loose variables row ps : List ℕ) (r : Result Bool AllocError) → g ≡ general → s ≡ special → g.diffs ≡ [] → s.diffs ≡ []
-    → NameFacts all found (firm (facts_at all g.hypotheses)) → facts ≡ found → map in_first variables ≡ loose_variables (facts_at all second) → second ≡ g.hypotheses → loose ≡ variables → ps ≡ row
+pub rows_told : (all : List Term) (general special g s : Clause Id) (facts found second : List (horn.Fact Id)) (loose variables : List Loose) (row ps : List ℕ) (r : Result Bool AllocError) → g ≡ general → s ≡ special → g.diffs ≡ [] → s.diffs ≡ []
+    → NameFacts all found (firm (facts_at all g.hypotheses)) → facts ≡ found → map loose_seen variables ≡ loose_variables (facts_at all second) → second ≡ g.hypotheses → loose ≡ variables → ps ≡ row
     → IfOk r (λ yes. MatchBool yes (HoldsWith all s.hypotheses loose facts g.conclusion s.conclusion ps) (FailsWith all s.hypotheses loose facts g.conclusion s.conclusion ps)) → IfOk r (λ yes. IsTrue yes ↔ RowHolds (clause_at all general) (clause_at all special) row)
 rows_told all general special g s facts found second loose variables row ps r g_is s_is none special_none named facts_are variables_are second_is loose_are ps_are held =
     let firm_is : facts_at all facts ≡ firm (facts_at all g.hypotheses) = ap (facts_at all) facts_are ∙ named.are in
-    let loose_is : map in_first loose ≡ loose_variables (facts_at all g.hypotheses) = ap (map in_first) loose_are ∙ (variables_are ∙ ap (λ (fs : List (horn.Fact Id)). loose_variables (facts_at all fs)) second_is) in
+    let loose_is : map loose_seen loose ≡ loose_variables (facts_at all g.hypotheses) = ap (map loose_seen) loose_are ∙ (variables_are ∙ ap (λ (fs : List (horn.Fact Id)). loose_variables (facts_at all fs)) second_is) in
     let here = row_told all g s facts loose firm_is (ending_told all g s loose loose_is none special_none) ps r held in
     subst (λ (c : Clause Id). IfOk r (λ yes. IsTrue yes ↔ RowHolds (clause_at all c) (clause_at all special) row)) g_is
     (subst (λ (c : Clause Id). IfOk r (λ yes. IsTrue yes ↔ RowHolds (clause_at all g) (clause_at all c) row)) s_is

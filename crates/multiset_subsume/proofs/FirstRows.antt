@@ -24,7 +24,8 @@ use Rattle.spec_placements.specs.Stages.{PlacesFirst}
 use Rattle.spec_placements.proofs.Holding.{from_first, no_row}
 use Rattle.spec_placements.proofs.Leading.{leads_first_nowhere, leads_first_on, leads_first_to_end}
 use Rattle.spec_placements.proofs.Standing.{one_holds, row_placed}
-use Rattle.fact_placing.specs.Boards.{facts_at, in_first, ending_at, IsPlacing, IsAsBefore, IsBegun, IsPut, CannotPut, CanPlaceOn, CanStandOn, HoldsOn, IsFirstOn, IsFirstByOn, IsLeastRow, IsNextRow, IsFirstWith, NowhereWith}
+use Rattle.fact_placing.specs.declared.board.Loose.{Loose}
+use Rattle.fact_placing.specs.Boards.{facts_at, loose_seen, ending_at, IsPlacing, IsAsBefore, IsBegun, IsPut, CannotPut, CanPlaceOn, CanStandOn, HoldsOn, IsFirstOn, IsFirstByOn, IsLeastRow, IsNextRow, IsFirstWith, NowhereWith}
 use Rattle.fact_placing.proofs.Listing.{unref}
 use Rattle.multiset_subsume.proofs.Along.{ending_told}
 use Rattle.multiset_subsume.proofs.Keeping.{as_back}
@@ -33,7 +34,7 @@ pub insert_front : (row : List ℕ) (p : ℕ) → insert row 0 p ≡ p ∷ row
 insert_front [] p = refl
 insert_front (q ∷ row) p = refl
 
-module _ (all : List Term) (hyps : List (horn.Fact Id)) (loose : List ℕ) (fact : horn.Fact Id) (rest : List (horn.Fact Id)) where
+module _ (all : List Term) (hyps : List (horn.Fact Id)) (loose : List Loose) (fact : horn.Fact Id) (rest : List (horn.Fact Id)) where
   -- a row for a fact and others has a first position, which is one of the hypotheses'
   pub row_some : (pairs : List Bound) (taken : List Bool) (row : List ℕ) → HoldsOn all hyps loose pairs taken (fact ∷ rest) row → 0 < length row
   row_some pairs taken [] held = absurd held.takes
@@ -78,14 +79,14 @@ module _ (all : List Term) (hyps : List (horn.Fact Id)) (loose : List ℕ) (fact
         absurd (at_first least.holds.by least.holds.agrees least.holds.takes.0 least.holds.takes.1)
 
 -- how far the first row is found: the facts from k on are left, and a row holds them
-pub record IsOnTheWay (all : List Term) (hyps : List (horn.Fact Id)) (loose : List ℕ) (start now : List Bound) (taken_start taken_now : List Bool) (facts front : List (horn.Fact Id)) (items row : List ℕ) : Type 0 where
+pub record IsOnTheWay (all : List Term) (hyps : List (horn.Fact Id)) (loose : List Loose) (start now : List Bound) (taken_start taken_now : List Bool) (facts front : List (horn.Fact Id)) (items row : List ℕ) : Type 0 where
   pub placing : IsPlacing all hyps now taken_now
   pub holds : HoldsOn all hyps loose now taken_now front row
   pub done : List ℕ
   pub are : items ≡ map suc done
   pub leads : PlacesFirst (facts_at all hyps) (ending_at loose) (record { bindings = seen all start; taken = taken_start; unplaced = facts_at all facts }) done (record { bindings = seen all now; taken = taken_now; unplaced = facts_at all front })
 
-module _ (all : List Term) (hyps : List (horn.Fact Id)) (loose : List ℕ) (start : List Bound) (taken_start : List Bool) (facts : List (horn.Fact Id)) where
+module _ (all : List Term) (hyps : List (horn.Fact Id)) (loose : List Loose) (start : List Bound) (taken_start : List Bool) (facts : List (horn.Fact Id)) where
   pub way_begins : (row items : List ℕ) → items ≡ [] → IsPlacing all hyps start taken_start → HoldsOn all hyps loose start taken_start facts row → IsOnTheWay all hyps loose start start taken_start taken_start facts facts items row
   way_begins row items none placing held = record {
     placing = placing;
@@ -120,7 +121,7 @@ module _ (all : List Term) (hyps : List (horn.Fact Id)) (loose : List ℕ) (star
       (way.done, way.are, leads_first_to_end (facts_at all hyps) (ending_at loose) (record { bindings = seen all start; taken = taken_start; unplaced = facts_at all facts }) (seen all now) taken_now way.done stage can)
 
 -- what is told once the conclusions are matched
-pub first_with : (all : List Term) (hyps : List (horn.Fact Id)) (loose : List ℕ) (facts : List (horn.Fact Id)) (general special : horn.Fact Id) (pairs : List Bound) (taken : List Bool) (r : Result (Option (List ℕ)) AllocError) → IsBegun all hyps general special pairs taken
+pub first_with : (all : List Term) (hyps : List (horn.Fact Id)) (loose : List Loose) (facts : List (horn.Fact Id)) (general special : horn.Fact Id) (pairs : List Bound) (taken : List Bool) (r : Result (Option (List ℕ)) AllocError) → IsBegun all hyps general special pairs taken
     → IfOk r (λ found. MatchOption found (CanPlaceOn all hyps loose pairs taken facts → ⊥) (λ row. IsFirstByOn all hyps loose pairs taken facts row)) → IfOk r (λ found. MatchOption found (NowhereWith all hyps loose facts general special) (λ row. IsFirstWith all hyps loose facts general special row))
 first_with all hyps loose facts general special pairs taken (Ok None) begun never = inr (record {
   bindings = seen all pairs;
@@ -137,7 +138,7 @@ first_with all hyps loose facts general special pairs taken (Ok (Some row)) begu
 first_with all hyps loose facts general special pairs taken (Err e) begun told = tt
 
 -- what is asked of the facts is what is asked of the clauses
-module _ (all : List Term) (g s : Clause Id) (facts : List (horn.Fact Id)) (loose : List ℕ) (firm_is : facts_at all facts ≡ firm (facts_at all g.hypotheses)) (ending_is : ending_at loose ≡ ending_of (clause_at all g) (clause_at all s)) where
+module _ (all : List Term) (g s : Clause Id) (facts : List (horn.Fact Id)) (loose : List Loose) (firm_is : facts_at all facts ≡ firm (facts_at all g.hypotheses)) (ending_is : ending_at loose ≡ ending_of (clause_at all g) (clause_at all s)) where
   none_taken : List Bool
   none_taken = replicate (length (facts_at all s.hypotheses)) false
 
@@ -155,13 +156,13 @@ module _ (all : List Term) (g s : Clause Id) (facts : List (horn.Fact Id)) (loos
   first_told (Err e) told = tt
 
 -- the same, of clauses that are put together
-pub firsts_told : (all : List Term) (general special g s : Clause Id) (facts found second : List (horn.Fact Id)) (loose variables : List ℕ) (r : Result (Option (List ℕ)) AllocError) → g ≡ general → s ≡ special → g.diffs ≡ [] → s.diffs ≡ []
-    → NameFacts all found (firm (facts_at all g.hypotheses)) → facts ≡ found → map in_first variables ≡ loose_variables (facts_at all second) → second ≡ g.hypotheses → loose ≡ variables
+pub firsts_told : (all : List Term) (general special g s : Clause Id) (facts found second : List (horn.Fact Id)) (loose variables : List Loose) (r : Result (Option (List ℕ)) AllocError) → g ≡ general → s ≡ special → g.diffs ≡ [] → s.diffs ≡ []
+    → NameFacts all found (firm (facts_at all g.hypotheses)) → facts ≡ found → map loose_seen variables ≡ loose_variables (facts_at all second) → second ≡ g.hypotheses → loose ≡ variables
     → IfOk r (λ found. MatchOption found (NowhereWith all s.hypotheses loose facts g.conclusion s.conclusion) (λ row. IsFirstWith all s.hypotheses loose facts g.conclusion s.conclusion row))
     → IfOk r (λ found. MatchOption found ((row : List ℕ) → RowHolds (clause_at all general) (clause_at all special) row → ⊥) (λ row. IsFirstRow (clause_at all general) (clause_at all special) row))
 firsts_told all general special g s facts found second loose variables r g_is s_is none special_none named facts_are variables_are second_is loose_are told =
     let firm_is : facts_at all facts ≡ firm (facts_at all g.hypotheses) = ap (facts_at all) facts_are ∙ named.are in
-    let loose_is : map in_first loose ≡ loose_variables (facts_at all g.hypotheses) = ap (map in_first) loose_are ∙ (variables_are ∙ ap (λ (fs : List (horn.Fact Id)). loose_variables (facts_at all fs)) second_is) in
+    let loose_is : map loose_seen loose ≡ loose_variables (facts_at all g.hypotheses) = ap (map loose_seen) loose_are ∙ (variables_are ∙ ap (λ (fs : List (horn.Fact Id)). loose_variables (facts_at all fs)) second_is) in
     let here = first_told all g s facts loose firm_is (ending_told all g s loose loose_is none special_none) r told in
     subst (λ (c : Clause Id). IfOk r (λ found. MatchOption found ((row : List ℕ) → RowHolds (clause_at all c) (clause_at all special) row → ⊥) (λ row. IsFirstRow (clause_at all c) (clause_at all special) row))) g_is
     (subst (λ (c : Clause Id). IfOk r (λ found. MatchOption found ((row : List ℕ) → RowHolds (clause_at all g) (clause_at all c) row → ⊥) (λ row. IsFirstRow (clause_at all g) (clause_at all c) row))) s_is here)
@@ -190,7 +191,7 @@ pub front_of : (facts : List (Bor Fact)) (k : ℕ) (f : Bor Fact) → k < length
 front_of facts k f within is = map_drop unref facts k f within ∙ ap (λ (h : Bor Fact). unref h ∷ map unref (drop (k + 1) facts)) (sym is)
 
 -- a position of the next row is one of the hypotheses'
-pub next_within : (all : List Term) (hyps : List (horn.Fact Id)) (loose : List ℕ) (old new : List Bound) (taken_old taken_new : List Bool) (fact : horn.Fact Id) (rest : List (horn.Fact Id)) (row : List ℕ) (p : ℕ) → IsNextRow all hyps loose old new taken_old taken_new fact rest row → p ≡ get_or row 0 p → p < length hyps
+pub next_within : (all : List Term) (hyps : List (horn.Fact Id)) (loose : List Loose) (old new : List Bound) (taken_old taken_new : List Bool) (fact : horn.Fact Id) (rest : List (horn.Fact Id)) (row : List ℕ) (p : ℕ) → IsNextRow all hyps loose old new taken_old taken_new fact rest row → p ≡ get_or row 0 p → p < length hyps
 next_within all hyps loose old new taken_old taken_new fact rest row p is at =
     let first : p ≡ is.position = at ∙ ap (λ (ps : List ℕ). get_or ps 0 p) is.are in
     let inside = slice_get_within (facts_at all hyps) is.position is.put.there is.put.stands in

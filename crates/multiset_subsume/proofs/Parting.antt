@@ -14,7 +14,8 @@ use Rattle.clause_form.specs.declared.facts.Fact.{Fact}
 use Rattle.clause_form.specs.Seen.{fact_at, IsFactIn, AreFactsIn}
 use Rattle.spec_placements.specs.Takes.{left}
 use Rattle.spec_placements.specs.Placing.{all_known}
-use Rattle.fact_placing.specs.Boards.{facts_at, in_first, CanPlaceOn}
+use Rattle.fact_placing.specs.declared.board.Loose.{Loose}
+use Rattle.fact_placing.specs.Boards.{facts_at, loose_seen, CanPlaceOn}
 use Rattle.fact_placing.proofs.Listing.{unref}
 
 pick_known : (all : List Term) {fs rest : List (horn.Fact Id)} {f : horn.Fact Id} → Picks fs f rest → AreFactsIn all fs → IsFactIn all f × AreFactsIn all rest
@@ -27,15 +28,15 @@ within_known all [] facts within known = tt
 within_known all (f ∷ part) facts (rest, pick, within) known = let one = pick_known all pick known in (one.0, within_known all part rest within one.1)
 
 -- what can be placed with loose parts can be placed in part, and without them
-pub part_placed : (all : List Term) (hyps : List (horn.Fact Id)) (loose none : List ℕ) (pairs : List Bound) (taken : List Bool) (facts part : List (horn.Fact Id)) → none ≡ [] → IsWithin part facts → CanPlaceOn all hyps loose pairs taken facts → CanPlaceOn all hyps none pairs taken part
+pub part_placed : (all : List Term) (hyps : List (horn.Fact Id)) (loose none : List Loose) (pairs : List Bound) (taken : List Bool) (facts part : List (horn.Fact Id)) → none ≡ [] → IsWithin part facts → CanPlaceOn all hyps loose pairs taken facts → CanPlaceOn all hyps none pairs taken part
 part_placed all hyps loose none pairs taken facts part is within can =
     let f = fact_under can.by in
     let these = map f (facts_at all part) in
     let those = map f (facts_at all facts) in
     let free = left taken (facts_at all hyps) in
     let among : IsWithin these those = within-map f (facts_at all part) (facts_at all facts) (within-map (fact_at all) part facts within) in
-    let inside : IsWithin these free = within-trans these (those ++ flat_under can.by (all_known (map in_first loose))) free (within-more_right these those (flat_under can.by (all_known (map in_first loose))) among) can.within in
-    subst (λ (xs : List ℕ). CanPlaceOn all hyps xs pairs taken part) (sym is) (record {
+    let inside : IsWithin these free = within-trans these (those ++ flat_under can.by (all_known (map loose_seen loose))) free (within-more_right these those (flat_under can.by (all_known (map loose_seen loose))) among) can.within in
+    subst (λ (xs : List Loose). CanPlaceOn all hyps xs pairs taken part) (sym is) (record {
       by = can.by;
       agrees = can.agrees;
       kept = tt;

@@ -16,6 +16,7 @@ use Rattle.unify_match.specs.Seen.{seen}
 use Rattle.unify_match.proofs.SeenLemmas.{bound_to-seen, bound_to-seen_none}
 use Rattle.clause_form.proofs.Lists.{flat_map_more, flat_map_all}
 use Rattle.spec_placements.specs.LooseParts.{flat_of, Removes, Lacks, HasNoRoom}
+use Rattle.fact_placing.specs.declared.board.Loose.{Loose}
 use Rattle.spec_placements.proofs.Removing.{removes_both, no_room_more, no_room_later}
 
 -- what stands at no free position before the end stands at none
@@ -38,12 +39,12 @@ module _ {X : Type 0} (f : X → List (Fact Term)) (hs : List (Fact Term)) where
       ap (flat_map f) (sym (take-append-drop i xs)) ∙ (flat_map-append f (take i xs) (drop i xs) ∙ ap (λ ys. flat_map f (take i xs) ++ flat_map f ys) (drop-cons xs i d within)) in
       subst (λ ys. HasNoRoom hs before ys) (sym apart) (no_room_later hs before mid (flat_map f (take i xs)) (f (get_or xs i d) ++ flat_map f rest) front (no_room_more hs mid (f (get_or xs i d)) (flat_map f rest) none))
 
--- the parts of a loose variable that is bound, and of one that isn't, in the first phase
-abbrev pub parts_of : List Binding → ℕ → List (Fact Term)
-parts_of bs x = flat_of 0 (bound_to bs x)
+-- the parts of a loose hypothesis whose variable is bound, and of one whose variable isn't
+abbrev pub parts_of : List Binding → Loose → List (Fact Term)
+parts_of bs l = flat_of l.phase (bound_to bs l.variable)
 
-pub bound_part : (all : List Term) (pairs : List Bound) (x : ℕ) (id : Id) → id_of pairs x ≡ Some id → parts_of (seen all pairs) x ≡ flat (Att 0 (tree_at all id))
-bound_part all pairs x id e = ap (flat_of 0) (bound_to-seen all pairs x id e)
+pub bound_part : (all : List Term) (pairs : List Bound) (l : Loose) (id : Id) → id_of pairs l.variable ≡ Some id → parts_of (seen all pairs) l ≡ flat (Att l.phase (tree_at all id))
+bound_part all pairs l id e = ap (flat_of l.phase) (bound_to-seen all pairs l.variable id e)
 
-pub unbound_part : (all : List Term) (pairs : List Bound) (x : ℕ) → id_of pairs x ≡ None → parts_of (seen all pairs) x ≡ []
-unbound_part all pairs x e = ap (flat_of 0) (bound_to-seen_none all pairs x e)
+pub unbound_part : (all : List Term) (pairs : List Bound) (l : Loose) → id_of pairs l.variable ≡ None → parts_of (seen all pairs) l ≡ []
+unbound_part all pairs l e = ap (flat_of l.phase) (bound_to-seen_none all pairs l.variable e)

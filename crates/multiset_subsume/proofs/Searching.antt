@@ -16,12 +16,13 @@ use Rattle.clause_form.specs.Seen.{fact_at, AreFactsIn}
 use Rattle.spec_placements.specs.Takes.{left}
 use Rattle.spec_placements.specs.Placing.{some_fact_has, fact_has, linked_variables, HoldsFrom, CanStand}
 use Rattle.spec_placements.proofs.Standing.{holds_nothing, back_holds, some_stand, in_range, pick_removed, stand_placed, holds_one, row_long}
-use Rattle.fact_placing.specs.Boards.{facts_at, in_first, ending_at, loose_parts, IsPlacing, IsPut, CannotPut, CanPlaceOn, CanStandOn, HoldsOn, AreLinkedOn, HoldsInserted}
+use Rattle.fact_placing.specs.declared.board.Loose.{Loose}
+use Rattle.fact_placing.specs.Boards.{facts_at, loose_seen, ending_at, loose_parts, IsPlacing, IsPut, CannotPut, CanPlaceOn, CanStandOn, HoldsOn, AreLinkedOn, HoldsInserted}
 use Rattle.fact_placing.proofs.Listing.{unref}
 use Rattle.multiset_subsume.proofs.Along.{loose_stand}
 
 -- no fact is left, and the loose parts stand
-pub placed_nothing : (all : List Term) (hyps : List (horn.Fact Id)) (loose : List ℕ) (pairs : List Bound) (taken : List Bool) (facts : List (horn.Fact Id)) → length facts ≡ 0 → IsPlacing all hyps pairs taken → AreLinkedOn all loose pairs facts
+pub placed_nothing : (all : List Term) (hyps : List (horn.Fact Id)) (loose : List Loose) (pairs : List Bound) (taken : List Bool) (facts : List (horn.Fact Id)) → length facts ≡ 0 → IsPlacing all hyps pairs taken → AreLinkedOn all loose pairs facts
     → IsWithin (loose_parts (seen all pairs) loose) (left taken (facts_at all hyps)) → HoldsOn all hyps loose pairs taken facts []
 placed_nothing all hyps loose pairs taken [] none placing linked within = holds_nothing (facts_at all hyps) taken (ending_at loose) (seen all pairs) (loose_stand all hyps loose pairs taken placing linked within)
 placed_nothing all hyps loose pairs taken (f ∷ facts) none placing linked within = absurd (omega (arith, none))
@@ -55,10 +56,10 @@ any_front p [] at x e = cc
 any_front p (y ∷ xs) zero x e = ap (λ z. p z || list_any p xs) (some_same e)
 any_front p (y ∷ xs) (suc at) x e = ap (λ b. p y || b) (any_front p xs at x e) ∙ either_way (p y) (p x) (list_any p (remove xs at))
 
-module _ (all : List Term) (hyps : List (horn.Fact Id)) (loose : List ℕ) (pairs : List Bound) (taken : List Bool) where
+module _ (all : List Term) (hyps : List (horn.Fact Id)) (loose : List Loose) (pairs : List Bound) (taken : List Bool) where
   -- one of the facts goes in front
   pub linked_front : (unplaced rest : List (Bor Fact)) (at : ℕ) (f : Bor Fact) → f ≡ get_or unplaced at f → at < length unplaced → rest ≡ remove unplaced at → AreLinkedOn all loose pairs (map unref unplaced) → AreLinkedOn all loose pairs (unref f ∷ map unref rest)
-  linked_front unplaced rest at f is within rest_is linked = go (linked_variables (map in_first loose) []) linked where
+  linked_front unplaced rest at f is within rest_is linked = go (linked_variables (map loose_seen loose) []) linked where
     others : facts_at all (map unref rest) ≡ remove (facts_at all (map unref unplaced)) at
     others = ap (λ (fs : List (Bor Fact)). facts_at all (map unref fs)) rest_is ∙ (ap (facts_at all) (map_removed unref unplaced at) ∙ map_removed (fact_at all) (map unref unplaced) at)
 
@@ -94,7 +95,7 @@ module _ (all : List Term) (hyps : List (horn.Fact Id)) (loose : List ℕ) (pair
     go (Err e) t = tt
 
 -- a fact that was put can stand there as the rest can be placed
-pub stand_told : (all : List Term) (hyps : List (horn.Fact Id)) (loose : List ℕ) (old new : List Bound) (taken_old taken_new : List Bool) (fact : horn.Fact Id) (rest : List (horn.Fact Id)) (p : ℕ) {X : Type 0} (r : Result (Option X) AllocError) (items : X → List ℕ) → IsPut all hyps old new taken_old taken_new fact p
+pub stand_told : (all : List Term) (hyps : List (horn.Fact Id)) (loose : List Loose) (old new : List Bound) (taken_old taken_new : List Bool) (fact : horn.Fact Id) (rest : List (horn.Fact Id)) (p : ℕ) {X : Type 0} (r : Result (Option X) AllocError) (items : X → List ℕ) → IsPut all hyps old new taken_old taken_new fact p
     → IfOk r (λ found. MatchOption found (CanPlaceOn all hyps loose new taken_new rest → ⊥) (λ row. HoldsOn all hyps loose new taken_new rest (items row)))
     → IfOk r (λ found. MatchOption found (CanStandOn all hyps loose old taken_old fact rest p → ⊥) (λ row. HoldsOn all hyps loose old taken_old (fact ∷ rest) (p ∷ items row)))
 stand_told all hyps loose old new taken_old taken_new fact rest p (Ok None) items put never = λ stand.
@@ -103,7 +104,7 @@ stand_told all hyps loose old new taken_old taken_new fact rest p (Ok (Some row)
     holds_one (facts_at all hyps) taken_old (ending_at loose) (seen all old) (seen all new) (fact_at all fact) put.there p put.stands put.matched (facts_at all rest) (items row) put.free (subst (λ (flags : List Bool). HoldsOn all hyps loose new flags rest (items row)) put.flags held)
 stand_told all hyps loose old new taken_old taken_new fact rest p (Err e) items put t = tt
 
-pub cannot_stand : (all : List Term) (hyps : List (horn.Fact Id)) (loose : List ℕ) (pairs : List Bound) (taken : List Bool) (fact : horn.Fact Id) (rest : List (horn.Fact Id)) (p : ℕ) → CannotPut all hyps pairs taken fact p → CanStandOn all hyps loose pairs taken fact rest p → ⊥
+pub cannot_stand : (all : List Term) (hyps : List (horn.Fact Id)) (loose : List Loose) (pairs : List Bound) (taken : List Bool) (fact : horn.Fact Id) (rest : List (horn.Fact Id)) (p : ℕ) → CannotPut all hyps pairs taken fact p → CanStandOn all hyps loose pairs taken fact rest p → ⊥
 cannot_stand all hyps loose pairs taken fact rest p cannot stand = cannot stand.by stand.agrees stand.free stand.stands
 
 -- the others stay known, and as many are left
@@ -114,7 +115,7 @@ known_removed all (f ∷ facts) zero known = known.1
 known_removed all (f ∷ facts) (suc at) known = (known.0, known_removed all facts at known.1)
 
 -- a row for a fact and others is one longer than these
-pub row_length : (all : List Term) (hyps : List (horn.Fact Id)) (loose : List ℕ) (pairs : List Bound) (taken : List Bool) (fact : horn.Fact Id) (rest : List (Bor Fact)) (p : ℕ) (row : List ℕ) → HoldsOn all hyps loose pairs taken (fact ∷ map unref rest) (p ∷ row) → length row ≡ length rest
+pub row_length : (all : List Term) (hyps : List (horn.Fact Id)) (loose : List Loose) (pairs : List Bound) (taken : List Bool) (fact : horn.Fact Id) (rest : List (Bor Fact)) (p : ℕ) (row : List ℕ) → HoldsOn all hyps loose pairs taken (fact ∷ map unref rest) (p ∷ row) → length row ≡ length rest
 row_length all hyps loose pairs taken fact rest p row held =
     let long = row_long (facts_at all hyps) taken (ending_at loose) (seen all pairs) (fact_at all fact ∷ facts_at all (map unref rest)) (p ∷ row) held in
     omega (arith, long, length-map (map unref rest) (fact_at all), length-map rest unref)

@@ -8,8 +8,8 @@ ghost use Rattle.spec_clauses.specs.Subsumption.{RowHolds};
 ghost use Rattle.spec_placements.specs.Placing.{FactMatched, AreLinked, linked_variables};
 ghost use Rattle.clause_form.specs.Facts.{fact_of};
 ghost use Rattle.clause_form.specs.Seen.{fact_at, clause_at, IsFactIn, AreFactsIn, IsClauseIn};
-ghost use Rattle.fact_placing.specs.Boards.{facts_at, in_first, IsBoard, IsPlacing, IsPut, CannotPut};
-ghost use Rattle.fact_placing.specs.Boards.{ArePut, AreLinkedOn, HoldsNotOn, HoldsByOn};
+ghost use Rattle.fact_placing.specs.Boards.{facts_at, loose_seen, IsBoard, IsPlacing, IsPut};
+ghost use Rattle.fact_placing.specs.Boards.{CannotPut, ArePut, AreLinkedOn, HoldsNotOn, HoldsByOn};
 ghost use Rattle.fact_placing.specs.Boards.{HoldsWith, FailsWith};
 
 use crate::loose::loose_may_stand;
@@ -121,7 +121,8 @@ fn holds_matched<B: Bank>(
     requires special { IsFactIn (B.trees board.now.bank.now) (fact_of special.now) }
     requires linked { let all = B.trees board.now.bank.now in (bs : List Binding) → FactMatched []
         bs (fact_at all (fact_of general.now)) (fact_at all (fact_of special.now)) → AreLinked bs
-        (linked_variables (map in_first board.now.loose.now) []) (facts_at all (map (λ f. fact_of f.now) facts.now)) }
+        (linked_variables (map loose_seen board.now.loose.now) [])
+        (facts_at all (map (λ f. fact_of f.now) facts.now)) }
     ensures { let all = B.trees board.now.bank.now in IfOk result
         (λ yes. MatchBool yes (HoldsWith all (map fact_of board.now.hyps.now) board.now.loose.now
         (map (λ f. fact_of f.now) facts.now) (fact_of general.now) (fact_of special.now) row.now)

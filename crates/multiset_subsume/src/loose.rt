@@ -15,51 +15,58 @@ ghost use Rattle.spec_placements.specs.LooseParts.{flat_of, Removes, HasNoRoom};
 ghost use Rattle.fact_placing.specs.Boards.{facts_at, loose_parts, IsBoard, IsPlacing};
 
 use clause_form::{Fact, is_data_symbol};
-use fact_placing::board::Board;
+use fact_placing::board::{Board, Loose};
 use fact_placing::placing::Placing;
 use std::alloc::AllocError;
 use term_tree::{Bank, Id, Node};
 use unify_match::Binds;
 
-/// Whether the fact is `att` of the term.
-fn is_known<B: Bank>(bank: &B, fact: &Fact, term: Id) -> bool
+/// Whether the fact is `att` of the term, in the phase.
+fn is_known<B: Bank>(bank: &B, fact: &Fact, phase: u32, term: Id) -> bool
     requires fact { IsFactIn (B.trees bank.now) (fact_of fact.now) }
     requires term { term.index < length (B.trees bank.now) }
-    ensures { IsTrue result ↔ (fact_at (B.trees bank.now) (fact_of fact.now) ≡ Att 0
+    ensures { IsTrue result ↔ (fact_at (B.trees bank.now) (fact_of fact.now) ≡ Att phase
         (tree_at (B.trees bank.now) term)) }
 {
     match fact {
-        Fact::Att(known) => bank.same(*known, term),
+        Fact::Att(known, has) => {
+            if *known != phase {
+                return false;
+            }
+            bank.same(*has, term)
+        }
         _ => false,
     }
 }
 
-/// Whether the fact stands at a free position and is `att` of the term.
-fn is_free<B: Bank>(bank: &B, fact: &Fact, term: Id, taken: bool) -> bool
+/// Whether the fact stands at a free position and is `att` of the term, in the phase.
+fn is_free<B: Bank>(bank: &B, fact: &Fact, phase: u32, term: Id, taken: bool) -> bool
     requires fact { IsFactIn (B.trees bank.now) (fact_of fact.now) }
     requires term { term.index < length (B.trees bank.now) }
     ensures { IsTrue result ↔ ((taken ≡ false) ×
-        (fact_at (B.trees bank.now) (fact_of fact.now) ≡ Att 0 (tree_at (B.trees bank.now) term))) }
+        (fact_at (B.trees bank.now) (fact_of fact.now) ≡ Att phase
+        (tree_at (B.trees bank.now) term))) }
 {
     if taken {
         return false;
     }
-    is_known(bank, fact, term)
+    is_known(bank, fact, phase, term)
 }
 
-/// Takes the first position that is left where the term is known; false where there is none.
-fn take_known<B: Bank>(bank: &B, hyps: &[Fact], term: Id, taken: &mut [bool]) -> bool
+/// Takes the first position that is left where the term is known in the phase; false where there is none.
+fn take_known<B: Bank>(bank: &B, hyps: &[Fact], phase: u32, term: Id, taken: &mut [bool]) -> bool
     requires hyps { AreFactsIn (B.trees bank.now) (map fact_of hyps.now) }
     requires term { term.index < length (B.trees bank.now) }
     requires flags { length taken.old ≡ length
         (facts_at (B.trees bank.now) (map fact_of hyps.now)) }
     ensures { let all = B.trees bank.now in MatchBool result
         (Removes (facts_at all (map fact_of hyps.now)) taken.old taken.new
-        (Att 0 (tree_at all term) ∷ [])) (HasNoRoom (facts_at all (map fact_of hyps.now)) taken.old
-        (Att 0 (tree_at all term) ∷ [])) }
+        (Att phase (tree_at all term) ∷ []))
+        (HasNoRoom (facts_at all (map fact_of hyps.now)) taken.old
+        (Att phase (tree_at all term) ∷ [])) }
 {
     'each: for (p, hyp) in hyps.iter().enumerate() {
-        if is_free(bank, hyp, term, taken[p]) {
+        if is_free(bank, hyp, phase, term, taken[p]) {
             taken[p] = true;
             return true;
         }
@@ -67,25 +74,26 @@ fn take_known<B: Bank>(bank: &B, hyps: &[Fact], term: Id, taken: &mut [bool]) ->
     false
 }
 
-/// Takes a position for each part of the term.
-fn take_parts<B: Bank>(bank: &B, hyps: &[Fact], term: Id, taken: &mut [bool]) -> bool
+/// Takes a position for each part of the term, in the phase.
+fn take_parts<B: Bank>(bank: &B, hyps: &[Fact], phase: u32, term: Id, taken: &mut [bool]) -> bool
     requires hyps { AreFactsIn (B.trees bank.now) (map fact_of hyps.now) }
     requires term { term.index < length (B.trees bank.now) }
     requires flags { length taken.old ≡ length
         (facts_at (B.trees bank.now) (map fact_of hyps.now)) }
     ensures { let all = B.trees bank.now in MatchBool result
         (Removes (facts_at all (map fact_of hyps.now)) taken.old taken.new
-        (flat (Att 0 (tree_at all term)))) (HasNoRoom (facts_at all (map fact_of hyps.now)) taken.old
-        (flat (Att 0 (tree_at all term)))) }
+        (flat (Att phase (tree_at all term))))
+        (HasNoRoom (facts_at all (map fact_of hyps.now)) taken.old
+        (flat (Att phase (tree_at all term)))) }
 {
     match bank.node(term) {
-        Node::Var(_) => take_known(bank, hyps, term, taken),
+        Node::Var(_) => take_known(bank, hyps, phase, term, taken),
         Node::App(symbol, arguments) => {
             if !is_data_symbol(symbol) {
-                return take_known(bank, hyps, term, taken);
+                return take_known(bank, hyps, phase, term, taken);
             }
             'each: for argument in arguments {
-                if !take_parts(bank, hyps, *argument, taken) {
+                if !take_parts(bank, hyps, phase, *argument, taken) {
                     return false;
                 }
             }
@@ -94,12 +102,12 @@ fn take_parts<B: Bank>(bank: &B, hyps: &[Fact], term: Id, taken: &mut [bool]) ->
     }
 }
 
-/// Takes a position for each part of what a variable is bound to; none where it isn't bound.
+/// Takes a position for each part of what the variable of a loose hypothesis is bound to; none where it isn't bound.
 fn take_bound<B: Bank>(
     bank: &B,
     hyps: &[Fact],
     binds: &Binds,
-    variable: u32,
+    loose: Loose,
     taken: &mut [bool],
 ) -> bool
     requires hyps { AreFactsIn (B.trees bank.now) (map fact_of hyps.now) }
@@ -108,13 +116,13 @@ fn take_bound<B: Bank>(
         (facts_at (B.trees bank.now) (map fact_of hyps.now)) }
     ensures { let all = B.trees bank.now in MatchBool result
         (Removes (facts_at all (map fact_of hyps.now)) taken.old taken.new
-        (flat_of 0 (bound_to (seen all binds.now.pairs) variable)))
+        (flat_of loose.phase (bound_to (seen all binds.now.pairs) loose.variable)))
         (HasNoRoom (facts_at all (map fact_of hyps.now)) taken.old
-        (flat_of 0 (bound_to (seen all binds.now.pairs) variable))) }
+        (flat_of loose.phase (bound_to (seen all binds.now.pairs) loose.variable))) }
 {
-    match binds.look(variable) {
+    match binds.look(loose.variable) {
         None => true,
-        Some(term) => take_parts(bank, hyps, term, taken),
+        Some(term) => take_parts(bank, hyps, loose.phase, term, taken),
     }
 }
 
@@ -130,8 +138,8 @@ fn take_loose<B: Bank>(board: &Board<'_, B>, binds: &Binds, taken: &mut [bool]) 
         (HasNoRoom (facts_at all (map fact_of board.now.hyps.now)) taken.old
         (loose_parts (seen all binds.now.pairs) board.now.loose.now)) }
 {
-    'each: for variable in board.loose {
-        if !take_bound(board.bank, board.hyps, binds, *variable, taken) {
+    'each: for loose in board.loose {
+        if !take_bound(board.bank, board.hyps, binds, *loose, taken) {
             return false;
         }
     }

@@ -1,5 +1,5 @@
 -- Room that is left behind trees and facts, and what is over the limits.
-use Rattle.std.proofs.Common.{◌≡◌, ℕ, zero, suc, ◌+◌, ◌-◌, ◌<◌, ◌≤◌, Bool, true, false, nat_le, cond, Option, Some, None, is_none, List, [], ◌∷◌, ◌++◌, length, map, take, get_or, refl, sym, ◌∙◌, ap, subst, arith}
+use Rattle.std.proofs.Common.{◌≡◌, ℕ, zero, suc, ◌+◌, ◌-◌, ◌<◌, ◌≤◌, Bool, true, false, nat_le, cond, Option, Some, None, min, List, [], ◌∷◌, ◌++◌, length, map, take, get_or, refl, sym, ◌∙◌, ap, subst, arith}
 use Rattle.std.specs.Prelude.{option_and_then, flat_map}
 use Rattle.std.specs.List.{AllByRecursion}
 use Rattle.std.proofs.lemmas.List.{append_assoc, take_more}
@@ -20,7 +20,7 @@ use Rattle.spec_node_tables.proofs.Walks.{table_has}
 use Rattle.spec_node_tables.proofs.Back.{all_there}
 use Rattle.spec_node_tables.proofs.Sizes.{spelled_total, subterm_size, large_decides}
 use Rattle.clause_form.proofs.Lists.{total_more, total_all, total-map, total-append}
-use Rattle.node_table.specs.Room.{room_less, room_behind_fact, room_behind_facts}
+use Rattle.node_table.specs.Room.{room_less, room_behind_fact, room_behind_facts, room_behind_next}
 
 -- Room, and room that is left.
 
@@ -169,6 +169,36 @@ module _ (most : ℕ) where
       go None here later others_over = fact_over f before room is here (all_first (λ n. n ≤ most) (up_to_fact before f) (up_to_facts (before + fact_size f) fs) are)
       go (Some less) here later others_over = others_over less (fact_fits f before room less is here).1 later
 
+-- Where room is left, so much more room leaves so much more.
+
+fact_with_more : (f : Fact Term) (room left more : ℕ) → room_behind_fact room f ≡ Some left → 0 < left → room_behind_fact (room + more) f ≡ Some (left + more)
+fact_with_more f room left more e some =
+    let rest = left_is (room - head_size (head_of f)) (total size (terms_of f)) left (sym e) in
+    sym (left_of (room + more - head_size (head_of f)) (total size (terms_of f)) (left + more) (omega arith))
+
+pub facts_leave_less : (fs : List (Fact Term)) (room left : ℕ) → room_behind_facts room fs ≡ Some left → left ≤ room
+facts_leave_less fs room left e = let fit = facts_fit room fs 0 room left (omega arith) e in omega (arith, fit.1)
+
+facts_with_more : (fs : List (Fact Term)) (room left more : ℕ) → room_behind_facts room fs ≡ Some left → 0 < left → room_behind_facts (room + more) fs ≡ Some (left + more)
+facts_with_more [] room left more e some = let same : room ≡ left = cc in ap (λ n. Some (n + more)) same
+facts_with_more (f ∷ fs) room left more e some = go (room_behind_fact room f) refl e (λ less later. facts_with_more fs less left more later some) where
+  go : (o : Option ℕ) → room_behind_fact room f ≡ o → option_and_then (λ less. room_behind_facts less fs) o ≡ Some left → ((less : ℕ) → room_behind_facts less fs ≡ Some left → room_behind_facts (less + more) fs ≡ Some (left + more))
+      → room_behind_facts (room + more) (f ∷ fs) ≡ Some (left + more)
+  go None here later others = cc
+  go (Some less) here later others =
+      let within = facts_leave_less fs less left later in
+      ap (option_and_then (λ n. room_behind_facts n fs)) (fact_with_more f room less more here (omega arith)) ∙ others less later
+
+-- room behind a clause, where the lesser of both rooms leaves some
+pub next_leaves : (fs : List (Fact Term)) (room least less : ℕ) → least ≡ min room most_symbols → Some less ≡ room_behind_facts least fs → 0 < less → Some (room - (least - less)) ≡ room_behind_next room fs
+next_leaves fs room least less is left some =
+    let under : least ≤ room = omega (arith, is) in
+    let small : least ≤ most_symbols = omega (arith, is) in
+    let within = facts_leave_less fs least less (sym left) in
+    let alone : room_behind_facts most_symbols fs ≡ Some (less + (most_symbols - least)) = ap (λ r. room_behind_facts r fs) (omega arith) ∙ facts_with_more fs least less (most_symbols - least) (sym left) some in
+    let whole : room_behind_facts room fs ≡ Some (less + (room - least)) = ap (λ r. room_behind_facts r fs) (omega arith) ∙ facts_with_more fs least less (room - least) (sym left) some in
+    ap Some (omega arith) ∙ (sym whole ∙ sym (ap (option_and_then (λ n. room_behind_facts room fs)) alone))
+
 -- Clauses one by one.
 
 -- the first clauses have no more symbols than the limits up to each of their terms, and so many of all may still come
@@ -190,7 +220,7 @@ clauses_behind (d ∷ cs) c before =
 total_behind : (cs : List (Clause Term)) (c : Clause Term) → total clause_size (cs ++ (c ∷ [])) ≡ total clause_size cs + clause_size c
 total_behind cs c = omega (arith, total-append clause_size cs (c ∷ []))
 
-pub one_counted : (cs : List (Clause Term)) (c : Clause Term) (left some less : ℕ) → AreCounted cs left → c.diffs ≡ [] → Some some ≡ room_behind_facts most_symbols (facts_in_order c) → Some less ≡ room_behind_facts left (facts_in_order c) → AreCounted (cs ++ (c ∷ [])) less
+one_counted : (cs : List (Clause Term)) (c : Clause Term) (left some less : ℕ) → AreCounted cs left → c.diffs ≡ [] → Some some ≡ room_behind_facts most_symbols (facts_in_order c) → Some less ≡ room_behind_facts left (facts_in_order c) → AreCounted (cs ++ (c ∷ [])) less
 one_counted cs c left some less counted no_diffs own whole =
     let alone = facts_fit most_symbols (facts_in_order c) 0 most_symbols some (omega arith) (sym own) in
     let before = total clause_size cs in
@@ -207,17 +237,13 @@ pub nothing_counted : (left : ℕ) → left ≡ most_certificate_symbols → Are
 nothing_counted left is = record { each = tt; together = tt; room = omega (arith, is) }
 
 -- one more clause of a list
-pub counted_on : (cs : List (Clause Term)) (i : ℕ) (c : Clause Term) (left less : ℕ) (r : Option ℕ) → AreCounted (take i cs) left → i < length cs → c ≡ get_or cs i c → is_none r ≡ false → c.diffs ≡ [] → r ≡ room_behind_facts most_symbols (facts_in_order c) → Some less ≡ room_behind_facts left (facts_in_order c)
-    → AreCounted (take (i + 1) cs) less
-counted_on cs i c left less None counted below is some no_diffs own whole = cc
-counted_on cs i c left less (Some n) counted below is some no_diffs own whole =
-    let taken : take (i + 1) cs ≡ take i cs ++ (c ∷ []) = take_more cs i c below ∙ ap (λ d. take i cs ++ (d ∷ [])) (sym is) in
-    subst (λ ds. AreCounted ds less) (sym taken) (one_counted (take i cs) c left n less counted no_diffs own whole)
-
--- a clause that is too large by itself
-pub none_alone : (r : Option ℕ) (cs : List (Fact Term)) → is_none r ≡ true → r ≡ room_behind_facts most_symbols cs → None ≡ room_behind_facts most_symbols cs
-none_alone None cs none own = own
-none_alone (Some n) cs none own = cc
+pub counted_on : (cs : List (Clause Term)) (i : ℕ) (c : Clause Term) (left less : ℕ) → AreCounted (take i cs) left → i < length cs → c ≡ get_or cs i c → c.diffs ≡ [] → Some less ≡ room_behind_next left (facts_in_order c) → AreCounted (take (i + 1) cs) less
+counted_on cs i c left less counted below is no_diffs next = go (room_behind_facts most_symbols (facts_in_order c)) refl next where
+  go : (o : Option ℕ) → room_behind_facts most_symbols (facts_in_order c) ≡ o → Some less ≡ option_and_then (λ alone. room_behind_facts left (facts_in_order c)) o → AreCounted (take (i + 1) cs) less
+  go None own whole = cc
+  go (Some alone) own whole =
+      let taken : take (i + 1) cs ≡ take i cs ++ (c ∷ []) = take_more cs i c below ∙ ap (λ d. take i cs ++ (d ∷ [])) (sym is) in
+      subst (λ ds. AreCounted ds less) (sym taken) (one_counted (take i cs) c left alone less counted no_diffs (sym own) whole)
 
 -- a term is no larger than what stands up to it
 terms_small : (most : ℕ) (ts : List Term) (before : ℕ) → AreUpTo most (up_to_terms before ts) → AllByRecursion (λ t. size t ≤ most) ts
@@ -258,7 +284,7 @@ large_by cs never = go (is_large_in_nodes cs) refl where
   go true e = refl
   go false e = absurd (never ((large_decides cs).0 e))
 
-pub one_large : (cs : List (Clause Term)) (i : ℕ) (c : Clause Term) → i < length cs → c ≡ get_or cs i c → None ≡ room_behind_facts most_symbols (facts_in_order c) → true ≡ is_large_in_nodes cs
+one_large : (cs : List (Clause Term)) (i : ℕ) (c : Clause Term) → i < length cs → c ≡ get_or cs i c → None ≡ room_behind_facts most_symbols (facts_in_order c) → true ≡ is_large_in_nodes cs
 one_large cs i c below is none = large_by cs (λ fits. facts_over most_symbols (facts_in_order c) 0 most_symbols (omega arith) (sym none) (at cs i fits.clauses below is))
   where
     at : (ds : List (Clause Term)) (n : ℕ) → AllByRecursion (λ d. AreUpTo most_symbols (up_to_facts 0 (facts_in_order d))) ds → n < length ds → c ≡ get_or ds n c → AreUpTo most_symbols (up_to_facts 0 (facts_in_order c))
@@ -266,7 +292,7 @@ one_large cs i c below is none = large_by cs (λ fits. facts_over most_symbols (
     at (d ∷ ds) zero each below is = subst (λ e. AreUpTo most_symbols (up_to_facts 0 (facts_in_order e))) (sym is) each.0
     at (d ∷ ds) (suc n) each below is = at ds n each.1 (omega arith) is
 
-pub all_large : (cs : List (Clause Term)) (i left : ℕ) (c : Clause Term) → AreCounted (take i cs) left → i < length cs → c ≡ get_or cs i c → None ≡ room_behind_facts left (facts_in_order c) → true ≡ is_large_in_nodes cs
+all_large : (cs : List (Clause Term)) (i left : ℕ) (c : Clause Term) → AreCounted (take i cs) left → i < length cs → c ≡ get_or cs i c → None ≡ room_behind_facts left (facts_in_order c) → true ≡ is_large_in_nodes cs
 all_large cs i left c counted below is none = large_by cs (λ fits.
     let before = total clause_size (take i cs) in
     facts_over most_certificate_symbols (facts_in_order c) before left counted.room (sym none)
@@ -282,3 +308,10 @@ all_large cs i left c counted below is none = large_by cs (λ fits.
         let later = at ds n (before + clause_size d) (all_second (λ n. n ≤ most_certificate_symbols) (up_to_facts before (facts_in_order d)) (up_to_clauses (before + clause_size d) ds) are) (omega arith) is in
         let sum : before + clause_size d + total clause_size (take n ds) ≡ before + total clause_size (take (suc n) (d ∷ ds)) = omega arith in
         subst (λ m. AreUpTo most_certificate_symbols (up_to_facts m (facts_in_order c))) sum later
+
+-- a clause that is too large, by itself or behind those before it
+pub next_large : (cs : List (Clause Term)) (i left : ℕ) (c : Clause Term) → AreCounted (take i cs) left → i < length cs → c ≡ get_or cs i c → None ≡ room_behind_next left (facts_in_order c) → true ≡ is_large_in_nodes cs
+next_large cs i left c counted below is none = go (room_behind_facts most_symbols (facts_in_order c)) refl none where
+  go : (o : Option ℕ) → room_behind_facts most_symbols (facts_in_order c) ≡ o → None ≡ option_and_then (λ alone. room_behind_facts left (facts_in_order c)) o → true ≡ is_large_in_nodes cs
+  go None own whole = one_large cs i c below is (sym own)
+  go (Some alone) own whole = all_large cs i left c counted below is whole

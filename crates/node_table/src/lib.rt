@@ -2,6 +2,7 @@
 //! them, with a number; and whether clauses are too large for a table.
 #![tactic(auto)]
 
+mod recent;
 mod sizes;
 mod table;
 

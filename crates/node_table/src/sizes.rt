@@ -8,7 +8,7 @@ ghost use Rattle.spec_node_tables.specs.Table.{facts_in_order};
 ghost use Rattle.spec_node_tables.specs.Large.{is_large_in_nodes};
 ghost use Rattle.clause_form.specs.Plain.{term_of};
 ghost use Rattle.clause_form.specs.PlainFacts.{plain_fact_of};
-ghost use Rattle.node_table.specs.Room.{room_less, room_behind_fact, room_behind_facts};
+ghost use Rattle.node_table.specs.Room.{room_less, room_behind_fact, room_behind_facts, room_behind_next};
 
 use clause_form::{PlainClause, PlainFact, PlainFacts, Tree};
 use limits::{MOST_REPORT_BYTES, MOST_SYMBOLS};
@@ -57,8 +57,8 @@ fn head_symbols(fact: &PlainFact) -> u64
     ensures { result ≡ head_size (head_of (plain_fact_of fact.now)) }
 {
     match fact {
-        PlainFact::Att(_) | PlainFact::Mess(_, _) | PlainFact::Bad(_) => 1,
-        PlainFact::Ev(_, _) | PlainFact::Mev(_, _) => 2,
+        PlainFact::Att(..) | PlainFact::Mess(..) | PlainFact::Bad(_) => 1,
+        PlainFact::Tab(..) | PlainFact::Ev(..) | PlainFact::Mev(..) => 2,
     }
 }
 
@@ -68,14 +68,15 @@ fn room_behind_fact(fact: &PlainFact, room: u64) -> Option<u64>
 {
     let left = room.saturating_sub(head_symbols(fact));
     match fact {
-        PlainFact::Att(term) => room_behind_tree(term, left),
-        PlainFact::Mess(channel, message) => match room_behind_tree(channel, left) {
+        PlainFact::Att(_, term) => room_behind_tree(term, left),
+        PlainFact::Mess(_, channel, message) => match room_behind_tree(channel, left) {
             Some(less) => room_behind_tree(message, less),
             None => None,
         },
-        PlainFact::Ev(_, arguments) | PlainFact::Mev(_, arguments) | PlainFact::Bad(arguments) => {
-            room_behind_trees(&arguments.items, left)
-        }
+        PlainFact::Tab(_, arguments)
+        | PlainFact::Ev(_, arguments)
+        | PlainFact::Mev(_, arguments)
+        | PlainFact::Bad(arguments) => { room_behind_trees(&arguments.items, left) }
     }
 }
 
@@ -104,16 +105,30 @@ fn room_behind_clause(clause: &PlainClause, room: u64) -> Option<u64>
     }
 }
 
+/// Room for so many symbols of all clauses, less those of this one; none where there are too many up to one of its terms, of the
+/// clause alone or of all. One walk tells where it leaves room.
+fn room_behind_next(clause: &PlainClause, room: u64) -> Option<u64>
+    ensures room { result ≡ room_behind_next room (facts_in_order clause.now) }
+    ensures no_diffs { clause.now.diffs ≡ [] }
+{
+    let least = room.min(MOST_SYMBOLS);
+    match room_behind_clause(clause, least) {
+        None => None,
+        Some(0) => match room_behind_clause(clause, MOST_SYMBOLS) {
+            None => None,
+            Some(_) => room_behind_clause(clause, room),
+        },
+        Some(less) => Some(room - (least - less)),
+    }
+}
+
 /// Whether the clauses are too large for a table. Takes no memory.
 pub fn is_large_in_nodes(clauses: &[PlainClause]) -> bool
     ensures { result ≡ is_large_in_nodes clauses.now }
 {
     let mut left = MOST_CERTIFICATE_SYMBOLS;
     'each: for clause in clauses {
-        if room_behind_clause(clause, MOST_SYMBOLS).is_none() {
-            return true;
-        }
-        match room_behind_clause(clause, left) {
+        match room_behind_next(clause, left) {
             Some(less) => left = less,
             None => return true,
         }

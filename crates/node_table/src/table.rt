@@ -6,16 +6,20 @@ ghost use Rattle.term_tree.specs.Bank.{Names, Grows};
 ghost use Rattle.clause_form.specs.Plain.{term_of};
 ghost use Rattle.node_table.specs.Entered.{with_terms};
 
+use crate::recent::RecentBank;
 use clause_form::Tree;
+use smallvec::SmallVec;
 use std::alloc::{AllocError, Global};
 use std::marker::Model;
-use term_store::SharedBank;
-use term_tree::{Bank, Id, Node};
+use term_tree::{Id, Node};
+
+/// How many arguments' ids are kept without memory of their own.
+const IDS_INLINE: usize = 8;
 
 /// The distinct terms of what was numbered, and their subterms, in the order in which a walk completes them.
 #[derive(Drop)]
 pub struct NodeTable {
-    bank: SharedBank,
+    bank: RecentBank,
     alloc: Global,
 }
 
@@ -31,7 +35,7 @@ impl Model for NodeTable {
 }
 
 /// The id of a tree, which is put into the bank where it isn't there, its arguments first. On `Err` the bank may have grown.
-fn enter(alloc: Global, bank: &mut SharedBank, tree: &Tree) -> Result<Id, AllocError>
+fn enter(alloc: Global, bank: &mut RecentBank, tree: &Tree) -> Result<Id, AllocError>
     ensures grows { Grows bank.old bank.new }
     ensures names { IfOk result (λ id. Names bank.new id (term_of tree.now)) }
     ensures walked { OnOk result (bank.new ≡ with_terms bank.old (walk (term_of tree.now))) }
@@ -39,12 +43,12 @@ fn enter(alloc: Global, bank: &mut SharedBank, tree: &Tree) -> Result<Id, AllocE
     match tree {
         Tree::Var(number) => bank.var(*number),
         Tree::App(symbol, arguments) => {
-            let mut ids = Vec::with_capacity(alloc, arguments.items.len())?;
+            let mut ids: SmallVec<Id, IDS_INLINE> = SmallVec::new(alloc);
             'each: for argument in &arguments.items {
                 let id = enter(alloc, bank, argument)?;
                 ids.push(id)?;
             }
-            bank.app(*symbol, &ids)
+            bank.app(*symbol, ids.as_slice())
         }
     }
 }
@@ -61,7 +65,7 @@ impl NodeTable {
     pub fn new(alloc: Global) -> Result<Self, AllocError>
         ensures { IfOk result (λ table. table ≡ []) }
     {
-        let bank = SharedBank::new(alloc)?;
+        let bank = RecentBank::new(alloc)?;
         Ok(NodeTable { bank, alloc })
     }
 
@@ -69,7 +73,7 @@ impl NodeTable {
     pub fn len(&self) -> usize
         ensures { result ≡ length self.now }
     {
-        self.bank.mark().len
+        self.bank.len()
     }
 
     /// The root of a term of the table.

@@ -20,8 +20,9 @@ use term_reader::Names;
 
 /// `att(`, a term and `)`.
 fn att(table: &Table, cursor: &mut Cursor<'_>, walked: &mut Walked) -> Result<Fact, CertError>
-    ensures read { Walks (fact_in (table_of table.now).terms) (reading.read_att (table_of table.now))
-        walked.old walked.new cursor.old cursor.new result }
+    ensures read { Walks (fact_in (table_of table.now).terms)
+        (reading.read_att (table_of table.now)) walked.old walked.new
+        cursor.old cursor.new result }
     ensures same { cursor.new.bytes.now ≡ cursor.old.bytes.now }
     ensures known { IfOk result (λ fact. IsFactIn (table_of table.now).terms (fact_of fact)) }
 {
@@ -29,13 +30,14 @@ fn att(table: &Table, cursor: &mut Cursor<'_>, walked: &mut Walked) -> Result<Fa
     *walked = walked.with_symbols(1);
     let known = term(table, cursor, walked)?;
     cursor.pass(b")")?;
-    Ok(Fact::Att(known))
+    Ok(Fact::Att(0, known))
 }
 
 /// `mess(`, two terms with a comma between, and `)`.
 fn mess(table: &Table, cursor: &mut Cursor<'_>, walked: &mut Walked) -> Result<Fact, CertError>
-    ensures read { Walks (fact_in (table_of table.now).terms) (reading.read_mess (table_of table.now))
-        walked.old walked.new cursor.old cursor.new result }
+    ensures read { Walks (fact_in (table_of table.now).terms)
+        (reading.read_mess (table_of table.now)) walked.old walked.new
+        cursor.old cursor.new result }
     ensures same { cursor.new.bytes.now ≡ cursor.old.bytes.now }
     ensures known { IfOk result (λ fact. IsFactIn (table_of table.now).terms (fact_of fact)) }
 {
@@ -45,7 +47,7 @@ fn mess(table: &Table, cursor: &mut Cursor<'_>, walked: &mut Walked) -> Result<F
     cursor.pass(b",")?;
     let message = term(table, cursor, walked)?;
     cursor.pass(b")")?;
-    Ok(Fact::Mess(channel, message))
+    Ok(Fact::Mess(0, channel, message))
 }
 
 /// `ev(`, an event and `)`.
@@ -95,8 +97,9 @@ fn bad_arguments(
     cursor: &mut Cursor<'_>,
     walked: &mut Walked,
 ) -> Result<Ids, CertError>
-    ensures read { Walks (map (tree_at (table_of table.now).terms)) (reading.bad_arguments (table_of table.now))
-        walked.old walked.new cursor.old cursor.new result }
+    ensures read { Walks (map (tree_at (table_of table.now).terms))
+        (reading.bad_arguments (table_of table.now)) walked.old walked.new
+        cursor.old cursor.new result }
     ensures same { cursor.new.bytes.now ≡ cursor.old.bytes.now }
     ensures known { IfOk result (AreKnown (table_of table.now).terms) }
 {
@@ -115,8 +118,9 @@ fn bad(
     cursor: &mut Cursor<'_>,
     walked: &mut Walked,
 ) -> Result<Fact, CertError>
-    ensures read { Walks (fact_in (table_of table.now).terms) (reading.read_bad (table_of table.now))
-        walked.old walked.new cursor.old cursor.new result }
+    ensures read { Walks (fact_in (table_of table.now).terms)
+        (reading.read_bad (table_of table.now)) walked.old walked.new
+        cursor.old cursor.new result }
     ensures same { cursor.new.bytes.now ≡ cursor.old.bytes.now }
     ensures known { IfOk result (λ fact. IsFactIn (table_of table.now).terms (fact_of fact)) }
 {

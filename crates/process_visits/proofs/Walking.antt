@@ -22,8 +22,6 @@ use Rattle.spec_choice_walks.proofs.Ways.{each-drop, all_nowhere}
 use Rattle.std.specs.Prelude.{MatchBool}
 use Rattle.pi_tree.specs.declared.destructors.Rule as destructors
 use Rattle.pi_tree.specs.Rules.{rule_of}
-use Rattle.term_tree.specs.Bank.{Grows}
-use Rattle.term_tree.proofs.BankLaws.{Grows_refl}
 use Rattle.unify_match.specs.Seen.{IsReady}
 use Rattle.term_values.specs.Instructions.{instruction_of}
 use Rattle.term_values.specs.declared.instructions.Instruction as code
@@ -200,31 +198,31 @@ module _ (P : Protocol) (w : source.Visit) (v : Visit) where
             go = subst (λ (l : List Ruled). EachGoesOn P v pattern l (map nothing l)) (sym first) go;
           }
 
--- how far a walk has come
-pub record HasWalked (P : Protocol) (w : source.Visit) (v : Visit) (later : List Instruction) (rs : List Ruled) (old now : List Term) (walk : Walk) : Type 0 where
-  pub grows : Grows old now
-  pub along : IsAlong P w v later rs now walk
-
 -- the first instruction of a row that is left
 pub first_left : (instructions : List code.Instruction) (i : ℕ) (instruction : code.Instruction) → i < length instructions → instruction ≡ get_or instructions i instruction → map instruction_of (drop i instructions) ≡ instruction_of instruction ∷ map instruction_of (drop (i + 1) instructions)
 first_left instructions i instruction within is = ap (map instruction_of) (drop_more instructions i instruction within) ∙ ap (λ x. instruction_of x ∷ map instruction_of (drop (i + 1) instructions)) (sym is)
 
+-- before that instruction
+pub along_at : (P : Protocol) (w : source.Visit) (v : Visit) (all : List Term) (instructions : List code.Instruction) (i : ℕ) (instruction : code.Instruction) (rs : List Ruled) (walk : Walk) → i < length instructions → instruction ≡ get_or instructions i instruction
+    → IsAlong P w v (map instruction_of (drop i instructions)) rs all walk → IsAlong P w v (instruction_of instruction ∷ map instruction_of (drop (i + 1) instructions)) rs all walk
+along_at P w v all instructions i instruction rs walk within is along = subst (λ (l : List Instruction). IsAlong P w v l rs all walk) (first_left instructions i instruction within is) along
+
 -- before the first instruction
 pub along_first : (all : List Term) (choosing : Choosing) (row : Row) (number : ℕ) → IsChoosingIn all choosing → number < choosing.count → row.ids.items ≡ [] → row.next ≡ choosing.visit.now.next → row.binds.pairs ≡ [] → IsReady all row.binds.pairs
-    → HasWalked (protocol_at choosing.place.now) choosing.visit.now (visit_at all choosing.visit.now) (instructions_of choosing) (drop number (choices_of choosing)) all all (record { row = row; left = choosing.count; number = number })
+    → IsAlong (protocol_at choosing.place.now) choosing.visit.now (visit_at all choosing.visit.now) (instructions_of choosing) (drop number (choices_of choosing)) all (record { row = row; left = choosing.count; number = number })
 along_first all choosing row number known within empty next unbound ready = record {
-  grows = Grows_refl all;
-  along = record {
-    parts = [];
-    row = row_first (protocol_at choosing.place.now) choosing.visit.now (visit_at all choosing.visit.now) all row record { known = known.visit; is = refl } empty next unbound ready;
-    fit = subst (λ n. AreFitInstructions (protocol_at choosing.place.now) n 0 (instructions_of choosing)) (sym next) known.fit;
-    left = known.count;
-    within = within;
-    more = [];
-    are = sym (append-nil (drop number (choices_of choosing)));
-  };
+  parts = [];
+  row = row_first (protocol_at choosing.place.now) choosing.visit.now (visit_at all choosing.visit.now) all row record { known = known.visit; is = refl } empty next unbound ready;
+  fit = subst (λ n. AreFitInstructions (protocol_at choosing.place.now) n 0 (instructions_of choosing)) (sym next) known.fit;
+  left = known.count;
+  within = within;
+  more = [];
+  are = sym (append-nil (drop number (choices_of choosing)));
 }
 
 -- behind the last instruction
-pub none_left : (instructions : List code.Instruction) (i : ℕ) → length instructions ≤ i → map instruction_of (drop i instructions) ≡ []
+none_left : (instructions : List code.Instruction) (i : ℕ) → length instructions ≤ i → map instruction_of (drop i instructions) ≡ []
 none_left instructions i past = ap (map instruction_of) (drop_all i instructions past)
+
+pub along_end : (P : Protocol) (w : source.Visit) (v : Visit) (all : List Term) (instructions : List code.Instruction) (i : ℕ) (rs : List Ruled) (walk : Walk) → length instructions ≤ i → IsAlong P w v (map instruction_of (drop i instructions)) rs all walk → IsAlong P w v [] rs all walk
+along_end P w v all instructions i rs walk past along = subst (λ (l : List Instruction). IsAlong P w v l rs all walk) (none_left instructions i past) along

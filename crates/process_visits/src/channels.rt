@@ -65,8 +65,8 @@ pub fn sent<B: Bank>(bank: &B, protocol: &Protocol, channel: Id, message: Id) ->
         (tree_at (B.trees bank.now) message)) }
 {
     if is_public_channel(bank, protocol, channel) {
-        Fact::Att(message)
+        Fact::Att(0, message)
     } else {
-        Fact::Mess(channel, message)
+        Fact::Mess(0, channel, message)
     }
 }

@@ -18,7 +18,7 @@ ghost use Rattle.term_values.specs.Instructions.{instruction_of};
 ghost use Rattle.process_visits.specs.Places.{protocol_at};
 ghost use Rattle.process_visits.specs.Visits.{visit_at};
 ghost use Rattle.process_visits.specs.Ways.{is_nowhere_way, Passes, AreCut};
-ghost use Rattle.process_visits.specs.Walks.{choices_of, IsChoosingIn, IsAlong, StandsBefore, StandsAtEnd, LooksAt, HasChoices};
+ghost use Rattle.process_visits.specs.Walks.{instructions_of, choices_of, IsChoosingIn, IsAlong, StandsBefore, StandsAtEnd, LooksAt, HasChoices};
 
 use crate::choice::Choosing;
 use crate::inputs::with_pattern;
@@ -150,6 +150,34 @@ fn finish<B: Bank>(
     Ok(way_to(bank, found))
 }
 
+/// Follows all instructions, and tells how the choice goes on, or how many are cut with it. On `Err` the bank may have grown.
+fn follow<B: Bank>(
+    choosing: &Choosing<'_>,
+    bank: &mut B,
+    walk: &mut Walk,
+) -> Result<Passed, AllocError>
+    requires stands { (v : translation.Visit) × (rs : List Ruled)
+        × IsAlong (protocol_at choosing.now.place.now) choosing.now.visit.now v
+        (instructions_of choosing.now) rs (B.trees bank.old) walk.old }
+    ensures grows { Grows (B.trees bank.old) (B.trees bank.new) }
+    ensures passes { IfOk result (λ passed. (v : translation.Visit) → (rs : List Ruled) →
+        IsAlong (protocol_at choosing.now.place.now) choosing.now.visit.now v
+        (instructions_of choosing.now) rs (B.trees bank.old) walk.old →
+        Passes (protocol_at choosing.now.place.now) v (pattern_of choosing.now.pattern.now) rs
+        (B.trees bank.new) passed) }
+{
+    'each: for instruction in choosing.instructions {
+        if !step(choosing, bank, walk, instruction)? {
+            return Ok(Passed {
+                count: walk.left - walk.number,
+                way: Way::Nowhere,
+            });
+        }
+    }
+    let way = finish(choosing, bank, walk)?;
+    Ok(Passed { count: 1, way })
+}
+
 /// Choices from the one of that number on, and how they go on. On `Err` the bank may have grown.
 fn walk_to<B: Bank>(
     choosing: &Choosing<'_>,
@@ -170,16 +198,9 @@ fn walk_to<B: Bank>(
         left: choosing.count,
         number,
     };
-    'each: for instruction in choosing.instructions {
-        if !step(choosing, bank, &mut walk, instruction)? {
-            return Ok(Passed {
-                count: walk.left - walk.number,
-                way: Way::Nowhere,
-            });
-        }
-    }
-    let way = finish(choosing, bank, &mut walk)?;
-    Ok(Passed { count: 1, way })
+    let passed = follow(choosing, bank, &mut walk);
+    drop(walk);
+    passed
 }
 
 /// Choices from the one of that number on, and how they go on. Where this is nowhere, the bank is as before; on `Err`
@@ -201,9 +222,10 @@ pub fn choices_from<B: Bank>(
 {
     let mark = bank.mark();
     let passed = walk_to(choosing, bank, number)?;
-    if passed.is_nowhere() {
-        bank.back(mark);
+    if !passed.is_nowhere() {
+        return Ok(passed);
     }
+    bank.back(mark);
     Ok(passed)
 }
 

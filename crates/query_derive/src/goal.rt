@@ -63,12 +63,12 @@ fn raw_goal(alloc: Global, protocol: &Protocol, query: &Query) -> Result<PlainCl
     match query {
         Query::Secret(message) => {
             let message = tree_of(alloc, protocol, message)?;
-            bad_where(alloc, PlainFact::Att(message), none)
+            bad_where(alloc, PlainFact::Att(0, message), none)
         }
         Query::SecretNew(point) => {
             let arguments = variables(alloc, protocol.name_args(*point))?;
             let name = Tree::App(Sym::Point(*point), arguments);
-            bad_where(alloc, PlainFact::Att(name), none)
+            bad_where(alloc, PlainFact::Att(0, name), none)
         }
         Query::Corr { left, .. } => {
             let arguments = trees_of(alloc, protocol, &left.args)?;

@@ -117,7 +117,7 @@ pub fn match_bad<B: Bank>(
 {
     match conclusion {
         Fact::Bad(ids) => match_trees(bank, bad, &ids.items, binds),
-        Fact::Att(_) | Fact::Mess(..) | Fact::Ev(..) | Fact::Mev(..) => Ok(false),
+        Fact::Att(..) | Fact::Mess(..) | Fact::Tab(..) | Fact::Ev(..) | Fact::Mev(..) => Ok(false),
     }
 }
 
@@ -146,7 +146,7 @@ pub fn match_event<B: Bank>(
             }
             match_trees(bank, &event.arguments, &ids.items, binds)
         }
-        Fact::Att(_) | Fact::Mess(..) | Fact::Ev(..) | Fact::Bad(_) => Ok(false),
+        Fact::Att(..) | Fact::Mess(..) | Fact::Tab(..) | Fact::Ev(..) | Fact::Bad(_) => Ok(false),
     }
 }
 

@@ -1,8 +1,9 @@
-//! Reads clauses, as `att(v0), mess(c,(v0,d)) => ev(e(f(v0)))`.
+//! Reads clauses, as `att(v0), mess(c,(v0,d)) => ev(e(f(v0)))`. A phase other than 0 stands behind its predicate, as in
+//! `att@1(v0)`.
 //!
 //! A clause is read byte by byte, without recursion: what is open stands on a stack.
 
-use crate::signature::{event_of, symbol_of, variable_of};
+use crate::signature::{event_of, number_in, symbol_of, table_of, variable_of};
 use clause_form::{PlainClause, PlainFact, PlainFacts, Tree, Trees};
 use std::alloc::{AllocError, Global};
 use std::mem;
@@ -166,11 +167,21 @@ fn term_of(name: &[u8], items: Vec<Tree>) -> Option<Tree> {
     }
 }
 
-/// The fact with this predicate over these terms.
+/// The predicate in the name of a fact, in which a phase may stand behind it.
+fn predicate_in(name: &[u8]) -> &[u8] {
+    match name.iter().position(|byte| *byte == b'@') {
+        Some(place) => &name[..place],
+        None => name,
+    }
+}
+
+/// The fact with this name over these terms.
 fn fact_of(name: &[u8], items: Vec<Tree>) -> Option<PlainFact> {
-    match name {
-        b"att" => known(items),
-        b"mess" => message(items),
+    let phase = number_in(name);
+    match predicate_in(name) {
+        b"att" => known(phase, items),
+        b"mess" => message(phase, items),
+        b"tab" => entry(items),
         b"ev" => event(false, items),
         b"mev" => event(true, items),
         b"bad" => Some(PlainFact::Bad(Trees { items })),
@@ -179,21 +190,32 @@ fn fact_of(name: &[u8], items: Vec<Tree>) -> Option<PlainFact> {
 }
 
 /// `att` of one term.
-fn known(mut items: Vec<Tree>) -> Option<PlainFact> {
+fn known(phase: u32, mut items: Vec<Tree>) -> Option<PlainFact> {
     match items.pop() {
-        Some(term) => Some(PlainFact::Att(term)),
+        Some(term) => Some(PlainFact::Att(phase, term)),
         None => None,
     }
 }
 
 /// `mess` of two terms.
-fn message(mut items: Vec<Tree>) -> Option<PlainFact> {
+fn message(phase: u32, mut items: Vec<Tree>) -> Option<PlainFact> {
     match items.pop() {
         Some(message) => match items.pop() {
-            Some(channel) => Some(PlainFact::Mess(channel, message)),
+            Some(channel) => Some(PlainFact::Mess(phase, channel, message)),
             None => None,
         },
         None => None,
+    }
+}
+
+/// `tab` of an entry.
+fn entry(mut items: Vec<Tree>) -> Option<PlainFact> {
+    match items.pop() {
+        Some(Tree::App(symbol, arguments)) => match table_of(symbol) {
+            Some(table) => Some(PlainFact::Tab(table, arguments)),
+            None => None,
+        },
+        _ => None,
     }
 }
 

@@ -1,13 +1,17 @@
 //! The names that tables may use.
 //!
 //! `f`, `g`, `h`, `enc` and `k1` .. are constructors, `box` and `pair` data constructors; `c`, `d` and `k` are free
-//! names; `e`, `begin` and `end` are events. `v12` is the variable 12, `n@3` a restricted name of the point 3, `@` an
-//! attacker's name, and no name at all a tuple. How many arguments a name has is up to the table.
+//! names; `e`, `begin` and `end` are events, `keys` and `hosts` tables of entries. `v12` is the variable 12, `n@3` a
+//! restricted name of the point 3, `@` an attacker's name, and no name at all a tuple. How many arguments a name has is up
+//! to the table of rows.
 
 use term_tree::Sym;
 
 /// Constructors from this number on stand for events while a clause is read.
 const EVENTS: u32 = 1000;
+
+/// Constructors from this number on stand for tables of entries while a clause is read.
+const TABLES: u32 = 2000;
 
 /// The number that the digits among these bytes spell.
 pub fn number_in(bytes: &[u8]) -> u32 {
@@ -29,8 +33,8 @@ pub fn variable_of(name: &[u8]) -> Option<u32> {
     }
 }
 
-/// The symbols with names of their own, constructors that stand for events among them.
-const SYMBOLS: [(&str, Sym); 13] = [
+/// The symbols with names of their own, constructors that stand for events and for tables among them.
+const SYMBOLS: [(&str, Sym); 15] = [
     ("f", Sym::Ctor(1)),
     ("g", Sym::Ctor(2)),
     ("h", Sym::Ctor(3)),
@@ -43,6 +47,8 @@ const SYMBOLS: [(&str, Sym); 13] = [
     ("e", Sym::Ctor(1001)),
     ("begin", Sym::Ctor(1002)),
     ("end", Sym::Ctor(1003)),
+    ("keys", Sym::Ctor(2001)),
+    ("hosts", Sym::Ctor(2002)),
     ("@", Sym::Attacker),
 ];
 
@@ -70,9 +76,22 @@ pub fn event_of(symbol: Sym) -> Option<u32> {
     }
 }
 
+/// The number of the table that stands for this symbol while a clause is read, if one does.
+pub fn table_of(symbol: Sym) -> Option<u32> {
+    match symbol {
+        Sym::Ctor(number) => number.checked_sub(TABLES),
+        _ => None,
+    }
+}
+
 /// The name of an event.
 pub fn event_name(event: u32) -> &'static str {
     symbol_name(Sym::Ctor(event.saturating_add(EVENTS)))
+}
+
+/// The name of a table of entries.
+pub fn table_name(table: u32) -> &'static str {
+    symbol_name(Sym::Ctor(table.saturating_add(TABLES)))
 }
 
 /// The name of a symbol that is no restricted name.

@@ -1,6 +1,6 @@
 //! Writes clauses as tables spell them.
 
-use crate::signature::{event_name, symbol_name};
+use crate::signature::{event_name, symbol_name, table_name};
 use clause_form::{PlainClause, PlainFact, Tree};
 use std::alloc::{AllocError, Global};
 use term_tree::Sym;
@@ -93,37 +93,65 @@ fn write_terms(alloc: Global, terms: &[Tree], text: &mut String) -> Result<(), A
     Ok(())
 }
 
-/// Writes an event in brackets.
-fn write_event(
+/// Writes a name over terms in brackets.
+fn write_named(
     alloc: Global,
-    event: u32,
+    name: &str,
     arguments: &[Tree],
     text: &mut String,
 ) -> Result<(), AllocError> {
     text.push('(')?;
-    text.push_str(event_name(event))?;
+    text.push_str(name)?;
     write_terms(alloc, arguments, text)?;
     text.push(')')?;
     Ok(())
 }
 
-/// Writes a message on a channel.
+/// Writes a phase, unless it is the first one.
+fn write_phase(alloc: Global, phase: u32, text: &mut String) -> Result<(), AllocError> {
+    if phase > 0 {
+        text.push_str(format!(in alloc; "@{phase}")?.as_str())?;
+    }
+    Ok(())
+}
+
+/// Writes a term in brackets, behind the phase in which it is known.
+fn write_known(
+    alloc: Global,
+    phase: u32,
+    term: &Tree,
+    text: &mut String,
+) -> Result<(), AllocError> {
+    write_phase(alloc, phase, text)?;
+    text.push('(')?;
+    write_term(alloc, term, text)?;
+    text.push(')')?;
+    Ok(())
+}
+
+/// Writes a channel and a message in brackets, behind the phase in which it is sent.
 fn write_message(
     alloc: Global,
+    phase: u32,
     channel: &Tree,
     message: &Tree,
     text: &mut String,
 ) -> Result<(), AllocError> {
+    write_phase(alloc, phase, text)?;
+    text.push('(')?;
     write_term(alloc, channel, text)?;
     text.push(',')?;
-    write_term(alloc, message, text)
+    write_term(alloc, message, text)?;
+    text.push(')')?;
+    Ok(())
 }
 
 /// The name of a fact's predicate.
 fn predicate_of(fact: &PlainFact) -> &'static str {
     match fact {
-        PlainFact::Att(_) => "att(",
-        PlainFact::Mess(..) => "mess(",
+        PlainFact::Att(..) => "att",
+        PlainFact::Mess(..) => "mess",
+        PlainFact::Tab(..) => "tab",
         PlainFact::Ev(..) => "ev",
         PlainFact::Mev(..) => "mev",
         PlainFact::Bad(_) => "bad",
@@ -133,28 +161,24 @@ fn predicate_of(fact: &PlainFact) -> &'static str {
 /// Writes what stands behind the predicate of a fact.
 fn write_arguments(alloc: Global, fact: &PlainFact, text: &mut String) -> Result<(), AllocError> {
     match fact {
-        PlainFact::Att(term) => write_term(alloc, term, text),
-        PlainFact::Mess(channel, message) => write_message(alloc, channel, message, text),
-        PlainFact::Ev(event, arguments) => write_event(alloc, *event, &arguments.items, text),
-        PlainFact::Mev(event, arguments) => write_event(alloc, *event, &arguments.items, text),
+        PlainFact::Att(phase, term) => write_known(alloc, *phase, term, text),
+        PlainFact::Mess(phase, channel, message) => {
+            write_message(alloc, *phase, channel, message, text)
+        }
+        PlainFact::Tab(table, arguments) => {
+            write_named(alloc, table_name(*table), &arguments.items, text)
+        }
+        PlainFact::Ev(event, arguments) | PlainFact::Mev(event, arguments) => {
+            write_named(alloc, event_name(*event), &arguments.items, text)
+        }
         PlainFact::Bad(arguments) => write_terms(alloc, &arguments.items, text),
-    }
-}
-
-/// The bracket that closes a fact, where its arguments don't.
-fn bracket_behind(fact: &PlainFact) -> &'static str {
-    match fact {
-        PlainFact::Att(_) | PlainFact::Mess(..) => ")",
-        PlainFact::Ev(..) | PlainFact::Mev(..) | PlainFact::Bad(_) => "",
     }
 }
 
 /// Writes a fact.
 fn write_fact(alloc: Global, fact: &PlainFact, text: &mut String) -> Result<(), AllocError> {
     text.push_str(predicate_of(fact))?;
-    write_arguments(alloc, fact, text)?;
-    text.push_str(bracket_behind(fact))?;
-    Ok(())
+    write_arguments(alloc, fact, text)
 }
 
 /// Writes this, unless nothing is written yet.

@@ -1,7 +1,8 @@
 -- What a bank is after a shape came to its set: as it was where the shape is there, and else with one more tree.
-use Rattle.std.proofs.Common.{◌≡◌, ℕ, suc, ◌+◌, ◌<◌, ◌≤◌, Bool, true, false, not, ◌||◌, true≢false, if◌then◌else◌, Some, List, [], ◌∷◌, ◌++◌, length, take, map, slice_get, refl, sym, ap, ◌∙◌, subst, arith, get_or}
-use Rattle.std.specs.List.{IsDistinct, list_any, position_or_len}
+use Rattle.std.proofs.Common.{◌≡◌, ℕ, zero, suc, ◌+◌, ◌<◌, ◌≤◌, Bool, true, false, not, ◌||◌, true≢false, if◌then◌else◌, is_some, Option, None, Some, IfSome, IfNone, position, List, [], ◌∷◌, ◌++◌, length, take, map, slice_get, refl, sym, ap, ◌∙◌, subst, arith, get_or}
+use Rattle.std.specs.List.{IsDistinct, AllByRecursion, list_any, position_or_len}
 use Rattle.std.proofs.lemmas.List.{length-map}
+use Rattle.std.proofs.lemmas.List.Quantifiers.{position-Some}
 use Rattle.std.proofs.lemmas.Option.{slice_get-get_or, slice_get_within, slice_get_read, unwrap_or-slice_get}
 use Rattle.indexmap.specs.IndexSet.{insert_key}
 use Rattle.spec_trees.specs.Tree.{Leaf}
@@ -11,10 +12,13 @@ use Rattle.term_tree.specs.declared.bank.Id.{Id}
 use Rattle.term_tree.specs.Roots.{tree_of, HasArgs, HaveArgs, told}
 use Rattle.term_tree.proofs.BankLaws.{Names-next, Names-grows, take-grown}
 use Rattle.term_tree.proofs.Roots.{IsPlace, IsPlace-tree, place_at, told_at, items-length, built-push, HaveArgs-push, told-push, built-cut, HaveArgs-cut, told-cut}
-use Rattle.term_store.specs.SharedBank.{root_of, same_shape, trees_of, IsWell, Finds}
-use Rattle.term_store.specs.declared.shared_bank.Shape.{Shape}
-use Rattle.term_store.specs.declared.shared_bank.Measure.{Measure}
+use Rattle.term_store.specs.Measures.{tells_of}
+use Rattle.term_store.specs.Shapes.{root_of, IsPlain, same_shape}
+use Rattle.term_store.specs.SharedBank.{trees_of, IsWell, id_at, IsKnown, Finds}
+use Rattle.term_store.specs.declared.shape.Shape.{Shape}
+use Rattle.term_store.specs.declared.measure.Measure.{Measure}
 use Rattle.term_store.proofs.Shapes.{root_of-same}
+use Rattle.term_store.proofs.Distinct.{known_root}
 
 -- the place of a shape that equals the wanted one has the wanted tree
 pub known_names : (shapes : List Shape) (measures : List Measure) (all : List Term) (shape k : Shape) (id : Id) → trees_of shapes ≡ all → IsWell shapes measures → slice_get shapes id.index ≡ Some k → same_shape shape k ≡ true → Names all id (tree_of all (root_of shape))
@@ -58,15 +62,22 @@ IsLast-new shapes now index shape is_new told_new new e at =
       place = at ∙ past_all (same_shape shape) shapes none;
     }
 
-abbrev tells_of : Measure → ℕ × Bool
-tells_of m = (m.size, m.is_ground)
+all-push : {X : Type 0} (P : X → Type 0) (xs : List X) (x : X) → AllByRecursion P xs → P x → AllByRecursion P (xs ++ x ∷ [])
+all-push P [] x all one = (one, tt)
+all-push P (y ∷ ys) x all one = (all.0, all-push P ys x all.1 one)
+
+all-cut : {X : Type 0} (P : X → Type 0) (xs : List X) (n : ℕ) → AllByRecursion P xs → AllByRecursion P (take n xs)
+all-cut P xs zero all = tt
+all-cut P [] (suc n) all = tt
+all-cut P (y ∷ ys) (suc n) all = (all.0, all-cut P ys n all.1)
 
 -- a bank with one more shape, and what is told of its tree
-pub IsWell-push : (shapes now : List Shape) (measures after : List Measure) (all : List Term) (index : ℕ) (shape : Shape) (measure : Measure) → trees_of shapes ≡ all → IsWell shapes measures → HasArgs all (root_of shape) → (measure.size, measure.is_ground) ≡ told (tree_of all (root_of shape)) → IsLast shapes now index shape → IsDistinct same_shape now → after ≡ measures ++ measure ∷ [] → IsWell now after
-IsWell-push shapes now measures after all index shape measure view well args tells last distinct pushed =
+pub IsWell-push : (shapes now : List Shape) (measures after : List Measure) (all : List Term) (index : ℕ) (shape : Shape) (measure : Measure) → trees_of shapes ≡ all → IsWell shapes measures → HasArgs all (root_of shape) → IsPlain shape → tells_of measure ≡ told (tree_of all (root_of shape)) → IsLast shapes now index shape → IsDistinct same_shape now → after ≡ measures ++ measure ∷ [] → IsWell now after
+IsWell-push shapes now measures after all index shape measure view well args plain tells last distinct pushed =
     let grown = built-push root_of shapes all shape view in
     record {
       args = subst (λ (l : List Shape). HaveArgs [] (map root_of l)) (sym last.keys) (HaveArgs-push root_of shapes all shape view well.args args);
+      plain = subst (AllByRecursion IsPlain) (sym last.keys) (all-push IsPlain shapes shape well.plain plain);
       distinct = distinct;
       tells = ap (map tells_of) pushed
           ∙ (told-push tells_of measures measure all (tree_of all (root_of shape)) (well.tells ∙ ap (map told) view) tells
@@ -102,6 +113,7 @@ IsWell-cut shapes now measures left all n view well within distinct cut shortene
     let trees = built-cut root_of shapes all n view within in
     record {
       args = subst (λ (l : List Shape). HaveArgs [] (map root_of l)) (sym cut) (HaveArgs-cut root_of shapes n well.args);
+      plain = subst (AllByRecursion IsPlain) (sym cut) (all-cut IsPlain shapes n well.plain);
       distinct = distinct;
       tells = ap (map tells_of) shortened
           ∙ (told-cut tells_of measures all n (well.tells ∙ ap (map told) view)
@@ -109,7 +121,7 @@ IsWell-cut shapes now measures left all n view well within distinct cut shortene
     }
 
 -- what is told of a place that is read
-pub told_of : (shapes : List Shape) (measures : List Measure) (all : List Term) (id : Id) (d : Measure) → trees_of shapes ≡ all → IsWell shapes measures → id.index < length all → ((get_or measures id.index d).size, (get_or measures id.index d).is_ground) ≡ told (tree_at all id)
+pub told_of : (shapes : List Shape) (measures : List Measure) (all : List Term) (id : Id) (d : Measure) → trees_of shapes ≡ all → IsWell shapes measures → id.index < length all → tells_of (get_or measures id.index d) ≡ told (tree_at all id)
 told_of shapes measures all id d view well within =
     let same : map tells_of measures ≡ map told all = well.tells ∙ ap (map told) view in
     let long : length measures ≡ length all = sym (length-map measures tells_of) ∙ (ap length same ∙ length-map all told) in
@@ -121,3 +133,17 @@ pub shape_at : (shapes : List Shape) (measures : List Measure) (read : List Shap
 shape_at shapes measures read all id shape view well within same found =
     let inside : id.index < length shapes = omega (arith, items-length root_of shapes all view, within) in
     place_at root_of shapes all id.index shape view well.args (slice_get_read shapes (length shapes) id.index shape refl inside (found ∙ ap (λ l. get_or l id.index shape) same))
+
+-- the place that a look-up answers has the wanted tree
+pub found_place : (shapes : List Shape) (measures : List Measure) (all : List Term) (shape : Shape) (found : Option ℕ) → trees_of shapes ≡ all → IsWell shapes measures → found ≡ position (same_shape shape) shapes
+    → IfSome found (λ k. Names all (id_at k) (tree_of all (root_of shape)))
+found_place shapes measures all shape None view well e = tt
+found_place shapes measures all shape (Some k) view well e =
+    let (within, same, earlier) = position-Some (same_shape shape) shapes k shape (sym e) in
+    known_names shapes measures all shape (get_or shapes k shape) (id_at k) view well (slice_get-get_or shapes k shape within) same
+
+-- where a look-up answers no place the wanted tree is not there
+pub no_place : (shapes : List Shape) (measures : List Measure) (all : List Term) (shape : Shape) (found : Option ℕ) → trees_of shapes ≡ all → IsWell shapes measures → IsPlain shape → HasArgs all (root_of shape)
+    → is_some found ≡ list_any (same_shape shape) shapes → IfNone found (¬ IsKnown all (tree_of all (root_of shape)))
+no_place shapes measures all shape (Some k) view well plain args e = tt
+no_place shapes measures all shape None view well plain args e = λ known. true≢false (sym (e ∙ known_root shapes measures all shape known.0 view well plain args known.1))

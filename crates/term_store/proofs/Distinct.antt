@@ -11,30 +11,31 @@ use Rattle.term_tree.specs.declared.bank.Id.{Id}
 use Rattle.term_tree.specs.Roots.{Root, Variable, Applied, tree_of, built, HasArgs, HaveArgs}
 use Rattle.term_tree.proofs.BankLaws.{symbol_of-injective}
 use Rattle.term_tree.proofs.Roots.{IsPlace, IsPlace-built, IsPlace-tree, built-length, items-length, place_at}
-use Rattle.term_store.specs.SharedBank.{root_of, same_shape, trees_of, IsWell}
-use Rattle.term_store.specs.declared.shared_bank.Shape.{Shape}
-use Rattle.term_store.specs.declared.shared_bank.Measure.{Measure}
+use Rattle.term_store.specs.Shapes.{root_of, IsPlain, same_shape}
+use Rattle.term_store.specs.SharedBank.{trees_of, IsWell}
+use Rattle.term_store.specs.declared.shape.Shape.{Shape}
+use Rattle.term_store.specs.declared.measure.Measure.{Measure}
 use Rattle.term_store.proofs.Shapes.{same_shape-root}
 
 -- no root stands at two places of a list
 pub record AreApart (rs : List Root) : Type 0 where
   pub apart : (j k : ℕ) (r : Root) → slice_get rs j ≡ Some r → slice_get rs k ≡ Some r → j ≡ k
 
-module _ {E : Type 0} (same : E → E → Bool) (root : E → Root) (decides : (x y : E) → root x ≡ root y → same x y ≡ true) where
-  never_later : (x : E) (ys : List E) (k : ℕ) → AllByRecursion (λ y. same x y ≡ false) ys → slice_get (map root ys) k ≡ Some (root x) → ⊥
-  never_later x [] k all found = cc
-  never_later x (y ∷ ys) zero all found = let e : root x ≡ root y = cc in true≢false (sym (decides x y e) ∙ all.0)
-  never_later x (y ∷ ys) (suc k) all found = never_later x ys k all.1 found
+module _ {E : Type 0} (same : E → E → Bool) (root : E → Root) (good : E → Type 0) (decides : (x y : E) → good x → good y → root x ≡ root y → same x y ≡ true) where
+  never_later : (x : E) (ys : List E) (k : ℕ) → good x → AllByRecursion good ys → AllByRecursion (λ y. same x y ≡ false) ys → slice_get (map root ys) k ≡ Some (root x) → ⊥
+  never_later x [] k one goods all found = cc
+  never_later x (y ∷ ys) zero one goods all found = let e : root x ≡ root y = cc in true≢false (sym (decides x y one goods.0 e) ∙ all.0)
+  never_later x (y ∷ ys) (suc k) one goods all found = never_later x ys k one goods.1 all.1 found
 
-  once : (es : List E) → IsDistinct same es → (j k : ℕ) (r : Root) → slice_get (map root es) j ≡ Some r → slice_get (map root es) k ≡ Some r → j ≡ k
-  once [] distinct j k r here there = cc
-  once (x ∷ xs) distinct zero zero r here there = refl
-  once (x ∷ xs) distinct zero (suc k) r here there = let e : root x ≡ r = cc in absurd (never_later x xs k (IsDistinct-head same x xs distinct) (there ∙ ap Some (sym e)))
-  once (x ∷ xs) distinct (suc j) zero r here there = let e : root x ≡ r = cc in absurd (never_later x xs j (IsDistinct-head same x xs distinct) (here ∙ ap Some (sym e)))
-  once (x ∷ xs) distinct (suc j) (suc k) r here there = ap suc (once xs (IsDistinct-tail same x xs distinct) j k r here there)
+  once : (es : List E) → AllByRecursion good es → IsDistinct same es → (j k : ℕ) (r : Root) → slice_get (map root es) j ≡ Some r → slice_get (map root es) k ≡ Some r → j ≡ k
+  once [] goods distinct j k r here there = cc
+  once (x ∷ xs) goods distinct zero zero r here there = refl
+  once (x ∷ xs) goods distinct zero (suc k) r here there = let e : root x ≡ r = cc in absurd (never_later x xs k goods.0 goods.1 (IsDistinct-head same x xs distinct) (there ∙ ap Some (sym e)))
+  once (x ∷ xs) goods distinct (suc j) zero r here there = let e : root x ≡ r = cc in absurd (never_later x xs j goods.0 goods.1 (IsDistinct-head same x xs distinct) (here ∙ ap Some (sym e)))
+  once (x ∷ xs) goods distinct (suc j) (suc k) r here there = ap suc (once xs goods.1 (IsDistinct-tail same x xs distinct) j k r here there)
 
-  pub AreApart-distinct : (es : List E) → IsDistinct same es → AreApart (map root es)
-  AreApart-distinct es distinct = record { apart = once es distinct }
+  pub AreApart-distinct : (es : List E) → AllByRecursion good es → IsDistinct same es → AreApart (map root es)
+  AreApart-distinct es goods distinct = record { apart = once es goods distinct }
 
 -- equal trees below n have equal ids
 abbrev SharedBelow : List Term → ℕ → Type 0
@@ -92,11 +93,11 @@ AreShared-built rs have apart a b here there e = shared_below rs have apart (len
 
 -- so it is in every bank
 pub AreShared-well : (shapes : List Shape) (measures : List Measure) (all : List Term) → trees_of shapes ≡ all → IsWell shapes measures → AreShared all
-AreShared-well shapes measures all view well = subst AreShared view (AreShared-built (map root_of shapes) well.args (AreApart-distinct same_shape root_of same_shape-root shapes well.distinct))
+AreShared-well shapes measures all view well = subst AreShared view (AreShared-built (map root_of shapes) well.args (AreApart-distinct same_shape root_of IsPlain same_shape-root shapes well.plain well.distinct))
 
 -- the root of a known tree is among the roots
-pub known_root : (shapes : List Shape) (measures : List Measure) (all : List Term) (shape : Shape) (known : Id) → trees_of shapes ≡ all → IsWell shapes measures → HasArgs all (root_of shape) → Names all known (tree_of all (root_of shape)) → list_any (same_shape shape) shapes ≡ true
-known_root shapes measures all shape known view well args names =
+pub known_root : (shapes : List Shape) (measures : List Measure) (all : List Term) (shape : Shape) (known : Id) → trees_of shapes ≡ all → IsWell shapes measures → IsPlain shape → HasArgs all (root_of shape) → Names all known (tree_of all (root_of shape)) → list_any (same_shape shape) shapes ≡ true
+known_root shapes measures all shape known view well plain args names =
     let inside : known.index < length shapes = omega (arith, items-length root_of shapes all view, names.known) in
     let k = get_or shapes known.index shape in
     let found : slice_get shapes known.index ≡ Some k = slice_get-get_or shapes known.index shape inside in
@@ -104,8 +105,13 @@ known_root shapes measures all shape known view well args names =
     let lower : SharedBelow all known.index = λ a b under here there e. AreShared-well shapes measures all view well a b here there e in
     let trees : tree_of all (root_of k) ≡ tree_of all (root_of shape) = sym (IsPlace-tree all known (root_of k) place) ∙ names.is in
     let roots : root_of k ≡ root_of shape = roots_are_same all known.index lower (root_of k) (root_of shape) place.below args trees in
-    some_same (same_shape shape) shapes known.index k found (same_shape-root shape k (sym roots))
+    some_same (same_shape shape) shapes known.index k found (same_shape-root shape k plain (at_place shapes known.index k well.plain found) (sym roots))
   where
+    at_place : (xs : List Shape) (n : ℕ) (x : Shape) → AllByRecursion IsPlain xs → slice_get xs n ≡ Some x → IsPlain x
+    at_place [] n x all found = cc
+    at_place (y ∷ ys) zero x all found = let e : y ≡ x = cc in subst IsPlain e all.0
+    at_place (y ∷ ys) (suc n) x all found = at_place ys n x all.1 found
+
     or-true : (b : Bool) → (b || true) ≡ true
     or-true true = refl
     or-true false = refl

@@ -1,2 +1,4 @@
-pub mod SharedBank
+pub mod Measures
+pub mod Shapes
 pub mod Hashing
+pub mod SharedBank

@@ -1,33 +1,33 @@
 -- The shared bank: no two of its trees are equal.
-use Rattle.std.specs.Prelude.{◌≡◌, Bool, List, [], ◌∷◌, ◌++◌, map}
-use Rattle.std.specs.List.{IsDistinct}
+use Rattle.std.specs.Prelude.{◌≡◌, ℕ, ◌≤◌, List, [], ◌∷◌, ◌++◌, map}
+use Rattle.std.specs.List.{IsDistinct, AllByRecursion}
 use Rattle.spec_terms.specs.Term.{Term}
 use Rattle.term_tree.specs.Bank.{Names}
-use Rattle.term_tree.specs.Roots.{Root, Variable, Applied, built, HaveArgs, told}
+use Rattle.term_tree.specs.Roots.{built, HaveArgs, told}
 use Rattle.term_tree.specs.declared.bank.Id.{Id}
-use Rattle.term_store.specs.declared.shared_bank.Shape.{Shape}
-use Rattle.term_store.specs.declared.shared_bank.Shape.TheVariants.{Var, App}
-use Rattle.term_store.specs.declared.shared_bank.Measure.{Measure}
-use Rattle.term_store.specs.contracts.shared_bank.ShapePartialEq.TheImpl as shape_eq
-
--- the root that a shape shows
-abbrev pub root_of : Shape → Root
-root_of (Var x) = Variable x
-root_of (App f args) = Applied f args.items
-
--- whether two shapes are equal by `==`
-abbrev pub same_shape : Shape → Shape → Bool
-same_shape = (shape_eq.ghosts).eq
+use Rattle.term_store.specs.declared.measure.Measure.{Measure}
+use Rattle.term_store.specs.declared.shape.Shape.{Shape}
+use Rattle.term_store.specs.Measures.{tells_of}
+use Rattle.term_store.specs.Shapes.{root_of, IsPlain, same_shape}
 
 -- the trees of shapes
 abbrev pub trees_of : List Shape → List Term
 trees_of shapes = built [] (map root_of shapes)
 
--- each shape's arguments stand before it, no two shapes are equal, and what is told of each tree is so
+-- each shape's arguments stand before it, variables have none, no two shapes are equal, and what is told of each tree is so
 pub record IsWell (shapes : List Shape) (measures : List Measure) : Type 0 where
   pub args : HaveArgs [] (map root_of shapes)
+  pub plain : AllByRecursion IsPlain shapes
   pub distinct : IsDistinct same_shape shapes
-  pub tells : map (λ m. (m.size, m.is_ground)) measures ≡ map told (trees_of shapes)
+  pub tells : map tells_of measures ≡ map told (trees_of shapes)
+
+-- a shape of four arguments (`FOUND_ARGS`) can be written there without memory
+abbrev pub HasRoom : Shape → Type 0
+HasRoom s = 4 ≤ s.args.capacity
+
+-- the id of a place
+abbrev pub id_at : ℕ → Id
+id_at k = record { index = k }
 
 -- the id is that which the tree has already, and the bank stays as it is
 abbrev pub Finds : List Term → List Term → Term → Id → Type 0

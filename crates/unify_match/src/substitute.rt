@@ -9,8 +9,12 @@ ghost use Rattle.unify_match.specs.Substitution.{subst_of, CanChange, Fits, IsFi
 
 use crate::binds::Binds;
 use crate::walk::walk;
+use smallvec::SmallVec;
 use std::alloc::{AllocError, Global};
 use term_tree::{Bank, Id, Node, Sym};
+
+/// How many arguments wait without memory of their own while a term is built.
+const WAITING_INLINE: usize = 16;
 
 /// A substitution.
 #[derive(Clone, Copy)]
@@ -147,7 +151,7 @@ fn is_kept(so_far: bool, argument: Id, made: Id) -> bool
 fn rebuild<B: Bank>(
     bank: &mut B,
     change: Substitution<'_>,
-    stack: &mut Vec<Id>,
+    stack: &mut SmallVec<Id, WAITING_INLINE>,
     id: Id,
 ) -> Result<Id, AllocError>
     requires known { id.index < length (B.trees bank.old) }
@@ -183,7 +187,7 @@ fn rebuild<B: Bank>(
         stack.truncate(base);
         return Ok(end);
     }
-    let made = bank.app(symbol(bank, end), &stack[base..])?;
+    let made = bank.app(symbol(bank, end), &stack.as_slice()[base..])?;
     stack.truncate(base);
     Ok(made)
 }
@@ -212,7 +216,7 @@ pub fn substituted<B: Bank>(
     ensures err { OnErr result (B.trees bank.new ≡ B.trees bank.old) }
 {
     let mark = bank.mark();
-    let mut stack = Vec::new(alloc);
+    let mut stack = SmallVec::new(alloc);
     match rebuild(bank, change, &mut stack, id) {
         Ok(made) => Ok(made),
         Err(error) => {

@@ -1,7 +1,7 @@
 use Rattle.std.proofs.Common.{arith}
 use Rattle.std.proofs.lemmas.Grind.{common_steps}
 use Rattle.clause_form.proofs.Copying.{facts_copied_on}
-use Rattle.term_tree.proofs.BankLaws.{Grows_trans}
+use Rattle.term_tree.proofs.BankLaws.{Grows_refl, Grows_trans}
 use Rattle.clause_form.proofs.copies.copy_facts.Goals as goal
 
 pub loop-one-preserved : goal.loop-one-preserved
@@ -19,4 +19,4 @@ pub returns-clause-names : goal.returns-clause-names
 returns-clause-names g c = grind (arith, common_steps)
 
 pub returns-in_err-items-clause-grows : goal.returns-in_err-items-clause-grows
-returns-in_err-items-clause-grows g c = grind (arith, common_steps)
+returns-in_err-items-clause-grows g c = Grows_refl (g.B.Bank.trees c.args.bank.now)

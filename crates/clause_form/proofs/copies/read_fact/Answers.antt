@@ -5,6 +5,9 @@ use Rattle.clause_form.proofs.copies.read_fact.Goals as goal
 pub returns-in_ok-arguments-in-Mev : goal.returns-in_ok-arguments-in-Mev
 returns-in_ok-arguments-in-Mev g c = grind (arith, common_steps)
 
+pub returns-in_ok-arguments-in-Tab : goal.returns-in_ok-arguments-in-Tab
+returns-in_ok-arguments-in-Tab g c = grind (arith, common_steps)
+
 pub returns-in_ok-arguments-in-Ev : goal.returns-in_ok-arguments-in-Ev
 returns-in_ok-arguments-in-Ev g c = grind (arith, common_steps)
 

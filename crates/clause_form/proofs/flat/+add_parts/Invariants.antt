@@ -11,5 +11,5 @@ decreases-add_parts g l = depth (tree_at (g.B.Bank.trees l.bank.now) l.id)
 abbrev pub invariant-each : goal.invariant-each
 invariant-each g l = record {
   known : AreFactsIn (g.B.Bank.trees l.bank) l.facts;
-  parts : map (fact_at (g.B.Bank.trees l.bank)) l.facts ≡ map (fact_at (g.B.Bank.trees l.bank)) l.fn.facts ++ flat_map (parts_at (g.B.Bank.trees l.bank)) (take l.argument-index l.arguments);
+  parts : map (fact_at (g.B.Bank.trees l.bank)) l.facts ≡ map (fact_at (g.B.Bank.trees l.bank)) l.fn.facts ++ flat_map (parts_at (g.B.Bank.trees l.bank) l.phase) (take l.argument-index l.arguments);
 }

@@ -1,4 +1,4 @@
-use Rattle.spec_clauses.specs.FirstPhase.{occurs_once}
+use Rattle.spec_clauses.specs.Norm.{is_lonely}
 use Rattle.clause_form.specs.Facts.{fact_of}
 use Rattle.clause_form.specs.Seen.{fact_at}
 use Rattle.clause_form.proofs.Walks.{fact_known_at}
@@ -13,7 +13,7 @@ loop-fact-preserved g c =
     let all = g.B.Bank.trees c.args.bank.now in
     let known = fact_known_at all c.args.facts.now c.loop-fact.fact-index c.fact-item.result c.fact-item.is c.requires c.loop-fact-test.true in
     record {
-      known = lonely_known all c.loop-fact.kept c.add_unless_lonely.new.facts (fact_of c.fact-item.result) (occurs_once c.args.numbers.now (fact_at all (fact_of c.fact-item.result))) c.loop-fact.invariant.known known c.in_ok-add_unless_lonely.ensures;
+      known = lonely_known all c.loop-fact.kept c.add_unless_lonely.new.facts (fact_of c.fact-item.result) (is_lonely c.args.numbers.now (fact_at all (fact_of c.fact-item.result))) c.loop-fact.invariant.known known c.in_ok-add_unless_lonely.ensures;
       are = lonely_on all c.args.numbers.now c.args.facts.now c.loop-fact.fact-index c.fact-item.result c.loop-fact.kept c.add_unless_lonely.new.facts c.loop-fact.invariant.are c.loop-fact-test.true c.fact-item.is c.in_ok-add_unless_lonely.ensures;
     }
 

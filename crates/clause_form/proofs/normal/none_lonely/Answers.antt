@@ -2,14 +2,14 @@ use Rattle.std.proofs.Common.{not, ap, arith}
 use Rattle.std.specs.List.{list_all}
 use Rattle.std.proofs.lemmas.Simd.{map-map}
 use Rattle.std.proofs.lemmas.Grind.{common_steps}
-use Rattle.spec_clauses.specs.FirstPhase.{occurs_once}
+use Rattle.spec_clauses.specs.Norm.{is_lonely}
 use Rattle.clause_form.specs.Facts.{fact_of}
 use Rattle.clause_form.specs.Seen.{fact_at}
 use Rattle.clause_form.proofs.Walks.{fact_known_at}
 use Rattle.clause_form.proofs.normal.none_lonely.Goals as goal
 
 pub loop-fact-init : goal.loop-fact-init
-loop-fact-init g c = ap (list_all (λ h. not (occurs_once c.args.numbers.now h))) (map-map (fact_at (g.B.Bank.trees c.args.bank.now)) fact_of c.args.facts.now)
+loop-fact-init g c = ap (list_all (λ h. not (is_lonely c.args.numbers.now h))) (map-map (fact_at (g.B.Bank.trees c.args.bank.now)) fact_of c.args.facts.now)
 
 pub is_lonely-requires : goal.is_lonely-requires
 is_lonely-requires g c = fact_known_at (g.B.Bank.trees c.args.bank.now) c.args.facts.now c.loop-fact.fact-index c.fact-item.result c.fact-item.is c.requires c.loop-fact-test.true

@@ -1,5 +1,4 @@
-use Rattle.std.proofs.Common.{◌∙◌, map, ap, arith}
-use Rattle.std.proofs.lemmas.Grind.{common_steps}
+use Rattle.std.proofs.Common.{◌∙◌, map, ap}
 use Rattle.clause_form.specs.Facts.{fact_of}
 use Rattle.clause_form.proofs.Norming.{no_norm, norm_named}
 use Rattle.term_tree.proofs.BankLaws.{Grows_refl}
@@ -19,4 +18,4 @@ pub returns-in_err-few-clause-grows : goal.returns-in_err-few-clause-grows
 returns-in_err-few-clause-grows g c = Grows_refl (g.B.Bank.trees c.args.bank.now)
 
 pub returns-in_err-kept-clause-grows : goal.returns-in_err-kept-clause-grows
-returns-in_err-kept-clause-grows g c = grind (arith, common_steps)
+returns-in_err-kept-clause-grows g c = Grows_refl (g.B.Bank.trees c.args.bank.now)

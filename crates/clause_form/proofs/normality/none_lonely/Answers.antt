@@ -2,15 +2,14 @@ use Rattle.std.proofs.Common.{not, ap, arith}
 use Rattle.std.specs.List.{list_all}
 use Rattle.std.proofs.lemmas.Simd.{map-map}
 use Rattle.std.proofs.lemmas.Grind.{common_steps}
-use Rattle.spec_clauses.specs.Variables.{clause_variables}
-use Rattle.spec_clauses.specs.FirstPhase.{occurs_once}
+use Rattle.spec_clauses.specs.Norm.{elsewhere, is_lonely}
 use Rattle.clause_form.specs.Facts.{fact_of}
 use Rattle.clause_form.specs.Seen.{fact_at, clause_at}
 use Rattle.clause_form.proofs.Walks.{fact_known_at}
 use Rattle.clause_form.proofs.normality.none_lonely.Goals as goal
 
 pub loop-fact-init : goal.loop-fact-init
-loop-fact-init g c = let all = g.B.Bank.trees c.args.bank.now in ap (list_all (λ h. not (occurs_once (clause_variables (clause_at all c.args.clause.now)) h))) (map-map (fact_at all) fact_of c.args.facts.now)
+loop-fact-init g c = let all = g.B.Bank.trees c.args.bank.now in ap (list_all (λ h. not (is_lonely (elsewhere (clause_at all c.args.clause.now)) h))) (map-map (fact_at all) fact_of c.args.facts.now)
 
 pub is_lonely-requires-clause-fact : goal.is_lonely-requires-clause-fact
 is_lonely-requires-clause-fact g c = fact_known_at (g.B.Bank.trees c.args.bank.now) c.args.facts.now c.loop-fact.fact-index c.fact-item.result c.fact-item.is c.requires.facts c.loop-fact-test.true

@@ -1,10 +1,14 @@
-use Rattle.std.proofs.Common.{map, arith}
-use Rattle.std.proofs.lemmas.Grind.{common_steps}
+use Rattle.std.proofs.Common.{map}
 use Rattle.clause_form.specs.Facts.{fact_of}
 use Rattle.clause_form.proofs.Copying.{IsFactIn-grows}
+use Rattle.clause_form.specs.Numbers.{placed}
 use Rattle.clause_form.proofs.Norming.{numbered_named}
-use Rattle.term_tree.proofs.BankLaws.{Grows_trans}
+use Rattle.clause_form.proofs.Remembering.{none_remembered}
+use Rattle.term_tree.proofs.BankLaws.{Grows_refl, Grows_trans}
 use Rattle.clause_form.proofs.renumbering.clause_in_order.Goals as goal
+
+pub renumbered_facts-requires-clause-changes : goal.renumbered_facts-requires-clause-changes
+renumbered_facts-requires-clause-changes g c = none_remembered (g.B.Bank.trees c.args.bank.now) (placed c.args.order.now) 64
 
 pub renumbered_fact-requires-clause-known : goal.renumbered_fact-requires-clause-known
 renumbered_fact-requires-clause-known g c = IsFactIn-grows (g.B.Bank.trees c.args.bank.now) (g.B.Bank.trees c.renumbered_facts.new.bank) (fact_of c.args.concl.now) c.renumbered_facts.ensures.grows c.requires.concl
@@ -21,4 +25,4 @@ pub returns-clause-grows : goal.returns-clause-grows
 returns-clause-grows g c = Grows_trans (g.B.Bank.trees c.args.bank.now) (g.B.Bank.trees c.renumbered_facts.new.bank) (g.B.Bank.trees c.renumbered_fact.new.bank) c.renumbered_facts.ensures.grows c.renumbered_fact.ensures.grows
 
 pub returns-in_err-stack-clause-grows : goal.returns-in_err-stack-clause-grows
-returns-in_err-stack-clause-grows g c = grind (arith, common_steps)
+returns-in_err-stack-clause-grows g c = Grows_refl (g.B.Bank.trees c.args.bank.now)

@@ -1,11 +1,9 @@
-use Rattle.std.proofs.Common.{arith}
-use Rattle.std.proofs.lemmas.Grind.{common_steps}
 use Rattle.clause_form.specs.Facts.{fact_of}
 use Rattle.clause_form.specs.Numbers.{placed}
 use Rattle.clause_form.proofs.Walks.{fact_known_at}
 use Rattle.clause_form.proofs.Copying.{IsFactIn-grows}
 use Rattle.clause_form.proofs.Renumber.{facts_renumbered_on, facts_renumbered}
-use Rattle.term_tree.proofs.BankLaws.{Grows_trans}
+use Rattle.term_tree.proofs.BankLaws.{Grows_refl, Grows_trans}
 use Rattle.clause_form.proofs.renumbering.renumbered_facts.Goals as goal
 
 pub renumbered_fact-requires-clause-known : goal.renumbered_fact-requires-clause-known
@@ -32,4 +30,4 @@ pub returns-in_err-push-clause-grows : goal.returns-in_err-push-clause-grows
 returns-in_err-push-clause-grows g c = Grows_trans (g.B.Bank.trees c.args.bank.now) (g.B.Bank.trees c.each.bank) (g.B.Bank.trees c.renumbered_fact.new.bank) c.each.invariant.done.grows c.renumbered_fact.ensures.grows
 
 pub returns-in_err-items-clause-grows : goal.returns-in_err-items-clause-grows
-returns-in_err-items-clause-grows g c = grind (arith, common_steps)
+returns-in_err-items-clause-grows g c = Grows_refl (g.B.Bank.trees c.args.bank.now)

@@ -1,9 +1,7 @@
-use Rattle.std.proofs.Common.{arith}
-use Rattle.std.proofs.lemmas.Grind.{common_steps}
 use Rattle.clause_form.specs.Numbers.{placed}
 use Rattle.clause_form.proofs.Walks.{known_later}
 use Rattle.clause_form.proofs.Renumber.{renumbered_on, renumbered_all}
-use Rattle.term_tree.proofs.BankLaws.{Grows_trans}
+use Rattle.term_tree.proofs.BankLaws.{Grows_refl, Grows_trans}
 use Rattle.clause_form.proofs.renumbering.renumbered_terms.Goals as goal
 
 pub renumbered-requires-clause-known : goal.renumbered-requires-clause-known
@@ -30,4 +28,4 @@ pub returns-in_err-push-clause-grows : goal.returns-in_err-push-clause-grows
 returns-in_err-push-clause-grows g c = Grows_trans (g.B.Bank.trees c.args.bank.now) (g.B.Bank.trees c.each.bank) (g.B.Bank.trees c.renumbered.new.bank) c.each.invariant.done.grows c.renumbered.ensures.grows
 
 pub returns-in_err-items-clause-grows : goal.returns-in_err-items-clause-grows
-returns-in_err-items-clause-grows g c = grind (arith, common_steps)
+returns-in_err-items-clause-grows g c = Grows_refl (g.B.Bank.trees c.args.bank.now)

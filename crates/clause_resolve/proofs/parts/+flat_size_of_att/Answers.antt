@@ -14,10 +14,10 @@ flat_size_of_att-requires g t c κs within =
 pub each-preserved : goal.each-preserved
 each-preserved g t c =
     let all = g.B.Bank.trees c.args.bank.now in
-    sizes_more (parts_at all) c.in-App.arguments.now c.each.argument-index record { index = 0 } c.each.symbols _ _ c.each-test.true c.each.invariant c.flat_size_of_att.ensures c.add_symbols-symbols.ensures
+    sizes_more (parts_at all c.args.phase) c.in-App.arguments.now c.each.argument-index record { index = 0 } c.each.symbols _ _ c.each-test.true c.each.invariant c.flat_size_of_att.ensures c.add_symbols-symbols.ensures
 
 pub returns-after-each : goal.returns-after-each
 returns-after-each g t c =
     let all = g.B.Bank.trees c.args.bank.now in
-    sizes_all (parts_at all) c.in-App.arguments.now c.each.argument-index c.each.symbols c.each.invariant c.each-test.false
-    ∙ ap (λ l. capped (total fact_size l)) (sym (data_flat all c.args.id (symbol_of c.in-App.symbol) c.in-App.arguments.now c.in-App.ensures.0 (search rules)))
+    sizes_all (parts_at all c.args.phase) c.in-App.arguments.now c.each.argument-index c.each.symbols c.each.invariant c.each-test.false
+    ∙ ap (λ l. capped (total fact_size l)) (sym (data_flat all c.args.phase c.args.id (symbol_of c.in-App.symbol) c.in-App.arguments.now c.in-App.ensures.0 (search rules)))

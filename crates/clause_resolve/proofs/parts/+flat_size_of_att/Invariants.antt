@@ -9,4 +9,4 @@ abbrev pub decreases-flat_size_of_att : goal.decreases-flat_size_of_att
 decreases-flat_size_of_att g l = depth (tree_at (g.B.Bank.trees l.bank.now) l.id)
 
 abbrev pub invariant-each : goal.invariant-each
-invariant-each g l = l.symbols ≡ capped (total fact_size (flat_map (parts_at (g.B.Bank.trees l.bank)) (take l.argument-index l.arguments)))
+invariant-each g l = l.symbols ≡ capped (total fact_size (flat_map (parts_at (g.B.Bank.trees l.bank) l.phase) (take l.argument-index l.arguments)))

@@ -13,12 +13,12 @@ some_part_over-requires g t c κs within =
 pub returns-then-some_part_over : goal.returns-then-some_part_over
 returns-then-some_part_over g t c = λ n told.
     let all = g.B.Bank.trees c.args.bank.now in
-    some_over_found all c.args.id (symbol_of c.in-App.symbol) c.in-App.arguments.now c.each.argument-index n c.in-App.ensures.0 (search rules) c.each-test.true (c.each.invariant n told) (sym (c.some_part_over.ensures n told) ∙ c.if-some_part_over.true)
+    some_over_found all c.args.phase c.args.id (symbol_of c.in-App.symbol) c.in-App.arguments.now c.each.argument-index n c.in-App.ensures.0 (search rules) c.each-test.true (c.each.invariant n told) (sym (c.some_part_over.ensures n told) ∙ c.if-some_part_over.true)
 
 pub returns-after-each : goal.returns-after-each
 returns-after-each g t c = λ n told.
     let all = g.B.Bank.trees c.args.bank.now in
-    none_over_left all c.args.id (symbol_of c.in-App.symbol) c.in-App.arguments.now c.each.argument-index n c.in-App.ensures.0 (search rules) c.each-test.false (c.each.invariant n told)
+    none_over_left all c.args.phase c.args.id (symbol_of c.in-App.symbol) c.in-App.arguments.now c.each.argument-index n c.in-App.ensures.0 (search rules) c.each-test.false (c.each.invariant n told)
 
 pub each-preserved : goal.each-preserved
 each-preserved g t c = grind (arith, common_steps)

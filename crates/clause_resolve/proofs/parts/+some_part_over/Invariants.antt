@@ -10,4 +10,4 @@ abbrev pub decreases-some_part_over : goal.decreases-some_part_over
 decreases-some_part_over g l = depth (tree_at (g.B.Bank.trees l.bank.now) l.id)
 
 abbrev pub invariant-each : goal.invariant-each
-invariant-each g l = (n : ℕ) → l.symbols ≡ capped n → some_over n (flat_map (parts_at (g.B.Bank.trees l.bank)) l.arguments) ≡ some_over n (flat_map (parts_at (g.B.Bank.trees l.bank)) (drop l.argument-index l.arguments))
+invariant-each g l = (n : ℕ) → l.symbols ≡ capped n → some_over n (flat_map (parts_at (g.B.Bank.trees l.bank) l.phase) l.arguments) ≡ some_over n (flat_map (parts_at (g.B.Bank.trees l.bank) l.phase) (drop l.argument-index l.arguments))

@@ -749,3 +749,55 @@ visit_way-returns-in-Nowhere-clause-ends g t c =
     let old = g.B.Bank.trees c.args.bank.now in
     λ outs small.
     nowhere_ends (protocol_at c.args.place.now) (process_of c.args.process.now) c.args.place.now.point old outs c.args.listing.now (nowhere_of old c.args.way.now outs c.in-Nowhere.is small)
+
+-- the bank grows, and fewer choices are left
+pub visit_let-returns-in_err-instructions-clause-grows : goal.visit_let-returns-in_err-instructions-clause-grows
+visit_let-returns-in_err-instructions-clause-grows g t c = Grows_refl (g.B.Bank.trees c.args.bank.now)
+
+pub visit_let-returns-in_err-is_large_choice-clause-grows : goal.visit_let-returns-in_err-is_large_choice-clause-grows
+visit_let-returns-in_err-is_large_choice-clause-grows g t c = c.is_large_choice.ensures.grows
+
+pub visit_let-returns-then-branch-clause-grows : goal.visit_let-returns-then-branch-clause-grows
+visit_let-returns-then-branch-clause-grows g t c = c.is_large_choice.ensures.grows
+
+pub visit_let-returns-in_err-point-clause-grows : goal.visit_let-returns-in_err-point-clause-grows
+visit_let-returns-in_err-point-clause-grows g t c = Grows_trans (g.B.Bank.trees c.args.bank.now) (g.B.Bank.trees c.is_large_choice.new.bank) (g.B.Bank.trees c.visit_choices.new.bank) c.is_large_choice.ensures.grows c.visit_choices.ensures.grows
+
+pub visit_let-returns-in-Some-clause-grows : goal.visit_let-returns-in-Some-clause-grows
+visit_let-returns-in-Some-clause-grows g t c = Grows_trans (g.B.Bank.trees c.args.bank.now) (g.B.Bank.trees c.is_large_choice.new.bank) (g.B.Bank.trees c.visit_choices.new.bank) c.is_large_choice.ensures.grows c.visit_choices.ensures.grows
+
+pub visit_let-returns-clause-grows : goal.visit_let-returns-clause-grows
+visit_let-returns-clause-grows g t c =
+    let old = g.B.Bank.trees c.args.bank.now in
+    let mid = g.B.Bank.trees c.is_large_choice.new.bank in
+    let end = g.B.Bank.trees c.visit_choices.new.bank in
+    Grows_trans old end (g.B.Bank.trees c.visit_process.new.bank) (Grows_trans old mid end c.is_large_choice.ensures.grows c.visit_choices.ensures.grows) c.visit_process.ensures.grows
+
+pub visit_choices-choices_from-requires-clause-within : goal.visit_choices-choices_from-requires-clause-within
+visit_choices-choices_from-requires-clause-within g t c = c.each-test.true
+
+pub visit_choices-each-smaller : goal.visit_choices-each-smaller
+visit_choices-each-smaller g t c = omega (arith, c.each-test.true, c.in_ok-passed.ensures.passes.some)
+
+pub visit_choices-each-smaller-in-None : goal.visit_choices-each-smaller-in-None
+visit_choices-each-smaller-in-None g t c = omega (arith, c.each-test.true, c.in_ok-passed.ensures.passes.some)
+
+pub visit_choices-returns-in_err-passed-clause-grows : goal.visit_choices-returns-in_err-passed-clause-grows
+visit_choices-returns-in_err-passed-clause-grows g t c = Grows_trans (g.B.Bank.trees c.args.bank.now) (g.B.Bank.trees c.each.bank) (g.B.Bank.trees c.choices_from.new.bank) c.each.invariant.grows c.choices_from.ensures.grows
+
+pub visit_choices-returns-in_err-point-clause-grows : goal.visit_choices-returns-in_err-point-clause-grows
+visit_choices-returns-in_err-point-clause-grows g t c =
+    let now = g.B.Bank.trees c.each.bank in
+    let mid = g.B.Bank.trees c.choices_from.new.bank in
+    let next = g.B.Bank.trees c.visit_way.new.bank in
+    Grows_trans (g.B.Bank.trees c.args.bank.now) now next c.each.invariant.grows (Grows_trans now mid next c.choices_from.ensures.grows c.visit_way.ensures.grows)
+
+pub visit_choices-returns-in-Some-clause-grows : goal.visit_choices-returns-in-Some-clause-grows
+visit_choices-returns-in-Some-clause-grows g t c =
+    let now = g.B.Bank.trees c.each.bank in
+    let mid = g.B.Bank.trees c.choices_from.new.bank in
+    let next = g.B.Bank.trees c.visit_way.new.bank in
+    Grows_trans (g.B.Bank.trees c.args.bank.now) now next c.each.invariant.grows (Grows_trans now mid next c.choices_from.ensures.grows c.visit_way.ensures.grows)
+
+pub visit_choices-returns-clause-grows : goal.visit_choices-returns-clause-grows
+visit_choices-returns-clause-grows g t c = c.each.invariant.grows

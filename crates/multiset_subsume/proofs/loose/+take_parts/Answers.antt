@@ -20,17 +20,17 @@ pub returns-then-not-take_parts : goal.returns-then-not-take_parts
 returns-then-not-take_parts g t c =
     let all = g.B.Bank.trees c.args.bank.now in
     let H = facts_at all (map fact_of c.args.hyps.now) in
-    let parted = data_flat all c.args.term (symbol_of c.in-App.symbol) c.in-App.arguments.now c.in-App.ensures.0 (search rules) in
+    let parted = data_flat all c.args.phase c.args.term (symbol_of c.in-App.symbol) c.in-App.arguments.now c.in-App.ensures.0 (search rules) in
     subst (λ (ys : List (Fact Term)). HasNoRoom H c.args.taken.now ys) (sym parted)
-    (no_room_at (parts_at all) H c.in-App.arguments.now c.each.argument-index record { index = 0 } c.args.taken.now c.each.taken c.each-test.true c.each.invariant.removes c.if-not-take_parts.ensures)
+    (no_room_at (parts_at all c.args.phase) H c.in-App.arguments.now c.each.argument-index record { index = 0 } c.args.taken.now c.each.taken c.each-test.true c.each.invariant.removes c.if-not-take_parts.ensures)
 
 pub returns-after-each : goal.returns-after-each
 returns-after-each g t c =
     let all = g.B.Bank.trees c.args.bank.now in
     let H = facts_at all (map fact_of c.args.hyps.now) in
-    let parted = data_flat all c.args.term (symbol_of c.in-App.symbol) c.in-App.arguments.now c.in-App.ensures.0 (search rules) in
+    let parted = data_flat all c.args.phase c.args.term (symbol_of c.in-App.symbol) c.in-App.arguments.now c.in-App.ensures.0 (search rules) in
     subst (λ (ys : List (Fact Term)). Removes H c.args.taken.now c.each.taken ys) (sym parted)
-    (removes_all (parts_at all) H c.in-App.arguments.now c.each.argument-index c.args.taken.now c.each.taken c.each-test.false c.each.invariant.removes)
+    (removes_all (parts_at all c.args.phase) H c.in-App.arguments.now c.each.argument-index c.args.taken.now c.each.taken c.each-test.false c.each.invariant.removes)
 
 pub each-preserved : goal.each-preserved
 each-preserved g t c = grind (arith, common_steps)

@@ -13,5 +13,5 @@ decreases-take_parts g l = depth (tree_at (g.B.Bank.trees l.bank.now) l.term)
 abbrev pub invariant-each : goal.invariant-each
 invariant-each g l = record {
   flags : length l.taken ≡ length (facts_at (g.B.Bank.trees l.bank) (map fact_of l.hyps));
-  removes : Removes (facts_at (g.B.Bank.trees l.bank) (map fact_of l.hyps)) l.fn.taken l.taken (flat_map (parts_at (g.B.Bank.trees l.bank)) (take l.argument-index l.arguments));
+  removes : Removes (facts_at (g.B.Bank.trees l.bank) (map fact_of l.hyps)) l.fn.taken l.taken (flat_map (parts_at (g.B.Bank.trees l.bank) l.phase) (take l.argument-index l.arguments));
 }

@@ -13,13 +13,13 @@ pub returns-in-None : goal.returns-in-None
 returns-in-None g c =
     let all = g.B.Bank.trees c.args.bank.now in
     let H = facts_at all (map fact_of c.args.hyps.now) in
-    subst (λ (ys : List (Fact Term)). Removes H c.args.taken.now c.args.taken.now ys) (sym (unbound_part all c.args.binds.now.pairs c.args.variable (sym c.in-None.ensures))) (removes_nothing H c.args.taken.now)
+    subst (λ (ys : List (Fact Term)). Removes H c.args.taken.now c.args.taken.now ys) (sym (unbound_part all c.args.binds.now.pairs c.args.loose (sym c.in-None.ensures))) (removes_nothing H c.args.taken.now)
 
 pub take_parts-requires-clause-term : goal.take_parts-requires-clause-term
-take_parts-requires-clause-term g c = AreInBank-at (g.B.Bank.trees c.args.bank.now) c.args.binds.now.pairs c.args.variable c.in-Some.term c.requires.bindings.known (sym c.in-Some.ensures)
+take_parts-requires-clause-term g c = AreInBank-at (g.B.Bank.trees c.args.bank.now) c.args.binds.now.pairs c.args.loose.variable c.in-Some.term c.requires.bindings.known (sym c.in-Some.ensures)
 
 pub returns-in-Some : goal.returns-in-Some
 returns-in-Some g c =
     let all = g.B.Bank.trees c.args.bank.now in
     let H = facts_at all (map fact_of c.args.hyps.now) in
-    subst (λ (ys : List (Fact Term)). MatchBool c.take_parts.result (Removes H c.args.taken.now c.take_parts.new.taken ys) (HasNoRoom H c.args.taken.now ys)) (sym (bound_part all c.args.binds.now.pairs c.args.variable c.in-Some.term (sym c.in-Some.ensures))) c.take_parts.ensures
+    subst (λ (ys : List (Fact Term)). MatchBool c.take_parts.result (Removes H c.args.taken.now c.take_parts.new.taken ys) (HasNoRoom H c.args.taken.now ys)) (sym (bound_part all c.args.binds.now.pairs c.args.loose c.in-Some.term (sym c.in-Some.ensures))) c.take_parts.ensures

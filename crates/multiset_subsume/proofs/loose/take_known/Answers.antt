@@ -22,7 +22,7 @@ pub returns-then-is_free : goal.returns-then-is_free
 returns-then-is_free g c =
     let all = g.B.Bank.trees c.args.bank.now in
     let H = facts_at all (map fact_of c.args.hyps.now) in
-    let y = Att 0 (tree_at all c.args.term) in
+    let y = Att c.args.phase (tree_at all c.args.term) in
     let is = c.if-is_free.ensures.0 refl in
     let same = c.each.invariant.same in
     let free : get_or c.args.taken.now c.each.p false ≡ false = subst (λ (flags : List Bool). get_or flags c.each.p false ≡ false) same is.0 in
@@ -33,7 +33,7 @@ pub each-preserved : goal.each-preserved
 each-preserved g c =
     let all = g.B.Bank.trees c.args.bank.now in
     let H = facts_at all (map fact_of c.args.hyps.now) in
-    let y = Att 0 (tree_at all c.args.term) in
+    let y = Att c.args.phase (tree_at all c.args.term) in
     let there = there_at all c.args.hyps.now c.each.p c.index-hyps-p.result c.index-hyps-p.is c.each-test.true in
     let here : get_or c.args.taken.now c.each.p false ≡ false → slice_get H c.each.p ≡ Some y → ⊥ = λ free stands. false≢true (c.if-is_free.ensures.1 (subst (λ (flags : List Bool). get_or flags c.each.p false ≡ false) (sym c.each.invariant.same) free, same_there H c.each.p (fact_at all (fact_of c.index-hyps-p.result)) y there stands)) in
     record {
@@ -45,7 +45,7 @@ pub returns : goal.returns
 returns g c =
     let all = g.B.Bank.trees c.args.bank.now in
     let H = facts_at all (map fact_of c.args.hyps.now) in
-    let y = Att 0 (tree_at all c.args.term) in
+    let y = Att c.args.phase (tree_at all c.args.term) in
     let past : length H ≤ c.each.p = omega (arith, length_at all c.args.hyps.now, c.each-test.false) in
     lacking H c.args.taken.now y c.requires.flags (lacks H c.args.taken.now y c.each.p past c.each.invariant.before)
 

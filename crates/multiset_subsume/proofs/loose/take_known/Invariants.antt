@@ -8,5 +8,5 @@ use Rattle.multiset_subsume.proofs.loose.take_known.Given as goal
 abbrev pub invariant-each : goal.invariant-each
 invariant-each g l = record {
   same : l.taken ≡ l.fn.taken;
-  before : (k : ℕ) → k < l.p → get_or l.fn.taken k false ≡ false → slice_get (facts_at (g.B.Bank.trees l.bank) (map fact_of l.hyps)) k ≡ Some (Att 0 (tree_at (g.B.Bank.trees l.bank) l.term)) → ⊥;
+  before : (k : ℕ) → k < l.p → get_or l.fn.taken k false ≡ false → slice_get (facts_at (g.B.Bank.trees l.bank) (map fact_of l.hyps)) k ≡ Some (Att l.phase (tree_at (g.B.Bank.trees l.bank) l.term)) → ⊥;
 }

@@ -4,7 +4,7 @@ use Rattle.std.proofs.lemmas.Grind.{common_steps}
 use Rattle.spec_protocol_grammar.specs.declared.class.Class.TheVariants as w
 use Rattle.spec_protocol_grammar.specs.Classes.{words, same}
 use Rattle.spec_protocol_grammar.specs.Reading.{Found, name_at}
-use Rattle.pi_parser.proofs.Lists.{going_starts, going_on}
+use Rattle.pi_parser.proofs.Lists.{going_starts, going_on, names_fault, list_first_faults, step_fault}
 use Rattle.pi_parser.proofs.declarations.names.Goals as goal
 
 pub names-init : goal.names-init
@@ -22,3 +22,12 @@ names-preserved c =
     let read : name_at (words c.args.classes.now) (c.names.behind + 1) ≡ Found (c.names.behind + 1) c.in_ok-end.end = search rules in
     going_on w.Comma name_at c.args.classes.now c.args.at c.names.behind c.in_ok-end.end (c.args.at ∷ c.names.others.items) (c.names.behind + 1)
     (c.args.at ∷ c.push.new.self.items) items c.names.invariant test near read c.in_ok-end.ensures.within.0 c.in_ok-end.ensures.within.1
+
+pub returns-in_err-end-clause-read : goal.returns-in_err-end-clause-read
+returns-in_err-end-clause-read c = grind (arith, names_fault)
+
+pub mark-requires-in-names-clause-within : goal.mark-requires-in-names-clause-within
+mark-requires-in-names-clause-within c = grind (arith, common_steps)
+
+pub returns-in_err-behind-clause-read : goal.returns-in_err-behind-clause-read
+returns-in_err-behind-clause-read c = grind (arith, list_first_faults, step_fault)

@@ -14,3 +14,6 @@ returns-in_err-name-clause-read c = grind (arith, common_steps)
 
 pub returns-in_err-name-2-clause-read : goal.returns-in_err-name-2-clause-read
 returns-in_err-name-2-clause-read c = grind (arith, common_steps)
+
+pub names-requires : goal.names-requires
+names-requires c = grind (arith, common_steps)

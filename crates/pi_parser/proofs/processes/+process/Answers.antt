@@ -1,7 +1,7 @@
 -- A class has its alternative, and what its parts give, a unit gives.
 use Rattle.std.proofs.Common.{arith}
 use Rattle.std.proofs.lemmas.Grind.{common_steps}
-use Rattle.pi_parser.proofs.Levels.{unit_deeper, unit_other, process_deeper}
+use Rattle.pi_parser.proofs.Levels.{unit_deeper, unit_other, process_deeper, process_bottom, unit_bottom}
 use Rattle.pi_parser.proofs.processes.+process.Goals as goal
 
 pub unit-inner-requires : goal.unit-inner-requires
@@ -138,3 +138,12 @@ next-returns-else-is_at-clause-read t c = grind (arith, common_steps)
 
 pub replicated-returns-clause-read : goal.replicated-returns-clause-read
 replicated-returns-clause-read t c = grind (arith, common_steps)
+
+pub unit-returns-then-left-eq0-clause-read : goal.unit-returns-then-left-eq0-clause-read
+unit-returns-then-left-eq0-clause-read t c = grind (arith, unit_bottom)
+
+pub process-returns-then-left-eq0-clause-read : goal.process-returns-then-left-eq0-clause-read
+process-returns-then-left-eq0-clause-read t c = grind (arith, process_bottom)
+
+pub process-returns-in_err-unit-clause-read : goal.process-returns-in_err-unit-clause-read
+process-returns-in_err-unit-clause-read t c = grind (arith, process_deeper)

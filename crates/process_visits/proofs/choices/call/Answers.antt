@@ -26,6 +26,32 @@ bounds-rules-walk g c =
     let parts = split_number (length all) (choices_by P has.1) walk.left (length c.rules_of-rules.result.now) walk.number has.3.left counted has.3.within in
     omega (arith, parts.within, counted)
 
+pub nonzero_div-walk : goal.nonzero_div-walk
+nonzero_div-walk g c =
+    let P = protocol_at c.args.choosing.now.place.now in
+    let walk = c.args.walk.now in
+    let has = c.requires.stands in
+    let all = rules_of P c.args.destructor in
+    let counted = rules_counted c.rules_of-rules.result.now all c.rules_of-rules.ensures in
+    let parts = split_number (length all) (choices_by P has.1) walk.left (length c.rules_of-rules.result.now) walk.number has.3.left counted has.3.within in
+    omega (arith, parts.within, counted)
+
+pub nonzero_div-rule : goal.nonzero_div-rule
+nonzero_div-rule g c =
+    let P = protocol_at c.args.choosing.now.place.now in
+    let walk = c.args.walk.now in
+    let has = c.requires.stands in
+    let all = rules_of P c.args.destructor in
+    let counted = rules_counted c.rules_of-rules.result.now all c.rules_of-rules.ensures in
+    let parts = split_number (length all) (choices_by P has.1) walk.left (length c.rules_of-rules.result.now) walk.number has.3.left counted has.3.within in
+    omega (arith, parts.same, parts.some)
+
+pub apply_rule-requires-clause-known : goal.apply_rule-requires-clause-known
+apply_rule-requires-clause-known g c = let has = c.requires.stands in (has.0, has.3.parts, has.3.row)
+
+pub apply_rule-requires-clause-room : goal.apply_rule-requires-clause-room
+apply_rule-requires-clause-room g c = omega (arith, c.requires.stands.3.fit.room)
+
 pub apply_rule-requires-clause-within : goal.apply_rule-requires-clause-within
 apply_rule-requires-clause-within g c =
     let has = c.requires.stands in

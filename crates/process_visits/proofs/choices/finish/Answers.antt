@@ -1,18 +1,18 @@
-use Rattle.std.proofs.Common.{◌+◌, Some, None, [], ◌∷◌, refl, subst, arith}
+use Rattle.std.proofs.Common.{◌≡◌, ◌+◌, true, Some, None, [], ◌∷◌, refl, subst, arith}
 use Rattle.pi_tree.specs.Patterns.{pattern_of}
 use Rattle.spec_terms.specs.Binding.{resolved}
 use Rattle.spec_translation.specs.Conversion.{term_in, rule_term}
-use Rattle.spec_translation.specs.Visit.{Visit, visit_under}
+use Rattle.spec_translation.specs.Visit.{Visit, visit_under, is_large_visit}
 use Rattle.spec_translation.specs.Applied.{ruled_term}
 use Rattle.term_tree.specs.Bank.{tree_at}
-use Rattle.term_tree.proofs.BankLaws.{Names-grows}
+use Rattle.term_tree.proofs.BankLaws.{Grows_trans, Names-grows}
 use Rattle.unify_match.specs.Seen.{seen}
 use Rattle.unify_match.specs.Outcome.{Unified, NoUnifier}
 use Rattle.process_visits.specs.declared.ways.Way.TheVariants as ways
 use Rattle.process_visits.specs.Patterns.{WithPattern}
 use Rattle.process_visits.specs.Places.{protocol_at}
 use Rattle.process_visits.specs.Visits.{visit_at}
-use Rattle.process_visits.proofs.Choosing.{chosen_nowhere, chosen_below, chosen_there, named_alone, way_is}
+use Rattle.process_visits.proofs.Choosing.{chosen_nowhere, chosen_below, chosen_there, named_alone, way_is, made_known}
 use Rattle.process_visits.proofs.Happening.{if_true, if_false}
 use Rattle.process_visits.proofs.Passing.{at_end, one_passes}
 use Rattle.process_visits.proofs.RuledRows.{ids_counted, row_grows}
@@ -118,3 +118,36 @@ returns-clause-passes g c =
     one_passes P v pattern rs new end.ruled end.more c.way_to.result (Some x) end.are
     (chosen_there P w v pattern end.ruled mid row (row_grows P w v old mid (end.ruled ∷ []) row c.with_pattern.ensures.grows end.row) made target bound value named pairs c.in_ok-unify.ensures.ready unified)
     (way_is new x c.in_ok-found.found c.way_to.result c.in_ok-found.ensures.under c.way_to.ensures)
+
+pub overflow_add-from : goal.overflow_add-from
+overflow_add-from g c = omega (arith, c.requires.stands.2.fit.room)
+
+pub with_pattern-requires-clause-visit : goal.with_pattern-requires-clause-visit
+with_pattern-requires-clause-visit g c = c.requires.stands.2.row.visit.known
+
+pub with_pattern-requires-clause-up : goal.with_pattern-requires-clause-up
+with_pattern-requires-clause-up g c = omega (arith, c.requires.stands.2.row.next_is)
+
+pub unify-requires-clause-right_known : goal.unify-requires-clause-right_known
+unify-requires-clause-right_known g c = c.in_ok-made.ensures.names.term.known
+
+pub visit_under-requires-clause-visit : goal.visit_under-requires-clause-visit
+visit_under-requires-clause-visit g c = c.in_ok-made.ensures.names.visit.known
+
+pub way_to-requires : goal.way_to-requires
+way_to-requires g c =
+    let mid = g.B.Bank.trees c.with_pattern.new.bank in
+    let under = visit_under (resolved (seen mid c.unify.new.binds.pairs)) (visit_at mid c.in_ok-made.made) in
+    made_known (g.B.Bank.trees c.visit_under.new.bank) under (is_large_visit under ≡ true) c.in_ok-found.found c.in_ok-found.ensures.under
+
+pub returns-in_err-unify-clause-grows : goal.returns-in_err-unify-clause-grows
+returns-in_err-unify-clause-grows g c = c.with_pattern.ensures.grows
+
+pub returns-then-not-branch-clause-grows : goal.returns-then-not-branch-clause-grows
+returns-then-not-branch-clause-grows g c = c.with_pattern.ensures.grows
+
+pub returns-in_err-found-clause-grows : goal.returns-in_err-found-clause-grows
+returns-in_err-found-clause-grows g c = Grows_trans (g.B.Bank.trees c.args.bank.now) (g.B.Bank.trees c.with_pattern.new.bank) (g.B.Bank.trees c.visit_under.new.bank) c.with_pattern.ensures.grows c.visit_under.ensures.grows
+
+pub returns-clause-grows : goal.returns-clause-grows
+returns-clause-grows g c = Grows_trans (g.B.Bank.trees c.args.bank.now) (g.B.Bank.trees c.with_pattern.new.bank) (g.B.Bank.trees c.visit_under.new.bank) c.with_pattern.ensures.grows c.visit_under.ensures.grows

@@ -1,5 +1,5 @@
-use Rattle.std.proofs.Common.{take, ap, ◌∙◌}
-use Rattle.term_tree.proofs.BankLaws.{Grows_same, take-grows}
+use Rattle.std.proofs.Common.{take, ap, ◌∙◌, arith}
+use Rattle.term_tree.proofs.BankLaws.{Grows_same, take-grows, Grows-length}
 use Rattle.process_visits.proofs.Passing.{looks_at}
 use Rattle.process_visits.proofs.choices.look_from.Goals as goal
 
@@ -12,3 +12,14 @@ returns-clause-grows g c =
 pub returns-clause-looks : goal.returns-clause-looks
 returns-clause-looks g c =
     looks_at (g.B.Bank.trees c.args.bank.now) c.args.choosing.now c.requires.known (g.B.Bank.trees c.walk_to.new.bank) c.args.number c.in_ok-passed.passed c.is_large.result c.requires.within c.is_large.ensures c.in_ok-passed.ensures.passes
+
+pub back-requires : goal.back-requires
+back-requires g c = omega (arith, c.mark-mark.ensures, Grows-length (g.B.Bank.trees c.args.bank.now) (g.B.Bank.trees c.walk_to.new.bank) c.walk_to.ensures.grows)
+
+pub returns-clause-back : goal.returns-clause-back
+returns-clause-back g c =
+    let new = g.B.Bank.trees c.walk_to.new.bank in
+    c.back.ensures ∙ (ap (λ n. take n new) c.mark-mark.ensures ∙ take-grows (g.B.Bank.trees c.args.bank.now) new c.walk_to.ensures.grows)
+
+pub returns-in_err-passed-clause-grows : goal.returns-in_err-passed-clause-grows
+returns-in_err-passed-clause-grows g c = c.walk_to.ensures.grows

@@ -1,7 +1,7 @@
 use Rattle.std.proofs.Common.{List, [], ◌∷◌, ◌++◌, map, ap, sym, subst, ◌∙◌, arith}
 use Rattle.pi_tree.specs.Rules.{rule_of}
 use Rattle.spec_translation.specs.Conversion.{rule_term}
-use Rattle.term_tree.specs.Bank.{tree_at, Names}
+use Rattle.term_tree.specs.Bank.{tree_at, AreKnown, Names}
 use Rattle.term_tree.specs.declared.bank.Id.{Id}
 use Rattle.unify_match.specs.Trail.{Trail}
 use Rattle.unify_match.specs.Seen.{IsReady}
@@ -24,6 +24,9 @@ unify_all-requires-clause-lefts_known g c =
     (c.deref.ensures.value ∙ c.in_ok-arguments.ensures.taken)
     (subst (λ (l : List Id). NameTerms new l (map (rule_term P c.args.row.now.next) rule.left)) (sym (c.deref-2.ensures.value ∙ c.sides.view_is))
     (subst (λ k. NameTerms new c.in_ok-sides.sides (map (rule_term P k) rule.left)) c.take_last.ensures.next c.in_ok-sides.ensures.left))
+
+pub unify_all-requires-clause-rights_known : goal.unify_all-requires-clause-rights_known
+unify_all-requires-clause-rights_known g c = subst (λ (l : List Id). AreKnown (g.B.Bank.trees c.rename_rule.new.bank) l) (sym (c.deref-2.ensures.value ∙ c.sides.view_is)) c.in_ok-sides.ensures.left.known
 
 pub unify_all-requires-clause-paired : goal.unify_all-requires-clause-paired
 unify_all-requires-clause-paired g c =
@@ -80,3 +83,18 @@ returns-clause-parts g c =
     c.in_ok-unify_all.ensures.ready (subst (λ (b : Trail). UnifiedAll new b.pairs c.unify_all.new.binds.pairs lefts rights) c.take_last.ensures.binds unified)
     (subst (λ k. Names new value (rule_term P k rule.right)) c.take_last.ensures.next c.in_ok-sides.ensures.right)
     (c.in_ok-push.ensures.items ∙ ap (λ (l : List Id). l ++ value ∷ []) c.in_ok-arguments.ensures.left) (omega (arith, c.take_last.ensures.next, c.rule_width.ensures))
+
+pub returns-in_err-sides-clause-grows : goal.returns-in_err-sides-clause-grows
+returns-in_err-sides-clause-grows g c = c.rename_rule.ensures.grows
+
+pub returns-in_err-unify_all-clause-grows : goal.returns-in_err-unify_all-clause-grows
+returns-in_err-unify_all-clause-grows g c = c.rename_rule.ensures.grows
+
+pub returns-then-not-branch-clause-grows : goal.returns-then-not-branch-clause-grows
+returns-then-not-branch-clause-grows g c = c.rename_rule.ensures.grows
+
+pub returns-in_err-push-clause-grows : goal.returns-in_err-push-clause-grows
+returns-in_err-push-clause-grows g c = c.rename_rule.ensures.grows
+
+pub returns-clause-grows : goal.returns-clause-grows
+returns-clause-grows g c = c.rename_rule.ensures.grows

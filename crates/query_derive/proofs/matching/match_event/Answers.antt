@@ -43,3 +43,6 @@ returns-in-Att-3-clause-yes g c = λ e. absurd (false≢true e)
 
 pub returns-in-Att-4-clause-yes : goal.returns-in-Att-4-clause-yes
 returns-in-Att-4-clause-yes g c = λ e. absurd (false≢true e)
+
+pub returns-in-Att-5-clause-yes : goal.returns-in-Att-5-clause-yes
+returns-in-Att-5-clause-yes g c = λ e. absurd (false≢true e)

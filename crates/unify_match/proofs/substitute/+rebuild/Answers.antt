@@ -90,7 +90,7 @@ each-preserved g t c =
     let made = c.in_ok-made.made in
     let before = c.args.stack.now.items in
     let names = Names-same next made (bind (subst_of now c.args.change) (tree_at now c.argument-arg.result)) (bind s this) (ap (λ q. bind q (tree_at now c.argument-arg.result)) same ∙ ap (bind s) is) c.in_ok-made.ensures.names in
-    subst (λ (l : List Id). IsRebuilding s old next (arguments end) before l (c.each.i + 1) c.is_kept-kept.result) (sym (c.in_ok-push.ensures.items ∙ ap (λ (l : List Id). l ++ made ∷ []) c.in_ok-made.ensures.stack))
+    subst (λ (l : List Id). IsRebuilding s old next (arguments end) before l (c.each.i + 1) c.is_kept-kept.result) (sym (c.in_ok-push.ensures.ok ∙ ap (λ (l : List Id). l ++ made ∷ []) c.in_ok-made.ensures.stack))
     (rebuilding_on s old now next (arguments end) before c.each.stack.items c.each.i c.each.kept c.is_kept-kept.result c.argument-arg.result made c.each.invariant less c.argument-arg.ensures.known is c.rebuild.ensures.grows names
     (λ unchanged. let h = argument_unchanged s (subst_of now c.args.change) now c.argument-arg.result this same is unchanged in (c.rebuild.ensures.unchanged h, c.in_ok-made.ensures.itself h))
     c.is_kept-kept.ensures)
@@ -154,9 +154,9 @@ returns-clause-names g t c =
     let before = c.args.stack.now.items in
     let whole = subst (λ (u : Term). u ≡ node f (arguments u)) (tree_at-grows old now c.led-end.result c.each.invariant.grows c.led-end.ensures.known) c.symbol.ensures in
     let ends = rebuilding_ends s old now c.led-end.result f before c.each.stack.items c.each.i c.each.kept whole c.each.invariant (omega (arith, c.each-test.false, c.each.auto.i-end, c.arity-count.ensures)) in
-    let items : drop c.len-base.result c.deref.result.now ≡ drop (length before) c.each.stack.items = ap (λ n. drop n c.deref.result.now) (c.len-base.ensures ∙ c.args.stack.now.ok.0) ∙ ap (drop (length before)) c.deref.ensures.value in
-    let slice = take (length c.deref.result.now - c.len-base.result) (drop c.len-base.result c.deref.result.now) in
-    let rest : slice ≡ drop c.len-base.result c.deref.result.now = take_rest c.deref.result.now c.len-base.result in
+    let items : drop c.len-base.result c.as_slice.result.now ≡ drop (length before) c.each.stack.items = ap (λ n. drop n c.as_slice.result.now) (c.len-base.ensures.value) ∙ ap (drop (length before)) c.as_slice.ensures in
+    let slice = take (length c.as_slice.result.now - c.len-base.result) (drop c.len-base.result c.as_slice.result.now) in
+    let rest : slice ≡ drop c.len-base.result c.as_slice.result.now = take_rest c.as_slice.result.now c.len-base.result in
     Names-same (g.B.Bank.trees c.app.new.self) c.in_ok-made-2.made (node f (map (tree_at now) slice)) (bind s (tree_at old c.args.id))
     (ap (λ l. node f (map (tree_at now) l)) (rest ∙ items) ∙ (ends ∙ c.led-end.ensures.same)) c.in_ok-made-2.ensures.names
 
@@ -175,8 +175,8 @@ returns-then-kept-clause-unchanged g t c = grind (arith, common_steps)
 pub symbol-requires-clause-known : goal.symbol-requires-clause-known
 symbol-requires-clause-known g t c = grind (arith, common_steps)
 
-pub offset_bounds-deref-base : goal.offset_bounds-deref-base
-offset_bounds-deref-base g t c = grind (arith, common_steps)
+pub offset_bounds-as_slice-base : goal.offset_bounds-as_slice-base
+offset_bounds-as_slice-base g t c = grind (arith, common_steps)
 
 pub slice_bounds-app-count : goal.slice_bounds-app-count
 slice_bounds-app-count g t c = grind (arith, common_steps)

@@ -4,9 +4,10 @@ use Rattle.term_tree.specs.Bank.{Names}
 use Rattle.term_tree.specs.declared.bank.Id.{Id}
 use Rattle.term_tree.specs.Roots.{tree_of}
 use Rattle.term_tree.proofs.BankLaws.{Grows_same, Names-next}
-use Rattle.term_store.specs.SharedBank.{root_of, trees_of, IsWell}
-use Rattle.term_store.specs.declared.shared_bank.Shape.{Shape}
-use Rattle.term_store.specs.declared.shared_bank.Measure.{Measure}
+use Rattle.term_store.specs.Shapes.{root_of}
+use Rattle.term_store.specs.SharedBank.{trees_of, IsWell}
+use Rattle.term_store.specs.declared.shape.Shape.{Shape}
+use Rattle.term_store.specs.declared.measure.Measure.{Measure}
 use Rattle.term_store.proofs.Adding.{known_names, keys_known, IsLast, IsLast-new, IsWell-push, trees-push, last_id, Finds-new, Finds-known, keys-cut}
 use Rattle.term_store.proofs.Distinct.{AreShared-well, known_root}
 use Rattle.term_store.proofs.shared_bank.SharedBank.add.Goals as goal
@@ -21,7 +22,7 @@ kept c = keys_known c.self.inside.shapes.keys c.insert_full.new.self.keys c.args
 names_old : (c : goal.Then-not-is_new) → Names c.args.self.now (id_of c.in_ok-index.index) (tree_of c.args.self.now (root_of c.args.shape))
 names_old c =
     let (k, found, same) = c.in_ok-index.ensures.stored in
-    known_names c.self.inside.shapes.keys c.self.inside.measures.items c.args.self.now c.args.shape k (id_of c.in_ok-index.index) c.self.view_is c.self.invariant (ap (λ ks. slice_get ks c.in_ok-index.index) (sym (kept c)) ∙ found) same
+    known_names c.self.inside.shapes.keys c.self.inside.measures.items c.args.self.now c.args.shape k (id_of c.in_ok-index.index) c.self.view_is c.self.invariant.0 (ap (λ ks. slice_get ks c.in_ok-index.index) (sym (kept c)) ∙ found) same
 
 view_kept : (c : goal.Then-not-is_new) → trees_of c.insert_full.new.self.keys ≡ c.args.self.now
 view_kept c = ap trees_of (kept c) ∙ c.self.view_is
@@ -32,7 +33,7 @@ returns-then-not-is_new-clause-names c = subst (λ (l : List Term). Names l (id_
 pub returns-then-not-is_new-clause-found : goal.returns-then-not-is_new-clause-found
 returns-then-not-is_new-clause-found c =
     Finds-known c.args.self.now (trees_of c.insert_full.new.self.keys) (tree_of c.args.self.now (root_of c.args.shape)) (id_of c.in_ok-index.index) (view_kept c)
-    (AreShared-well c.self.inside.shapes.keys c.self.inside.measures.items c.args.self.now c.self.view_is c.self.invariant) (names_old c)
+    (AreShared-well c.self.inside.shapes.keys c.self.inside.measures.items c.args.self.now c.self.view_is c.self.invariant.0) (names_old c)
 
 pub returns-then-not-is_new-clause-added : goal.returns-then-not-is_new-clause-added
 returns-then-not-is_new-clause-added c = λ none. absurd (none (id_of c.in_ok-index.index, names_old c))
@@ -42,13 +43,13 @@ last_ok : (c : goal.In-Ok) → IsLast c.self.inside.shapes.keys c.insert_full.ne
 last_ok c = IsLast-new c.self.inside.shapes.keys c.insert_full.new.self.keys c.in_ok-index.index c.args.shape c.in_ok-index.is_new c.in_ok-index.ensures.added c.if-not-is_new.false c.in_ok-index.ensures.keys c.in_ok-index.ensures.index
 
 well_ok : (c : goal.In-Ok) → IsWell c.insert_full.new.self.keys c.push.new.self.items
-well_ok c = IsWell-push c.self.inside.shapes.keys c.insert_full.new.self.keys c.self.inside.measures.items c.push.new.self.items c.args.self.now c.in_ok-index.index c.args.shape c.args.measure c.self.view_is c.self.invariant c.requires.args c.requires.tells (last_ok c) c.in_ok-index.ensures.unique c.in-Ok.ensures.items
+well_ok c = IsWell-push c.self.inside.shapes.keys c.insert_full.new.self.keys c.self.inside.measures.items c.push.new.self.items c.args.self.now c.in_ok-index.index c.args.shape c.args.measure c.self.view_is c.self.invariant.0 c.requires.args c.requires.plain c.requires.tells (last_ok c) c.in_ok-index.ensures.unique c.in-Ok.ensures.items
 
 grown : (c : goal.In-Ok) → trees_of c.insert_full.new.self.keys ≡ c.args.self.now ++ tree_of c.args.self.now (root_of c.args.shape) ∷ []
 grown c = trees-push c.self.inside.shapes.keys c.insert_full.new.self.keys c.args.self.now c.in_ok-index.index c.args.shape c.self.view_is (last_ok c)
 
 pub invariant_of-self-in-Ok : goal.invariant_of-self-in-Ok
-invariant_of-self-in-Ok c = well_ok c
+invariant_of-self-in-Ok c = (well_ok c, c.self.invariant.1)
 
 pub returns-in-Ok-clause-names : goal.returns-in-Ok-clause-names
 returns-in-Ok-clause-names c =
@@ -75,7 +76,7 @@ back_again c =
     c.truncate.ensures.keys
 
 pub invariant_of-self-in-Err : goal.invariant_of-self-in-Err
-invariant_of-self-in-Err c = subst (λ (ks : List Shape). IsWell ks c.push.new.self.items) (sym (back_again c)) (subst (λ (ms : List Measure). IsWell c.self.inside.shapes.keys ms) (sym c.in-Err.ensures.items) c.self.invariant)
+invariant_of-self-in-Err c = (subst (λ (ks : List Shape). IsWell ks c.push.new.self.items) (sym (back_again c)) (subst (λ (ms : List Measure). IsWell c.self.inside.shapes.keys ms) (sym c.in-Err.ensures.items) c.self.invariant.0), c.self.invariant.1)
 
 pub returns-in-Err-clause-grows : goal.returns-in-Err-clause-grows
 returns-in-Err-clause-grows c = Grows_same c.args.self.now (trees_of c.truncate.new.self.keys) (ap trees_of (back_again c) ∙ c.self.view_is)
@@ -85,10 +86,10 @@ returns-in-Err-clause-err c = ap trees_of (back_again c) ∙ c.self.view_is
 
 pub returns-in-Err-clause-no_memory : goal.returns-in-Err-clause-no_memory
 returns-in-Err-clause-no_memory c = λ known.
-    let there = known_root c.self.inside.shapes.keys c.self.inside.measures.items c.args.self.now c.args.shape known.0 c.self.view_is c.self.invariant c.requires.args known.1 in
+    let there = known_root c.self.inside.shapes.keys c.self.inside.measures.items c.args.self.now c.args.shape known.0 c.self.view_is c.self.invariant.0 c.requires.plain c.requires.args known.1 in
     absurd (true≢false (sym c.if-not-is_new.false ∙ (c.in_ok-index.ensures.added ∙ ap not there)))
 
 pub returns-in_err-index-clause-no_memory : goal.returns-in_err-index-clause-no_memory
 returns-in_err-index-clause-no_memory c = λ known.
-    let there = known_root c.self.inside.shapes.keys c.self.inside.measures.items c.args.self.now c.args.shape known.0 c.self.view_is c.self.invariant c.requires.args known.1 in
+    let there = known_root c.self.inside.shapes.keys c.self.inside.measures.items c.args.self.now c.args.shape known.0 c.self.view_is c.self.invariant.0 c.requires.plain c.requires.args known.1 in
     absurd (true≢false (sym there ∙ c.in_err-index.ensures.absent))

@@ -1,9 +1,8 @@
-use Rattle.std.proofs.Common.{◌<◌, length, ap, ◌∙◌, subst, arith, rules}
-use Rattle.term_tree.specs.Roots.{tree_of, HasArgs}
+use Rattle.std.proofs.Common.{◌<◌, length, ap, arith, rules}
 use Rattle.term_tree.proofs.Roots.{IsPlace-tree, items-length}
-use Rattle.term_store.specs.SharedBank.{root_of}
-use Rattle.term_store.specs.declared.shared_bank.Shape.{Shape}
+use Rattle.term_store.specs.Shapes.{root_of}
 use Rattle.term_store.proofs.Adding.{shape_at}
+use Rattle.term_store.proofs.Shapes.{IsNodeOf-root}
 use Rattle.term_store.proofs.shared_bank.SharedBankBank.node.Goals as goal
 
 within : (c : goal.After-as_slice) → c.args.id.index < length c.as_slice.result.now
@@ -15,15 +14,8 @@ bounds-as_slice-id c = within c
 pub offset_bounds-as_slice-id : goal.offset_bounds-as_slice-id
 offset_bounds-as_slice-id c = let w = within c in search rules
 
-pub returns-in-Var : goal.returns-in-Var
-returns-in-Var c =
-    let place = shape_at c.self.inside.shapes.keys c.self.inside.measures.items c.as_slice.result.now c.args.self.now c.args.id c.index-as_slice-id.result c.self.view_is c.self.invariant c.requires c.as_slice.ensures.keys c.index-as_slice-id.is in
-    IsPlace-tree c.args.self.now c.args.id (root_of c.index-as_slice-id.result) place ∙ ap (λ (s : Shape). tree_of c.args.self.now (root_of s)) c.in-Var.is
-
-pub returns-in-App : goal.returns-in-App
-returns-in-App c =
-    let place = shape_at c.self.inside.shapes.keys c.self.inside.measures.items c.as_slice.result.now c.args.self.now c.args.id c.index-as_slice-id.result c.self.view_is c.self.invariant c.requires c.as_slice.ensures.keys c.index-as_slice-id.is in
-    rw c.as_slice-in-App.ensures (
-      IsPlace-tree c.args.self.now c.args.id (root_of c.index-as_slice-id.result) place ∙ ap (λ (s : Shape). tree_of c.args.self.now (root_of s)) c.in-App.is,
-      subst (λ (s : Shape). HasArgs c.args.self.now (root_of s)) c.in-App.is place.args,
-    )
+pub returns : goal.returns
+returns c =
+    let shape = c.index-as_slice-id.result in
+    let place = shape_at c.self.inside.shapes.keys c.self.inside.measures.items c.as_slice.result.now c.args.self.now c.args.id shape c.self.view_is c.self.invariant.0 c.requires c.as_slice.ensures.keys c.index-as_slice-id.is in
+    IsNodeOf-root c.args.self.now c.node.result (root_of shape) _ c.node.ensures (IsPlace-tree c.args.self.now c.args.id (root_of shape) place) place.args

@@ -1,7 +1,0 @@
-use Rattle.std.proofs.Common.{◌≡◌, take, flat_map}
-use Rattle.clause_form.specs.Occurrences.{counted}
-use Rattle.clause_form.proofs.Counting.{leaves_at}
-use Rattle.clause_form.proofs.occurrences.count_in_terms.Given as goal
-
-abbrev pub invariant-loop-term : goal.invariant-loop-term
-invariant-loop-term g l = l.table ≡ counted l.fn.table (flat_map (leaves_at (g.B.Bank.trees l.bank)) (take l.term-index l.terms))

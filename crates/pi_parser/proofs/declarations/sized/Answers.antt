@@ -1,0 +1,7 @@
+-- It ends behind its words.
+use Rattle.std.proofs.Common.{arith}
+use Rattle.std.proofs.lemmas.Grind.{common_steps}
+use Rattle.pi_parser.proofs.declarations.sized.Goals as goal
+
+pub returns-clause-within : goal.returns-clause-within
+returns-clause-within c = grind (arith, common_steps)
