@@ -8,7 +8,7 @@ ghost use Rattle.spec_clauses.specs.Fact.{Att, Mess};
 ghost use Rattle.attacker_clauses.specs.Listed.{Adds};
 
 use crate::listing::add_raw;
-use clause_form::{Clause, Clauses, Fact, Facts};
+use clause_form::{Clause, Clauses, Diffs, Fact, Facts};
 use std::alloc::{AllocError, Global};
 use term_tree::{Bank, Id};
 
@@ -49,6 +49,7 @@ fn add_heard<B: Bank>(
     let hyps = heard_facts(alloc, channel, message)?;
     let raw = Clause {
         hyps,
+        diffs: Diffs::new(alloc),
         concl: Fact::Att(0, message),
     };
     add_raw(alloc, bank, raw, list)
@@ -71,6 +72,7 @@ fn add_sent<B: Bank>(
     let hyps = sent_facts(alloc, channel, message)?;
     let raw = Clause {
         hyps,
+        diffs: Diffs::new(alloc),
         concl: Fact::Mess(0, channel, message),
     };
     add_raw(alloc, bank, raw, list)

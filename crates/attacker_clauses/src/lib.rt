@@ -9,9 +9,11 @@ ghost use Rattle.spec_well_formed.specs.Rules.{HasProperRules};
 ghost use Rattle.spec_well_formed.specs.WellFormed.{IsWellScoped};
 ghost use Rattle.spec_translation.specs.Translation.{attacker_clauses as clauses_of};
 ghost use Rattle.term_tree.specs.Bank.{Grows};
+ghost use Rattle.clause_form.specs.Fit.{AreLowWithinLimit};
 ghost use Rattle.clause_form.specs.Seen.{NameClauses};
 ghost use Rattle.pi_tree.specs.Protocols.{protocol_of};
 ghost use Rattle.attacker_clauses.specs.Conditions.{CanAllBeRenamed};
+ghost use Rattle.attacker_clauses.specs.Listed.{Lists};
 
 mod channels;
 mod constructors;
@@ -38,7 +40,7 @@ fn list_grown<B: Bank>(
     requires constructors { length (protocol_of protocol.now).constructors < 2 ^ 32 }
     requires rules { AllByRecursion CanAllBeRenamed (protocol_of protocol.now).destructors }
     ensures grows { Grows (B.trees bank.old) (B.trees bank.new) }
-    ensures names { IfOk result (λ list. NameClauses (B.trees bank.new) list
+    ensures listed { IfOk result (λ list. Lists (B.trees bank.new) list
         (clauses_of (protocol_of protocol.now))) }
 {
     let mut list = Clauses {
@@ -54,7 +56,7 @@ fn list_grown<B: Bank>(
 
 /// The attacker's clauses, in order: that he has the public free names and names of his own; that he applies the public
 /// constructors that are no data constructors, and the rules of the destructors; that he hears and sends on channels
-/// that he has.
+/// that he has. The numbers of their variables are low.
 ///
 /// The conditions hold of each protocol that is read. `Err` comes only for want of memory; then the bank is as before.
 pub fn attacker_list<B: Bank>(
@@ -68,6 +70,7 @@ pub fn attacker_list<B: Bank>(
     ensures grows { Grows (B.trees bank.old) (B.trees bank.new) }
     ensures names { IfOk result (λ list. NameClauses (B.trees bank.new) list
         (clauses_of (protocol_of protocol.now))) }
+    ensures low { IfOk result (λ list. AreLowWithinLimit (B.trees bank.new) list) }
     ensures err { OnErr result (B.trees bank.new ≡ B.trees bank.old) }
 {
     let mark = bank.mark();

@@ -6,7 +6,7 @@ ghost use Rattle.term_tree.specs.Bank.{tree_at, AreKnown, Grows};
 ghost use Rattle.clause_form.specs.Seen.{clause_at, IsClauseIn};
 ghost use Rattle.attacker_clauses.specs.Listed.{Adds};
 
-use clause_form::{Clause, Clauses, Fact, Facts};
+use clause_form::{Clause, Clauses, Diffs, Fact, Facts};
 use clause_norms::norms_of;
 use std::alloc::{AllocError, Global};
 use term_tree::{Bank, Id};
@@ -78,6 +78,7 @@ pub(crate) fn add_known<B: Bank>(
     let hyps = known_facts(alloc, terms)?;
     let raw = Clause {
         hyps,
+        diffs: Diffs::new(alloc),
         concl: Fact::Att(0, last),
     };
     add_raw(alloc, bank, raw, list)

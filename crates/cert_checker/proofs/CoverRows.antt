@@ -8,8 +8,7 @@ use Rattle.spec_terms.specs.Term.{Term}
 use Rattle.spec_clauses.specs.Fact.{Clause}
 use Rattle.spec_clauses.specs.Subsumption.{RowHolds}
 use Rattle.spec_certificates.specs.Certificate.{CoverRowHolds}
-use Rattle.term_tree.specs.declared.bank.Id.{Id}
-use Rattle.clause_form.specs.Seen.{clause_at}
+use Rattle.clause_form.specs.Seen.{clause_at, IdClause}
 use Rattle.clause_form.specs.Fit.{clauses_at}
 use Rattle.cert_checker.proofs.Fitting.{clause_at_index}
 
@@ -21,14 +20,14 @@ pub none_zero : (clauses : List (Clause Term)) (positions : List ℕ) (c : Claus
 none_zero clauses positions c zero below h = let no : None ≡ Some h.0 = h.1 in cc
 none_zero clauses positions c (suc n) below h = absurd (omega (arith, below))
 
-pub none_past : (all : List Term) (cs : List (Clause Id)) (positions : List ℕ) (c : Clause Term) (number index : ℕ) → number ≡ index + 1 → length cs ≤ index → CoverRowHolds (clauses_at all cs) (number ∷ positions) c → ⊥
+pub none_past : (all : List Term) (cs : List IdClause) (positions : List ℕ) (c : Clause Term) (number index : ℕ) → number ≡ index + 1 → length cs ≤ index → CoverRowHolds (clauses_at all cs) (number ∷ positions) c → ⊥
 none_past all cs positions c number index next past h =
     let none : slice_get (clauses_at all cs) index ≡ None = slice_get_past (clauses_at all cs) index (omega (arith, past, length-map cs (clause_at all))) in
     let no : None ≡ Some h.0 = sym none ∙ (sym (numbered_at_index (clauses_at all cs) number index next) ∙ h.1) in
     cc
 
 -- the clause of the number is the one at its place
-pub by_number : (all : List Term) (cs : List (Clause Id)) (positions : List ℕ) (c : Clause Term) (number index : ℕ) (g : Clause Id) → number ≡ index + 1 → g ≡ get_or cs index g → index < length cs → RowHolds (clause_at all g) c positions ↔ CoverRowHolds (clauses_at all cs) (number ∷ positions) c
+pub by_number : (all : List Term) (cs : List IdClause) (positions : List ℕ) (c : Clause Term) (number index : ℕ) (g : IdClause) → number ≡ index + 1 → g ≡ get_or cs index g → index < length cs → RowHolds (clause_at all g) c positions ↔ CoverRowHolds (clauses_at all cs) (number ∷ positions) c
 by_number all cs positions c number index g next is within =
     let there : numbered (clauses_at all cs) number ≡ Some (clause_at all g) = numbered_at_index (clauses_at all cs) number index next ∙ clause_at_index all cs index g is within in
     ((λ x. (clause_at all g, there, x)), (λ h. let same : h.0 ≡ clause_at all g = cc (there, h.1) in subst (λ d. RowHolds d c positions) same h.2))

@@ -10,8 +10,7 @@ use Rattle.spec_translation.specs.Translation.{goal_clauses}
 use Rattle.spec_translation.proofs.Placement.{norms-outline}
 use Rattle.spec_certificates.specs.Certificate.{bad_arguments}
 use Rattle.term_tree.specs.Bank.{tree_at}
-use Rattle.term_tree.specs.declared.bank.Id.{Id}
-use Rattle.clause_form.specs.Seen.{clause_at, NameClauses}
+use Rattle.clause_form.specs.Seen.{clause_at, NameClauses, IdClause}
 use Rattle.cert_checker.specs.Arguments.{arguments_of}
 
 -- they depend on no terms
@@ -35,7 +34,7 @@ goal_arguments P q goal is =
     sym (mapped_arguments (λ t. tt) goal.conclusion) ∙ (ap arguments_of same ∙ (mapped_arguments (λ t. tt) (goal_raw P q).conclusion ∙ raw_arguments P q))
 
 -- the clause over a bank that names the goal has so many
-pub named_arguments : (all : List Term) (made : List (Clause Id)) (P : Protocol) (q : Query) (c : Clause Id) → NameClauses all made (goal_clauses P q) → length made ≡ 1 → c ≡ get_or made 0 c → arguments_of c.conclusion ≡ bad_arguments q
+pub named_arguments : (all : List Term) (made : List IdClause) (P : Protocol) (q : Query) (c : IdClause) → NameClauses all made (goal_clauses P q) → length made ≡ 1 → c ≡ get_or made 0 c → arguments_of c.conclusion ≡ bad_arguments q
 named_arguments all [] P q c names one is = absurd (omega (arith, one))
 named_arguments all (d ∷ []) P q c names one is =
     ap (λ x. arguments_of x.conclusion) is ∙ (sym (mapped_arguments (tree_at all) d.conclusion) ∙ goal_arguments P q (clause_at all d) (sym names.are))

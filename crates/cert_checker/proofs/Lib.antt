@@ -7,6 +7,7 @@ pub mod Fitting
 pub mod Pairing
 pub mod CoverRows
 pub mod Looking
+pub mod Lowered
 pub mod UnsolvedOnes
 pub mod Passing
 pub mod Reaching

@@ -10,14 +10,13 @@ use Rattle.spec_clauses.specs.Selection.{Selection, select, is_solved}
 use Rattle.spec_clauses.proofs.Selection.{select-none}
 use Rattle.spec_clauses.specs.Resolvents.{Resolvents}
 use Rattle.spec_certificates.specs.Certificate.{CoverRowHolds, Numbered, numbered_from, Pair, pairs_with, pairs_of_solved, pairs_of}
-use Rattle.term_tree.specs.declared.bank.Id.{Id}
-use Rattle.clause_form.specs.Seen.{clause_at}
+use Rattle.clause_form.specs.Seen.{clause_at, IdClause}
 use Rattle.spec_fingerprints.specs.Fingerprints as print
 use Rattle.spec_fingerprints.specs.Fingerprints.{fingerprint_of, hypothesis_print, may_resolve}
 use Rattle.spec_fingerprints.proofs.Meeting.{hypothesis_apart}
 use Rattle.clause_resolve.specs.Apart.{IsSelectedAt}
 use Rattle.clause_resolve.proofs.Shifting.{placed}
-use Rattle.clause_resolve.specs.Answers.{Gives, IsAnswerOf}
+use Rattle.clause_resolve.specs.Answers.{Gives, IsAnswerOf, AreFoundLow}
 use Rattle.clause_resolve.specs.declared.resolving.Resolved.{Resolved}
 use Rattle.clause_resolve.specs.declared.resolving.Resolved.TheVariants as resolved_so
 use Rattle.cert_checker.specs.Stages.{AreShown, FirstUnshown, AreClosed, FirstOpen}
@@ -38,24 +37,24 @@ use Rattle.cert_checker.proofs.UnsolvedOnes.{pairs_at_places, all_pairs, place_n
 use Rattle.cert_checker.proofs.Walking.{with_number, clause_at_place, none_ahead, IsPassed, pass_begins, pass_goes_on, pass_fails, pass_ends}
 
 -- the clause at a place, with its number
-pub numbered_place : (all : List Term) (cs : List (Clause Id)) (i : ℕ) (d : Clause Id) → i < length cs → slice_get (numbered_at all cs) i ≡ Some (with_number (i + 1) (clause_at all (get_or cs i d)))
+pub numbered_place : (all : List Term) (cs : List IdClause) (i : ℕ) (d : IdClause) → i < length cs → slice_get (numbered_at all cs) i ≡ Some (with_number (i + 1) (clause_at all (get_or cs i d)))
 numbered_place all cs i d within =
     let number : 1 + i ≡ i + 1 = omega arith in
     let there : slice_get (clauses_at all cs) i ≡ Some (clause_at all (get_or cs i d)) = slice_get-map (clause_at all) cs i ∙ ap (option_map (clause_at all)) (slice_get-get_or cs i d within) in
     clause_at_place 1 (clauses_at all cs) i (clause_at all (get_or cs i d)) there ∙ ap (λ n. Some (with_number n (clause_at all (get_or cs i d)))) number
 
 -- the hypothesis that is selected of the clause at a place
-pub selected_at : (all : List Term) (cs : List (Clause Id)) (j at : ℕ) (e : Clause Id) → j < length cs → ((c : Clause Id) → slice_get cs j ≡ Some c → IsSelectedAt (clause_at all c) at) → IsSelectedAt (clause_at all (get_or cs j e)) at
+pub selected_at : (all : List Term) (cs : List IdClause) (j at : ℕ) (e : IdClause) → j < length cs → ((c : IdClause) → slice_get cs j ≡ Some c → IsSelectedAt (clause_at all c) at) → IsSelectedAt (clause_at all (get_or cs j e)) at
 selected_at all cs j at e within each = each (get_or cs j e) (slice_get-get_or cs j e within)
 
 -- resolvents are fit
-pub made_fit : (new : List Term) (solved unsolved : Clause Term) (found : Resolved) (made : List (Clause Id)) → found ≡ resolved_so.Clauses made → IsAnswerOf new solved unsolved found → AreFit new made
-made_fit new solved unsolved found made e answer =
+pub made_fit : (new : List Term) (solved unsolved : Clause Term) (found : Resolved) (made : List IdClause) → found ≡ resolved_so.Clauses made → IsAnswerOf new solved unsolved found → AreFoundLow new found → AreFit new made
+made_fit new solved unsolved found made e answer low =
     let told = subst (λ (r : Resolved). IsAnswerOf new solved unsolved r) e answer in
-    resolvents_fit new made told.2.gives.0 told.0 told.2.gives.2 told.1
+    resolvents_fit new made told.2.gives.0 told.0 told.2.gives.2 told.1 (subst (λ (r : Resolved). AreFoundLow new r) e low)
 
 -- The pair of the clauses at two places.
-module _ (all : List Term) (cs : List (Clause Id)) (rows : List (List ℕ)) (from i j : ℕ) (d e : Clause Id) (solved_within : i < length cs) (unsolved_within : j < length cs) where
+module _ (all : List Term) (cs : List IdClause) (rows : List (List ℕ)) (from i j : ℕ) (d e : IdClause) (solved_within : i < length cs) (unsolved_within : j < length cs) where
   abbrev A : Numbered
   A = with_number (i + 1) (clause_at all (get_or cs i d))
 
@@ -96,7 +95,7 @@ module _ (all : List Term) (cs : List (Clause Id)) (rows : List (List ℕ)) (fro
   by_rows made given (shown_so.Except number) same gives x =
       open_by (rulings.Closure (i + 1) (j + 1) number) (one_uncovered (clauses_at all cs) A B (drop from rows) given number gives (subst (λ (l : List (Clause Term)). FirstUnshown (CoverRowHolds (clauses_at all cs)) (numbered_from 1 l) (drop from rows) number) same x))
 
-  pub pair_shown : (new : List Term) (made : List (Clause Id)) (o : shown.Shown) → clauses_at new cs ≡ clauses_at all cs → IsAnswerOf new (clause_at all (get_or cs i d)) (clause_at all (get_or cs j e)) (resolved_so.Clauses made) → IsShownSo (CoverRowHolds (clauses_at new cs)) (numbered_from 1 (clauses_at new made)) rows from o
+  pub pair_shown : (new : List Term) (made : List IdClause) (o : shown.Shown) → clauses_at new cs ≡ clauses_at all cs → IsAnswerOf new (clause_at all (get_or cs i d)) (clause_at all (get_or cs j e)) (resolved_so.Clauses made) → IsShownSo (CoverRowHolds (clauses_at new cs)) (numbered_from 1 (clauses_at new made)) rows from o
       → IsClosedSo (clauses_at all cs) (pair_at (numbered_at all cs) i j) rows from (where_shown i j o)
   pair_shown new made o same answer x =
       by_rows (clauses_at new made) answer.0 o answer.1.are answer.2 (subst (λ (l : List (Clause Term)). IsShownSo (CoverRowHolds l) (numbered_from 1 (clauses_at new made)) rows from o) same x)
@@ -111,7 +110,7 @@ numbered_length : (n : ℕ) (cs : List (Clause Term)) → length (numbered_from 
 numbered_length n [] = refl
 numbered_length n (c ∷ cs) = ap suc (numbered_length (n + 1) cs)
 
-at_length : (all : List Term) (cs : List (Clause Id)) → length (numbered_at all cs) ≡ length cs
+at_length : (all : List Term) (cs : List IdClause) → length (numbered_at all cs) ≡ length cs
 at_length all cs = numbered_length 1 (clauses_at all cs) ∙ length-map cs (clause_at all)
 
 solved_next : (xs : List Numbered) (k : ℕ) → k < length xs → pairs_of (drop k xs) xs ≡ pairs_at_solved xs k ++ pairs_of (drop (k + 1) xs) xs
@@ -120,7 +119,7 @@ solved_next xs k within =
     ap (λ l. pairs_of l xs) next.2 ∙ λ t. pairs_if_solved (sym next.1 t) xs ++ pairs_of (drop (sym (add-one k) t) xs) xs
 
 -- the clause at a place is solved: its pairs are those with all; and where it isn't, it has none
-pub solved_pairs : (all : List Term) (cs : List (Clause Id)) (i : ℕ) (d : Clause Id) → i < length cs → is_solved (clause_at all (get_or cs i d)).hypotheses ≡ true → pairs_at (numbered_at all cs) i ≡ pairs_at_solved (numbered_at all cs) i
+pub solved_pairs : (all : List Term) (cs : List IdClause) (i : ℕ) (d : IdClause) → i < length cs → is_solved (clause_at all (get_or cs i d)).hypotheses ≡ true → pairs_at (numbered_at all cs) i ≡ pairs_at_solved (numbered_at all cs) i
 solved_pairs all cs i d within solved =
     let each = numbered_at all cs in
     let here = with_number (i + 1) (clause_at all (get_or cs i d)) in
@@ -131,18 +130,18 @@ no_pairs : (o : Option Selection) (i : Numbered) (each : List Numbered) → (o �
 no_pairs None i each never = absurd (never refl)
 no_pairs (Some at) i each never = refl
 
-unsolved_pairs : (all : List Term) (cs : List (Clause Id)) (i : ℕ) (d : Clause Id) → i < length cs → is_solved (clause_at all (get_or cs i d)).hypotheses ≡ false → pairs_at_solved (numbered_at all cs) i ≡ []
+unsolved_pairs : (all : List Term) (cs : List IdClause) (i : ℕ) (d : IdClause) → i < length cs → is_solved (clause_at all (get_or cs i d)).hypotheses ≡ false → pairs_at_solved (numbered_at all cs) i ≡ []
 unsolved_pairs all cs i d within unsolved =
     let each = numbered_at all cs in
     let c = clause_at all (get_or cs i d) in
     ap (λ o. pairs_if_solved o each) (numbered_place all cs i d within)
     ∙ no_pairs (select c.hypotheses) (with_number (i + 1) c) each (λ e. false≢true (sym unsolved ∙ (select-none c.hypotheses).0 e))
 
-pub passed_none : (all : List Term) (cs : List (Clause Id)) (rows : List (List ℕ)) (from i : ℕ) (d : Clause Id) → i < length cs → is_solved (clause_at all (get_or cs i d)).hypotheses ≡ false → IsClosedSo (clauses_at all cs) (pairs_at_solved (numbered_at all cs) i) rows from (closed_so.All from)
+pub passed_none : (all : List Term) (cs : List IdClause) (rows : List (List ℕ)) (from i : ℕ) (d : IdClause) → i < length cs → is_solved (clause_at all (get_or cs i d)).hypotheses ≡ false → IsClosedSo (clauses_at all cs) (pairs_at_solved (numbered_at all cs) i) rows from (closed_so.All from)
 passed_none all cs rows from i d within unsolved = subst (λ ps. AreClosed (clauses_at all cs) ps (drop from rows) (drop from rows)) (sym (unsolved_pairs all cs i d within unsolved)) refl
 
 -- Pairs that are passed one after the other, over a bank that comes back each time.
-module _ (all : List Term) (cs : List (Clause Id)) (rows : List (List ℕ)) (from : ℕ) where
+module _ (all : List Term) (cs : List IdClause) (rows : List (List ℕ)) (from : ℕ) where
   -- of a solved clause, those with the unsolved ones before the place among these
   pub record PassedWith (i : ℕ) (us : List Unsolved) (now : List Term) (k next : ℕ) : Type 0 where
     pub passed : IsPassed (clauses_at all cs) (pairs_at (numbered_at all cs) i) rows from (pairs_at_places (slice_get (numbered_at all cs) i) (numbered_at all cs) (drop k us)) next
@@ -154,7 +153,7 @@ module _ (all : List Term) (cs : List (Clause Id)) (rows : List (List ℕ)) (fro
     same = refl;
   }
 
-  back_in : (now : List Term) (ps : List (Clause Id) → List Term → List Pair) (next : ℕ) (o : closed.Closed) → now ≡ all → IsClosedSo (clauses_at now cs) (ps cs now) rows next o → IsClosedSo (clauses_at all cs) (ps cs all) rows next o
+  back_in : (now : List Term) (ps : List IdClause → List Term → List Pair) (next : ℕ) (o : closed.Closed) → now ≡ all → IsClosedSo (clauses_at now cs) (ps cs now) rows next o → IsClosedSo (clauses_at all cs) (ps cs all) rows next o
   back_in now ps next o same x = subst (λ (t : List Term). IsClosedSo (clauses_at t cs) (ps cs t) rows next o) same x
 
   -- the unsolved clause at the place among them is next

@@ -12,7 +12,6 @@ use Rattle.spec_translation.proofs.Sizes.{clauses_within}
 use Rattle.spec_certificates.specs.Certificate.{Certificate, bad_arguments, CoverRowHolds, numbered_from, pairs_of}
 use Rattle.spec_certificates.specs.Ruling.{IsRuled}
 use Rattle.spec_certificates.specs.Ruling as certificates
-use Rattle.term_tree.specs.declared.bank.Id.{Id}
 use Rattle.query_derive.proofs.Deciding.{small_query}
 use Rattle.clause_translate.specs.Whole.{Translates, TranslatesTo, EndsAt}
 use Rattle.clause_translate.specs.declared.whole.Translated.{Translated}
@@ -22,6 +21,7 @@ use Rattle.cert_checker.specs.Reached.{clauses_of, HasShapes, IsTranslatedTo, Ha
 use Rattle.cert_checker.specs.Rulings.{ruling_of}
 use Rattle.cert_checker.specs.Shaping.{AreShaped}
 use Rattle.clause_form.specs.Fit.{AreFit, clauses_at}
+use Rattle.clause_form.specs.Seen.{IdClause}
 use Rattle.cert_checker.specs.Answers.{numbered_at, IsShownSo, IsClosedSo}
 use Rattle.cert_checker.specs.declared.ruling.Ruling.{Ruling}
 use Rattle.cert_checker.specs.declared.ruling.Shown.TheVariants as shown_so
@@ -31,7 +31,7 @@ use Rattle.cert_checker.proofs.Composing.{shape_fails, translation_large, cover_
 use Rattle.clause_form.proofs.Fit.{named_fit}
 
 -- The clauses of a certificate over a bank.
-module _ (P : Protocol) (q : Query) (cert : Certificate) (all : List Term) (cs : List (Clause Id)) (are : clauses_at all cs ≡ cert.clauses) where
+module _ (P : Protocol) (q : Query) (cert : Certificate) (all : List Term) (cs : List IdClause) (are : clauses_at all cs ≡ cert.clauses) where
   closed_as : (rows : List (List ℕ)) (from : ℕ) (o o' : closed.Closed) → o ≡ o' → IsClosedSo (clauses_at all cs) (pairs_of (numbered_at all cs) (numbered_at all cs)) rows from o → IsClosedSo cert.clauses (pairs_of (clauses_of cert) (clauses_of cert)) rows from o'
   closed_as rows from o o' e x =
       subst (λ (l : List (Clause Term)). IsClosedSo l (pairs_of (numbered_from 1 l) (numbered_from 1 l)) rows from o') are
@@ -53,18 +53,18 @@ module _ (P : Protocol) (q : Query) (cert : Certificate) (given : List (Clause T
 
 -- The translation of a protocol and the query of a number.
 module _ (P : Protocol) (number : ℕ) (all : List Term) (found : Translated) (translates : Translates P number all found) where
-  pub made_to : (clauses : List (Clause Id)) → found ≡ made.Clauses clauses → TranslatesTo P number all clauses
+  pub made_to : (clauses : List IdClause) → found ≡ made.Clauses clauses → TranslatesTo P number all clauses
   made_to clauses e = subst (λ (t : Translated). Translates P number all t) e translates
 
   ends_at : (point : ℕ) → found ≡ made.Large point → EndsAt P number point
   ends_at point e = subst (λ (t : Translated). Translates P number all t) e translates
 
-  pub given_fit : (clauses : List (Clause Id)) → found ≡ made.Clauses clauses → IsWithinLimits P → AreFit all clauses
+  pub given_fit : (clauses : List IdClause) → found ≡ made.Clauses clauses → IsWithinLimits P → AreFit all clauses
   given_fit clauses e limits =
       let to = made_to clauses e in
-      named_fit all clauses to.list to.names (λ c h. clauses_normal P to.query to.list to.translates c h) (λ c h. clauses_within P to.query to.list c limits (small_query P number to.query limits to.is) to.translates h)
+      named_fit all clauses to.list to.names to.low (λ c h. clauses_normal P to.query to.list to.translates c h) (λ c h. clauses_within P to.query to.list c limits (small_query P number to.query limits to.is) to.translates h)
 
-  pub given_reached : (clauses : List (Clause Id)) → found ≡ made.Clauses clauses → (q : Query) → numbered P.queries number ≡ Some q → (cert : Certificate) → HasShapes q cert → IsTranslatedTo P q cert (clauses_at all clauses)
+  pub given_reached : (clauses : List IdClause) → found ≡ made.Clauses clauses → (q : Query) → numbered P.queries number ≡ Some q → (cert : Certificate) → HasShapes q cert → IsTranslatedTo P q cert (clauses_at all clauses)
   given_reached clauses e q there cert shaped =
       let to = made_to clauses e in
       let same : to.query ≡ q = some_same (sym to.is ∙ there) in

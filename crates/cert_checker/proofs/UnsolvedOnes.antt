@@ -10,8 +10,7 @@ use Rattle.spec_terms.proofs.Replace.{some_same}
 use Rattle.spec_clauses.specs.Fact.{Clause}
 use Rattle.spec_clauses.specs.Selection.{Selection, select}
 use Rattle.spec_certificates.specs.Certificate.{Numbered, numbered_from, Pair, pairs_with}
-use Rattle.term_tree.specs.declared.bank.Id.{Id}
-use Rattle.clause_form.specs.Seen.{clause_at}
+use Rattle.clause_form.specs.Seen.{clause_at, IdClause}
 use Rattle.clause_form.specs.Fit.{clauses_at}
 use Rattle.clause_resolve.specs.Apart.{IsSelectedAt}
 use Rattle.cert_checker.specs.Answers.{numbered_at, pairs_of_two, pairs_with_all, pairs_at}
@@ -40,18 +39,18 @@ module _ {X : Type 0} (xs : List X) (n : ℕ) (x : X) (rest : List X) (e : drop 
   goes_on = let both = parts in cc
 
 -- of the clauses from a place on, the first comes first, if it is unsolved
-pub found_next : (all : List Term) (cs : List (Clause Id)) (k : ℕ) (c : Clause Id) → c ≡ get_or cs k c → k < length cs
+pub found_next : (all : List Term) (cs : List IdClause) (k : ℕ) (c : IdClause) → c ≡ get_or cs k c → k < length cs
     → unsolved_from k (clauses_at all (drop k cs)) ≡ cons_option (unsolved_at (k, clause_at all c)) (unsolved_from (k + 1) (clauses_at all (drop (k + 1) cs)))
 found_next all cs k c is within =
-    ap (λ (l : List (Clause Id)). unsolved_from k (clauses_at all l)) (drop_more cs k c within)
-    ∙ ap (λ (x : Clause Id). cons_option (unsolved_at (k, clause_at all x)) (unsolved_from (k + 1) (clauses_at all (drop (k + 1) cs)))) (sym is)
+    ap (λ (l : List IdClause). unsolved_from k (clauses_at all l)) (drop_more cs k c within)
+    ∙ ap (λ (x : IdClause). cons_option (unsolved_at (k, clause_at all x)) (unsolved_from (k + 1) (clauses_at all (drop (k + 1) cs)))) (sym is)
 
 -- such a one stands at its place, and its hypothesis there is selected
-pub record IsUnsolvedOne (all : List Term) (cs : List (Clause Id)) (u : Unsolved) : Type 0 where
+pub record IsUnsolvedOne (all : List Term) (cs : List IdClause) (u : Unsolved) : Type 0 where
   pub within : u.place < length cs
-  pub selected : (c : Clause Id) → slice_get cs u.place ≡ Some c → IsSelectedAt (clause_at all c) u.at
+  pub selected : (c : IdClause) → slice_get cs u.place ≡ Some c → IsSelectedAt (clause_at all c) u.at
 
-found_are : (all : List Term) (cs : List (Clause Id)) (n : ℕ) (ds : List (Clause Id)) → drop n cs ≡ ds → AllByRecursion (IsUnsolvedOne all cs) (unsolved_from n (clauses_at all ds))
+found_are : (all : List Term) (cs : List IdClause) (n : ℕ) (ds : List IdClause) → drop n cs ≡ ds → AllByRecursion (IsUnsolvedOne all cs) (unsolved_from n (clauses_at all ds))
 found_are all cs n [] e = tt
 found_are all cs n (d ∷ ds) e = go (select (clause_at all d).hypotheses) refl (found_are all cs (n + 1) ds (goes_on cs n d ds e))
   where
@@ -62,12 +61,12 @@ found_are all cs n (d ∷ ds) e = go (select (clause_at all d).hypotheses) refl 
       record {
         within = starts_within cs n d ds e;
         selected = λ c there.
-            subst (λ (x : Clause Id). IsSelectedAt (clause_at all x) at.index) (some_same (sym (starts_there cs n d ds e) ∙ there)) (ap (option_map (λ (at : Selection). at.index)) is);
+            subst (λ (x : IdClause). IsSelectedAt (clause_at all x) at.index) (some_same (sym (starts_there cs n d ds e) ∙ there)) (ap (option_map (λ (at : Selection). at.index)) is);
       },
       others,
     )
 
-pub is_unsolved_one : (all : List Term) (cs : List (Clause Id)) (us : List Unsolved) (k : ℕ) (d : Unsolved) → us ≡ unsolved_from 0 (clauses_at all cs) → k < length us → IsUnsolvedOne all cs (get_or us k d)
+pub is_unsolved_one : (all : List Term) (cs : List IdClause) (us : List Unsolved) (k : ℕ) (d : Unsolved) → us ≡ unsolved_from 0 (clauses_at all cs) → k < length us → IsUnsolvedOne all cs (get_or us k d)
 is_unsolved_one all cs us k d found within =
     each-get_or (IsUnsolvedOne all cs) us k d within (subst (λ (l : List Unsolved). AllByRecursion (IsUnsolvedOne all cs) l) (sym found) (found_are all cs 0 cs refl))
 
@@ -96,7 +95,7 @@ pairs_found i each n (c ∷ cs) e =
     one_pair i here each n (unsolved_from (n + 1) cs) (starts_there each n here behind e)
     ∙ ap (λ (ps : List Pair). pairs_with i (select c.hypotheses) here ++ ps) (pairs_found i each (n + 1) cs (goes_on each n here behind e))
 
-pub all_pairs : (all : List Term) (cs : List (Clause Id)) (i : ℕ) (us : List Unsolved) → us ≡ unsolved_from 0 (clauses_at all cs) → pairs_at_places (slice_get (numbered_at all cs) i) (numbered_at all cs) us ≡ pairs_at (numbered_at all cs) i
+pub all_pairs : (all : List Term) (cs : List IdClause) (i : ℕ) (us : List Unsolved) → us ≡ unsolved_from 0 (clauses_at all cs) → pairs_at_places (slice_get (numbered_at all cs) i) (numbered_at all cs) us ≡ pairs_at (numbered_at all cs) i
 all_pairs all cs i us found = ap (pairs_at_places (slice_get (numbered_at all cs) i) (numbered_at all cs)) found ∙ go (slice_get (numbered_at all cs) i)
   where
     go : (o : Option Numbered) → pairs_at_places o (numbered_at all cs) (unsolved_from 0 (clauses_at all cs)) ≡ pairs_with_all o (numbered_at all cs)

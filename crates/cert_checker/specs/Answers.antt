@@ -4,8 +4,8 @@ use Rattle.spec_terms.specs.Term.{Term}
 use Rattle.spec_clauses.specs.Fact.{Clause}
 use Rattle.spec_clauses.specs.Selection.{select}
 use Rattle.spec_certificates.specs.Certificate.{Numbered, numbered_from, Pair, pairs_with, pairs_of_solved}
-use Rattle.term_tree.specs.declared.bank.Id.{Id}
 use Rattle.clause_form.specs.Fit.{clauses_at}
+use Rattle.clause_form.specs.Seen.{IdClause}
 use Rattle.cert_checker.specs.Stages.{Shows, AreShown, FirstUnshown, AreClosed, FirstOpen}
 use Rattle.cert_checker.specs.Rulings.{ruling_of}
 use Rattle.cert_checker.specs.declared.ruling.Ruling.TheVariants as rulings
@@ -15,7 +15,7 @@ use Rattle.cert_checker.specs.declared.ruling.Closed as closed
 use Rattle.cert_checker.specs.declared.ruling.Closed.TheVariants as closed_so
 
 -- with their numbers
-abbrev pub numbered_at : List Term → List (Clause Id) → List Numbered
+abbrev pub numbered_at : List Term → List IdClause → List Numbered
 numbered_at all cs = numbered_from 1 (clauses_at all cs)
 
 -- the rows from a place on show that of the clauses, or not

@@ -5,5 +5,6 @@ pub mod Rulings
 pub mod Answers
 pub mod Checked
 pub mod Shaping
+pub mod Lowering
 pub mod Sufficing
 pub mod Unsolved

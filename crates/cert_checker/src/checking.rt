@@ -18,6 +18,7 @@ ghost use Rattle.cert_checker.specs.Rulings.{ruling_of};
 ghost use Rattle.clause_form.specs.Fit.{AreFit};
 ghost use Rattle.clause_form.specs.Seen.{AreClausesIn};
 ghost use Rattle.cert_checker.specs.Checked.{cert_in};
+ghost use Rattle.cert_checker.specs.Lowering.{AreNormalIn};
 ghost use Rattle.cert_checker.specs.Sufficing.{SolvedOnesSuffice};
 
 use crate::accepted_certificates_suffice;
@@ -25,9 +26,11 @@ use crate::arguments::goal_arguments;
 use crate::checker::Checker;
 use crate::covering::are_covered;
 use crate::judging::judge;
+use crate::lowering::{are_unconstrained, low_clauses};
 use crate::ruling::Ruling;
 use crate::shaping::{copied, first_misshapen};
 use cert_form::Cert;
+use clause_resolve::normal_clauses_have_low_variables;
 use clause_translate::{Translated, translate};
 use pi_tree::Protocol;
 use shared_cert::SharedCert;
@@ -64,6 +67,56 @@ fn check_shaped<B: Bank>(bank: &mut B, checker: &Checker<'_>) -> Result<Ruling, 
     }
 }
 
+/// What is ruled behind the shapes, by clauses with variables of low numbers. The bank may have grown.
+fn check_lowered<B: Bank>(bank: &mut B, checker: &Checker<'_>) -> Result<Ruling, AllocError>
+    requires normal { AreNormalIn (B.trees bank.old) checker.now.clauses.now }
+    requires limits { IsWithinLimits (protocol_of checker.now.protocol.now) }
+    requires rules { HasProperRules (protocol_of checker.now.protocol.now) }
+    requires scoped { IsWellScoped (protocol_of checker.now.protocol.now) }
+    requires queries { HasProperQueries (protocol_of checker.now.protocol.now) }
+    requires there { IsThere (protocol_of checker.now.protocol.now) OfQueries checker.now.query }
+    ensures ruled { let P = protocol_of checker.now.protocol.now in
+        let cert = cert_in (B.trees bank.old) checker.now in
+        IfOk result (λ ruling. OfQuery P checker.now.query (λ q.
+        HasShapes q cert → IsRuled P q cert (ruling_of ruling))) }
+    ensures grows { Grows (B.trees bank.old) (B.trees bank.new) }
+{
+    let low = low_clauses(checker.alloc, bank, checker.clauses)?;
+    let lowered = Checker {
+        alloc: checker.alloc,
+        protocol: checker.protocol,
+        query: checker.query,
+        rows: checker.rows,
+        goals: checker.goals,
+        clauses: &low.items,
+    };
+    check_shaped(bank, &lowered)
+}
+
+/// What is ruled behind the shapes, whatever the numbers of the variables that constraints bind. The bank is as before.
+fn check_normal<B: Bank>(bank: &mut B, checker: &Checker<'_>) -> Result<Ruling, AllocError>
+    requires normal { AreNormalIn (B.trees bank.old) checker.now.clauses.now }
+    requires limits { IsWithinLimits (protocol_of checker.now.protocol.now) }
+    requires rules { HasProperRules (protocol_of checker.now.protocol.now) }
+    requires scoped { IsWellScoped (protocol_of checker.now.protocol.now) }
+    requires queries { HasProperQueries (protocol_of checker.now.protocol.now) }
+    requires there { IsThere (protocol_of checker.now.protocol.now) OfQueries checker.now.query }
+    ensures ruled { let P = protocol_of checker.now.protocol.now in
+        let cert = cert_in (B.trees bank.old) checker.now in
+        IfOk result (λ ruling. OfQuery P checker.now.query (λ q.
+        HasShapes q cert → IsRuled P q cert (ruling_of ruling))) }
+    ensures bank { B.trees bank.new ≡ B.trees bank.old }
+{
+    normal_clauses_have_low_variables();
+    if are_unconstrained(checker.clauses) {
+        return check_shaped(bank, checker);
+    }
+    let mark = bank.mark();
+    let ruling = check_lowered(bank, checker);
+    bank.back(mark);
+    ruling
+}
+
 /// What is ruled of a certificate whose clauses stand in the bank. The bank is as before.
 fn check_standing<B: Bank>(bank: &mut B, checker: &Checker<'_>) -> Result<Ruling, AllocError>
     requires known { AreClausesIn (B.trees bank.old) checker.now.clauses.now }
@@ -79,9 +132,9 @@ fn check_standing<B: Bank>(bank: &mut B, checker: &Checker<'_>) -> Result<Ruling
     ensures bank { B.trees bank.new ≡ B.trees bank.old }
 {
     let arguments = goal_arguments(checker.alloc, bank, checker.protocol, checker.query)?;
-    match first_misshapen(bank, checker.clauses, arguments) {
+    match first_misshapen(checker.alloc, bank, checker.clauses, arguments)? {
         Some(number) => Ok(Ruling::Shape(number)),
-        None => check_shaped(bank, checker),
+        None => check_normal(bank, checker),
     }
 }
 

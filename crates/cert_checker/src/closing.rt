@@ -1,13 +1,11 @@
 //! Pairs of a solved clause with an unsolved one: each resolvent is covered by the next row.
 
 ghost use Rattle.std.specs.Prelude.{◌≡◌, ◌<◌, ◌+◌, ◌^◌, Some, length, map, slice_get, option_map, IfOk};
-ghost use Rattle.spec_clauses.specs.Fact.{Clause};
 ghost use Rattle.spec_certificates.specs.Certificate.{pairs_of};
 ghost use Rattle.spec_fingerprints.specs.Fingerprints.{fingerprint_of, hypothesis_print};
-ghost use Rattle.term_tree.specs.declared.bank.Id.{Id};
 ghost use Rattle.clause_resolve.specs.Apart.{IsSelectedAt};
 ghost use Rattle.fact_fingerprint.specs.Seen.{fingerprint_seen};
-ghost use Rattle.clause_form.specs.Seen.{clause_at};
+ghost use Rattle.clause_form.specs.Seen.{clause_at, IdClause};
 ghost use Rattle.cert_checker.specs.declared.ruling.Shown.TheVariants as shown_so;
 ghost use Rattle.clause_form.specs.Fit.{AreFit, clauses_at};
 ghost use Rattle.cert_checker.specs.Answers.{numbered_at, where_shown};
@@ -64,7 +62,7 @@ fn close_pair<B: Bank>(
     requires fit { AreFit (B.trees bank.old) checker.now.clauses.now }
     requires solved { pair.solved < length checker.now.clauses.now }
     requires unsolved { pair.unsolved < length checker.now.clauses.now }
-    requires selected { (c : Clause Id) → slice_get checker.now.clauses.now pair.unsolved ≡ Some c →
+    requires selected { (c : IdClause) → slice_get checker.now.clauses.now pair.unsolved ≡ Some c →
         IsSelectedAt (clause_at (B.trees bank.old) c) at }
     ensures closed { let all = B.trees bank.old in IfOk result (λ closed.
         IsClosedSo (clauses_at all checker.now.clauses.now)
@@ -108,9 +106,9 @@ fn close_met<B: Bank>(
     requires fit { AreFit (B.trees bank.old) checker.now.clauses.now }
     requires solved { solving.now.solved < length checker.now.clauses.now }
     requires unsolved { one.place < length checker.now.clauses.now }
-    requires selected { (c : Clause Id) → slice_get checker.now.clauses.now one.place ≡ Some c →
+    requires selected { (c : IdClause) → slice_get checker.now.clauses.now one.place ≡ Some c →
         IsSelectedAt (clause_at (B.trees bank.old) c) one.at }
-    requires print { (c : Clause Id) →
+    requires print { (c : IdClause) →
         slice_get checker.now.clauses.now solving.now.solved ≡ Some c →
         fingerprint_seen solving.now.print ≡
         fingerprint_of (clause_at (B.trees bank.old) c).conclusion }

@@ -23,6 +23,7 @@ mod closing;
 mod covering;
 mod judging;
 mod left_over;
+mod lowering;
 pub mod ruling;
 mod satisfying;
 mod shaping;

@@ -27,35 +27,42 @@ fn has_arguments<B: Bank>(bank: &B, fact: &Fact, arguments: usize) -> bool
 }
 
 /// Whether a clause has the shape of a certificate's, for a query whose `bad` has so many arguments.
-fn is_shaped<B: Bank>(bank: &B, clause: &Clause, arguments: usize) -> bool
+fn is_shaped<B: Bank>(
+    alloc: Global,
+    bank: &B,
+    clause: &Clause,
+    arguments: usize,
+) -> Result<bool, AllocError>
     requires { IsClauseIn (B.trees bank.now) clause.now }
-    ensures { IsTrue result ↔ HasShape arguments (clause_at (B.trees bank.now) clause.now) }
+    ensures { IfOk result (λ yes. IsTrue yes ↔
+        HasShape arguments (clause_at (B.trees bank.now) clause.now)) }
 {
     if size_of(bank, clause) > MOST_SYMBOLS {
-        return false;
+        return Ok(false);
     }
-    if !is_normal(bank, clause) {
-        return false;
+    if !is_normal(alloc, bank, clause)? {
+        return Ok(false);
     }
-    has_arguments(bank, &clause.concl, arguments)
+    Ok(has_arguments(bank, &clause.concl, arguments))
 }
 
 /// The number, from 1, of the first clause that hasn't the shape of a certificate's, for a query whose `bad` has so many
-/// arguments.
+/// arguments. Takes memory only for clauses with constraints.
 pub(crate) fn first_misshapen<B: Bank>(
+    alloc: Global,
     bank: &B,
     clauses: &[Clause],
     arguments: usize,
-) -> Option<u64>
+) -> Result<Option<u64>, AllocError>
     requires { AreClausesIn (B.trees bank.now) clauses.now }
-    ensures { AreShaped arguments (numbered_at (B.trees bank.now) clauses.now) result }
+    ensures { IfOk result (AreShaped arguments (numbered_at (B.trees bank.now) clauses.now)) }
 {
     'each: for (k, clause) in clauses.iter().enumerate() {
-        if !is_shaped(bank, clause, arguments) {
-            return Some(k as u64 + 1);
+        if !is_shaped(alloc, bank, clause, arguments)? {
+            return Ok(Some(k as u64 + 1));
         }
     }
-    None
+    Ok(None)
 }
 
 /// The clauses of a certificate, copied into the bank. On `Err` the bank may have grown.

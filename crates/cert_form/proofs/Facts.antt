@@ -5,8 +5,9 @@ use Rattle.std.proofs.lemmas.List.{append-nil}
 use Rattle.std.proofs.lemmas.Grind.{flat_map-append}
 use Rattle.spec_calculus.specs.Syntax.{Protocol}
 use Rattle.spec_terms.specs.Term.{Term}
+use Rattle.spec_clauses.specs.Diff.{Diff}
 use Rattle.spec_clauses.specs.Fact.{Fact, Mess, Tab, Ev, Mev, Bad, Clause, terms_of}
-use Rattle.clause_form.specs.declared.plain.Tree.{Tree}
+use Rattle.clause_diffs.specs.declared.plain.Tree.{Tree}
 use Rattle.clause_form.specs.declared.plain.PlainFact.{PlainFact}
 use Rattle.clause_form.specs.Plain.{term_of}
 use Rattle.clause_form.specs.PlainFacts.{plain_fact_of}
@@ -37,12 +38,8 @@ hypotheses_go_on P o = record { is = λ n f fs rest. cases n f fs rest } where
 clauses_go_on : (P : Protocol) (o : One) → GoesOn (clauses_from o P) (λ n c rest. 99 ∷ 32 ∷ clause_over o P c (10 ∷ rest))
 clauses_go_on P o = record { is = λ n c cs rest. refl }
 
-same_items : {X : Type 0} (xs : List X) → map (λ x. x) xs ≡ xs
-same_items [] = refl
-same_items (x ∷ xs) = ap (λ l. x ∷ l) (same_items xs)
-
-abbrev pub clause_of : List (Fact Term) → Fact Term → Clause Term
-clause_of hyps concl = record { hypotheses = hyps; diffs = []; conclusion = concl }
+abbrev pub clause_of : List (Fact Term) → List Diff → Fact Term → Clause Term
+clause_of hyps diffs concl = record { hypotheses = hyps; diffs = diffs; conclusion = concl }
 
 module _ (kept_of : List Term → List Term) (all_one : Protocol → List Term → One) (P : Protocol) where
   abbrev pub one : List Term → One
@@ -128,29 +125,30 @@ module _ (kept_of : List Term → List Term) (all_one : Protocol → List Term �
 
   -- Clauses.
 
-  pub clause_written : (c : Clause Term) (hyps : List (Fact Term)) (concl : Fact Term) (kept middle now : List Term) (start listed marked after : List ℕ) → clause_of hyps concl ≡ c → Writes kept_of one (flat_map terms_of hyps) (λ o. hypotheses_over o P hyps) kept middle start listed → Appends (λ rest. codes "=> " ++ rest) listed marked
+  pub clause_written : (c : Clause Term) (hyps : List (Fact Term)) (diffs : List Diff) (concl : Fact Term) (kept middle now : List Term) (start listed marked after : List ℕ) → clause_of hyps diffs concl ≡ c → Writes kept_of one (flat_map terms_of hyps) (λ o. hypotheses_over o P hyps) kept middle start listed → Appends (λ rest. codes "=> " ++ rest) listed marked
       → Writes kept_of one (terms_of concl) (λ o. fact_over o P concl) middle now marked after → Writes kept_of one (flat_map terms_of (facts_in_order c)) (λ o. clause_over o P c) kept now start after
-  clause_written c hyps concl kept middle now start listed marked after is hypotheses arrow conclusion =
+  clause_written c hyps diffs concl kept middle now start listed marked after is hypotheses arrow conclusion =
       let terms : flat_map terms_of hyps ++ terms_of concl ≡ flat_map terms_of (hyps ++ (concl ∷ [])) =
       ap (λ l. flat_map terms_of hyps ++ l) (sym (append-nil (terms_of concl))) ∙ sym (flat_map-append terms_of hyps (concl ∷ [])) in
       subst (λ d. Writes kept_of one (flat_map terms_of (facts_in_order d)) (λ o. clause_over o P d) kept now start after) is
-      (written_as kept_of one (flat_map terms_of hyps ++ terms_of concl) (flat_map terms_of (hyps ++ (concl ∷ []))) (λ o. clause_over o P (clause_of hyps concl)) (λ o. clause_over o P (clause_of hyps concl)) kept now start after terms (λ o rest. refl)
+      (written_as kept_of one (flat_map terms_of hyps ++ terms_of concl) (flat_map terms_of (hyps ++ (concl ∷ []))) (λ o. clause_over o P (clause_of hyps diffs concl)) (λ o. clause_over o P (clause_of hyps diffs concl)) kept now start after terms (λ o rest. refl)
       (and_then kept_of one (flat_map terms_of hyps) (terms_of concl) (λ o. hypotheses_over o P hyps) (λ o rest. codes "=> " ++ fact_over o P concl rest) kept middle now start listed after hypotheses
       (bytes_then kept_of one (λ rest. codes "=> " ++ rest) (terms_of concl) (λ o. fact_over o P concl) middle now listed marked after arrow conclusion)))
 
-  abbrev pub ClausesWritten : ℕ → List (Clause Term) → List (Clause Term) → List Term → List Term → List ℕ → List ℕ → Type 0
-  ClausesWritten n cs items = HasWritten kept_of one (λ c. c) (λ c. flat_map terms_of (facts_in_order c)) (λ o. clauses_from o P) n cs items
+  abbrev pub ClausesWritten : {X : Type 0} → (X → Clause Term) → ℕ → List (Clause Term) → List X → List Term → List Term → List ℕ → List ℕ → Type 0
+  ClausesWritten held n cs items = HasWritten kept_of one held (λ c. flat_map terms_of (facts_in_order c)) (λ o. clauses_from o P) n cs items
 
-  pub line_written : (cs items : List (Clause Term)) (n : ℕ) (c : Clause Term) (kept now next : List Term) (start before opened listed after : List ℕ) → items ≡ cs → ClausesWritten n cs items kept now start before → n < length items → c ≡ get_or items n c → Appends (λ rest. codes "c " ++ rest) before opened
-      → Writes kept_of one (flat_map terms_of (facts_in_order c)) (λ o. clause_over o P c) now next opened listed → Appends (λ rest. codes "\n" ++ rest) listed after → ClausesWritten (n + 1) cs items kept next start after
-  line_written cs items n c kept now next start before opened listed after are has below is opening text closing =
-      one_written kept_of one (λ d. d) (λ d. flat_map terms_of (facts_in_order d)) (λ o. clauses_from o P) (λ o m d rest. 99 ∷ 32 ∷ clause_over o P d (10 ∷ rest)) (clauses_go_on P) cs items n c kept now next start before after (same_items items ∙ are) has below is
-      (between kept_of one (λ rest. codes "c " ++ rest) (flat_map terms_of (facts_in_order c)) (λ o. clause_over o P c) (λ rest. codes "\n" ++ rest) now next before opened listed after opening text closing)
+  pub line_written : {X : Type 0} (held : X → Clause Term) (cs : List (Clause Term)) (items : List X) (n : ℕ) (x : X) (c : Clause Term) (kept now next : List Term) (start before opened listed after : List ℕ) → map held items ≡ cs → ClausesWritten held n cs items kept now start before → n < length items → x ≡ get_or items n x → c ≡ held x
+      → Appends (λ rest. codes "c " ++ rest) before opened → Writes kept_of one (flat_map terms_of (facts_in_order c)) (λ o. clause_over o P c) now next opened listed → Appends (λ rest. codes "\n" ++ rest) listed after → ClausesWritten held (n + 1) cs items kept next start after
+  line_written held cs items n x c kept now next start before opened listed after are has below is seen opening text closing =
+      one_written kept_of one held (λ d. flat_map terms_of (facts_in_order d)) (λ o. clauses_from o P) (λ o m d rest. 99 ∷ 32 ∷ clause_over o P d (10 ∷ rest)) (clauses_go_on P) cs items n x kept now next start before after are has below is
+      (between kept_of one (λ rest. codes "c " ++ rest) (flat_map terms_of (facts_in_order (held x))) (λ o. clause_over o P (held x)) (λ rest. codes "\n" ++ rest) now next before opened listed after opening
+      (subst (λ (d : Clause Term). Writes kept_of one (flat_map terms_of (facts_in_order d)) (λ o. clause_over o P d) now next opened listed) seen text) closing)
 
-  pub lines_written : (cs items : List (Clause Term)) (n : ℕ) (kept now : List Term) (start after : List ℕ) → items ≡ cs → ClausesWritten n cs items kept now start after → length items ≤ n → Writes kept_of one (terms_in_order cs) (λ o. clause_lines_over o P cs) kept now start after
-  lines_written cs items n kept now start after are has past =
+  pub lines_written : {X : Type 0} (held : X → Clause Term) (cs : List (Clause Term)) (items : List X) (n : ℕ) (kept now : List Term) (start after : List ℕ) → map held items ≡ cs → ClausesWritten held n cs items kept now start after → length items ≤ n → Writes kept_of one (terms_in_order cs) (λ o. clause_lines_over o P cs) kept now start after
+  lines_written held cs items n kept now start after are has past =
       written_as kept_of one (flat_map (λ c. flat_map terms_of (facts_in_order c)) cs) (terms_in_order cs) (λ o. clause_lines_over o P cs) (λ o. clause_lines_over o P cs) kept now start after (nested cs) (λ o rest. refl)
-      (all_written kept_of one (λ c. c) (λ c. flat_map terms_of (facts_in_order c)) (λ o. clauses_from o P) (λ m rest. rest) (λ o m rest. refl) cs items n kept now start after after (same_items items ∙ are) has past (nothing after))
+      (all_written kept_of one held (λ c. flat_map terms_of (facts_in_order c)) (λ o. clauses_from o P) (λ m rest. rest) (λ o m rest. refl) cs items n kept now start after after are has past (nothing after))
     where
       nested : (ds : List (Clause Term)) → flat_map (λ c. flat_map terms_of (facts_in_order c)) ds ≡ terms_in_order ds
       nested [] = refl

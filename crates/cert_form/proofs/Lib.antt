@@ -6,3 +6,4 @@ pub mod Facts
 pub mod Lines
 pub mod NodeLines
 pub mod Formats
+pub mod Held

@@ -5,8 +5,8 @@ use Rattle.spec_calculus.specs.Syntax.{Protocol}
 use Rattle.spec_terms.specs.Term.{Sym, Ctor, Data, Tuple, Free, Point, Attacker, Term}
 use Rattle.term_tree.specs.declared.bank.Sym as declared
 use Rattle.term_tree.specs.Bank.{symbol_of}
-use Rattle.clause_form.specs.declared.plain.Tree.{Tree}
-use Rattle.clause_form.specs.declared.plain.Tree.TheVariants.{App}
+use Rattle.clause_diffs.specs.declared.plain.Tree.{Tree}
+use Rattle.clause_diffs.specs.declared.plain.Tree.TheVariants.{App}
 use Rattle.clause_form.specs.Plain.{term_of}
 use Rattle.spec_certificate_text.specs.Loose.{row}
 use Rattle.spec_certificate_text.specs.Written.{written_row}

@@ -3,7 +3,7 @@
 ghost use Rattle.std.specs.Prelude.{◌≡◌, ◌⊎◌, [], ◌++◌, IfOk, OnOk};
 ghost use Rattle.pi_tree.specs.Protocols.{protocol_of};
 ghost use Rattle.spec_certificate_text.specs.Text.{numbers_text, row_lines};
-ghost use Rattle.spec_node_tables.specs.Large.{FitsInNodes};
+ghost use Rattle.spec_node_tables.specs.Large.{FitsInNodes, is_large_in_nodes};
 ghost use Rattle.cert_form.specs.Appends.{Appends};
 ghost use Rattle.cert_form.specs.Writing.{spelled_clauses, numbered_clauses, clauses_in, text_in, format_for};
 
@@ -17,15 +17,17 @@ use pi_tree::Protocol;
 use spec_node_tables::what_fits_in_nodes;
 use std::alloc::{AllocError, Global};
 use std::marker::Model;
+use std::rc::Rc;
 
-/// Clauses over owned trees, in order.
+/// Clauses over owned trees, in order. A clause may stand in several such lists, which share it.
 #[derive(Debug, Drop)]
 pub struct PlainClauses {
-    pub items: Vec<PlainClause>,
+    pub items: Vec<Rc<PlainClause>>,
 }
 
 impl Model for PlainClauses {
-    ghost use Rattle.std.specs.Prelude.{List};
+    ghost use Rattle.std.specs.Prelude.{List, map};
+    ghost use Rattle.std.specs.Rc.{rc_value};
     ghost use Rattle.spec_terms.specs.Term.{Term, coded_term};
     ghost use Rattle.spec_clauses.specs.Fact as horn;
     ghost use Rattle.clause_form.specs.Codes.{coded_clauses};
@@ -34,7 +36,7 @@ impl Model for PlainClauses {
 
     ghost coded = { coded_clauses coded_term };
 
-    ghost view = { λ a. a.items.items };
+    ghost view = { λ a. map rc_value a.items.items };
 }
 
 /// Rows of numbers, in order.
@@ -103,6 +105,13 @@ const SPELLED: u8 = 1;
 /// The format in which a certificate begins with a table of nodes, and its clauses name terms by numbers.
 const BY_NODES: u8 = 2;
 
+/// Whether clauses are too large for a table. Takes no memory.
+fn are_large_in_nodes(clauses: &PlainClauses) -> bool
+    ensures { result ≡ is_large_in_nodes clauses.now }
+{
+    is_large_in_nodes(&clauses.items)
+}
+
 /// The format in which a certificate is written where the one is wanted: without a table, where it is too large for one. Takes
 /// no memory.
 pub fn format_for(wanted: u8, cert: &Cert) -> u8
@@ -110,7 +119,7 @@ pub fn format_for(wanted: u8, cert: &Cert) -> u8
     ensures fits { result ≡ 2 → FitsInNodes cert.now.clauses }
 {
     what_fits_in_nodes();
-    if wanted == BY_NODES && is_large_in_nodes(&cert.clauses.items) {
+    if wanted == BY_NODES && are_large_in_nodes(&cert.clauses) {
         SPELLED
     } else {
         wanted

@@ -13,8 +13,7 @@ use Rattle.spec_fingerprints.specs.Fingerprints.{may_meet}
 use Rattle.spec_saturation.specs.Live.{MustBeCovered}
 use Rattle.spec_verdicts.specs.FirstRows.{IsFirstCover}
 use Rattle.spec_verdicts.proofs.Finding.{NoneBefore, first_found, none_covers}
-use Rattle.term_tree.specs.declared.bank.Id.{Id}
-use Rattle.clause_form.specs.Seen.{clause_at}
+use Rattle.clause_form.specs.Seen.{clause_at, IdClause}
 use Rattle.clause_form.specs.Fit.{clauses_at}
 use Rattle.fact_fingerprint.specs.declared.fingerprints.Fingerprint.{Fingerprint}
 use Rattle.fact_fingerprint.specs.Seen.{fingerprint_seen}
@@ -32,7 +31,7 @@ use Rattle.cert_writer.specs.Classed.{AreOfClass, AreClassed, NoRowAt, IsFirstAm
 use Rattle.cert_writer.proofs.Items.{fit_normal}
 use Rattle.cert_writer.proofs.Prints.{no_row}
 
-abbrev no_clause : Clause Id
+abbrev no_clause : IdClause
 no_clause = record { hypotheses = []; diffs = []; conclusion = Bad [] }
 
 -- what stands at a place of a list with an item more
@@ -112,10 +111,10 @@ pub prints_classed : (ps : List Fingerprint) (i : ℕ) (classes : Classes) → l
 prints_classed ps i classes past h = subst (λ (l : List Fingerprint). AreClassed (map fingerprint_seen l) classes) (take_all i ps past) h
 
 -- Of places that ascend: at none before one a row holds.
-pub record NoneOf (all : List Term) (live : List (Clause Id)) (c : Clause Term) (places : List ℕ) (i : ℕ) : Type 0 where
+pub record NoneOf (all : List Term) (live : List IdClause) (c : Clause Term) (places : List ℕ) (i : ℕ) : Type 0 where
   pub none : (j : ℕ) → j < i → NoRowAt all live c (get_or places j 0)
 
-pub none_of_more : (all : List Term) (live : List (Clause Id)) (c : Clause Term) (places : List ℕ) (i : ℕ) → NoRowAt all live c (get_or places i 0) → NoneOf all live c places i → NoneOf all live c places (i + 1)
+pub none_of_more : (all : List Term) (live : List IdClause) (c : Clause Term) (places : List ℕ) (i : ℕ) → NoRowAt all live c (get_or places i 0) → NoneOf all live c places i → NoneOf all live c places (i + 1)
 none_of_more all live c places i here h = record {
   none = λ j less. elim (cases_lt j i) as (λ _. NoRowAt all live c (get_or places j 0)) [
     | inl earlier ↦ h.none j earlier
@@ -123,7 +122,7 @@ none_of_more all live c places i here h = record {
   ];
 }
 
-none_below : (all : List Term) (live : List (Clause Id)) (c : Clause Term) (places : List ℕ) (i : ℕ) → IsAscending 0 places → i < length places → NoneOf all live c places i → (n : ℕ) → IsAmong places n → n < get_or places i 0 → NoRowAt all live c n
+none_below : (all : List Term) (live : List IdClause) (c : Clause Term) (places : List ℕ) (i : ℕ) → IsAscending 0 places → i < length places → NoneOf all live c places i → (n : ℕ) → IsAmong places n → n < get_or places i 0 → NoRowAt all live c n
 none_below all live c places i up within h n among less =
     let there = among_place places n among in
     elim (cases_lt there.0 i) as (λ _. NoRowAt all live c n) [
@@ -131,19 +130,19 @@ none_below all live c places i up within h n among less =
       | inr behind ↦ (let rises = rising 0 places up i there.0 0 behind there.1 in let is = there.2 in absurd (omega (arith, rises, is, less)))
     ]
 
-pub first_there : (all : List Term) (live : List (Clause Id)) (c : Clause Term) (places : List ℕ) (i : ℕ) (found : Found) → IsAscending 0 places → i < length places → found.place ≡ get_or places i 0 → IsAmong places (get_or places i 0) → NoneOf all live c places i
-    → ((general : Clause Id) → slice_get live (get_or places i 0) ≡ Some general → IsFirstRow (clause_at all general) c found.row) → IsFirstAmong all live c places (Some found)
+pub first_there : (all : List Term) (live : List IdClause) (c : Clause Term) (places : List ℕ) (i : ℕ) (found : Found) → IsAscending 0 places → i < length places → found.place ≡ get_or places i 0 → IsAmong places (get_or places i 0) → NoneOf all live c places i
+    → ((general : IdClause) → slice_get live (get_or places i 0) ≡ Some general → IsFirstRow (clause_at all general) c found.row) → IsFirstAmong all live c places (Some found)
 first_there all live c places i found up within is among none first = (
   subst (λ k. IsAmong places k) (sym is) among,
   λ general there. first general (subst (λ k. slice_get live k ≡ Some general) is there),
   λ n there less. none_below all live c places i up within none n there (omega (arith, is, less)),
 )
 
-pub none_there : (all : List Term) (live : List (Clause Id)) (c : Clause Term) (places : List ℕ) (i : ℕ) → length places ≤ i → NoneOf all live c places i → IsFirstAmong all live c places None
+pub none_there : (all : List Term) (live : List IdClause) (c : Clause Term) (places : List ℕ) (i : ℕ) → length places ≤ i → NoneOf all live c places i → IsFirstAmong all live c places None
 none_there all live c places i past h = λ n among. (let there = among_place places n among in let inside = there.1 in subst (λ k. NoRowAt all live c k) there.2 (h.none there.0 (omega (arith, inside, past))))
 
 -- of two lists: the one at the lesser place is the first of both
-module _ (all : List Term) (live : List (Clause Id)) (c : Clause Term) (ms ns : List ℕ) where
+module _ (all : List Term) (live : List IdClause) (c : Clause Term) (ms ns : List ℕ) where
   pub neither : IsFirstAmong all live c ms None → IsFirstAmong all live c ns None → IsFirstAmong all live c (ms ++ ns) None
   neither left right = λ n among. elim (among_either ms ns n among) as (λ _. NoRowAt all live c n) [
     | inl there ↦ left n there
@@ -204,18 +203,18 @@ class_before all w special p class k ready printed told none = record { none = �
     ]
 
 -- where one of two lists has none, the first is that of the other
-pub only_right : (all : List Term) (live : List (Clause Id)) (c : Clause Term) (ms ns : List ℕ) (o : Option Found) → IsFirstAmong all live c ms None → IsFirstAmong all live c ns o → IsFirstAmong all live c (ms ++ ns) o
+pub only_right : (all : List Term) (live : List IdClause) (c : Clause Term) (ms ns : List ℕ) (o : Option Found) → IsFirstAmong all live c ms None → IsFirstAmong all live c ns o → IsFirstAmong all live c (ms ++ ns) o
 only_right all live c ms ns None left right = neither all live c ms ns left right
 only_right all live c ms ns (Some f) left right = right_first all live c ms ns f right (λ n among less. left n among)
 
-pub only_left : (all : List Term) (live : List (Clause Id)) (c : Clause Term) (ms ns : List ℕ) (f : Found) → IsFirstAmong all live c ms (Some f) → IsFirstAmong all live c ns None → IsFirstAmong all live c (ms ++ ns) (Some f)
+pub only_left : (all : List Term) (live : List IdClause) (c : Clause Term) (ms ns : List ℕ) (f : Found) → IsFirstAmong all live c ms (Some f) → IsFirstAmong all live c ns None → IsFirstAmong all live c (ms ++ ns) (Some f)
 only_left all live c ms ns f left right = left_first all live c ms ns f left (λ n among less. right n among)
 
 -- where both have one, it is that at the lesser place
-pub lesser_left : (all : List Term) (live : List (Clause Id)) (c : Clause Term) (ms ns : List ℕ) (f h : Found) → f.place < h.place → IsFirstAmong all live c ms (Some f) → IsFirstAmong all live c ns (Some h) → IsFirstAmong all live c (ms ++ ns) (Some f)
+pub lesser_left : (all : List Term) (live : List IdClause) (c : Clause Term) (ms ns : List ℕ) (f h : Found) → f.place < h.place → IsFirstAmong all live c ms (Some f) → IsFirstAmong all live c ns (Some h) → IsFirstAmong all live c (ms ++ ns) (Some f)
 lesser_left all live c ms ns f h less left right = left_first all live c ms ns f left (λ n among before. right.2 n among (omega (arith, before, less)))
 
-pub lesser_right : (all : List Term) (live : List (Clause Id)) (c : Clause Term) (ms ns : List ℕ) (f h : Found) → h.place ≤ f.place → IsFirstAmong all live c ms (Some f) → IsFirstAmong all live c ns (Some h) → IsFirstAmong all live c (ms ++ ns) (Some h)
+pub lesser_right : (all : List Term) (live : List IdClause) (c : Clause Term) (ms ns : List ℕ) (f h : Found) → h.place ≤ f.place → IsFirstAmong all live c ms (Some f) → IsFirstAmong all live c ns (Some h) → IsFirstAmong all live c (ms ++ ns) (Some h)
 lesser_right all live c ms ns f h most left right = right_first all live c ms ns h right (λ n among before. left.2 n among (omega (arith, before, most)))
 
 -- the places are those of live clauses

@@ -9,16 +9,15 @@ use Rattle.spec_clauses.specs.Inclusion.{here, there, Has}
 use Rattle.spec_certificates.specs.Certificate.{numbered_from}
 use Rattle.spec_saturation.proofs.Pairs.{has_numbered}
 use Rattle.spec_verdicts.proofs.Building.{numbers_length}
-use Rattle.term_tree.specs.declared.bank.Id.{Id}
-use Rattle.clause_form.specs.Seen.{clause_at}
+use Rattle.clause_form.specs.Seen.{clause_at, IdClause}
 use Rattle.clause_form.specs.Fit.{AreFit, clauses_at}
 use Rattle.clause_saturate.proofs.Fitting.{numbered_given}
 
-module _ (all : List Term) (cs : List (Clause Id)) where
-  pub item_at : (i : ℕ) (c : Clause Id) → c ≡ get_or cs i c → i < length cs → slice_get (clauses_at all cs) i ≡ Some (clause_at all c)
+module _ (all : List Term) (cs : List IdClause) where
+  pub item_at : (i : ℕ) (c : IdClause) → c ≡ get_or cs i c → i < length cs → slice_get (clauses_at all cs) i ≡ Some (clause_at all c)
   item_at i c is within = numbered_given all cs i c is within
 
-  pub item_has : (i : ℕ) (c : Clause Id) → c ≡ get_or cs i c → i < length cs → Has (clauses_at all cs) (clause_at all c)
+  pub item_has : (i : ℕ) (c : IdClause) → c ≡ get_or cs i c → i < length cs → Has (clauses_at all cs) (clause_at all c)
   item_has i c is within = has_numbered (clauses_at all cs) (suc i) (clause_at all c) (item_at i c is within)
 
   pub items_past : (i : ℕ) → length cs ≤ i → length (clauses_at all cs) ≤ i
@@ -27,7 +26,7 @@ module _ (all : List Term) (cs : List (Clause Id)) where
   pub numbers_past : (i : ℕ) → length cs ≤ i → length (numbered_from 1 (clauses_at all cs)) ≤ i
   numbers_past i past = omega (arith, past, length-map cs (clause_at all), numbers_length 1 (clauses_at all cs))
 
-pub fit_normal : (all : List Term) (cs : List (Clause Id)) → AreFit all cs → (c : Clause Term) → Has (clauses_at all cs) c → IsNormal c
+pub fit_normal : (all : List Term) (cs : List IdClause) → AreFit all cs → (c : Clause Term) → Has (clauses_at all cs) c → IsNormal c
 fit_normal all [] fit c h = elim h.1 [ ]
 fit_normal all (d ∷ cs) fit c (rest, here) = fit.0.normal
 fit_normal all (d ∷ cs) fit c (rest, there p) = fit_normal all cs fit.1 c (_, p)

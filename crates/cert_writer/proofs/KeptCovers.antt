@@ -6,37 +6,23 @@ use Rattle.spec_terms.specs.Term.{Term}
 use Rattle.spec_clauses.specs.Fact.{Clause}
 use Rattle.spec_clauses.specs.Inclusion.{here, there, Has}
 use Rattle.spec_verdicts.specs.FirstRows.{AreFirstCovers}
-use Rattle.term_tree.specs.declared.bank.Id.{Id}
-use Rattle.clause_form.specs.Seen.{clause_at, AreClausesIn}
-use Rattle.clause_form.specs.Fit.{AreFit, clauses_at}
+use Rattle.clause_form.specs.Seen.{clause_at, AreClausesIn, IdClause}
+use Rattle.clause_form.specs.Fit.{clauses_at}
 use Rattle.cert_writer.specs.declared.known.KnownRows.{KnownRows}
 use Rattle.cert_writer.specs.Adding.{AddsRows}
 use Rattle.cert_writer.specs.Known.{BeginsWithin, AreRowsWith, IsKnown, BeginWith}
 use Rattle.cert_writer.proofs.Adding.{adds_append}
-use Rattle.cert_writer.proofs.KeptRows.{whole, covers_held}
+use Rattle.cert_writer.proofs.KeptRows.{whole, covers_held, plain_still}
 
--- the first of fit clauses are fit, and so are the others
-pub fit_first : (all : List Term) (cs : List (Clause Id)) (n : ℕ) → AreFit all cs → AreFit all (take n cs)
-fit_first all [] zero fit = tt
-fit_first all [] (suc n) fit = tt
-fit_first all (c ∷ cs) zero fit = tt
-fit_first all (c ∷ cs) (suc n) fit = (fit.0, fit_first all cs n fit.1)
-
-pub fit_rest : (all : List Term) (cs : List (Clause Id)) (n : ℕ) → AreFit all cs → AreFit all (drop n cs)
-fit_rest all [] zero fit = tt
-fit_rest all [] (suc n) fit = tt
-fit_rest all (c ∷ cs) zero fit = fit
-fit_rest all (c ∷ cs) (suc n) fit = fit_rest all cs n fit.1
-
--- and they are among them
-pub has_first : (all : List Term) (cs : List (Clause Id)) (n : ℕ) (c : Clause Term) → Has (clauses_at all (take n cs)) c → Has (clauses_at all cs) c
+-- the first clauses are among all, and so are the others
+pub has_first : (all : List Term) (cs : List IdClause) (n : ℕ) (c : Clause Term) → Has (clauses_at all (take n cs)) c → Has (clauses_at all cs) c
 has_first all [] zero c h = h
 has_first all [] (suc n) c h = h
 has_first all (d ∷ cs) zero c h = elim h.1 [ ]
 has_first all (d ∷ cs) (suc n) c (rest, here) = (clauses_at all cs, here)
 has_first all (d ∷ cs) (suc n) c (rest, there p) = let later = has_first all cs n c (_, p) in (_, there later.1)
 
-pub has_rest : (all : List Term) (cs : List (Clause Id)) (n : ℕ) (c : Clause Term) → Has (clauses_at all (drop n cs)) c → Has (clauses_at all cs) c
+pub has_rest : (all : List Term) (cs : List IdClause) (n : ℕ) (c : Clause Term) → Has (clauses_at all (drop n cs)) c → Has (clauses_at all cs) c
 has_rest all [] zero c h = h
 has_rest all [] (suc n) c h = h
 has_rest all (d ∷ cs) zero c h = h
@@ -60,26 +46,26 @@ take_fewer (suc n) zero (x ∷ xs) less = absurd (omega (arith, less))
 take_fewer {X} (suc n) (suc m) (x ∷ xs) less = ap (λ (ys : List X). x ∷ ys) (take_fewer n m xs (omega (arith, less)))
 
 module _ (all : List Term) where
-  named_first : (cs : List (Clause Id)) (n : ℕ) → clauses_at all (take n cs) ≡ take n (clauses_at all cs)
+  named_first : (cs : List IdClause) (n : ℕ) → clauses_at all (take n cs) ≡ take n (clauses_at all cs)
   named_first [] zero = refl
   named_first [] (suc n) = refl
   named_first (c ∷ cs) zero = refl
   named_first (c ∷ cs) (suc n) = ap (λ (ds : List (Clause Term)). clause_at all c ∷ ds) (named_first cs n)
 
-  named_parts : (cs : List (Clause Id)) (n : ℕ) → clauses_at all (take n cs) ++ clauses_at all (drop n cs) ≡ clauses_at all cs
+  named_parts : (cs : List IdClause) (n : ℕ) → clauses_at all (take n cs) ++ clauses_at all (drop n cs) ≡ clauses_at all cs
   named_parts [] zero = refl
   named_parts [] (suc n) = refl
   named_parts (c ∷ cs) zero = refl
   named_parts (c ∷ cs) (suc n) = ap (λ (ds : List (Clause Term)). clause_at all c ∷ ds) (named_parts cs n)
 
   -- there are at least as many as those that they begin with
-  pub front_fits : (cs front : List (Clause Id)) → BeginWith all cs front → length front ≤ length cs
+  pub front_fits : (cs front : List IdClause) → BeginWith all cs front → length front ≤ length cs
   front_fits cs front begin =
       let fewer : length (take (length front) (clauses_at all cs)) ≡ length (clauses_at all front) = ap length begin in
       let least = length-take (length front) (clauses_at all cs) in
       omega (arith, fewer, least, length-map front (clause_at all), length-map cs (clause_at all))
 
-  module _ (known : KnownRows) (live given : List (Clause Id)) (begin : BeginWith all live known.live) (also : BeginWith all given known.given) where
+  module _ (known : KnownRows) (live given : List IdClause) (begin : BeginWith all live known.live) (also : BeginWith all given known.given) where
     abbrev front : List (Clause Term)
     front = clauses_at all known.live
 
@@ -102,8 +88,8 @@ module _ (all : List Term) where
 
     -- rows of the given clauses that they begin with are kept
     pub covers_kept : IsKnown all known → (n count : ℕ) (covers : List (List ℕ)) (new : KnownRows) → n ≡ length known.given → count ≡ length known.live → AddsRows (clauses_at all live) (clauses_at all (take n given)) [] covers → AllByRecursion (BeginsWithin count) covers
-        → new.live ≡ known.live → new.given ≡ known.given → new.rows.items ≡ known.rows.items → new.covers ≡ covers → IsKnown all new
-    covers_kept is n count covers new all_given all_live adds within live_same given_same rows_same covers_same =
+        → new.live ≡ known.live → new.given ≡ known.given → new.rows.items ≡ known.rows.items → new.covers ≡ covers → new.plain ≡ known.plain → IsKnown all new
+    covers_kept is n count covers new all_given all_live adds within live_same given_same rows_same covers_same plain_same =
         let few = is.few in
         let fewer_rows : length new.rows.items ≡ length known.rows.items = ap length rows_same in
         let as_live : length new.live ≡ length known.live = ap length live_same in
@@ -121,13 +107,14 @@ module _ (all : List Term) where
         let everywhere = λ (more : List (Clause Term)). subst (λ (cs : List (Clause Term)). AreFirstCovers (front ++ more) cs covers) (sym (take_all (length covers) (clauses_at all known.given) (omega (arith, many, length-map known.given (clause_at all)))))
         (covers_held front (drop (length front) (clauses_at all live)) more (clauses_at all known.given) covers begin_so held) in
         record {
-          names = subst (λ (cs : List (Clause Id)). AreClausesIn all cs) (sym live_same) is.names;
+          names = subst (λ (cs : List IdClause). AreClausesIn all cs) (sym live_same) is.names;
           few = omega (arith, fewer_rows, as_live, few);
-          rows = λ k c rows at there. subst (λ (cs : List (Clause Id)). AreRowsWith (clauses_at all cs) c rows) (sym live_same)
-              (is.rows k c rows (subst (λ (cs : List (Clause Id)). slice_get (clauses_at all cs) k ≡ Some c) live_same at) (subst (λ (xs : List (List (List ℕ))). slice_get xs k ≡ Some rows) rows_same there));
-          given = subst (λ (cs : List (Clause Id)). AreClausesIn all cs) (sym given_same) is.given;
+          rows = λ k c rows at there. subst (λ (cs : List IdClause). AreRowsWith (clauses_at all cs) c rows) (sym live_same)
+              (is.rows k c rows (subst (λ (cs : List IdClause). slice_get (clauses_at all cs) k ≡ Some c) live_same at) (subst (λ (xs : List (List (List ℕ))). slice_get xs k ≡ Some rows) rows_same there));
+          given = subst (λ (cs : List IdClause). AreClausesIn all cs) (sym given_same) is.given;
           fewer = omega (arith, as_covers, as_given, many);
           covers = λ more. subst (λ (rows : List (List ℕ)). AreFirstCovers (clauses_at all new.live ++ more) (take (length rows) (clauses_at all new.given)) rows) (sym covers_same)
-              (subst (λ (cs : List (Clause Id)). AreFirstCovers (clauses_at all cs ++ more) (take (length covers) (clauses_at all new.given)) covers) (sym live_same)
-              (subst (λ (cs : List (Clause Id)). AreFirstCovers (front ++ more) (take (length covers) (clauses_at all cs)) covers) (sym given_same) (everywhere more)));
+              (subst (λ (cs : List IdClause). AreFirstCovers (clauses_at all cs ++ more) (take (length covers) (clauses_at all new.given)) covers) (sym live_same)
+              (subst (λ (cs : List IdClause). AreFirstCovers (front ++ more) (take (length covers) (clauses_at all cs)) covers) (sym given_same) (everywhere more)));
+          plain = plain_still all known.live new.live known.plain new.plain live_same plain_same is.plain;
         }

@@ -2,7 +2,7 @@
 use Rattle.std.proofs.Common.{◌≡◌, ◌∙◌, ℕ, zero, suc, ◌+◌, ◌<◌, ◌≤◌, Option, Some, None, List, [], ◌∷◌, ◌++◌, length, take, drop, refl, ap, sym, subst, arith, length-append, inl, inr, Bool, true, false, cond, map, filter}
 use Rattle.std.specs.Prelude.{slice_get}
 use Rattle.std.specs.List.{AllByRecursion}
-use Rattle.std.proofs.lemmas.List.{length-map, length-take, take-append-drop}
+use Rattle.std.proofs.lemmas.List.{length-map, length-take, take-append-drop, take_all, drop-map}
 use Rattle.std.proofs.lemmas.Option.{slice_get_within}
 use Rattle.spec_calculus.specs.Points.{numbered}
 use Rattle.spec_terms.specs.Term.{Term}
@@ -13,10 +13,9 @@ use Rattle.spec_certificates.specs.Certificate.{Numbered, numbered_from, Pair, p
 use Rattle.spec_verdicts.specs.FirstRows.{IsFirstCover, AreFirstCovers}
 use Rattle.spec_verdicts.proofs.Building.{take_next}
 use Rattle.spec_clauses.proofs.Lists.{all_append}
-use Rattle.term_tree.specs.declared.bank.Id.{Id}
 use Rattle.term_tree.specs.Bank.{Grows}
 use Rattle.spec_terms.proofs.Replace.{some_same}
-use Rattle.clause_form.specs.Seen.{clause_at, AreClausesIn}
+use Rattle.clause_form.specs.Seen.{clause_at, AreClausesIn, IdClause}
 use Rattle.clause_form.proofs.Copying.{NamesClause-grows}
 use Rattle.clause_form.specs.Fit.{clauses_at}
 use Rattle.clause_saturate.specs.declared.log.Entry.{Entry}
@@ -115,7 +114,7 @@ none_with live i c rows =
     subst (λ (ns : List Numbered). AddsPairs live (pairs_if_solved i c ns) rows rows) (sym (take_none (numbered_from 1 live)))
     (subst (λ (ps : List Pair). AddsPairs live ps rows rows) (sym (no_pairs i c)) (pairs_none live rows))
 
-module _ (all : List Term) (known : KnownRows) (live : List (Clause Id)) (begin : BeginWith all live known.live) where
+module _ (all : List Term) (known : KnownRows) (live : List IdClause) (begin : BeginWith all live known.live) where
   long : length (clauses_at all known.live) ≡ length known.live
   long = length-map known.live (clause_at all)
 
@@ -136,6 +135,13 @@ module _ (all : List Term) (known : KnownRows) (live : List (Clause Id)) (begin 
       subst (λ (n : ℕ). AddsPairs (clauses_at all live) (pairs_if_solved i c (take n (numbered_from 1 (clauses_at all live)))) before after) counted
       (subst (λ (rs : List (List ℕ)). AddsPairs (clauses_at all live) (pairs_if_solved i c (take (length (clauses_at all known.live)) (numbered_from 1 (clauses_at all live)))) before rs) (sym same) adds)
 
+  -- the live clauses are those before any goal, and then the others
+  pub live_parts : (count : ℕ) → count ≡ length known.live → clauses_at all known.live ++ clauses_at all (drop count live) ≡ clauses_at all live
+  live_parts count counted =
+      let same : count ≡ length (clauses_at all known.live) = counted ∙ sym long in
+      ap (λ (cs : List (Clause Term)). clauses_at all known.live ++ cs) (sym (drop-map (clause_at all) count live) ∙ ap (λ (n : ℕ). drop n (clauses_at all live)) same)
+      ∙ sym (whole (clauses_at all live) (clauses_at all known.live) begins)
+
   -- rows of a live clause with the first ones are kept
   pub rows_kept : (c : Clause Term) (rows : List (List ℕ)) (count : ℕ) → count ≡ length known.live → ((i : ℕ) → AddsPairs (clauses_at all live) (pairs_if_solved i c (take count (numbered_from 1 (clauses_at all live)))) [] rows) → AllByRecursion (BeginsWithin count) rows → AreRowsWith (clauses_at all known.live) c rows
   rows_kept c rows count is adds within =
@@ -144,6 +150,11 @@ module _ (all : List Term) (known : KnownRows) (live : List (Clause Id)) (begin 
       (λ i. subst (λ (n : ℕ). AddsPairs (clauses_at all live) (pairs_if_solved i c (take n (numbered_from 1 (clauses_at all live)))) [] rows) counted (adds i))
       (subst (λ (n : ℕ). AllByRecursion (BeginsWithin n) rows) counted within)
 
+-- what is kept over trees are still the first of the same clauses
+pub plain_still : (all : List Term) (live now : List IdClause) (plain new : List (Clause Term)) → now ≡ live → new ≡ plain → plain ≡ take (length plain) (clauses_at all live) → new ≡ take (length new) (clauses_at all now)
+plain_still all live now plain new live_same plain_same is =
+    subst (λ (cs : List IdClause). new ≡ take (length new) (clauses_at all cs)) (sym live_same) (subst (λ (ps : List (Clause Term)). ps ≡ take (length ps) (clauses_at all live)) (sym plain_same) is)
+
 -- one more item
 pushed : {X : Type 0} (P : ℕ → X → Type 0) (xs : List X) (x : X) → ((k : ℕ) (y : X) → slice_get xs k ≡ Some y → P k y) → P (length xs) x → (k : ℕ) (y : X) → slice_get (xs ++ x ∷ []) k ≡ Some y → P k y
 pushed P [] x below here zero y e = let same : x ≡ y = cc in subst (P 0) same here
@@ -151,7 +162,7 @@ pushed P [] x below here (suc k) y e = cc
 pushed P (z ∷ xs) x below here zero y e = below zero y e
 pushed P (z ∷ xs) x below here (suc k) y e = pushed (λ n w. P (suc n) w) xs x (λ n w f. below (suc n) w f) here k y e
 
-module _ (all : List Term) (known : KnownRows) (live : List (Clause Id)) (begin : BeginWith all live known.live) where
+module _ (all : List Term) (known : KnownRows) (live : List IdClause) (begin : BeginWith all live known.live) where
   -- there are at least as many live clauses
   pub front_short : length known.live ≤ length live
   front_short =
@@ -166,8 +177,8 @@ module _ (all : List Term) (known : KnownRows) (live : List (Clause Id)) (begin 
 
   -- the rows of one more clause
   pub kept_more : IsKnown all known → (c : Clause Term) (rows : List (List ℕ)) (new : KnownRows) → slice_get (clauses_at all live) (length known.rows.items) ≡ Some c → length known.rows.items < length known.live → AreRowsWith (clauses_at all known.live) c rows → new.live ≡ known.live → new.rows.items ≡ known.rows.items ++ rows ∷ [] → new.given ≡ known.given → new.covers ≡ known.covers
-      → IsKnown all new
-  kept_more is c rows new at less are same next as_given as_covers =
+      → new.plain ≡ known.plain → IsKnown all new
+  kept_more is c rows new at less are same next as_given as_covers as_plain =
       let front = clauses_at all known.live in
       let long : length front ≡ length known.live = length-map known.live (clause_at all) in
       let more : length new.rows.items ≡ length known.rows.items + 1 = ap length next ∙ length-append known.rows.items (rows ∷ []) in
@@ -177,15 +188,16 @@ module _ (all : List Term) (known : KnownRows) (live : List (Clause Id)) (begin 
       let each : (k : ℕ) (rs : List (List ℕ)) → slice_get (known.rows.items ++ rows ∷ []) k ≡ Some rs → (d : Clause Term) → slice_get front k ≡ Some d → AreRowsWith front d rs
       = pushed (λ n ws. (d : Clause Term) → slice_get front n ≡ Some d → AreRowsWith front d ws) known.rows.items rows (λ n ws f d e. is.rows n d ws e f) here in
       record {
-        names = subst (λ (cs : List (Clause Id)). AreClausesIn all cs) (sym same) is.names;
+        names = subst (λ (cs : List IdClause). AreClausesIn all cs) (sym same) is.names;
         few = omega (arith, more, few, less);
-        rows = λ k d rs e f. subst (λ (cs : List (Clause Id)). AreRowsWith (clauses_at all cs) d rs) (sym same)
-            (each k rs (subst (λ (xs : List (List (List ℕ))). slice_get xs k ≡ Some rs) next f) d (subst (λ (cs : List (Clause Id)). slice_get (clauses_at all cs) k ≡ Some d) same e));
-        given = subst (λ (cs : List (Clause Id)). AreClausesIn all cs) (sym as_given) is.given;
+        rows = λ k d rs e f. subst (λ (cs : List IdClause). AreRowsWith (clauses_at all cs) d rs) (sym same)
+            (each k rs (subst (λ (xs : List (List (List ℕ))). slice_get xs k ≡ Some rs) next f) d (subst (λ (cs : List IdClause). slice_get (clauses_at all cs) k ≡ Some d) same e));
+        given = subst (λ (cs : List IdClause). AreClausesIn all cs) (sym as_given) is.given;
         fewer = let fewer = is.fewer in let many : length new.given ≡ length known.given = ap length as_given in let kept_rows : length new.covers ≡ length known.covers = ap length as_covers in omega (arith, fewer, many, kept_rows);
         covers = λ others. subst (λ (rs : List (List ℕ)). AreFirstCovers (clauses_at all new.live ++ others) (take (length rs) (clauses_at all new.given)) rs) (sym as_covers)
-            (subst (λ (cs : List (Clause Id)). AreFirstCovers (clauses_at all cs ++ others) (take (length known.covers) (clauses_at all new.given)) known.covers) (sym same)
-            (subst (λ (cs : List (Clause Id)). AreFirstCovers (clauses_at all known.live ++ others) (take (length known.covers) (clauses_at all cs)) known.covers) (sym as_given) (is.covers others)));
+            (subst (λ (cs : List IdClause). AreFirstCovers (clauses_at all cs ++ others) (take (length known.covers) (clauses_at all new.given)) known.covers) (sym same)
+            (subst (λ (cs : List IdClause). AreFirstCovers (clauses_at all known.live ++ others) (take (length known.covers) (clauses_at all cs)) known.covers) (sym as_given) (is.covers others)));
+        plain = plain_still all known.live new.live known.plain new.plain same as_plain is.plain;
       }
 
 -- one row more begins so
@@ -202,8 +214,8 @@ live_known all (e ∷ es) known = go (is_unbeaten e.by) (live_known all es known
     go false rest = rest
 
 -- no rows are kept yet
-pub none_kept : (all : List Term) (known : KnownRows) → AreClausesIn all known.live → AreClausesIn all known.given → known.rows.items ≡ [] → known.covers ≡ [] → IsKnown all known
-none_kept all known names given none no_covers = record {
+pub none_kept : (all : List Term) (known : KnownRows) → AreClausesIn all known.live → AreClausesIn all known.given → known.rows.items ≡ [] → known.covers ≡ [] → known.plain ≡ [] → IsKnown all known
+none_kept all known names given none no_covers no_plain = record {
   names = names;
   few = let zero_rows : length known.rows.items ≡ 0 = ap length none in omega (arith, zero_rows);
   rows = λ k c rows at there. absurd (nothing k rows (subst (λ (xs : List (List (List ℕ))). slice_get xs k ≡ Some rows) none there));
@@ -211,15 +223,44 @@ none_kept all known names given none no_covers = record {
   fewer = let no_rows : length known.covers ≡ 0 = ap length no_covers in omega (arith, no_rows);
   covers = λ more. subst (λ (rs : List (List ℕ)). AreFirstCovers (clauses_at all known.live ++ more) (take (length rs) (clauses_at all known.given)) rs) (sym no_covers)
       (subst (λ (cs : List (Clause Term)). AreFirstCovers (clauses_at all known.live ++ more) cs []) (sym (take_none (clauses_at all known.given))) tt);
+  plain = subst (λ (ps : List (Clause Term)). ps ≡ take (length ps) (clauses_at all known.live)) (sym no_plain) (sym (take_none (clauses_at all known.live)));
 } where
   nothing : (k : ℕ) (rows : List (List ℕ)) → slice_get [] k ≡ Some rows → ⊥
   nothing k rows e = cc
 
-AreClausesIn-grows : (a b : List Term) (cs : List (Clause Id)) → Grows a b → AreClausesIn a cs → AreClausesIn b cs
+-- the clauses over trees are kept
+pub plain_kept : (all : List Term) (known new : KnownRows) (plain : List (Clause Term)) → IsKnown all known → plain ≡ clauses_at all known.live → new.live ≡ known.live → new.rows.items ≡ known.rows.items → new.given ≡ known.given → new.covers ≡ known.covers → new.plain ≡ plain → IsKnown all new
+plain_kept all known new plain is are same same_rows as_given as_covers as_plain =
+    let few = is.few in
+    let fewer = is.fewer in
+    let as_live : length new.live ≡ length known.live = ap length same in
+    let row_count : length new.rows.items ≡ length known.rows.items = ap length same_rows in
+    let given_count : length new.given ≡ length known.given = ap length as_given in
+    let cover_count : length new.covers ≡ length known.covers = ap length as_covers in
+    let whole_so : plain ≡ take (length plain) (clauses_at all known.live) = are ∙ sym (take_all (length plain) (clauses_at all known.live) (omega (arith, ap length are))) in
+    record {
+      names = subst (λ (cs : List IdClause). AreClausesIn all cs) (sym same) is.names;
+      few = omega (arith, row_count, as_live, few);
+      rows = λ k c rows at there. subst (λ (cs : List IdClause). AreRowsWith (clauses_at all cs) c rows) (sym same)
+          (is.rows k c rows (subst (λ (cs : List IdClause). slice_get (clauses_at all cs) k ≡ Some c) same at) (subst (λ (xs : List (List (List ℕ))). slice_get xs k ≡ Some rows) same_rows there));
+      given = subst (λ (cs : List IdClause). AreClausesIn all cs) (sym as_given) is.given;
+      fewer = omega (arith, cover_count, given_count, fewer);
+      covers = λ more. subst (λ (rs : List (List ℕ)). AreFirstCovers (clauses_at all new.live ++ more) (take (length rs) (clauses_at all new.given)) rs) (sym as_covers)
+          (subst (λ (cs : List IdClause). AreFirstCovers (clauses_at all cs ++ more) (take (length known.covers) (clauses_at all new.given)) known.covers) (sym same)
+          (subst (λ (cs : List IdClause). AreFirstCovers (clauses_at all known.live ++ more) (take (length known.covers) (clauses_at all cs)) known.covers) (sym as_given) (is.covers more)));
+      plain = plain_still all known.live new.live plain new.plain same as_plain whole_so;
+    }
+
+-- all are kept where there are as many as live ones
+pub plain_whole : (all : List Term) (known : KnownRows) (kept count : ℕ) → IsKnown all known → kept ≡ length known.plain → count ≡ length known.live → count ≤ kept → known.plain ≡ clauses_at all known.live
+plain_whole all known kept count is kept_are live_are enough =
+    is.plain ∙ take_all (length known.plain) (clauses_at all known.live) (omega (arith, kept_are, live_are, enough, length-map known.live (clause_at all)))
+
+AreClausesIn-grows : (a b : List Term) (cs : List IdClause) → Grows a b → AreClausesIn a cs → AreClausesIn b cs
 AreClausesIn-grows a b [] grows known = tt
 AreClausesIn-grows a b (c ∷ cs) grows known = let first = NamesClause-grows a b c (clause_at a c) grows (record { known = known.0; is = refl }) in (first.known, AreClausesIn-grows a b cs grows known.1)
 
-clauses_at-grow : (a b : List Term) (cs : List (Clause Id)) → Grows a b → AreClausesIn a cs → clauses_at b cs ≡ clauses_at a cs
+clauses_at-grow : (a b : List Term) (cs : List IdClause) → Grows a b → AreClausesIn a cs → clauses_at b cs ≡ clauses_at a cs
 clauses_at-grow a b [] grows known = refl
 clauses_at-grow a b (c ∷ cs) grows known =
     let first = NamesClause-grows a b c (clause_at a c) grows (record { known = known.0; is = refl }) in
@@ -238,6 +279,7 @@ known_grows a b known grows is =
       fewer = is.fewer;
       covers = λ more. subst (λ (cs : List (Clause Term)). AreFirstCovers (cs ++ more) (take (length known.covers) (clauses_at b known.given)) known.covers) (sym same)
           (subst (λ (cs : List (Clause Term)). AreFirstCovers (clauses_at a known.live ++ more) (take (length known.covers) cs) known.covers) (sym (clauses_at-grow a b known.given grows is.given)) (is.covers more));
+      plain = is.plain ∙ ap (take (length known.plain)) (sym same);
     }
 
 -- and is there in the bank as it was, if its clauses were known
@@ -252,4 +294,5 @@ known_back a b known grows names given is =
       fewer = is.fewer;
       covers = λ more. subst (λ (cs : List (Clause Term)). AreFirstCovers (cs ++ more) (take (length known.covers) (clauses_at a known.given)) known.covers) same
           (subst (λ (cs : List (Clause Term)). AreFirstCovers (clauses_at b known.live ++ more) (take (length known.covers) cs) known.covers) (clauses_at-grow a b known.given grows given) (is.covers more));
+      plain = is.plain ∙ ap (take (length known.plain)) same;
     }

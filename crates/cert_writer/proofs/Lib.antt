@@ -8,6 +8,7 @@ pub mod Verdicts
 pub mod Fits
 pub mod Prints
 pub mod Classed
+pub mod Small
 pub mod KeptRows
 pub mod KeptCovers
 pub mod SameLists

@@ -4,10 +4,14 @@ use Rattle.std.specs.Prelude.{slice_get, option_map}
 use Rattle.std.proofs.lemmas.List.{length-map}
 use Rattle.std.proofs.lemmas.Option.{slice_get-map, slice_get_read}
 use Rattle.spec_terms.specs.Term.{Term}
+use Rattle.spec_clauses.specs.Diff.{Diff, same_diff}
 use Rattle.spec_clauses.specs.Fact as horn
 use Rattle.spec_clauses.specs.Fact.{same_fact}
+use Rattle.spec_clauses.proofs.Diffs.{same_diff-decides}
 use Rattle.spec_clauses.proofs.Equality.{same_fact-decides}
 use Rattle.spec_verdicts.proofs.Building.{take_next, take_past}
+use Rattle.term_tree.specs.declared.bank.Id.{Id}
+use Rattle.clause_diffs.specs.Diffs.{DiffOf, diff_at, diffs_at}
 use Rattle.clause_form.specs.declared.facts.Fact.{Fact}
 use Rattle.clause_form.specs.Facts.{fact_of}
 use Rattle.clause_form.specs.Seen.{fact_at}
@@ -34,3 +38,10 @@ trees_count all fs = length-map (map fact_of fs) (fact_at all) ∙ length-map fs
 
 pub same_told : (f g : horn.Fact Term) → same_fact f g ≡ true → f ≡ g
 same_told f g = (same_fact-decides f g).0
+
+-- the same of constraints
+pub diff_there : (all : List Term) (ds : List (DiffOf Id)) (i : ℕ) (d : DiffOf Id) → d ≡ get_or ds i d → i < length ds → slice_get (diffs_at all ds) i ≡ Some (diff_at all d)
+diff_there all ds i d is within = slice_get-map (diff_at all) ds i ∙ ap (λ o. option_map (diff_at all) o) (slice_get_read ds (length ds) i d refl within is)
+
+pub same_diff_told : (d e : Diff) → same_diff d e ≡ true → d ≡ e
+same_diff_told d e = (same_diff-decides d e).0

@@ -22,14 +22,14 @@ use Rattle.spec_saturation.specs.End as ending
 use Rattle.spec_saturation.specs.End.{IsLog}
 use Rattle.spec_verdicts.specs.Verdict.{IsUnmet, IsFirstUnmet}
 use Rattle.spec_verdicts.proofs.Entries.{given_shape, entries_shape}
-use Rattle.term_tree.specs.declared.bank.Id.{Id}
-use Rattle.clause_form.specs.Seen.{clause_at, AreClausesIn}
+use Rattle.clause_form.specs.Seen.{clause_at, AreClausesIn, IdClause}
 use Rattle.clause_saturate.specs.declared.log.Entry.{Entry}
 use Rattle.clause_form.specs.Fit.{AreFit, clauses_at}
 use Rattle.clause_saturate.specs.Logs.{TellsEntry, TellEntries, TellLog, IsFirstSubsumer, is_unbeaten, live_clauses}
 use Rattle.clause_saturate.specs.Beating.{clauses_of}
 use Rattle.clause_saturate.proofs.Telling.{unbeaten_none, none_unbeaten}
 use Rattle.cert_writer.specs.Living.{live_ids}
+use Rattle.cert_writer.specs.Given.{AreSmall}
 use Rattle.cert_writer.specs.Goals.{is_due_at, IsUnmetEntry, IsFirstUnmetEntry}
 
 module _ (all : List Term) where
@@ -123,16 +123,16 @@ module _ (all : List Term) where
   named_fit log n (x ∷ xs) [] t q each = absurd t
   named_fit log n (x ∷ xs) (e ∷ es) t q each =
       let shape = each e (es, here) in (
-        record { known = t.0.clause.known; normal = subst IsNormal (sym t.0.clause.is) shape.normal; small = subst IsWithinLimit (sym t.0.clause.is) shape.small },
+        record { known = t.0.clause.known; normal = subst IsNormal (sym t.0.clause.is) shape.normal; small = subst IsWithinLimit (sym t.0.clause.is) shape.small; low = t.0.low },
         named_fit log (suc n) xs es t.2 q (λ d h. each d (e ∷ h.0, there h.1)),
       )
 
-  given_fit : (cs : List (Clause Id)) (q : Query) → AreClausesIn all cs → ((c : Clause Term) → Has (clauses_at all cs) c → IsInShape q c) → AreFit all cs
-  given_fit [] q known each = tt
-  given_fit (c ∷ cs) q known each =
+  given_small : (cs : List IdClause) (q : Query) → AreClausesIn all cs → ((c : Clause Term) → Has (clauses_at all cs) c → IsInShape q c) → AreSmall all cs
+  given_small [] q known each = tt
+  given_small (c ∷ cs) q known each =
       let shape = each (clause_at all c) (clauses_at all cs, here) in (
-        record { known = known.0; normal = shape.normal; small = shape.small },
-        given_fit cs q known.1 (λ d h. each d (clause_at all c ∷ h.0, there h.1)),
+        record { known = known.0; small = shape.small },
+        given_small cs q known.1 (λ d h. each d (clause_at all c ∷ h.0, there h.1)),
       )
 
   -- the live ones among fit clauses
@@ -147,14 +147,14 @@ module _ (all : List Term) where
   pub live_named : (entries : List Entry) → clauses_at all (live_ids entries) ≡ live_clauses all entries
   live_named entries = map-map (clause_at all) (λ e. e.clause) (filter (λ e. is_unbeaten e.by) entries)
 
-  pub fit_known : (cs : List (Clause Id)) → AreFit all cs → AreClausesIn all cs
+  pub fit_known : (cs : List IdClause) → AreFit all cs → AreClausesIn all cs
   fit_known [] fit = tt
   fit_known (c ∷ cs) fit = (fit.0.known, fit_known cs fit.1)
 
   -- what the translation of a protocol within its limits, and a log of it that is told, have
-  module _ (P : Protocol) (q : Query) (limits : IsWithinLimits P) (small : IsSmallQuery q) (given : List (Clause Id)) (translated : IsTranslation P q (Clauses (clauses_at all given))) where
-    pub translation_fit : AreClausesIn all given → AreFit all given
-    translation_fit known = given_fit given q known (given_shape P q (clauses_at all given) translated limits small)
+  module _ (P : Protocol) (q : Query) (limits : IsWithinLimits P) (small : IsSmallQuery q) (given : List IdClause) (translated : IsTranslation P q (Clauses (clauses_at all given))) where
+    pub translation_small : AreClausesIn all given → AreSmall all given
+    translation_small known = given_small given q known (given_shape P q (clauses_at all given) translated limits small)
 
     pub log_fit : (budget : ℕ) (log : List offered.Entry) (entries : List Entry) → TellLog all entries log → IsLog (clauses_at all given) budget log ending.Closed → AreFit all (clauses_of entries)
     log_fit budget log entries tell is = named_fit log 1 entries log tell q (entries_shape P q (clauses_at all given) translated limits small budget log is)

@@ -8,8 +8,8 @@ use Rattle.spec_clauses.specs.Fact.{Clause, Bad}
 use Rattle.spec_clauses.specs.Selection.{Selection, select}
 use Rattle.spec_certificates.specs.Certificate.{numbered_from}
 use Rattle.spec_fingerprints.specs.Fingerprints.{fingerprint_of, hypothesis_print}
-use Rattle.term_tree.specs.declared.bank.Id.{Id}
 use Rattle.clause_form.specs.Fit.{clauses_at}
+use Rattle.clause_form.specs.Seen.{IdClause}
 use Rattle.fact_fingerprint.specs.Seen.{fingerprint_seen}
 use Rattle.fact_fingerprint.proofs.Telling.{prints_count}
 use Rattle.clause_saturate.specs.Numbers.{IsAmong, IsAscending}
@@ -186,7 +186,7 @@ module _ (clauses : List (Clause Term)) (i : ℕ) (solved : Clause Term) (first 
             (slice_get-map hypothesis_print clauses n ∙ (ap (option_map hypothesis_print) there ∙ ap (λ (o : Option Selection). Some (option_map (λ (s : Selection). fingerprint_of s.fact) o)) selected)))
 
 -- of the unsolved live clauses
-module _ (all : List Term) (live : List (Clause Id)) (unsolved : Unsolved) (are : AreUnsolved all live unsolved) where
+module _ (all : List Term) (live : List IdClause) (unsolved : Unsolved) (are : AreUnsolved all live unsolved) where
   pub places_are : unsolved.places.now ≡ some_places 0 (map hypothesis_print (clauses_at all live))
   places_are = are.places ∙ (sym (some_mapped fingerprint_seen 0 unsolved.prints.now) ∙ ap (some_places 0) are.prints)
 

@@ -16,12 +16,12 @@ use Rattle.spec_saturation.specs.Live.{AreLive, MustBeCovered, MeetsCovers}
 use Rattle.spec_saturation.proofs.Pairs.{closed_covers}
 use Rattle.spec_verdicts.specs.FirstRows.{AreFirstGoals, bad_clauses}
 use Rattle.spec_verdicts.specs.Verdict.{Proved, Unmet, IsVerdict}
-use Rattle.term_tree.specs.declared.bank.Id.{Id}
 use Rattle.clause_saturate.specs.declared.log.Entry.{Entry}
 use Rattle.clause_saturate.specs.Logs.{TellLog, IsClosedLog, live_clauses}
 use Rattle.clause_saturate.proofs.Living.{tell_live}
 use Rattle.cert_writer.specs.Living.{live_ids}
 use Rattle.clause_form.specs.Fit.{clauses_at}
+use Rattle.clause_form.specs.Seen.{IdClause}
 use Rattle.cert_writer.specs.Adding.{MustClose, AreRowsOf}
 use Rattle.cert_writer.specs.Goals.{IsFirstUnmetEntry}
 use Rattle.cert_writer.specs.Certifying.{IsWritten}
@@ -47,7 +47,7 @@ query_small P (suc k) q limits at = got P.queries k limits.asked at
     got (r ∷ qs) zero small at = let same : r ≡ q = cc in subst IsSmallQuery same small.0
     got (r ∷ qs) (suc k) small at = got qs k small.1 at
 
-module _ (all : List Term) (P : Protocol) (q : Query) (given : List (Clause Id)) (translated : IsTranslation P q (Clauses (clauses_at all given))) where
+module _ (all : List Term) (P : Protocol) (q : Query) (given : List IdClause) (translated : IsTranslation P q (Clauses (clauses_at all given))) where
   -- what the live clauses of a closed log meet
   pub live_meets : (budget : ℕ) (entries : List Entry) → IsClosedLog all (clauses_at all given) budget entries → MeetsCovers (clauses_at all given) (clauses_at all (live_ids entries))
   live_meets budget entries c =

@@ -4,8 +4,7 @@ use Rattle.spec_terms.specs.Term.{Term}
 use Rattle.spec_clauses.specs.Fact.{Clause}
 use Rattle.spec_certificates.specs.Certificate.{numbered_from}
 use Rattle.spec_verdicts.specs.FirstRows.{AreFirstCovers}
-use Rattle.term_tree.specs.declared.bank.Id.{Id}
-use Rattle.clause_form.specs.Seen.{AreClausesIn}
+use Rattle.clause_form.specs.Seen.{AreClausesIn, IdClause}
 use Rattle.clause_form.specs.Fit.{clauses_at}
 use Rattle.cert_writer.specs.declared.known.KnownRows.{KnownRows}
 use Rattle.cert_writer.specs.Adding.{AddsPairs, pairs_if_solved}
@@ -20,7 +19,7 @@ abbrev pub AreRowsWith : List (Clause Term) → Clause Term → List (List ℕ) 
 AreRowsWith clauses c rows = (i : ℕ) (more : List (Clause Term)) (before : List (List ℕ)) → AddsPairs (clauses ++ more) (pairs_if_solved i c (numbered_from 1 clauses)) before (before ++ rows)
 
 -- The clauses are known, and each of the first so many live ones has its rows with all of them, and each of the first so many given
--- ones its first row in each list that begins with the live ones.
+-- ones its first row in each list that begins with the live ones; and what is kept over trees are the first live ones.
 pub record IsKnown (all : List Term) (known : KnownRows) : Type 0 where
   pub names : AreClausesIn all known.live
   pub few : length known.rows.items ≤ length known.live
@@ -28,9 +27,10 @@ pub record IsKnown (all : List Term) (known : KnownRows) : Type 0 where
   pub given : AreClausesIn all known.given
   pub fewer : length known.covers ≤ length known.given
   pub covers : (more : List (Clause Term)) → AreFirstCovers (clauses_at all known.live ++ more) (take (length known.covers) (clauses_at all known.given)) known.covers
+  pub plain : known.plain ≡ take (length known.plain) (clauses_at all known.live)
 
 -- the clauses begin with the others
-abbrev pub BeginWith : List Term → List (Clause Id) → List (Clause Id) → Type 0
+abbrev pub BeginWith : List Term → List IdClause → List IdClause → Type 0
 BeginWith all live front = take (length front) (clauses_at all live) ≡ clauses_at all front
 
 -- the rows after are those before, and then the kept rows of the clause at a place, with so many clauses: all, or none where none are kept

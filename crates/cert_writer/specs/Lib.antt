@@ -6,3 +6,4 @@ pub mod Classed
 pub mod Unsolved
 pub mod Ready
 pub mod Known
+pub mod Given

@@ -12,7 +12,7 @@ use crate::closing::{Solving, Unsolved, cover_one};
 use crate::known::{KnownRows, all_begin_within, put_known};
 use crate::writer::Writer;
 use cert_form::Rows;
-use fact_fingerprint::{Fingerprint, conclusion_fingerprint, hypothesis_fingerprints};
+use fact_fingerprint::{Fingerprint, hypothesis_fingerprints};
 use std::alloc::{AllocError, Global};
 use term_tree::Bank;
 
@@ -68,7 +68,7 @@ fn cover_pairs<B: Bank>(
         let from = put_known(writer.alloc, known, place, rows)?;
         let solving = Solving {
             clause,
-            print: conclusion_fingerprint(bank, clause),
+            print: writer.prints[place],
             unsolved: *unsolved,
             from,
             to: writer.live.len(),
@@ -104,7 +104,7 @@ fn keep_one<B: Bank>(
     let clause = &writer.live[place];
     let solving = Solving {
         clause,
-        print: conclusion_fingerprint(bank, clause),
+        print: writer.prints[place],
         unsolved: *unsolved,
         from: 0,
         to: count,

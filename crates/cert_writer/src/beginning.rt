@@ -1,11 +1,13 @@
 //! Whether clauses begin with others.
 
 ghost use Rattle.std.specs.Prelude.{◌≡◌, true, map};
+ghost use Rattle.clause_diffs.specs.Diffs.{diffs_at, AreDiffsIn};
 ghost use Rattle.clause_form.specs.Facts.{fact_of};
 ghost use Rattle.clause_form.specs.Seen.{fact_at, clause_at, AreFactsIn, IsClauseIn, AreClausesIn};
 ghost use Rattle.cert_writer.specs.Known.{BeginWith};
 
-use clause_form::{Clause, Fact, same_fact};
+use clause_diffs::same_diff;
+use clause_form::{Clause, Diff, Fact, same_fact};
 use term_tree::Bank;
 
 /// Whether facts are the same, item by item.
@@ -26,6 +28,24 @@ fn are_same_facts<B: Bank>(bank: &B, lefts: &[Fact], rights: &[Fact]) -> bool
     true
 }
 
+/// Whether constraints are the same, item by item.
+fn are_same_diffs<B: Bank>(bank: &B, lefts: &[Diff], rights: &[Diff]) -> bool
+    requires lefts { AreDiffsIn (B.trees bank.now) lefts.now }
+    requires rights { AreDiffsIn (B.trees bank.now) rights.now }
+    ensures { result ≡ true →
+        diffs_at (B.trees bank.now) lefts.now ≡ diffs_at (B.trees bank.now) rights.now }
+{
+    if lefts.len() != rights.len() {
+        return false;
+    }
+    'each: for (i, left) in lefts.iter().enumerate() {
+        if !same_diff(bank, left, &rights[i]) {
+            return false;
+        }
+    }
+    true
+}
+
 /// Whether two clauses are the same.
 fn is_same_clause<B: Bank>(bank: &B, left: &Clause, right: &Clause) -> bool
     requires left { IsClauseIn (B.trees bank.now) left.now }
@@ -34,6 +54,9 @@ fn is_same_clause<B: Bank>(bank: &B, left: &Clause, right: &Clause) -> bool
         clause_at (B.trees bank.now) left.now ≡ clause_at (B.trees bank.now) right.now }
 {
     if !same_fact(bank, &left.concl, &right.concl) {
+        return false;
+    }
+    if !are_same_diffs(bank, &left.diffs.items, &right.diffs.items) {
         return false;
     }
     are_same_facts(bank, &left.hyps.items, &right.hyps.items)

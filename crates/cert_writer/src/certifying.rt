@@ -12,11 +12,12 @@ ghost use Rattle.pi_tree.specs.Accessors.{IsThere};
 ghost use Rattle.pi_tree.specs.declared.accessors.Kind.TheVariants.{Query as OfQueries};
 ghost use Rattle.clause_form.specs.Seen.{AreClausesIn};
 ghost use Rattle.query_derive.specs.GoalRows.{OfQuery};
-ghost use Rattle.clause_form.specs.Fit.{AreFit, clauses_at};
+ghost use Rattle.clause_form.specs.Fit.{clauses_at};
 ghost use Rattle.clause_saturate.specs.Logs.{IsClosedLog};
 ghost use Rattle.cert_writer.specs.Ready.{IsReady};
 ghost use Rattle.cert_writer.specs.Adding.{MustClose, AreRowsOf};
 ghost use Rattle.cert_writer.specs.Known.{IsKnown, BeginWith};
+ghost use Rattle.cert_writer.specs.Given.{AreSmall};
 ghost use Rattle.cert_writer.specs.Certifying.{IsWritten, IsVerdictOf, IsAcceptedIfCert, HoldsIfCert};
 
 use crate::all_pairs::cover_closed;
@@ -24,7 +25,8 @@ use crate::certified::Certified;
 use crate::covering::{conclusion_classes, conclusion_prints};
 use crate::given::{begin_with_known, cover_given, keep_covers};
 use crate::known::{KnownRows, none_known};
-use crate::living::{live_of, plain_of};
+use crate::living::live_of;
+use crate::plain::plain_with;
 use crate::satisfying::{Goals, goal_rows};
 use crate::writer::Writer;
 use cert_form::{Cert, Rows};
@@ -44,7 +46,7 @@ fn rows_with<B: Bank>(
     known: &mut KnownRows,
 ) -> Result<Rows, AllocError>
     requires ready { IsReady (B.trees bank.old) writer.now }
-    requires given { AreFit (B.trees bank.old) given.now }
+    requires given { AreSmall (B.trees bank.old) given.now }
     requires covered { let all = B.trees bank.old in (c : ClauseOf Term) →
         Has (clauses_at all given.now) c → MustBeCovered (clauses_at all writer.now.live.now) c }
     requires closed { MustClose (clauses_at (B.trees bank.old) writer.now.live.now) }
@@ -67,31 +69,37 @@ fn rows_with<B: Bank>(
     Ok(rows)
 }
 
-/// The first rows of the given clauses, and then of what all pairs of live clauses give. The bank is as before.
-fn rows_of<B: Bank>(
+/// The certificate of the live clauses, with these goal rows, where these clauses begin with those whose rows are kept. The bank
+/// is as before.
+fn cert_with<B: Bank>(
     bank: &mut B,
     writer: &Writer<'_>,
     given: &[Clause],
+    goals: Rows,
     known: &mut KnownRows,
-) -> Result<Rows, AllocError>
+) -> Result<Cert, AllocError>
     requires ready { IsReady (B.trees bank.old) writer.now }
-    requires given { AreFit (B.trees bank.old) given.now }
+    requires given { AreSmall (B.trees bank.old) given.now }
     requires covered { let all = B.trees bank.old in (c : ClauseOf Term) →
         Has (clauses_at all given.now) c → MustBeCovered (clauses_at all writer.now.live.now) c }
     requires closed { MustClose (clauses_at (B.trees bank.old) writer.now.live.now) }
     requires known { IsKnown (B.trees bank.old) known.old }
-    ensures rows { let all = B.trees bank.old in IfOk result (λ rows.
-        AreRowsOf (clauses_at all writer.now.live.now) (clauses_at all given.now) rows) }
+    requires begin { BeginWith (B.trees bank.old) writer.now.live.now known.old.live }
+    requires begin_given { BeginWith (B.trees bank.old) given.now known.old.given }
+    ensures cert { let all = B.trees bank.old in IfOk result (λ cert.
+        IsWritten (clauses_at all writer.now.live.now) (clauses_at all given.now) goals cert) }
     ensures known { OnOk result (IsKnown (B.trees bank.old) known.new) }
     ensures live { known.new.live ≡ known.old.live }
     ensures given { known.new.given ≡ known.old.given }
     ensures bank { B.trees bank.new ≡ B.trees bank.old }
 {
-    if !begin_with_known(bank, writer, given, known) {
-        let mut none = none_known(writer.alloc);
-        return rows_with(bank, writer, given, &mut none);
-    }
-    rows_with(bank, writer, given, known)
+    let rows = rows_with(bank, writer, given, known)?;
+    let clauses = plain_with(bank, writer, known)?;
+    Ok(Cert {
+        clauses,
+        rows,
+        goals,
+    })
 }
 
 /// The certificate of the live clauses, with these goal rows. The bank is as before.
@@ -103,7 +111,7 @@ fn cert_of<B: Bank>(
     known: &mut KnownRows,
 ) -> Result<Cert, AllocError>
     requires ready { IsReady (B.trees bank.old) writer.now }
-    requires given { AreFit (B.trees bank.old) given.now }
+    requires given { AreSmall (B.trees bank.old) given.now }
     requires covered { let all = B.trees bank.old in (c : ClauseOf Term) →
         Has (clauses_at all given.now) c → MustBeCovered (clauses_at all writer.now.live.now) c }
     requires closed { MustClose (clauses_at (B.trees bank.old) writer.now.live.now) }
@@ -115,13 +123,11 @@ fn cert_of<B: Bank>(
     ensures given { known.new.given ≡ known.old.given }
     ensures bank { B.trees bank.new ≡ B.trees bank.old }
 {
-    let rows = rows_of(bank, writer, given, known)?;
-    let clauses = plain_of(writer.alloc, bank, writer.live)?;
-    Ok(Cert {
-        clauses,
-        rows,
-        goals,
-    })
+    if !begin_with_known(bank, writer, given, known) {
+        let mut none = none_known(writer.alloc);
+        return cert_with(bank, writer, given, goals, &mut none);
+    }
+    cert_with(bank, writer, given, goals, known)
 }
 
 /// A closed log, and of what it is the log: the clauses that a protocol and the query of that number are translated into.

@@ -7,12 +7,12 @@ ghost use Rattle.spec_clauses.specs.Selection.{is_solved as is_solved_list};
 ghost use Rattle.spec_clauses.specs.Inclusion.{Has};
 ghost use Rattle.spec_saturation.specs.Live.{MustBeCovered};
 ghost use Rattle.spec_certificates.specs.Certificate.{numbered_from};
-ghost use Rattle.term_tree.specs.declared.bank.Id.{Id};
-ghost use Rattle.clause_form.specs.Seen.{clause_at};
-ghost use Rattle.clause_form.specs.Fit.{IsFit, AreFit, clauses_at};
+ghost use Rattle.clause_form.specs.Seen.{clause_at, IdClause};
+ghost use Rattle.clause_form.specs.Fit.{IsFit, clauses_at};
 ghost use Rattle.cert_writer.specs.Ready.{IsReady, AreTold};
 ghost use Rattle.cert_writer.specs.Adding.{AddsRows, AddsPairs, MustClose};
 ghost use Rattle.cert_writer.specs.Adding.{pairs_of_two, pairs_of_one, pairs_if_solved};
+ghost use Rattle.cert_writer.specs.Given.{AreSmall};
 
 use crate::covering::cover_all;
 use crate::writer::Writer;
@@ -34,7 +34,7 @@ fn cover_made<B: Bank>(
 ) -> Result<(), AllocError>
     requires mark { mark.len ≤ length (B.trees bank.old) }
     requires ready { IsReady (take mark.len (B.trees bank.old)) writer.now }
-    requires made { AreFit (B.trees bank.old) made.now }
+    requires made { AreSmall (B.trees bank.old) made.now }
     requires covered { (c : ClauseOf Term) → Has (clauses_at (B.trees bank.old) made.now) c →
         MustBeCovered (clauses_at (take mark.len (B.trees bank.old)) writer.now.live.now) c }
     ensures rows { OnOk result
@@ -121,7 +121,7 @@ fn cover_met<B: Bank>(
         (clause_at (B.trees bank.old) solving.now.clause.now).hypotheses ≡ true }
     requires closed { MustClose (clauses_at (B.trees bank.old) writer.now.live.now) }
     requires told { AreTold (B.trees bank.old) writer.now solving.now }
-    ensures rows { let all = B.trees bank.old in OnOk result ((c : ClauseOf Id) →
+    ensures rows { let all = B.trees bank.old in OnOk result ((c : IdClause) →
         slice_get writer.now.live.now place ≡ Some c → (i j : ℕ) →
         AddsPairs (clauses_at all writer.now.live.now)
         (pairs_of_two i (clause_at all solving.now.clause.now) j (clause_at all c))
@@ -152,7 +152,7 @@ fn cover_place<B: Bank>(
     requires closed { MustClose (clauses_at (B.trees bank.old) writer.now.live.now) }
     requires told { AreTold (B.trees bank.old) writer.now solving.now }
     ensures met { let all = B.trees bank.old in OnOk result (solving.now.from ≤ place →
-        place < solving.now.to → (c : ClauseOf Id) →
+        place < solving.now.to → (c : IdClause) →
         slice_get writer.now.live.now place ≡ Some c → (i j : ℕ) →
         AddsPairs (clauses_at all writer.now.live.now)
         (pairs_of_two i (clause_at all solving.now.clause.now) j (clause_at all c))

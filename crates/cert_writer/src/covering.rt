@@ -8,8 +8,7 @@ ghost use Rattle.spec_clauses.specs.Inclusion.{Has};
 ghost use Rattle.spec_clauses.specs.Subsumption.{RowHolds, IsFirstRow};
 ghost use Rattle.spec_saturation.specs.Live.{MustBeCovered};
 ghost use Rattle.spec_verdicts.specs.FirstRows.{IsFirstCover};
-ghost use Rattle.term_tree.specs.declared.bank.Id.{Id};
-ghost use Rattle.clause_form.specs.Seen.{clause_at, IsClauseIn};
+ghost use Rattle.clause_form.specs.Seen.{clause_at, IsClauseIn, IdClause};
 ghost use Rattle.clause_form.specs.Fit.{AreFit, clauses_at};
 ghost use Rattle.fact_fingerprint.specs.Seen.{fingerprint_seen};
 ghost use Rattle.cert_writer.specs.Adding.{AddsRows};
@@ -17,6 +16,7 @@ ghost use Rattle.fact_classes.specs.Classes.{listed};
 ghost use Rattle.clause_saturate.specs.Numbers.{IsAmong, IsAscending};
 ghost use Rattle.cert_writer.specs.Classed.{AreClassed, IsFirstAmong};
 ghost use Rattle.cert_writer.specs.Ready.{conclusion_print, IsReady};
+ghost use Rattle.cert_writer.specs.Given.{AreSmall};
 
 use crate::writer::Writer;
 use cert_form::Rows;
@@ -89,7 +89,7 @@ fn cover_at<B: Bank>(
     requires small { IsWithinLimit (clause_at (B.trees bank.now) clause.now) }
     requires print { fingerprint_seen print.now ≡
         conclusion_print (clause_at (B.trees bank.now) clause.now) }
-    ensures { let all = B.trees bank.now in IfOk result (λ found. (general : ClauseOf Id) →
+    ensures { let all = B.trees bank.now in IfOk result (λ found. (general : IdClause) →
         slice_get writer.now.live.now place ≡ Some general → MatchOption found
         ((row : List ℕ) → RowHolds (clause_at all general) (clause_at all clause.now) row → ⊥)
         (λ row. IsFirstRow (clause_at all general) (clause_at all clause.now) row)) }
@@ -130,7 +130,7 @@ fn first_among<B: Bank>(
 
 /// The one at the lesser place, where there are two.
 fn lesser(left: Option<Found>, right: Option<Found>) -> Option<Found>
-    ensures { (all : List Term) (live : List (ClauseOf Id)) (c : ClauseOf Term) (ms ns : List ℕ) →
+    ensures { (all : List Term) (live : List IdClause) (c : ClauseOf Term) (ms ns : List ℕ) →
         IsFirstAmong all live c ms left → IsFirstAmong all live c ns right →
         IsFirstAmong all live c (ms ++ ns) result }
 {
@@ -234,7 +234,7 @@ pub(crate) fn cover_all<B: Bank>(
     rows: &mut Rows,
 ) -> Result<(), AllocError>
     requires ready { IsReady (B.trees bank.now) writer.now }
-    requires clauses { AreFit (B.trees bank.now) clauses.now }
+    requires clauses { AreSmall (B.trees bank.now) clauses.now }
     requires covered { let all = B.trees bank.now in (c : ClauseOf Term) →
         Has (clauses_at all clauses.now) c → MustBeCovered (clauses_at all writer.now.live.now) c }
     ensures { let all = B.trees bank.now in

@@ -5,10 +5,11 @@ ghost use Rattle.spec_terms.specs.Term.{Term};
 ghost use Rattle.spec_clauses.specs.Fact.{Clause as ClauseOf};
 ghost use Rattle.spec_clauses.specs.Inclusion.{Has};
 ghost use Rattle.spec_saturation.specs.Live.{MustBeCovered};
-ghost use Rattle.clause_form.specs.Fit.{AreFit, clauses_at};
+ghost use Rattle.clause_form.specs.Fit.{clauses_at};
 ghost use Rattle.cert_writer.specs.Ready.{IsReady};
 ghost use Rattle.cert_writer.specs.Adding.{AddsRows};
 ghost use Rattle.cert_writer.specs.Known.{IsKnown, BeginWith};
+ghost use Rattle.cert_writer.specs.Given.{AreSmall};
 
 use crate::beginning::begin_with;
 use crate::covering::cover_all;
@@ -27,7 +28,7 @@ pub(crate) fn begin_with_known<B: Bank>(
     known: &KnownRows,
 ) -> bool
     requires ready { IsReady (B.trees bank.now) writer.now }
-    requires given { AreFit (B.trees bank.now) given.now }
+    requires given { AreSmall (B.trees bank.now) given.now }
     requires known { IsKnown (B.trees bank.now) known.now }
     ensures live { result ≡ true →
         BeginWith (B.trees bank.now) writer.now.live.now known.now.live }
@@ -48,7 +49,7 @@ pub(crate) fn keep_covers<B: Bank>(
     known: &mut KnownRows,
 ) -> Result<(), AllocError>
     requires ready { IsReady (B.trees bank.now) writer.now }
-    requires given { AreFit (B.trees bank.now) given.now }
+    requires given { AreSmall (B.trees bank.now) given.now }
     requires covered { let all = B.trees bank.now in (c : ClauseOf Term) →
         Has (clauses_at all given.now) c → MustBeCovered (clauses_at all writer.now.live.now) c }
     requires known { IsKnown (B.trees bank.now) known.old }
@@ -82,7 +83,7 @@ pub(crate) fn cover_given<B: Bank>(
     rows: &mut Rows,
 ) -> Result<(), AllocError>
     requires ready { IsReady (B.trees bank.now) writer.now }
-    requires given { AreFit (B.trees bank.now) given.now }
+    requires given { AreSmall (B.trees bank.now) given.now }
     requires covered { let all = B.trees bank.now in (c : ClauseOf Term) →
         Has (clauses_at all given.now) c → MustBeCovered (clauses_at all writer.now.live.now) c }
     requires known { IsKnown (B.trees bank.now) known.now }

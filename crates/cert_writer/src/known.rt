@@ -8,20 +8,21 @@ ghost use Rattle.clause_saturate.specs.Beating.{clauses_of};
 ghost use Rattle.cert_writer.specs.Known.{BeginsWithin, IsKnown, PutsKnown};
 
 use crate::living::live_of;
-use cert_form::Rows;
+use cert_form::{PlainClauses, Rows};
 use clause_form::Clauses;
 use clause_saturate::Log;
 use std::alloc::{AllocError, Global};
 
 /// The live clauses of a log before any goal, and for each of the first so many of them the rows of what it gives with all of
-/// them; and clauses that are given before any goal, with the first rows that show that the live ones cover the first so many of
-/// these. They stand in the certificate of each query whose clauses begin with these.
+/// them; clauses that are given before any goal, with the first rows that show that the live ones cover the first so many of
+/// these; and the first so many live ones over trees. They stand in the certificate of each query whose clauses begin with these.
 #[derive(Drop)]
 pub struct KnownRows {
     pub live: Clauses,
     pub rows: Vec<Rows>,
     pub given: Clauses,
     pub covers: Rows,
+    pub plain: PlainClauses,
 }
 
 /// The clauses that are given before any goal, and the live clauses of their log, without rows yet.
@@ -35,6 +36,9 @@ pub fn known_rows(alloc: Global, given: Clauses, log: &Log) -> Result<KnownRows,
         rows: Vec::new(alloc),
         given,
         covers: Rows {
+            items: Vec::new(alloc),
+        },
+        plain: PlainClauses {
             items: Vec::new(alloc),
         },
     })
@@ -55,6 +59,9 @@ pub fn none_known(alloc: Global) -> KnownRows
             items: Vec::new(alloc),
         },
         covers: Rows {
+            items: Vec::new(alloc),
+        },
+        plain: PlainClauses {
             items: Vec::new(alloc),
         },
     }

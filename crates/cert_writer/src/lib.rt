@@ -17,6 +17,7 @@ mod covering;
 mod given;
 pub mod known;
 mod living;
+mod plain;
 mod satisfying;
 mod writer;
 

@@ -7,7 +7,7 @@ use Rattle.spec_clauses.specs.Fact.{Fact, Clause, terms_of, facts_of, clause_ter
 use Rattle.spec_clauses.specs.Variables.{leaves, fact_variables, clause_variables, AreBelow}
 use Rattle.spec_clauses.proofs.Lists.{all-flat_map, all-from_flat_map}
 use Rattle.clause_form.specs.Bounds.{above}
-use Rattle.clause_form.proofs.Lists.{flat_map_more, flat_map_all}
+use Rattle.clause_diffs.proofs.Lists.{flat_map_more, flat_map_all}
 
 pub above-append : (xs ys : List ℕ) → above (xs ++ ys) ≡ max (above xs) (above ys)
 above-append [] ys = omega arith

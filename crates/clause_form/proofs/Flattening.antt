@@ -7,15 +7,16 @@ use Rattle.std.proofs.lemmas.Simd.{map-map}
 use Rattle.std.proofs.lemmas.List.Folds.{flat_map-map}
 use Rattle.spec_trees.specs.Tree.{Leaf, node, trees}
 use Rattle.spec_terms.specs.Term.{Sym, Term}
-use Rattle.spec_clauses.specs.Fact.{Fact, Att, Clause}
+use Rattle.spec_clauses.specs.Fact.{Fact, Att, ClauseOf}
 use Rattle.spec_clauses.specs.Flat.{is_data, parts, row_parts, flat, flat_parts}
 use Rattle.term_tree.specs.Bank.{tree_at}
 use Rattle.term_tree.specs.declared.bank.Id.{Id}
 use Rattle.clause_form.specs.declared.facts.Fact as declared
 use Rattle.clause_form.specs.declared.facts.Fact.TheVariants as variants
 use Rattle.clause_form.specs.Facts.{fact_of}
-use Rattle.clause_form.specs.Seen.{fact_at, clause_at, IsFactIn, AreFactsIn, AreClausesIn, NameFacts, NameClauses}
-use Rattle.clause_form.proofs.Lists.{flat_map_all}
+use Rattle.clause_form.specs.Seen.{fact_at, clause_at, IsFactIn, AreFactsIn, AreClausesIn, NameFacts, NameClauses, IdClause}
+use Rattle.clause_diffs.specs.Diffs.{DiffOf, diffs_at, AreDiffsIn}
+use Rattle.clause_diffs.proofs.Lists.{flat_map_all}
 
 pub AreFactsIn-append : (all : List Term) (fs gs : List (Fact Id)) → AreFactsIn all fs → AreFactsIn all gs → AreFactsIn all (fs ++ gs)
 AreFactsIn-append all [] gs known more = more
@@ -85,31 +86,38 @@ all_flat all fs facts made i seen known are past = record {
       ∙ (sym (flat_map-map (λ f. flat (fact_at all f)) fact_of fs) ∙ (sym (flat_map-map flat (fact_at all) (map fact_of fs)) ∙ ap (λ l. flat_map flat (map (fact_at all) l)) seen)));
 }
 
--- a clause for each conclusion, without constraints
-abbrev pub with_hypotheses : {X : Type 0} → List (Fact X) → Fact X → Clause X
+-- the clause of these parts, and one without constraints
+abbrev pub clause_with : {X D : Type 0} → List (Fact X) → List D → Fact X → ClauseOf X D
+clause_with hyps diffs f = record { hypotheses = hyps; diffs = diffs; conclusion = f }
+
+abbrev pub with_hypotheses : {X D : Type 0} → List (Fact X) → Fact X → ClauseOf X D
 with_hypotheses hyps f = record { hypotheses = hyps; diffs = []; conclusion = f }
 
-pub concluding_all : (hyps concls : List (Fact Id)) (yielded items : List declared.Fact) → map (λ x. x) yielded ≡ items → map fact_of items ≡ concls → map (λ f. with_hypotheses hyps (fact_of f)) yielded ≡ map (with_hypotheses hyps) concls
-concluding_all hyps concls yielded items same seen = sym (map-map (with_hypotheses hyps) fact_of yielded) ∙ ap (map (with_hypotheses hyps)) (ap (map fact_of) (sym (map-id yielded) ∙ same) ∙ seen)
+-- a clause for each conclusion
+module _ (hyps : List (Fact Id)) (diffs : List (DiffOf Id)) where
+  pub concluding_all : (concls : List (Fact Id)) (yielded items : List declared.Fact) → map (λ x. x) yielded ≡ items → map fact_of items ≡ concls → map (λ f. clause_with hyps diffs (fact_of f)) yielded ≡ map (clause_with hyps diffs) concls
+  concluding_all concls yielded items same seen = sym (map-map (clause_with hyps diffs) fact_of yielded) ∙ ap (map (clause_with hyps diffs)) (ap (map fact_of) (sym (map-id yielded) ∙ same) ∙ seen)
 
-concluding_known : (all : List Term) (hyps concls : List (Fact Id)) → AreFactsIn all hyps → AreFactsIn all concls → AreClausesIn all (map (with_hypotheses hyps) concls)
-concluding_known all hyps [] known concls = tt
-concluding_known all hyps (f ∷ fs) known concls = (record { hypotheses = known; conclusion = concls.0 }, concluding_known all hyps fs known concls.1)
+  concluding_known : (all : List Term) (concls : List (Fact Id)) → AreFactsIn all hyps → AreDiffsIn all diffs → AreFactsIn all concls → AreClausesIn all (map (clause_with hyps diffs) concls)
+  concluding_known all [] known constrained concls = tt
+  concluding_known all (f ∷ fs) known constrained concls = (record { hypotheses = known; diffs = constrained; conclusion = concls.0 }, concluding_known all fs known constrained concls.1)
 
-concluding_at : (all : List Term) (hyps concls : List (Fact Id)) → map (clause_at all) (map (with_hypotheses hyps) concls) ≡ map (with_hypotheses (map (fact_at all) hyps)) (map (fact_at all) concls)
-concluding_at all hyps [] = refl
-concluding_at all hyps (f ∷ fs) = ap (λ l. with_hypotheses (map (fact_at all) hyps) (fact_at all f) ∷ l) (concluding_at all hyps fs)
+  concluding_at : (all : List Term) (concls : List (Fact Id)) → map (clause_at all) (map (clause_with hyps diffs) concls) ≡ map (clause_with (map (fact_at all) hyps) (diffs_at all diffs)) (map (fact_at all) concls)
+  concluding_at all [] = refl
+  concluding_at all (f ∷ fs) = ap (λ l. clause_with (map (fact_at all) hyps) (diffs_at all diffs) (fact_at all f) ∷ l) (concluding_at all fs)
 
 -- so they name the flat parts
-parts_named : (all : List Term) (hypotheses : List (Fact Id)) (conclusion : Fact Id) (hyps concls : List (Fact Id)) (made : List (Clause Id)) → NameFacts all hyps (flat_map flat (map (fact_at all) hypotheses)) → NameFacts all concls (flat (fact_at all conclusion))
-    → made ≡ map (with_hypotheses hyps) concls → NameClauses all made (flat_parts (clause_at all (with_hypotheses hypotheses conclusion)))
-parts_named all hypotheses conclusion hyps concls made hyps_named concls_named e = record {
-  known = subst (λ (l : List (Clause Id)). AreClausesIn all l) (sym e) (concluding_known all hyps concls hyps_named.known concls_named.known);
-  are = ap (map (clause_at all)) e ∙ (concluding_at all hyps concls ∙ (ap (λ l. map (with_hypotheses l) (map (fact_at all) concls)) hyps_named.are ∙ ap (map (with_hypotheses (flat_map flat (map (fact_at all) hypotheses)))) concls_named.are));
+parts_named : (all : List Term) (c : IdClause) (hyps concls : List (Fact Id)) (made : List IdClause) → AreDiffsIn all c.diffs → NameFacts all hyps (flat_map flat (map (fact_at all) c.hypotheses)) → NameFacts all concls (flat (fact_at all c.conclusion))
+    → made ≡ map (clause_with hyps c.diffs) concls → NameClauses all made (flat_parts (clause_at all c))
+parts_named all c hyps concls made constrained hyps_named concls_named e = record {
+  known = subst (λ (l : List IdClause). AreClausesIn all l) (sym e) (concluding_known hyps c.diffs all concls hyps_named.known constrained concls_named.known);
+  are = ap (map (clause_at all)) e ∙ (concluding_at hyps c.diffs all concls ∙ (ap (λ l. map (clause_with l (diffs_at all c.diffs)) (map (fact_at all) concls)) hyps_named.are ∙ ap (map (clause_with (flat_map flat (map (fact_at all) c.hypotheses)) (diffs_at all c.diffs))) concls_named.are));
 }
 
-pub flattened : (all : List Term) (c : Clause Id) (hypotheses : List (Fact Id)) (conclusion : Fact Id) (hyps concls : List (Fact Id)) (r : Result (List (Clause Id)) AllocError) → with_hypotheses hypotheses conclusion ≡ c
-    → NameFacts all hyps (flat_map flat (map (fact_at all) hypotheses)) → NameFacts all concls (flat (fact_at all conclusion)) → IfOk r (λ made. made ≡ map (with_hypotheses hyps) concls)
+pub flattened : (all : List Term) (c : IdClause) (hypotheses : List (Fact Id)) (diffs : List (DiffOf Id)) (conclusion : Fact Id) (hyps concls : List (Fact Id)) (r : Result (List IdClause) AllocError) → clause_with hypotheses diffs conclusion ≡ c → AreDiffsIn all c.diffs
+    → NameFacts all hyps (flat_map flat (map (fact_at all) hypotheses)) → NameFacts all concls (flat (fact_at all conclusion)) → IfOk r (λ made. made ≡ map (clause_with hyps diffs) concls)
     → IfOk r (λ parts. NameClauses all parts (flat_parts (clause_at all c)))
-flattened all c hypotheses conclusion hyps concls (Ok made) is hyps_named concls_named e = subst (λ (d : Clause Id). NameClauses all made (flat_parts (clause_at all d))) is (parts_named all hypotheses conclusion hyps concls made hyps_named concls_named e)
-flattened all c hypotheses conclusion hyps concls (Err failed) is hyps_named concls_named e = tt
+flattened all c hypotheses diffs conclusion hyps concls (Ok made) is known hyps_named concls_named e =
+    let here = subst (λ (d : IdClause). AreDiffsIn all d.diffs) (sym is) known in
+    subst (λ (d : IdClause). NameClauses all made (flat_parts (clause_at all d))) is (parts_named all (clause_with hypotheses diffs conclusion) hyps concls made here hyps_named concls_named e)
+flattened all c hypotheses diffs conclusion hyps concls (Err failed) is known hyps_named concls_named e = tt

@@ -17,7 +17,7 @@ use Rattle.clause_form.specs.Facts.{fact_of}
 use Rattle.clause_form.specs.Seen.{fact_at}
 use Rattle.clause_form.specs.Tables.{HaveKeys}
 use Rattle.clause_form.specs.Keys.{symbol_number, term_numbers, row_numbers, mixed, keyed, fact_key}
-use Rattle.clause_form.proofs.Lists.{flat_map_more, flat_map_all}
+use Rattle.clause_diffs.proofs.Lists.{flat_map_more, flat_map_all}
 
 abbrev pub numbers_at : List Term → Id → List ℕ
 numbers_at all id = term_numbers (tree_at all id)

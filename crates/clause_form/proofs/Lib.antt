@@ -3,14 +3,15 @@ pub mod Lists
 pub mod Flattening
 pub mod Copying
 pub mod Fit
+pub mod Low
 pub mod Comparing
 pub mod Counting
-pub mod Tables
-pub mod Ordering
 pub mod Keying
 pub mod Remembering
 pub mod Renumber
 pub mod Norming
+pub mod Anchoring
+pub mod Numbered
 pub mod Bounding
 pub mod Noted
 pub mod Testing

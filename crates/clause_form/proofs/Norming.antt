@@ -1,5 +1,5 @@
 -- The rules of the norm over a bank, one after another.
-use Rattle.std.proofs.Common.{◌≡◌, ℕ, zero, suc, ◌+◌, ◌<◌, ◌≤◌, Bool, true, false, not, ◌&&◌, cond, nat_eq, Option, None, Some, Result, IfOk, List, [], ◌∷◌, ◌++◌, length, map, filter, take, get_or, refl, ap, sym, ◌∙◌, subst, arith}
+use Rattle.std.proofs.Common.{◌≡◌, ℕ, zero, suc, ◌+◌, ◌<◌, ◌≤◌, Bool, true, false, not, ◌&&◌, cond, Option, None, Some, Result, IfOk, List, [], ◌∷◌, ◌++◌, length, map, filter, take, get_or, refl, ap, sym, ◌∙◌, subst, arith}
 use Rattle.std.specs.declared.alloc.AllocError.{AllocError}
 use Rattle.std.specs.List.{list_any}
 use Rattle.std.proofs.lemmas.List.{map-append, map_more, take_all, length-map}
@@ -7,23 +7,23 @@ use Rattle.std.proofs.lemmas.Simd.{map-map}
 use Rattle.spec_trees.specs.Tree.{Leaf, Node}
 use Rattle.spec_terms.specs.Term.{Term}
 use Rattle.spec_terms.proofs.Replace.{eqb_self}
-use Rattle.spec_clauses.specs.Fact.{Fact, Att, Mess, Tab, Ev, Mev, Bad, Clause, same_fact, is_among, is_variable_known, phase_of, fact_under}
-use Rattle.spec_clauses.specs.Variables.{fact_variables, clause_variables, firm_variables}
+use Rattle.spec_clauses.specs.Diff.{Diff}
+use Rattle.spec_clauses.specs.Fact.{Fact, Att, Mess, Tab, Ev, Mev, Bad, Clause, same_fact, is_among, is_variable_known, phase_of}
+use Rattle.spec_clauses.specs.Variables.{fact_variables, firm_variables}
 use Rattle.spec_clauses.specs.Selection.{is_solved}
-use Rattle.spec_clauses.specs.Norm.{distinct, is_lonely, without_lonely, is_passed_on, everything_known, generalized, numbered_anew, norm}
+use Rattle.spec_clauses.specs.Norm.{distinct, is_lonely, without_lonely, is_passed_on, everything_known, generalized, numbered_anew}
 use Rattle.spec_clauses.proofs.Equality.{same_fact-decides}
 use Rattle.spec_trees.proofs.Equality.{and_true}
-use Rattle.term_tree.specs.Bank.{Grows}
 use Rattle.term_tree.specs.declared.bank.Id.{Id}
+use Rattle.clause_diffs.specs.Diffs.{DiffOf, diffs_at}
+use Rattle.clause_diffs.proofs.Counting.{distinct_on, filter-append}
 use Rattle.clause_form.specs.declared.facts.Fact as declared
+use Rattle.clause_form.specs.declared.normal.Normal.{Normal}
 use Rattle.clause_form.specs.declared.normal.Normal.TheVariants as variants
 use Rattle.clause_form.specs.Facts.{fact_of}
-use Rattle.clause_form.specs.Numbers.{placed}
-use Rattle.clause_form.specs.Normals.{NamesNorm}
-use Rattle.clause_form.specs.Seen.{fact_at, clause_at, IsFactIn, AreFactsIn, NamesFact, NameFacts, NamesClause}
-use Rattle.clause_form.proofs.Flattening.{AreFactsIn-append, with_hypotheses}
-use Rattle.clause_form.proofs.Counting.{distinct_on, filter-append}
-use Rattle.clause_form.proofs.Copying.{fact_at-grows, clause_named}
+use Rattle.clause_form.specs.Normals.{NamesNorm, AreOwn, simplest, needed_norm}
+use Rattle.clause_form.specs.Seen.{fact_at, clause_at, IsFactIn, AreFactsIn, NameFacts, NamesClause, IdClause}
+use Rattle.clause_form.proofs.Flattening.{AreFactsIn-append, clause_with, with_hypotheses}
 
 -- what a fact over ids is over the trees
 abbrev pub seen_at : List Term → declared.Fact → Fact Term
@@ -90,9 +90,12 @@ lonely_done all numbers fs i kept known was past = record {
   are = was ∙ ap (filter (λ h. not (is_lonely numbers h))) (ap (map (seen_at all)) (take_all i fs past) ∙ sym (map-map (fact_at all) fact_of fs));
 }
 
+abbrev alone : Fact Term → Clause Term
+alone f = with_hypotheses [] f
+
 -- a clause that concludes `att` of a variable, as if it had no hypotheses, numbered
-general_variable : (f : Fact Term) → is_variable_known f ≡ true → numbered_anew (everything_known (phase_of f)) ≡ numbered_anew (with_hypotheses [] f)
-general_variable (Att k (Leaf x)) e = ap (λ b. with_hypotheses [] (Att k (Leaf (cond b 0 1)))) (sym (eqb_self x))
+general_variable : (f : Fact Term) → is_variable_known f ≡ true → numbered_anew (everything_known (phase_of f)) ≡ numbered_anew (alone f)
+general_variable (Att k (Leaf x)) e = ap (λ b. alone (Att k (Leaf (cond b 0 1)))) (sym (eqb_self x))
 general_variable (Att k (Node g ts)) e = cc
 general_variable (Mess k t u) e = cc
 general_variable (Tab n ts) e = cc
@@ -104,49 +107,55 @@ general_variable (Bad ts) e = cc
 abbrev is_all : List (Fact Term) → Fact Term → Bool
 is_all hs f = (is_solved hs && is_variable_known f) && not (is_passed_on hs f)
 
-pub general_then : (hs : List (Fact Term)) (f : Fact Term) → is_all hs f ≡ true → numbered_anew (generalized (with_hypotheses hs f)) ≡ numbered_anew (with_hypotheses [] f)
-general_then hs f e =
+pub general_then : (hs : List (Fact Term)) (ds : List Diff) (f : Fact Term) → is_all hs f ≡ true → numbered_anew (generalized (clause_with hs ds f)) ≡ numbered_anew (alone f)
+general_then hs ds f e =
     let known = (and_true (is_solved hs) (is_variable_known f) (and_true (is_solved hs && is_variable_known f) (not (is_passed_on hs f)) e).0).1 in
-    ap (λ b. numbered_anew (cond b (everything_known (phase_of f)) (with_hypotheses hs f))) e ∙ general_variable f known
+    ap (λ b. numbered_anew (cond b (everything_known (phase_of f)) (clause_with hs ds f))) e ∙ general_variable f known
 
-pub general_else : (hs : List (Fact Term)) (f : Fact Term) → is_all hs f ≡ false → numbered_anew (generalized (with_hypotheses hs f)) ≡ numbered_anew (with_hypotheses hs f)
-general_else hs f e = ap (λ b. numbered_anew (cond b (everything_known (phase_of f)) (with_hypotheses hs f))) e
+pub general_else : (hs : List (Fact Term)) (ds : List Diff) (f : Fact Term) → is_all hs f ≡ false → numbered_anew (generalized (clause_with hs ds f)) ≡ numbered_anew (clause_with hs ds f)
+general_else hs ds f e = ap (λ b. numbered_anew (cond b (everything_known (phase_of f)) (clause_with hs ds f))) e
 
-pub named_as : (all : List Term) (r : Result (Clause Id) AllocError) (t u : Clause Term) → t ≡ u → IfOk r (λ made. NamesClause all made t) → IfOk r (λ made. NamesClause all made u)
+pub named_as : (all : List Term) (r : Result IdClause AllocError) (t u : Clause Term) → t ≡ u → IfOk r (λ made. NamesClause all made t) → IfOk r (λ made. NamesClause all made u)
 named_as all r t u e names = subst (λ (v : Clause Term). IfOk r (λ made. NamesClause all made v)) e names
 
--- hypotheses and conclusion renumbered by the order of their variables
-pub numbered_named : (old now next : List Term) (hyps : List (Fact Id)) (concl : Fact Id) (o p : List ℕ) (made : List (Fact Id)) (last : Fact Id) → IsFactIn old concl → Grows old now → Grows now next
-    → o ≡ distinct nat_eq (clause_variables (clause_at old (with_hypotheses hyps concl))) → p ≡ distinct nat_eq (clause_variables (clause_at old (with_hypotheses hyps concl)))
-    → NameFacts now made (map (fact_under (placed o)) (map (fact_at old) hyps)) → NamesFact next last (fact_under (placed p) (fact_at now concl)) → NamesClause next record { hypotheses = made; diffs = []; conclusion = last } (numbered_anew (clause_at old (with_hypotheses hyps concl)))
-numbered_named old now next hyps concl o p made last known grows later first second hyps_named concl_named =
-    let plain = numbered_anew (clause_at old (with_hypotheses hyps concl)) in
-    let concl_is : fact_under (placed p) (fact_at now concl) ≡ plain.conclusion = ap (λ q. fact_under (placed q) (fact_at now concl)) second ∙ ap (fact_under (placed (distinct nat_eq (clause_variables (clause_at old (with_hypotheses hyps concl)))))) (fact_at-grows old now concl grows known) in
-    clause_named now next made last (map (fact_under (placed o)) (map (fact_at old) hyps)) plain later hyps_named (ap (λ q. map (fact_under (placed q)) (map (fact_at old) hyps)) first)
-    (subst (λ (t : Fact Term). NamesFact next last t) concl_is concl_named) refl
+pub norm_as : (all : List Term) (r : Result Normal AllocError) (t u : Option (Clause Term)) → t ≡ u → IfOk r (λ made. NamesNorm all made t) → IfOk r (λ made. NamesNorm all made u)
+norm_as all r t u e names = subst (λ (v : Option (Clause Term)). IfOk r (λ made. NamesNorm all made v)) e names
+
+-- The rules of facts, where the constraints are needed and can be met. The hypotheses that are left:
+few_are : (old : List Term) (hyps : List (Fact Id)) (concl : declared.Fact) (kept few fewer : List (Fact Id)) → NameFacts old kept (distinct same_fact (map (fact_at old) hyps)) → fewer ≡ few
+    → NameFacts old few (filter (λ h. not (is_lonely (fact_variables (seen_at old concl) ++ firm_variables (map (fact_at old) kept)) h)) (map (fact_at old) kept))
+    → map (fact_at old) fewer ≡ filter (λ h. not (is_lonely (fact_variables (seen_at old concl) ++ firm_variables (distinct same_fact (map (fact_at old) hyps))) h)) (distinct same_fact (map (fact_at old) hyps))
+few_are old hyps concl kept few fewer kept_named fewer_is few_named =
+    ap (map (fact_at old)) fewer_is ∙ (few_named.are ∙ ap (λ l. filter (λ h. not (is_lonely (fact_variables (seen_at old concl) ++ firm_variables l) h)) l) kept_named.are)
+
+-- the constraints speak of them
+pub own_few : (old : List Term) (hyps : List (Fact Id)) (ds : List (DiffOf Id)) (concl : declared.Fact) (kept few fewer : List (Fact Id)) → NameFacts old kept (distinct same_fact (map (fact_at old) hyps)) → fewer ≡ few
+    → NameFacts old few (filter (λ h. not (is_lonely (fact_variables (seen_at old concl) ++ firm_variables (map (fact_at old) kept)) h)) (map (fact_at old) kept))
+    → AreOwn (simplest (clause_at old (clause_with hyps ds (fact_of concl)))) → AreOwn (clause_at old (clause_with fewer ds (fact_of concl)))
+own_few old hyps ds concl kept few fewer kept_named fewer_is few_named own =
+    subst (λ (hs : List (Fact Term)). AreOwn (clause_with hs (diffs_at old ds) (seen_at old concl))) (sym (few_are old hyps concl kept few fewer kept_named fewer_is few_named)) own
 
 -- where the conclusion is among the hypotheses there is no norm,
-pub no_norm : (old next : List Term) (hyps : List (Fact Id)) (concl : declared.Fact) (kept : List (Fact Id)) (facts : List declared.Fact) (among : Bool) → NameFacts old kept (distinct same_fact (map (fact_at old) hyps)) → map fact_of facts ≡ kept
-    → among ≡ is_among (map (fact_at old) (map fact_of facts)) (seen_at old concl) → among ≡ true → NamesNorm next variants.Tautology (norm (with_hypotheses (map (fact_at old) hyps) (seen_at old concl)))
-no_norm old next hyps concl kept facts among named is among_is there =
+pub no_norm : (old next : List Term) (hyps : List (Fact Id)) (ds : List Diff) (concl : declared.Fact) (kept : List (Fact Id)) (facts : List declared.Fact) (among : Bool) → NameFacts old kept (distinct same_fact (map (fact_at old) hyps)) → map fact_of facts ≡ kept
+    → among ≡ is_among (map (fact_at old) (map fact_of facts)) (seen_at old concl) → among ≡ true → NamesNorm next variants.Tautology (needed_norm (clause_with (map (fact_at old) hyps) ds (seen_at old concl)))
+no_norm old next hyps ds concl kept facts among named is among_is there =
     let D = distinct same_fact (map (fact_at old) hyps) in
     let C = seen_at old concl in
     let tautology : is_among D C ≡ true = ap (λ l. is_among l C) (sym (ap (map (fact_at old)) is ∙ named.are)) ∙ (sym among_is ∙ there) in
-    ap (λ b. cond b None (Some (numbered_anew (generalized (without_lonely (with_hypotheses D C)))))) tautology
+    ap (λ b. cond b None (Some (numbered_anew (generalized (without_lonely (clause_with D ds C)))))) tautology
 
 -- else what is left names the norm.
-pub norm_named : (old next : List Term) (hyps : List (Fact Id)) (concl : declared.Fact) (kept few fewer : List (Fact Id)) (facts : List declared.Fact) (among : Bool) (made : Clause Id)
+pub norm_named : (old next : List Term) (hyps : List (Fact Id)) (ds : List Diff) (concl : declared.Fact) (kept few fewer : List (Fact Id)) (facts : List declared.Fact) (among : Bool) (made : IdClause)
     → NameFacts old kept (distinct same_fact (map (fact_at old) hyps)) → map fact_of facts ≡ kept → fewer ≡ few
     → among ≡ is_among (map (fact_at old) (map fact_of facts)) (seen_at old concl) → among ≡ false
-    → NameFacts old few (filter (λ h. not (is_lonely (fact_variables (seen_at old concl) ++ firm_variables (map (fact_at old) kept)) h)) (map (fact_at old) kept)) → NamesClause next made (numbered_anew (generalized (with_hypotheses (map (fact_at old) fewer) (seen_at old concl))))
-    → NamesNorm next (variants.Clause made) (norm (with_hypotheses (map (fact_at old) hyps) (seen_at old concl)))
-norm_named old next hyps concl kept few fewer facts among made kept_named is fewer_is among_is absent few_named names =
+    → NameFacts old few (filter (λ h. not (is_lonely (fact_variables (seen_at old concl) ++ firm_variables (map (fact_at old) kept)) h)) (map (fact_at old) kept)) → NamesClause next made (numbered_anew (generalized (clause_with (map (fact_at old) fewer) ds (seen_at old concl))))
+    → NamesNorm next (variants.Clause made) (needed_norm (clause_with (map (fact_at old) hyps) ds (seen_at old concl)))
+norm_named old next hyps ds concl kept few fewer facts among made kept_named is fewer_is among_is absent few_named names =
     let D = distinct same_fact (map (fact_at old) hyps) in
     let C = seen_at old concl in
     let V = fact_variables C ++ firm_variables D in
     let tautology : is_among D C ≡ false = ap (λ l. is_among l C) (sym (ap (map (fact_at old)) is ∙ kept_named.are)) ∙ (sym among_is ∙ absent) in
-    let few_are : map (fact_at old) fewer ≡ filter (λ h. not (is_lonely V h)) D =
-    ap (map (fact_at old)) fewer_is ∙ (few_named.are ∙ ap (λ l. filter (λ h. not (is_lonely (fact_variables C ++ firm_variables l) h)) l) kept_named.are) in
-    let made_is : norm (with_hypotheses (map (fact_at old) hyps) C) ≡ Some (numbered_anew (generalized (with_hypotheses (map (fact_at old) fewer) C))) =
-    (ap (λ b. cond b None (Some (numbered_anew (generalized (with_hypotheses (filter (λ h. not (is_lonely V h)) D) C))))) tautology ∙ ap (λ l. Some (numbered_anew (generalized (with_hypotheses l C)))) (sym few_are)) in
+    let left = few_are old hyps concl kept few fewer kept_named fewer_is few_named in
+    let made_is : needed_norm (clause_with (map (fact_at old) hyps) ds C) ≡ Some (numbered_anew (generalized (clause_with (map (fact_at old) fewer) ds C))) =
+    (ap (λ b. cond b None (Some (numbered_anew (generalized (clause_with (filter (λ h. not (is_lonely V h)) D) ds C))))) tautology ∙ ap (λ l. Some (numbered_anew (generalized (clause_with l ds C)))) (sym left)) in
     subst (λ (o : Option (Clause Term)). NamesNorm next (variants.Clause made) o) (sym made_is) names

@@ -12,7 +12,7 @@ use Rattle.spec_clauses.specs.Fact.{Fact, Clause, is_variable_known}
 use Rattle.spec_clauses.specs.Variables.{fact_variables, firm, firm_variables}
 use Rattle.spec_clauses.specs.Norm.{elsewhere}
 use Rattle.clause_form.specs.Standing.{noted_one, noted, TellsNumbers, firm_numbers}
-use Rattle.clause_form.proofs.Lists.{flat_map_more, flat_map_all}
+use Rattle.clause_diffs.proofs.Lists.{flat_map_more, flat_map_all}
 
 -- The variables of firm hypotheses, one hypothesis after another.
 pub firms_each : (hs : List (Fact Term)) → firm_variables hs ≡ flat_map firm_numbers hs

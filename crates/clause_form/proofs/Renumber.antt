@@ -4,7 +4,6 @@ use Rattle.std.proofs.lemmas.List.{map_more, take_all}
 use Rattle.std.proofs.lemmas.Simd.{map-map}
 use Rattle.std.proofs.Math.Seq.{drop-append_seam}
 use Rattle.spec_trees.specs.Tree.{Leaf, node, bind}
-use Rattle.spec_trees.proofs.Rows.{bind-node}
 use Rattle.spec_terms.specs.Term.{Sym, Term, Subst}
 use Rattle.spec_clauses.specs.Fact.{Fact, fact_under}
 use Rattle.spec_clauses.specs.Norm.{place_of}
@@ -15,40 +14,12 @@ use Rattle.unify_match.specs.Substitution.{arguments}
 use Rattle.unify_match.proofs.Substituting.{length-arguments, argument-at}
 use Rattle.clause_form.specs.declared.facts.Fact as declared
 use Rattle.clause_form.specs.Facts.{fact_of}
-use Rattle.clause_form.specs.Numbers.{placed}
+use Rattle.clause_diffs.specs.Numbers.{placed}
 use Rattle.clause_form.specs.Seen.{fact_at, IsFactIn, NameTerms, NamesFact, NameFacts}
+pub use Rattle.clause_diffs.proofs.Naming.{under_at, IsRenumbered, renumbered_on, renumbered_all, renumbered_node}
 use Rattle.clause_form.proofs.Walks.{argument_later}
-use Rattle.clause_form.proofs.Copying.{fact_at-grows, NameTerms-grows, NameTerms-push, NameFacts-grows, NameFacts-push}
+use Rattle.clause_form.proofs.Copying.{fact_at-grows, NameFacts-grows, NameFacts-push}
 use Rattle.std.proofs.lemmas.List.{map-append}
-
--- what a term of the bank is under s
-abbrev pub under_at : Subst → List Term → Id → Term
-under_at s all id = bind s (tree_at all id)
-
--- how far the arguments are renumbered
-pub record IsRenumbered (old now : List Term) (s : Subst) (ids : List Id) (i : ℕ) (made : List Id) : Type 0 where
-  pub grows : Grows old now
-  pub names : NameTerms now made (map (under_at s old) (take i ids))
-
-pub renumbered_on : (old now next : List Term) (s : Subst) (ids : List Id) (i : ℕ) (d : Id) (made new : List Id) (id : Id) → IsRenumbered old now s ids i made → i < length ids → Grows now next
-    → tree_at now (get_or ids i d) ≡ tree_at old (get_or ids i d) → Names next id (under_at s now (get_or ids i d)) → new ≡ made ++ id ∷ [] → IsRenumbered old next s ids (i + 1) new
-renumbered_on old now next s ids i d made new id was within grows same names e =
-    let more : map (under_at s old) (take (i + 1) ids) ≡ map (under_at s old) (take i ids) ++ under_at s now (get_or ids i d) ∷ [] = map_more (under_at s old) ids i d within ∙ ap (λ t. map (under_at s old) (take i ids) ++ bind s t ∷ []) (sym same) in
-    record {
-      grows = Grows_trans old now next was.grows grows;
-      names = subst (λ (l : List Id). NameTerms next l (map (under_at s old) (take (i + 1) ids))) (sym e)
-          (subst (λ (l : List Term). NameTerms next (made ++ id ∷ []) l) (sym more) (NameTerms-push next made (map (under_at s old) (take i ids)) id (under_at s now (get_or ids i d)) (NameTerms-grows now next made (map (under_at s old) (take i ids)) grows was.names) names));
-    }
-
--- all of them
-pub renumbered_all : (old now : List Term) (s : Subst) (ids : List Id) (i : ℕ) (made : List Id) → IsRenumbered old now s ids i made → length ids ≤ i → NameTerms now made (map (bind s) (map (tree_at old) ids))
-renumbered_all old now s ids i made was past =
-    let whole : map (under_at s old) (take i ids) ≡ map (bind s) (map (tree_at old) ids) = ap (map (under_at s old)) (take_all i ids past) ∙ sym (map-map (bind s) (tree_at old) ids) in
-    subst (λ (l : List Term). NameTerms now made l) whole was.names
-
--- so an application over them is the term renumbered
-pub renumbered_node : (old now : List Term) (s : Subst) (id : Id) (f : Sym) (ids made : List Id) → tree_at old id ≡ node f (map (tree_at old) ids) → NameTerms now made (map (bind s) (map (tree_at old) ids)) → node f (map (tree_at now) made) ≡ bind s (tree_at old id)
-renumbered_node old now s id f ids made is names = ap (node f) names.are ∙ (sym (bind-node s f (map (tree_at old) ids)) ∙ ap (bind s) (sym is))
 
 -- How far the arguments of an application are renumbered that wait on a stack; `kept` says that each is what it was.
 pub record IsStacked (old now : List Term) (s : Subst) (id : Id) (f : Sym) (count : ℕ) (before stack : List Id) (i : ℕ) (kept : Bool) : Type 0 where

@@ -9,7 +9,7 @@ use Rattle.spec_clauses.specs.Variables.{fact_variables, clause_variables}
 use Rattle.clause_form.specs.Normality.{are_different, number_after, numbers_after}
 use Rattle.std.proofs.lemmas.List.{take_rest}
 use Rattle.std.proofs.lemmas.Simd.{map-map}
-use Rattle.clause_form.proofs.Lists.{flat_map_more, flat_map_all}
+use Rattle.clause_diffs.proofs.Lists.{flat_map_more, flat_map_all}
 use Rattle.clause_form.proofs.Comparing.{map_drop}
 
 numbers_after-append : (next : Option ℕ) (xs ys : List ℕ) → numbers_after next (xs ++ ys) ≡ numbers_after (numbers_after next xs) ys

@@ -1,23 +1,27 @@
 -- What the tests of a clause that is its own norm tell: each of them, that a rule leaves the clause as it is.
-use Rattle.std.proofs.Common.{◌≡◌, ◌↔◌, ℕ, zero, suc, ◌+◌, ◌<◌, ◌≤◌, Bool, true, false, not, ◌&&◌, ◌||◌, cond, nat_eq, nat_lt, None, Some, is_some, List, [], ◌∷◌, length, filter, map, flat_map, refl, ap, sym, ◌∙◌, subst, eqb-true, eq-eqb, ne_eqb, ltb-true, ltb-false, lt-ltb, le-ltb, arith}
+use Rattle.std.proofs.Common.{◌≡◌, ◌↔◌, ℕ, zero, suc, ◌+◌, ◌<◌, ◌≤◌, Bool, true, false, not, ◌&&◌, ◌||◌, cond, nat_eq, nat_lt, None, Some, is_some, Result, Ok, Err, IfOk, List, [], ◌∷◌, length, filter, map, refl, ap, sym, ◌∙◌, subst, eqb-true, eq-eqb, ne_eqb, ltb-true, ltb-false, lt-ltb, le-ltb, arith}
+use Rattle.std.specs.Prelude.{IsTrue}
+use Rattle.std.specs.declared.alloc.AllocError.{AllocError}
 use Rattle.std.specs.List.{AllByRecursion, IsDistinct, list_any, list_all, range_with_len}
+use Rattle.std.proofs.lemmas.Bool.{false≢true}
 use Rattle.spec_trees.specs.Tree.{Leaf}
 use Rattle.spec_trees.proofs.Equality.{and_true}
 use Rattle.spec_trees.proofs.Occurrence.{or_false}
 use Rattle.spec_terms.specs.Term.{Term}
-use Rattle.spec_clauses.specs.Diff.{Diff, diff_under, diff_variables, numbered_diff, same_diff}
-use Rattle.spec_clauses.specs.Fact.{Fact, Clause, same_fact, is_among, fact_under, clause_under}
-use Rattle.spec_clauses.specs.Variables.{clause_variables}
+use Rattle.spec_clauses.specs.Diff.{Diff, numbered_diff, same_diff}
+use Rattle.spec_clauses.specs.Fact.{Fact, Clause, same_fact, is_among, phase_of}
+use Rattle.spec_clauses.specs.Variables.{clause_variables, constrained_variables}
 use Rattle.spec_clauses.specs.DiffDecision.{is_never_met}
-use Rattle.spec_clauses.specs.Norm.{distinct, place_of, numbering, elsewhere, is_lonely, is_needed, without_repeats, without_lonely, numbered_anew, IsNormal}
+use Rattle.spec_clauses.specs.Norm.{distinct, place_of, numbering, elsewhere, is_lonely, anchors, is_needed, is_void, without_needless, without_repeats, without_lonely, everything_known, tidied, numbered_anew, IsNormal}
 use Rattle.spec_clauses.proofs.Lists.{all_weaker}
 use Rattle.spec_clauses.proofs.Facts.{clause_under-agree, clause_under-Leaf}
 use Rattle.spec_clauses.proofs.Renaming.{clause_variables-renamed, variables_distinct-renamed}
 use Rattle.spec_clauses.proofs.Distinct.{all-filter_passes, filter-all, distinct-distinct, distinct-fixed, nat_eq-decides, stand_all, stands_distinct, at_places, places_of_distinct}
+use Rattle.spec_clauses.proofs.Anchors.{constrained_stand}
 use Rattle.spec_clauses.proofs.Norm.{names_of, back_of}
 use Rattle.spec_clauses.proofs.NormKeeps.{own_norm}
-use Rattle.clause_form.proofs.Flattening.{with_hypotheses}
-use Rattle.clause_form.specs.Normality.{are_different, number_after, numbers_after, KeepsItsFacts, KeepsItsVariables}
+use Rattle.clause_diffs.specs.Needed.{is_needed_among}
+use Rattle.clause_form.specs.Normality.{are_different, number_after, numbers_after, AreFactsNumbered, unconstrained, KeepsItsFacts, KeepsItsVariables, KeepsItsDiffs}
 
 of_not : (b : Bool) → not b ≡ true → b ≡ false
 of_not true e = cc
@@ -212,53 +216,98 @@ place_range n (suc m) x e = go (nat_eq x n) refl (λ l. place_range (n + 1) m x 
 place_here : (m x : ℕ) → list_any (nat_eq x) (range_with_len 0 m) ≡ true → place_of x (range_with_len 0 m) ≡ x
 place_here m x e = omega (arith, place_range 0 m x e)
 
--- where there are no constraints, only the facts count
-without_diffs : (c : Clause Term) → c.diffs ≡ [] → clause_under (numbering (clause_variables c)) c ≡ c → numbered_anew c ≡ c
-without_diffs c none e =
-    let facts : with_hypotheses (map (fact_under (numbering (clause_variables c))) c.hypotheses) (fact_under (numbering (clause_variables c)) c.conclusion) ≡ with_hypotheses c.hypotheses c.conclusion = ap (λ (d : Clause Term). with_hypotheses d.hypotheses d.conclusion) e in
-    (λ i. record { hypotheses = (facts i).hypotheses; diffs = distinct same_diff (map numbered_diff (map (diff_under (numbering (clause_variables c))) (none i))); conclusion = (facts i).conclusion })
-    ∙ λ i. record { hypotheses = c.hypotheses; diffs = sym none i; conclusion = c.conclusion }
-
-range_numbered : (c : Clause Term) (m : ℕ) → c.diffs ≡ [] → distinct nat_eq (clause_variables c) ≡ range_with_len 0 m → numbered_anew c ≡ c
-range_numbered c m none e =
+-- where the variables of the facts are numbered so, only the constraints may change
+numbered_then : (c : Clause Term) (m : ℕ) → without_needless c ≡ c → distinct nat_eq (clause_variables c) ≡ range_with_len 0 m → numbered_anew c ≡ tidied c
+numbered_then c m needed e =
     let vs = clause_variables c in
-    let own = all_weaker (λ x. list_any (nat_eq x) vs ≡ true) (λ x. numbering vs x ≡ Leaf x)
-    (λ x stands. ap Leaf (ap (place_of x) e ∙ place_here m x (ap (list_any (nat_eq x)) (sym e) ∙ (stands_distinct nat_eq nat_eq-decides x vs ∙ stands)))) vs (stand_all vs) in
-    let constraints = subst (λ (ds : List Diff). AllByRecursion (λ x. numbering vs x ≡ Leaf x) (flat_map diff_variables ds)) (sym none) tt in
-    without_diffs c none (clause_under-agree (numbering vs) Leaf c own constraints ∙ clause_under-Leaf c)
+    let fixed : (x : ℕ) → list_any (nat_eq x) vs ≡ true → numbering vs x ≡ Leaf x =
+    (λ x stands. ap Leaf (ap (place_of x) e ∙ place_here m x (ap (list_any (nat_eq x)) (sym e) ∙ (stands_distinct nat_eq nat_eq-decides x vs ∙ stands)))) in
+    let own = all_weaker (λ x. list_any (nat_eq x) vs ≡ true) (λ x. numbering vs x ≡ Leaf x) fixed vs (stand_all vs) in
+    let constraints = all_weaker (λ x. list_any (nat_eq x) vs ≡ true) (λ x. numbering vs x ≡ Leaf x) fixed (constrained_variables c) (constrained_stand c needed) in
+    ap tidied (clause_under-agree (numbering vs) Leaf c own constraints ∙ clause_under-Leaf c)
 
-numbers_told : (c : Clause Term) → c.diffs ≡ [] → (is_some (numbers_after (Some 0) (clause_variables c)) ≡ true) ↔ (numbered_anew c ≡ c)
-numbers_told c none = (
-  λ e. let range = told_range 0 (clause_variables c) e in range_numbered c range.0 none (sym (filter_true (distinct nat_eq (clause_variables c))) ∙ range.1),
-  λ e. let range = numbered_range c e in range_told 0 range.0 (clause_variables c) (filter_true (distinct nat_eq (clause_variables c)) ∙ range.1),
-)
+numbers_then : (c : Clause Term) → without_needless c ≡ c → AreFactsNumbered c → numbered_anew c ≡ tidied c
+numbers_then c needed e = let range = told_range 0 (clause_variables c) e in numbered_then c range.0 needed (sym (filter_true (distinct nat_eq (clause_variables c))) ∙ range.1)
 
-pub numbers_are : (c : Clause Term) (b : Bool) → c.diffs ≡ [] → b ≡ is_some (numbers_after (Some 0) (clause_variables c)) → (b ≡ true) ↔ (numbered_anew c ≡ c)
-numbers_are c b none e = (λ f. (numbers_told c none).0 (sym e ∙ f), λ k. e ∙ (numbers_told c none).1 k)
+numbers_from : (c : Clause Term) → numbered_anew c ≡ c → AreFactsNumbered c
+numbers_from c e = let range = numbered_range c e in range_told 0 range.0 (clause_variables c) (filter_true (distinct nat_eq (clause_variables c)) ∙ range.1)
 
--- All rules together, where there are no constraints.
-pub normal_told : (c : Clause Term) → c.diffs ≡ [] → (KeepsItsFacts c × KeepsItsVariables c) ↔ IsNormal c
-normal_told c none = (
+pub numbers_are : (c : Clause Term) (b : Bool) → b ≡ is_some (numbers_after (Some 0) (clause_variables c)) → (b ≡ true) ↔ AreFactsNumbered c
+numbers_are c b e = (λ f. sym e ∙ f, λ k. e ∙ k)
+
+-- The clause that says that the attacker has everything has no constraints.
+pub alone_then : (c : Clause Term) (b : Bool) → c.diffs ≡ [] → (b ≡ true) ↔ (unconstrained c ≡ everything_known (phase_of c.conclusion)) → (b ≡ true) ↔ (c ≡ everything_known (phase_of c.conclusion))
+alone_then c b none told =
+    let same : c ≡ unconstrained c = λ i. record { hypotheses = c.hypotheses; diffs = none i; conclusion = c.conclusion } in
+    (λ e. same ∙ told.0 e, λ k. told.1 (sym same ∙ k))
+
+pub alone_else : (c : Clause Term) (b : Bool) → (c.diffs ≡ [] → ⊥) → b ≡ false → (b ≡ true) ↔ (c ≡ everything_known (phase_of c.conclusion))
+alone_else c b some e = (λ f. absurd (false≢true (sym e ∙ f)), λ k. absurd (some (ap (λ (d : Clause Term). d.diffs) k)))
+
+-- All rules together.
+normal_told : (c : Clause Term) → ((KeepsItsFacts c × KeepsItsVariables c) × KeepsItsDiffs c) ↔ IsNormal c
+normal_told c = (
   λ k. record {
-    flat = k.0.flat;
+    flat = k.0.0.flat;
     own = (own_norm c).1 record {
-      none_void = ap (list_any is_never_met) none;
-      none_needless = λ i. record { hypotheses = c.hypotheses; diffs = (ap (filter (is_needed c)) none ∙ sym none) i; conclusion = c.conclusion };
-      no_repeats = k.0.no_repeats;
-      no_tautology = k.0.no_tautology;
-      none_lonely = k.1.none_lonely;
-      general = k.1.general;
-      numbers = k.1.numbers;
+      none_void = k.1.none_void;
+      none_needless = k.1.none_needless;
+      no_repeats = k.0.0.no_repeats;
+      no_tautology = k.0.0.no_tautology;
+      none_lonely = k.0.1.none_lonely;
+      general = k.0.1.general;
+      numbers = numbers_then c k.1.none_needless k.0.1.numbers ∙ k.1.tidy;
     };
   },
   λ n. let k = (own_norm c).0 n.own in (
-    record { flat = n.flat; no_repeats = k.no_repeats; no_tautology = k.no_tautology },
-    record { none_lonely = k.none_lonely; general = k.general; numbers = k.numbers },
+    (
+      record { flat = n.flat; no_repeats = k.no_repeats; no_tautology = k.no_tautology },
+      record { none_lonely = k.none_lonely; general = k.general; numbers = numbers_from c k.numbers },
+    ),
+    record { none_void = k.none_void; none_needless = k.none_needless; tidy = sym (numbers_then c k.none_needless (numbers_from c k.numbers)) ∙ k.numbers },
   ),
 )
 
-pub normal_then : (c : Clause Term) (b : Bool) → c.diffs ≡ [] → KeepsItsFacts c → (b ≡ true) ↔ KeepsItsVariables c → (b ≡ true) ↔ IsNormal c
-normal_then c b none facts told = (λ e. (normal_told c none).0 (facts, told.0 e), λ n. told.1 ((normal_told c none).1 n).1)
+pub both_then : {P Q : Type 0} (b : Bool) → P → (b ≡ true) ↔ Q → (b ≡ true) ↔ (P × Q)
+both_then b first told = (λ e. (first, told.0 e), λ k. told.1 k.1)
 
-pub normal_else : (c : Clause Term) (b : Bool) → (b ≡ true) ↔ KeepsItsFacts c → b ≡ false → (b ≡ true) ↔ IsNormal c
-normal_else c b told e = (λ k. let clash : true ≡ false = sym k ∙ e in cc, λ n. let k = (own_norm c).0 n.own in told.1 record { flat = n.flat; no_repeats = k.no_repeats; no_tautology = k.no_tautology })
+pub both_else : {P Q : Type 0} (b : Bool) → (b ≡ true) ↔ P → b ≡ false → (b ≡ true) ↔ (P × Q)
+both_else b told e = (λ f. absurd (false≢true (sym e ∙ f)), λ k. told.1 k.0)
+
+pub normal_then : (c : Clause Term) (b : Bool) (r : Result Bool AllocError) → (b ≡ true) ↔ (KeepsItsFacts c × KeepsItsVariables c) → b ≡ true → IfOk r (λ answer. IsTrue answer ↔ KeepsItsDiffs c) → IfOk r (λ answer. IsTrue answer ↔ IsNormal c)
+normal_then c b (Ok answer) told passed kept = (λ e. (normal_told c).0 (told.0 passed, kept.0 e), λ n. kept.1 ((normal_told c).1 n).1)
+normal_then c b (Err failed) told passed kept = tt
+
+pub normal_not : (c : Clause Term) (b : Bool) → (b ≡ true) ↔ (KeepsItsFacts c × KeepsItsVariables c) → b ≡ false → IsNormal c → ⊥
+normal_not c b told e n = false≢true (sym e ∙ told.1 ((normal_told c).1 n).0)
+
+-- The rules of constraints, one by one: where there are none, each of them leaves the clause as it is.
+pub none_kept : (c : Clause Term) → c.diffs ≡ [] → KeepsItsDiffs c
+none_kept c none = record {
+  none_void = ap (list_any is_never_met) none;
+  none_needless = λ i. record { hypotheses = c.hypotheses; diffs = (ap (filter (is_needed c)) none ∙ sym none) i; conclusion = c.conclusion };
+  tidy = λ i. record { hypotheses = c.hypotheses; diffs = (ap (λ ds. distinct same_diff (map numbered_diff ds)) none ∙ sym none) i; conclusion = c.conclusion };
+}
+
+pub needless_told : (c : Clause Term) (ns : List ℕ) (ds : List Diff) (r : Result Bool AllocError) → ns ≡ anchors c → ds ≡ c.diffs → IfOk r (λ answer. answer ≡ list_all (is_needed_among ns) ds) → IfOk r (λ answer. IsTrue answer ↔ (without_needless c ≡ c))
+needless_told c ns ds (Ok answer) anchors_are diffs_are told =
+    let all : answer ≡ list_all (is_needed c) c.diffs = told ∙ (λ i. list_all (is_needed_among (anchors_are i)) (diffs_are i)) in (
+      λ e. λ i. record { hypotheses = c.hypotheses; diffs = filter-all (is_needed c) c.diffs (all_pass (is_needed c) c.diffs (sym all ∙ e)) i; conclusion = c.conclusion },
+      λ k. all ∙ pass_all (is_needed c) c.diffs (subst (λ (l : List Diff). AllByRecursion (λ d. is_needed c d ≡ true) l) (ap (λ (d : Clause Term). d.diffs) k) (all-filter_passes (is_needed c) c.diffs)),
+    )
+needless_told c ns ds (Err failed) anchors_are diffs_are told = tt
+
+pub tidy_told : (c : Clause Term) (ds : List Diff) (b : Bool) (r : Result Bool AllocError) → ds ≡ c.diffs → IsTrue b ↔ (without_needless c ≡ c) → b ≡ true → IfOk r (λ answer. IsTrue answer ↔ (distinct same_diff (map numbered_diff ds) ≡ ds))
+    → IfOk r (λ answer. IsTrue answer ↔ ((without_needless c ≡ c) × (tidied c ≡ c)))
+tidy_told c ds b (Ok answer) diffs_are needed passed told = (
+  λ e. (needed.0 passed, λ i. record { hypotheses = c.hypotheses; diffs = (ap (λ l. distinct same_diff (map numbered_diff l)) (sym diffs_are) ∙ (told.0 e ∙ diffs_are)) i; conclusion = c.conclusion }),
+  λ k. told.1 (ap (λ l. distinct same_diff (map numbered_diff l)) diffs_are ∙ (ap (λ (d : Clause Term). d.diffs) k.1 ∙ sym diffs_are)),
+)
+tidy_told c ds b (Err failed) diffs_are needed passed told = tt
+
+pub diffs_told : (c : Clause Term) (b : Bool) (r : Result Bool AllocError) → b ≡ is_void c → b ≡ false → IfOk r (λ answer. IsTrue answer ↔ ((without_needless c ≡ c) × (tidied c ≡ c))) → IfOk r (λ answer. IsTrue answer ↔ KeepsItsDiffs c)
+diffs_told c b (Ok answer) void met told = (
+  λ e. let both = told.0 e in record { none_void = sym void ∙ met; none_needless = both.0; tidy = both.1 },
+  λ k. told.1 (k.none_needless, k.tidy),
+)
+diffs_told c b (Err failed) void met told = tt

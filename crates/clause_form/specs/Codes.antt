@@ -1,18 +1,11 @@
--- How contracts store ids, facts, constraints and clauses: what the models of types that are seen as them take.
+-- How contracts store facts and clauses: what the models of types that are seen as them take.
 use Rattle.std.specs.Prelude.{◌≡◌, ℕ, zero, suc, ◌⊎◌, List, refl}
 use Rattle.std.proofs.Common.{inl, inr}
 use Rattle.std.specs.Coded.{Coded, code_by, coded×, coded⊎, coded_ℕ, coded_list}
-use Rattle.spec_trees.specs.Code.{coded_tree_list}
-use Rattle.spec_terms.specs.Term.{coded_symbol}
-use Rattle.spec_clauses.specs.Diff.{Slot, Own, Bound, Side, Diff}
-use Rattle.spec_clauses.specs.Fact.{Fact, Att, Mess, Tab, Ev, Mev, Bad, Clause}
-use Rattle.term_tree.specs.declared.bank.Id.{Id}
-
-abbrev pub coded_id : Coded Id
-coded_id = code_by ℕ coded_ℕ (λ id. id.index) (λ k. record { index = k }) (λ _. refl)
-
-abbrev pub coded_ids : Coded (List Id)
-coded_ids = coded_list coded_id
+use Rattle.spec_clauses.specs.Fact.{Fact, Att, Mess, Tab, Ev, Mev, Bad, ClauseOf, Clause}
+pub use Rattle.clause_diffs.specs.Codes.{coded_id, coded_ids}
+use Rattle.clause_diffs.specs.Codes.{coded_diff, coded_diff_of}
+use Rattle.clause_form.specs.Seen.{IdClause}
 
 -- a fact as what its predicate stands before, and back
 abbrev FactParts : Type 0 → Type 0
@@ -48,27 +41,19 @@ coded_fact {X} c = code_by (FactParts X) (coded⊎ (coded× coded_ℕ c) (coded�
 abbrev pub coded_facts : {X : Type 0} → Coded X → Coded (List (Fact X))
 coded_facts c = coded_list (coded_fact c)
 
--- a variable in a constraint, and back
-abbrev slot_parts : Slot → ℕ ⊎ ℕ
-slot_parts (Own x) = inl x
-slot_parts (Bound i) = inr i
-
-abbrev parts_slot : ℕ ⊎ ℕ → Slot
-parts_slot (inl x) = Own x
-parts_slot (inr i) = Bound i
-
-pub parts_slot-slot_parts : (s : Slot) → parts_slot (slot_parts s) ≡ s
-parts_slot-slot_parts (Own x) = refl
-parts_slot-slot_parts (Bound i) = refl
-
-abbrev coded_sides : Coded (List Side)
-coded_sides = coded_tree_list (code_by (ℕ ⊎ ℕ) (coded⊎ coded_ℕ coded_ℕ) slot_parts parts_slot parts_slot-slot_parts) coded_symbol
-
-abbrev pub coded_diffs : Coded (List Diff)
-coded_diffs = coded_list (code_by (List Side × List Side) (coded× coded_sides coded_sides) (λ d. (d.left, d.right)) (λ p. record { left = p.0; right = p.1 }) (λ _. refl))
+-- a clause with constraints of any kind
+abbrev pub coded_clause_of : {X D : Type 0} → Coded X → Coded D → Coded (ClauseOf X D)
+coded_clause_of {X} {D} c d = code_by (List (Fact X) × (List D × Fact X)) (coded× (coded_facts c) (coded× (coded_list d) (coded_fact c))) (λ r. (r.hypotheses, (r.diffs, r.conclusion))) (λ p. record { hypotheses = p.0; diffs = p.1.0; conclusion = p.1.1 }) (λ _. refl)
 
 abbrev pub coded_clause : {X : Type 0} → Coded X → Coded (Clause X)
-coded_clause {X} c = code_by (List (Fact X) × (List Diff × Fact X)) (coded× (coded_facts c) (coded× coded_diffs (coded_fact c))) (λ r. (r.hypotheses, (r.diffs, r.conclusion))) (λ p. record { hypotheses = p.0; diffs = p.1.0; conclusion = p.1.1 }) (λ _. refl)
+coded_clause c = coded_clause_of c coded_diff
 
 abbrev pub coded_clauses : {X : Type 0} → Coded X → Coded (List (Clause X))
 coded_clauses c = coded_list (coded_clause c)
+
+-- a clause over ids, and clauses over them
+abbrev pub coded_id_clause : Coded IdClause
+coded_id_clause = coded_clause_of coded_id (coded_diff_of coded_id)
+
+abbrev pub coded_id_clauses : Coded (List IdClause)
+coded_id_clauses = coded_list coded_id_clause

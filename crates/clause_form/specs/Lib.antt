@@ -3,9 +3,7 @@ pub mod Facts
 pub mod Heads
 pub mod Seen
 pub mod Plain
-pub mod PlainDepths
 pub mod PlainFacts
-pub mod Numbers
 pub mod Remembered
 pub mod Tables
 pub mod Keys

@@ -1,9 +1,10 @@
 -- The tests of a clause that is its own norm.
-use Rattle.std.specs.Prelude.{◌≡◌, ℕ, ◌+◌, Bool, true, false, not, ◌&&◌, cond, nat_eq, nat_lt, Option, Some, None, List, [], ◌∷◌}
+use Rattle.std.specs.Prelude.{◌≡◌, ℕ, ◌+◌, Bool, true, false, not, ◌&&◌, cond, nat_eq, nat_lt, Option, Some, None, is_some, List, [], ◌∷◌}
 use Rattle.spec_terms.specs.Term.{Term}
 use Rattle.spec_clauses.specs.Fact.{Fact, Clause, is_among}
 use Rattle.spec_clauses.specs.Flat.{is_flat_clause}
-use Rattle.spec_clauses.specs.Norm.{without_repeats, is_tautology, without_lonely, generalized, numbered_anew}
+use Rattle.spec_clauses.specs.Variables.{clause_variables}
+use Rattle.spec_clauses.specs.Norm.{is_void, without_needless, without_repeats, is_tautology, without_lonely, generalized, tidied}
 
 -- whether no fact is the same as a later one
 abbrev pub are_different : List (Fact Term) → Bool
@@ -21,14 +22,28 @@ abbrev pub numbers_after : Option ℕ → List ℕ → Option ℕ
 numbers_after next [] = next
 numbers_after next (x ∷ xs) = numbers_after (number_after next x) xs
 
+-- the variables of a clause's facts are numbered from 0 by their first occurrence
+abbrev pub AreFactsNumbered : Clause Term → Type 0
+AreFactsNumbered c = is_some (numbers_after (Some 0) (clause_variables c)) ≡ true
+
+-- a clause without its constraints
+abbrev pub unconstrained : Clause Term → Clause Term
+unconstrained c = record { hypotheses = c.hypotheses; diffs = []; conclusion = c.conclusion }
+
 -- the clause is flat, and says more than its hypotheses, none of which stands twice
 pub record KeepsItsFacts (c : Clause Term) : Type 0 where
   pub flat : is_flat_clause c ≡ true
   pub no_repeats : without_repeats c ≡ c
   pub no_tautology : is_tautology c ≡ false
 
--- the rules that speak of variables leave the clause as it is
+-- the rules that speak of the variables of facts leave the clause as it is
 pub record KeepsItsVariables (c : Clause Term) : Type 0 where
   pub none_lonely : without_lonely c ≡ c
   pub general : generalized c ≡ c
-  pub numbers : numbered_anew c ≡ c
+  pub numbers : AreFactsNumbered c
+
+-- the rules that speak of constraints leave the clause as it is
+pub record KeepsItsDiffs (c : Clause Term) : Type 0 where
+  pub none_void : is_void c ≡ false
+  pub none_needless : without_needless c ≡ c
+  pub tidy : tidied c ≡ c

@@ -1,7 +1,7 @@
 -- What contracts see of facts over owned trees.
 use Rattle.spec_terms.specs.Term.{Term}
 use Rattle.spec_clauses.specs.Fact as horn
-use Rattle.clause_form.specs.Plain.{term_of}
+use Rattle.clause_diffs.specs.Plain.{term_of}
 use Rattle.clause_form.specs.declared.plain.PlainFact.{PlainFact}
 use Rattle.clause_form.specs.declared.plain.PlainFact.TheVariants.{Att, Mess, Tab, Ev, Mev, Bad}
 

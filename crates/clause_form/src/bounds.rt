@@ -1,6 +1,6 @@
 //! The numbers of a clause's variables: what sets the variables of two clauses apart.
 
-ghost use Rattle.std.specs.Prelude.{◌≡◌, ℕ, ◌<◌, ◌≤◌, ◌^◌, max, length, map, flat_map};
+ghost use Rattle.std.specs.Prelude.{◌≡◌, ℕ, ◌<◌, ◌≤◌, max, length, map, flat_map};
 ghost use Rattle.spec_clauses.specs.Fact.{clause_terms};
 ghost use Rattle.spec_clauses.specs.Variables.{leaves, fact_variables, AreBelow};
 ghost use Rattle.term_tree.specs.Bank.{tree_at, AreKnown};
@@ -64,7 +64,7 @@ fn above_facts<B: Bank>(bank: &B, facts: &[Fact], least: u64) -> u64
     found
 }
 
-/// The least number above all variables of a clause: 0 where it has none. Takes no memory.
+/// The least number above all variables of a clause's facts: 0 where they have none. Takes no memory.
 pub fn above_variables<B: Bank>(bank: &B, clause: &Clause) -> u64
     requires { IsClauseIn (B.trees bank.now) clause.now }
     ensures below { AreBelow result (clause_terms (clause_at (B.trees bank.now) clause.now)) }

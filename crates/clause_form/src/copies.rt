@@ -5,13 +5,15 @@ ghost use Rattle.spec_clauses.specs.Head.{made_of};
 ghost use Rattle.term_tree.specs.Bank.{tree_at, AreKnown, Names, Grows};
 ghost use Rattle.clause_form.specs.Facts.{fact_of};
 ghost use Rattle.clause_form.specs.Heads.{head_seen};
-ghost use Rattle.clause_form.specs.Plain.{term_of};
+ghost use Rattle.clause_diffs.specs.Plain.{term_of};
+ghost use Rattle.clause_diffs.specs.Diffs.{diff_at, diffs_at, IsDiffIn, AreDiffsIn, NamesDiff, NameDiffs};
 ghost use Rattle.clause_form.specs.PlainFacts.{plain_fact_of};
 ghost use Rattle.clause_form.specs.Seen.{fact_at, clause_at, IsFactIn, AreFactsIn, IsClauseIn, NameTerms, NamesFact, NameFacts, NamesClause};
 
-use crate::facts::{Clause, Fact, Facts, Ids};
+use crate::facts::{Clause, Fact, Facts};
 use crate::heads::Head;
-use crate::plain::{PlainClause, PlainFact, PlainFacts, Tree, Trees};
+use crate::plain::{PlainClause, PlainFact, PlainFacts};
+use clause_diffs::{Diff, Diffs, Ids, PlainDiff, PlainDiffs, Tree, Trees};
 use std::alloc::{AllocError, Global};
 use term_tree::{Bank, Id, Node};
 
@@ -89,6 +91,32 @@ fn read_facts<B: Bank>(alloc: Global, bank: &B, facts: &[Fact]) -> Result<PlainF
     Ok(PlainFacts { items })
 }
 
+/// The constraint over trees.
+fn read_diff<B: Bank>(alloc: Global, bank: &B, diff: &Diff) -> Result<PlainDiff, AllocError>
+    requires { IsDiffIn (B.trees bank.now) diff.now }
+    ensures { IfOk result (λ plain. plain ≡ diff_at (B.trees bank.now) diff.now) }
+{
+    let left = read_terms(alloc, bank, &diff.left.items)?;
+    let right = read_terms(alloc, bank, &diff.right.items)?;
+    Ok(PlainDiff {
+        first: diff.first,
+        left,
+        right,
+    })
+}
+
+/// The constraints over trees.
+fn read_diffs<B: Bank>(alloc: Global, bank: &B, diffs: &[Diff]) -> Result<PlainDiffs, AllocError>
+    requires { AreDiffsIn (B.trees bank.now) diffs.now }
+    ensures { IfOk result (λ plain. plain ≡ diffs_at (B.trees bank.now) diffs.now) }
+{
+    let mut items = Vec::with_capacity(alloc, diffs.len())?;
+    for diff in diffs {
+        items.push(read_diff(alloc, bank, diff)?)?;
+    }
+    Ok(PlainDiffs { items })
+}
+
 /// The clause over trees that a clause over ids stands for.
 pub fn read_out<B: Bank>(
     alloc: Global,
@@ -99,8 +127,9 @@ pub fn read_out<B: Bank>(
     ensures { IfOk result (λ plain. plain ≡ clause_at (B.trees bank.now) clause.now) }
 {
     let hyps = read_facts(alloc, bank, &clause.hyps.items)?;
+    let diffs = read_diffs(alloc, bank, &clause.diffs.items)?;
     let concl = read_fact(alloc, bank, &clause.concl)?;
-    Ok(PlainClause { hyps, concl })
+    Ok(PlainClause { hyps, diffs, concl })
 }
 
 /// The id of a tree. On `Err` the bank may have grown.
@@ -187,6 +216,37 @@ fn copy_facts<B: Bank>(
     Ok(Facts { items })
 }
 
+/// The constraint over ids. On `Err` the bank may have grown.
+fn copy_diff<B: Bank>(alloc: Global, bank: &mut B, plain: &PlainDiff) -> Result<Diff, AllocError>
+    ensures grows { Grows (B.trees bank.old) (B.trees bank.new) }
+    ensures names { IfOk result (λ diff. NamesDiff (B.trees bank.new) diff plain.now) }
+{
+    let left = copy_terms(alloc, bank, &plain.left.items)?;
+    let right = copy_terms(alloc, bank, &plain.right.items)?;
+    Ok(Diff {
+        first: plain.first,
+        left,
+        right,
+    })
+}
+
+/// The constraints over ids. On `Err` the bank may have grown.
+fn copy_diffs<B: Bank>(
+    alloc: Global,
+    bank: &mut B,
+    plain: &[PlainDiff],
+) -> Result<Diffs, AllocError>
+    ensures grows { Grows (B.trees bank.old) (B.trees bank.new) }
+    ensures names { IfOk result (λ diffs. NameDiffs (B.trees bank.new) diffs plain.now) }
+{
+    let mut items = Vec::with_capacity(alloc, plain.len())?;
+    for one in plain {
+        let diff = copy_diff(alloc, bank, one)?;
+        items.push(diff)?;
+    }
+    Ok(Diffs { items })
+}
+
 /// The clause over ids. On `Err` the bank may have grown.
 fn copy_clause<B: Bank>(
     alloc: Global,
@@ -197,8 +257,9 @@ fn copy_clause<B: Bank>(
     ensures names { IfOk result (λ clause. NamesClause (B.trees bank.new) clause plain.now) }
 {
     let hyps = copy_facts(alloc, bank, &plain.hyps.items)?;
+    let diffs = copy_diffs(alloc, bank, &plain.diffs.items)?;
     let concl = copy_fact(alloc, bank, &plain.concl)?;
-    Ok(Clause { hyps, concl })
+    Ok(Clause { hyps, diffs, concl })
 }
 
 /// A clause over ids of the bank that stands for a clause over trees.

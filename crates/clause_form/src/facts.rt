@@ -2,27 +2,10 @@
 
 ghost use Rattle.std.specs.Prelude.{◌≡◌, IfOk};
 
+use clause_diffs::{Diffs, Ids};
 use std::alloc::{AllocError, Global};
 use std::marker::Model;
 use term_tree::Id;
-
-/// Ids of terms in order.
-#[derive(Drop)]
-pub struct Ids {
-    pub items: Vec<Id>,
-}
-
-impl Model for Ids {
-    ghost use Rattle.std.specs.Prelude.{List};
-    ghost use Rattle.term_tree.specs.declared.bank.Id.{Id};
-    ghost use Rattle.clause_form.specs.Codes.{coded_ids};
-
-    ghost Value = { List Id };
-
-    ghost coded = { coded_ids };
-
-    ghost view = { λ a. a.items.items };
-}
 
 /// A fact. Phases are numbered from 0, tables and events from 1.
 #[derive(Drop)]
@@ -62,26 +45,29 @@ impl Model for Facts {
     ghost view = { λ a. map fact_of a.items.items };
 }
 
-/// A clause without constraints: where the hypotheses hold, so does the conclusion.
+/// A clause: where the hypotheses hold and the constraints are met, the conclusion holds.
 #[derive(Drop)]
 pub struct Clause {
     pub hyps: Facts,
+    pub diffs: Diffs,
     pub concl: Fact,
 }
 
 impl Model for Clause {
-    ghost use Rattle.std.specs.Prelude.{[]};
-    ghost use Rattle.spec_clauses.specs.Fact as horn;
-    ghost use Rattle.term_tree.specs.declared.bank.Id.{Id};
-    ghost use Rattle.clause_form.specs.Codes.{coded_id, coded_clause};
+    ghost use Rattle.clause_form.specs.Codes.{coded_id_clause};
+    ghost use Rattle.clause_form.specs.Seen.{IdClause};
 
-    ghost Value = { horn.Clause Id };
+    ghost Value = { IdClause };
 
-    ghost coded = { coded_clause coded_id };
+    ghost coded = { coded_id_clause };
 
     ghost use Rattle.clause_form.specs.Facts.{fact_of};
 
-    ghost view = { λ c. record { hypotheses = c.hyps; diffs = []; conclusion = fact_of c.concl } };
+    ghost view = { λ c. record {
+      hypotheses = c.hyps;
+      diffs = c.diffs;
+      conclusion = fact_of c.concl;
+    } };
 }
 
 /// Clauses in order.
@@ -92,25 +78,14 @@ pub struct Clauses {
 
 impl Model for Clauses {
     ghost use Rattle.std.specs.Prelude.{List};
-    ghost use Rattle.spec_clauses.specs.Fact as horn;
-    ghost use Rattle.term_tree.specs.declared.bank.Id.{Id};
-    ghost use Rattle.clause_form.specs.Codes.{coded_id, coded_clauses};
+    ghost use Rattle.clause_form.specs.Codes.{coded_id_clauses};
+    ghost use Rattle.clause_form.specs.Seen.{IdClause};
 
-    ghost Value = { List (horn.Clause Id) };
+    ghost Value = { List IdClause };
 
-    ghost coded = { coded_clauses coded_id };
+    ghost coded = { coded_id_clauses };
 
     ghost view = { λ a. a.items.items };
-}
-
-impl Ids {
-    /// A copy.
-    pub fn copy(&self, alloc: Global) -> Result<Ids, AllocError>
-        ensures { IfOk result (λ copied. copied ≡ self.now) }
-    {
-        let items = self.items.to_vec(alloc)?;
-        Ok(Ids { items })
-    }
 }
 
 impl Fact {
@@ -182,6 +157,7 @@ impl Clause {
     {
         Ok(Clause {
             hyps: self.hyps.copy(alloc)?,
+            diffs: self.diffs.copy(alloc)?,
             concl: self.concl.copy(alloc)?,
         })
     }

@@ -1,7 +1,6 @@
 //! The flat parts of clauses (Blanchet 2016, section 3.3.1).
 
-ghost use Rattle.std.specs.Prelude.{◌≡◌, ◌<◌, [], ◌++◌, length, map, flat_map, IfOk, OnOk};
-ghost use Rattle.spec_trees.specs.Tree.{Leaf};
+ghost use Rattle.std.specs.Prelude.{◌≡◌, ◌<◌, ◌++◌, length, map, flat_map, IfOk, OnOk};
 ghost use Rattle.spec_clauses.specs.Fact.{Att};
 ghost use Rattle.spec_clauses.specs.Flat.{is_data, flat, flat_parts};
 ghost use Rattle.term_tree.specs.Bank.{symbol_of, tree_at};
@@ -9,6 +8,7 @@ ghost use Rattle.clause_form.specs.Facts.{fact_of};
 ghost use Rattle.clause_form.specs.Seen.{fact_at, clause_at, IsFactIn, AreFactsIn, IsClauseIn, NameFacts, NameClauses};
 
 use crate::facts::{Clause, Clauses, Fact, Facts};
+use clause_diffs::Diffs;
 use std::alloc::{AllocError, Global};
 use term_tree::{Bank, Id, Node, Sym};
 
@@ -90,31 +90,40 @@ fn flat_of_all<B: Bank>(alloc: Global, bank: &B, facts: &Facts) -> Result<Facts,
     Ok(made)
 }
 
-/// The clause with these hypotheses and this conclusion.
-fn concluded(alloc: Global, hyps: &Facts, concl: Fact) -> Result<Clause, AllocError>
+/// The clause with these hypotheses and constraints, and this conclusion.
+fn concluded(alloc: Global, hyps: &Facts, diffs: &Diffs, concl: Fact) -> Result<Clause, AllocError>
     ensures { IfOk result (λ made. made ≡ record {
       hypotheses = hyps.now;
-      diffs = [];
+      diffs = diffs.now;
       conclusion = fact_of concl;
     }) }
 {
     let hyps = hyps.copy(alloc)?;
-    Ok(Clause { hyps, concl })
+    let diffs = diffs.copy(alloc)?;
+    Ok(Clause { hyps, diffs, concl })
 }
 
-/// The clauses with these hypotheses, one for each conclusion, in order.
-fn concluding(alloc: Global, hyps: &Facts, concls: Facts) -> Result<Clauses, AllocError>
-    ensures { IfOk result (λ made. made ≡ map
-        (λ concl. record { hypotheses = hyps.now; diffs = []; conclusion = concl }) concls) }
+/// The clauses with these hypotheses and constraints, one for each conclusion, in order.
+fn concluding(
+    alloc: Global,
+    hyps: &Facts,
+    diffs: &Diffs,
+    concls: Facts,
+) -> Result<Clauses, AllocError>
+    ensures { IfOk result (λ made. made ≡ map (λ concl. record {
+      hypotheses = hyps.now;
+      diffs = diffs.now;
+      conclusion = concl;
+    }) concls) }
 {
     let mut items = Vec::with_capacity(alloc, concls.items.len())?;
     for concl in concls.items {
-        items.push(concluded(alloc, hyps, concl)?)?;
+        items.push(concluded(alloc, hyps, diffs, concl)?)?;
     }
     Ok(Clauses { items })
 }
 
-/// The flat parts of a clause: one for each flat fact of its conclusion, in order.
+/// The flat parts of a clause: one for each flat fact of its conclusion, in order, each with all constraints.
 pub fn flatten<B: Bank>(alloc: Global, bank: &B, clause: &Clause) -> Result<Clauses, AllocError>
     requires { IsClauseIn (B.trees bank.now) clause.now }
     ensures { IfOk result (λ parts. NameClauses (B.trees bank.now) parts
@@ -122,5 +131,5 @@ pub fn flatten<B: Bank>(alloc: Global, bank: &B, clause: &Clause) -> Result<Clau
 {
     let hyps = flat_of_all(alloc, bank, &clause.hyps)?;
     let concls = flat_of(alloc, bank, &clause.concl)?;
-    concluding(alloc, &hyps, concls)
+    concluding(alloc, &hyps, &clause.diffs, concls)
 }

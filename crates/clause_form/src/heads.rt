@@ -6,7 +6,8 @@ ghost use Rattle.spec_clauses.specs.Head.{head_of, made_of};
 ghost use Rattle.clause_form.specs.Facts.{fact_of};
 ghost use Rattle.clause_form.specs.Heads.{head_seen, terms_seen};
 
-use crate::facts::{Fact, Ids};
+use crate::facts::Fact;
+use clause_diffs::Ids;
 use term_tree::Id;
 
 /// What a fact says besides its terms: its predicate, and the phase, the table or the event where there is one.

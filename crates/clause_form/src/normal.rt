@@ -4,30 +4,34 @@
 ghost use Rattle.std.specs.Prelude.{◌≡◌, ◌&&◌, not, cond, [], ◌∷◌, ◌++◌, filter, map, IfOk, OnOk, OnErr};
 ghost use Rattle.std.specs.List.{list_any, list_all};
 ghost use Rattle.spec_clauses.specs.Fact.{is_variable_known as is_variable_known_fact};
+ghost use Rattle.spec_clauses.specs.Limits.{IsWithinLimit};
 ghost use Rattle.spec_clauses.specs.Selection.{is_solved};
 ghost use Rattle.spec_clauses.specs.Variables.{fact_variables, firm_variables};
 ghost use Rattle.spec_clauses.specs.Norm.{norm as norm_of, numbered_anew, generalized};
 ghost use Rattle.spec_clauses.specs.Norm.{is_lonely as is_lonely_fact, is_known as is_known_fact, is_passed_on as is_passed_on_fact};
 ghost use Rattle.term_tree.specs.Bank.{Grows};
-ghost use Rattle.clause_form.specs.Facts.{fact_of};
+ghost use Rattle.clause_diffs.specs.Diffs.{AreDiffsIn};
+ghost use Rattle.clause_form.specs.Facts.{fact_of, clause_of};
+ghost use Rattle.clause_form.specs.Fit.{HasLowVariables};
+ghost use Rattle.clause_form.specs.Normals.{NamesNorm, IfClause, AreOwn, BindAfter, simplest, needed_norm};
 ghost use Rattle.clause_form.specs.Seen.{fact_at, clause_at, IsFactIn, AreFactsIn, IsClauseIn, NameFacts, NamesClause};
-ghost use Rattle.clause_form.specs.Normals.{NamesNorm};
 
+use crate::anchors::needed_of;
 use crate::facts::{Clause, Fact, Facts};
-use crate::numbers::Counts;
 use crate::renumbering::numbered_clause;
 use crate::repeats::without_repeats;
 use crate::same::is_among;
 use crate::selectable::{are_solved, is_variable_known};
 use crate::standing::stands_in_hypotheses;
 use crate::variables::variables_elsewhere;
+use clause_diffs::{Counts, Diff, Diffs, is_void};
 use std::alloc::{AllocError, Global};
 use term_tree::{Bank, Node};
 
 /// The norm of a clause, if it has one.
 #[derive(Drop)]
 pub enum Normal {
-    /// The conclusion is among the hypotheses.
+    /// The conclusion is among the hypotheses, or no substitution meets a constraint.
     Tautology,
     Clause(Clause),
 }
@@ -167,7 +171,7 @@ fn is_known_among<B: Bank>(bank: &B, number: u32, facts: &[Fact]) -> bool
 }
 
 /// Whether the conclusion is `att` of a variable that stands in hypotheses, and in `att` of it alone.
-fn is_passed_on<B: Bank>(bank: &B, concl: &Fact, hyps: &[Fact]) -> bool
+pub(crate) fn is_passed_on<B: Bank>(bank: &B, concl: &Fact, hyps: &[Fact]) -> bool
     requires concl { IsFactIn (B.trees bank.now) (fact_of concl.now) }
     requires hyps { AreFactsIn (B.trees bank.now) (map fact_of hyps.now) }
     ensures { result ≡ is_passed_on_fact (map (fact_at (B.trees bank.now)) (map fact_of hyps.now))
@@ -203,66 +207,107 @@ fn generalized_clause<B: Bank>(
     bank: &mut B,
     concl: &Fact,
     hyps: &[Fact],
+    diffs: &[Diff],
 ) -> Result<Clause, AllocError>
     requires concl { IsFactIn (B.trees bank.old) (fact_of concl.now) }
     requires hyps { AreFactsIn (B.trees bank.old) (map fact_of hyps.now) }
+    requires diffs { AreDiffsIn (B.trees bank.old) diffs.now }
+    requires own { AreOwn (clause_at (B.trees bank.old)
+        (clause_of concl.now hyps.now diffs.now)) }
     ensures grows { Grows (B.trees bank.old) (B.trees bank.new) }
     ensures names { IfOk result (λ made. NamesClause (B.trees bank.new) made
-        (numbered_anew (generalized record {
-          hypotheses = map (fact_at (B.trees bank.old))
-              (map fact_of hyps.now);
-          diffs = [];
-          conclusion = fact_at (B.trees bank.old) (fact_of concl.now);
-        }))) }
+        (numbered_anew (generalized (clause_at (B.trees bank.old)
+        (clause_of concl.now hyps.now diffs.now))))) }
+    ensures first { IfOk result (λ made. BindAfter (B.trees bank.new) made) }
 {
     if is_general(bank, concl, hyps) {
-        return numbered_clause(alloc, bank, concl, &[]);
+        return numbered_clause(alloc, bank, concl, &[], &[]);
     }
-    numbered_clause(alloc, bank, concl, hyps)
+    numbered_clause(alloc, bank, concl, hyps, diffs)
 }
 
-/// The norm of the clause with this conclusion and these hypotheses. On `Err` the bank may have grown.
-fn norm_grown<B: Bank>(
+/// The norm of the clause with this conclusion, these hypotheses and these constraints, where all of them are needed and
+/// some substitution meets each. On `Err` the bank may have grown.
+fn norm_of_needed<B: Bank>(
     alloc: Global,
     bank: &mut B,
     concl: &Fact,
     hyps: Facts,
+    diffs: &[Diff],
 ) -> Result<Normal, AllocError>
     requires concl { IsFactIn (B.trees bank.old) (fact_of concl.now) }
     requires hyps { AreFactsIn (B.trees bank.old) hyps }
+    requires diffs { AreDiffsIn (B.trees bank.old) diffs.now }
+    requires own { AreOwn (simplest (clause_at (B.trees bank.old) record {
+      hypotheses = hyps;
+      diffs = diffs.now;
+      conclusion = fact_of concl.now;
+    })) }
     ensures grows { Grows (B.trees bank.old) (B.trees bank.new) }
     ensures names { IfOk result (λ normal. NamesNorm (B.trees bank.new) normal
-        (norm_of record {
-          hypotheses = map (fact_at (B.trees bank.old)) hyps;
-          diffs = [];
-          conclusion = fact_at
-              (B.trees bank.old) (fact_of concl.now);
-        })) }
+        (needed_norm (clause_at (B.trees bank.old) record {
+          hypotheses = hyps;
+          diffs = diffs.now;
+          conclusion = fact_of concl.now;
+        }))) }
+    ensures first { IfOk result (λ normal. IfClause normal (BindAfter (B.trees bank.new))) }
 {
     let kept = without_repeats(alloc, bank, hyps)?;
     if is_among(bank, &kept.items, concl) {
         return Ok(Normal::Tautology);
     }
     let few = shared_hypotheses(alloc, bank, concl, kept)?;
-    let made = generalized_clause(alloc, bank, concl, &few.items)?;
+    let made = generalized_clause(alloc, bank, concl, &few.items, diffs)?;
     Ok(Normal::Clause(made))
 }
 
-/// The norm of a clause: equal hypotheses but the first are dropped, then those that say only that the
-/// attacker has something, and variables are numbered by their first occurrence. A term that isn't renumbered
-/// keeps its id.
+/// The norm of the clause with this conclusion, these hypotheses and these constraints. On `Err` the bank may have grown.
+fn norm_grown<B: Bank>(
+    alloc: Global,
+    bank: &mut B,
+    concl: &Fact,
+    hyps: Facts,
+    diffs: &Diffs,
+) -> Result<Normal, AllocError>
+    requires concl { IsFactIn (B.trees bank.old) (fact_of concl.now) }
+    requires hyps { AreFactsIn (B.trees bank.old) hyps }
+    requires diffs { AreDiffsIn (B.trees bank.old) diffs.now }
+    ensures grows { Grows (B.trees bank.old) (B.trees bank.new) }
+    ensures names { IfOk result (λ normal. NamesNorm (B.trees bank.new) normal
+        (norm_of (clause_at (B.trees bank.old) record {
+          hypotheses = hyps;
+          diffs = diffs.now;
+          conclusion = fact_of concl.now;
+        }))) }
+    ensures low { IfOk result (λ normal. IfClause normal (λ made.
+        IsWithinLimit (clause_at (B.trees bank.new) made) →
+        HasLowVariables (B.trees bank.new) made)) }
+{
+    if is_void(alloc, bank, &diffs.items)? {
+        return Ok(Normal::Tautology);
+    }
+    let few = needed_of(alloc, bank, concl, &hyps.items, &diffs.items)?;
+    norm_of_needed(alloc, bank, concl, hyps, &few.items)
+}
+
+/// The norm of a clause: constraints that say nothing are dropped, then equal hypotheses but the first, then those that
+/// say only that the attacker has something, and variables are numbered by their first occurrence. A term that isn't
+/// renumbered keeps its id.
 ///
-/// `Err` comes only for want of memory; then the bank is as before.
+/// `Err` comes for want of memory, and where a clause with constraints has 2 ^ 32 variables; then the bank is as before.
 pub fn norm<B: Bank>(alloc: Global, bank: &mut B, clause: Clause) -> Result<Normal, AllocError>
     requires { IsClauseIn (B.trees bank.old) clause }
     ensures grows { Grows (B.trees bank.old) (B.trees bank.new) }
     ensures names { IfOk result (λ normal. NamesNorm (B.trees bank.new) normal
         (norm_of (clause_at (B.trees bank.old) clause))) }
+    ensures low { IfOk result (λ normal. IfClause normal (λ made.
+        IsWithinLimit (clause_at (B.trees bank.new) made) →
+        HasLowVariables (B.trees bank.new) made)) }
     ensures err { OnErr result (B.trees bank.new ≡ B.trees bank.old) }
 {
     let mark = bank.mark();
-    let Clause { hyps, concl } = clause;
-    match norm_grown(alloc, bank, &concl, hyps) {
+    let Clause { hyps, diffs, concl } = clause;
+    match norm_grown(alloc, bank, &concl, hyps, &diffs) {
         Ok(normal) => Ok(normal),
         Err(error) => {
             bank.back(mark);

@@ -1,18 +1,20 @@
 //! Whether a clause is its own norm: it is flat, and each rule of the norm leaves it as it is.
 
-ghost use Rattle.std.specs.Prelude.{◌≡◌, ◌↔◌, ◌<◌, true, not, nat_eq, [], length, map, flat_map, Some};
+ghost use Rattle.std.specs.Prelude.{◌≡◌, ◌↔◌, ◌<◌, true, not, nat_eq, length, map, flat_map, Some, IsTrue, IfOk};
 ghost use Rattle.std.specs.List.{count_by, list_any, list_all};
 ghost use Rattle.spec_clauses.specs.Fact.{is_variable_known as is_variable_known_fact, phase_of};
 ghost use Rattle.spec_clauses.specs.Flat.{is_flat as is_flat_fact, is_flat_clause as is_flat_clause_of};
 ghost use Rattle.spec_clauses.specs.Norm.{elsewhere, is_lonely as is_lonely_fact, without_lonely, everything_known, generalized};
-ghost use Rattle.spec_clauses.specs.Norm.{without_repeats, is_tautology as is_tautology_of, numbered_anew, IsNormal};
+ghost use Rattle.spec_clauses.specs.Norm.{without_needless, without_repeats, is_tautology as is_tautology_of, tidied, IsNormal};
 ghost use Rattle.spec_clauses.specs.Variables.{leaves, fact_variables};
 ghost use Rattle.term_tree.specs.Bank.{tree_at, AreKnown};
 ghost use Rattle.clause_form.specs.Facts.{fact_of};
 ghost use Rattle.clause_form.specs.Seen.{fact_at, clause_at, IsFactIn, AreFactsIn, IsClauseIn};
-ghost use Rattle.clause_form.specs.Normality.{are_different as are_different_facts, number_after, numbers_after, KeepsItsFacts, KeepsItsVariables};
+ghost use Rattle.clause_form.specs.Normality.{are_different as are_different_facts, number_after, numbers_after};
+ghost use Rattle.clause_form.specs.Normality.{unconstrained, AreFactsNumbered, KeepsItsFacts, KeepsItsVariables, KeepsItsDiffs};
 ghost use Rattle.clause_form.specs.Standing.{TellsNumbers};
 
+use crate::anchors::anchors_of;
 use crate::facts::{Clause, Fact};
 use crate::flat::is_data_symbol;
 use crate::marks::are_many_different;
@@ -20,7 +22,9 @@ use crate::normal::is_general;
 use crate::same::is_among;
 use crate::selectable::is_variable_known;
 use crate::standing::{note_elsewhere, stands_elsewhere};
+use clause_diffs::{Counts, are_needed, are_tidied, is_void};
 use limits::MOST_SYMBOLS;
+use std::alloc::{AllocError, Global};
 use term_tree::{Bank, Id, Node};
 
 /// So many hypotheses are marked by their keys.
@@ -60,11 +64,10 @@ fn are_flat<B: Bank>(bank: &B, facts: &[Fact]) -> bool
     true
 }
 
-/// Whether a clause is flat. Clauses over ids have no constraints.
+/// Whether a clause is flat.
 fn is_flat_clause<B: Bank>(bank: &B, clause: &Clause) -> bool
     requires { IsClauseIn (B.trees bank.now) clause.now }
-    ensures flat { result ≡ is_flat_clause_of (clause_at (B.trees bank.now) clause.now) }
-    ensures unconstrained { (clause_at (B.trees bank.now) clause.now).diffs ≡ [] }
+    ensures { result ≡ is_flat_clause_of (clause_at (B.trees bank.now) clause.now) }
 {
     is_flat(bank, &clause.concl) && are_flat(bank, &clause.hyps.items)
 }
@@ -205,13 +208,29 @@ fn is_first_variable_known<B: Bank>(bank: &B, fact: &Fact) -> bool
     }
 }
 
+/// Whether a clause has no constraints.
+fn is_unconstrained(clause: &Clause) -> bool
+    ensures { result ≡ nat_eq (length clause.now.diffs) 0 }
+{
+    clause.diffs.items.is_empty()
+}
+
+/// Whether the facts of the clause say in the shortest form that the attacker has everything.
+fn is_known_alone<B: Bank>(bank: &B, clause: &Clause) -> bool
+    requires { IsClauseIn (B.trees bank.now) clause.now }
+    ensures { let seen = clause_at (B.trees bank.now) clause.now in
+        (result ≡ true) ↔ (unconstrained seen ≡ everything_known (phase_of seen.conclusion)) }
+{
+    clause.hyps.items.is_empty() && is_first_variable_known(bank, &clause.concl)
+}
+
 /// Whether the clause says in the shortest form that the attacker has everything.
 fn is_everything_known<B: Bank>(bank: &B, clause: &Clause) -> bool
     requires { IsClauseIn (B.trees bank.now) clause.now }
     ensures { let seen = clause_at (B.trees bank.now) clause.now in
         (result ≡ true) ↔ (seen ≡ everything_known (phase_of seen.conclusion)) }
 {
-    clause.hyps.items.is_empty() && is_first_variable_known(bank, &clause.concl)
+    is_unconstrained(clause) && is_known_alone(bank, clause)
 }
 
 /// Whether the clause doesn't say that the attacker has everything, or says it in the shortest form.
@@ -291,11 +310,10 @@ fn after_facts<B: Bank>(bank: &B, facts: &[Fact], next: Option<u64>) -> Option<u
     found
 }
 
-/// Whether the variables are numbered from 0 by their first occurrence, the conclusion's first.
+/// Whether the variables of the facts are numbered from 0 by their first occurrence, the conclusion's first.
 fn is_numbered<B: Bank>(bank: &B, clause: &Clause) -> bool
     requires { IsClauseIn (B.trees bank.now) clause.now }
-    ensures { (result ≡ true) ↔ (numbered_anew (clause_at (B.trees bank.now) clause.now) ≡
-        clause_at (B.trees bank.now) clause.now) }
+    ensures { (result ≡ true) ↔ AreFactsNumbered (clause_at (B.trees bank.now) clause.now) }
 {
     let first = after_fact(bank, &clause.concl, Some(0));
     after_facts(bank, &clause.hyps.items, first).is_some()
@@ -304,13 +322,12 @@ fn is_numbered<B: Bank>(bank: &B, clause: &Clause) -> bool
 /// Whether the clause is flat, and says more than its hypotheses, none of which stands twice.
 fn keeps_its_facts<B: Bank>(bank: &B, clause: &Clause) -> bool
     requires { IsClauseIn (B.trees bank.now) clause.now }
-    ensures keeps { (result ≡ true) ↔ KeepsItsFacts (clause_at (B.trees bank.now) clause.now) }
-    ensures unconstrained { (clause_at (B.trees bank.now) clause.now).diffs ≡ [] }
+    ensures { (result ≡ true) ↔ KeepsItsFacts (clause_at (B.trees bank.now) clause.now) }
 {
     is_flat_clause(bank, clause) && has_no_repeats(bank, clause) && !is_tautology(bank, clause)
 }
 
-/// Whether the rules that speak of variables leave the clause as it is.
+/// Whether the rules that speak of the variables of facts leave the clause as it is.
 fn keeps_its_variables<B: Bank>(bank: &B, clause: &Clause) -> bool
     requires { IsClauseIn (B.trees bank.now) clause.now }
     ensures { (result ≡ true) ↔ KeepsItsVariables (clause_at (B.trees bank.now) clause.now) }
@@ -318,10 +335,63 @@ fn keeps_its_variables<B: Bank>(bank: &B, clause: &Clause) -> bool
     is_numbered(bank, clause) && is_own_general(bank, clause) && has_none_lonely(bank, clause)
 }
 
-/// Whether a clause is its own norm, and flat. Takes no memory.
-pub fn is_normal<B: Bank>(bank: &B, clause: &Clause) -> bool
+/// Whether the rules that speak of facts leave the clause as it is.
+fn keeps_facts_and_variables<B: Bank>(bank: &B, clause: &Clause) -> bool
     requires { IsClauseIn (B.trees bank.now) clause.now }
-    ensures { (result ≡ true) ↔ IsNormal (clause_at (B.trees bank.now) clause.now) }
+    ensures { let seen = clause_at (B.trees bank.now) clause.now in
+        (result ≡ true) ↔ (KeepsItsFacts seen × KeepsItsVariables seen) }
 {
     keeps_its_facts(bank, clause) && keeps_its_variables(bank, clause)
+}
+
+/// Whether each constraint is needed.
+fn has_none_needless<B: Bank>(alloc: Global, bank: &B, clause: &Clause) -> Result<bool, AllocError>
+    requires { IsClauseIn (B.trees bank.now) clause.now }
+    ensures { let seen = clause_at (B.trees bank.now) clause.now in
+        IfOk result (λ yes. IsTrue yes ↔ (without_needless seen ≡ seen)) }
+{
+    let numbers = anchors_of(alloc, bank, &clause.concl, &clause.hyps.items)?;
+    let anchors = Counts::new(alloc, numbers)?;
+    are_needed(alloc, bank, &anchors, &clause.diffs.items)
+}
+
+/// Whether each constraint is needed, with the variables that it binds numbered, and none stands twice.
+fn keeps_needed_diffs<B: Bank>(alloc: Global, bank: &B, clause: &Clause) -> Result<bool, AllocError>
+    requires { IsClauseIn (B.trees bank.now) clause.now }
+    ensures { let seen = clause_at (B.trees bank.now) clause.now in
+        IfOk result (λ yes. IsTrue yes ↔
+        ((without_needless seen ≡ seen) × (tidied seen ≡ seen))) }
+{
+    if !has_none_needless(alloc, bank, clause)? {
+        return Ok(false);
+    }
+    are_tidied(alloc, bank, &clause.diffs.items)
+}
+
+/// Whether the rules that speak of constraints leave the clause as it is. Takes no memory where it has none.
+fn keeps_its_diffs<B: Bank>(alloc: Global, bank: &B, clause: &Clause) -> Result<bool, AllocError>
+    requires { IsClauseIn (B.trees bank.now) clause.now }
+    ensures { IfOk result (λ yes. IsTrue yes ↔
+        KeepsItsDiffs (clause_at (B.trees bank.now) clause.now)) }
+{
+    if is_unconstrained(clause) {
+        return Ok(true);
+    }
+    if is_void(alloc, bank, &clause.diffs.items)? {
+        return Ok(false);
+    }
+    keeps_needed_diffs(alloc, bank, clause)
+}
+
+/// Whether a clause is its own norm, and flat. Takes no memory where it has no constraints.
+///
+/// `Err` comes only for want of memory.
+pub fn is_normal<B: Bank>(alloc: Global, bank: &B, clause: &Clause) -> Result<bool, AllocError>
+    requires { IsClauseIn (B.trees bank.now) clause.now }
+    ensures { IfOk result (λ yes. IsTrue yes ↔ IsNormal (clause_at (B.trees bank.now) clause.now)) }
+{
+    if !keeps_facts_and_variables(bank, clause) {
+        return Ok(false);
+    }
+    keeps_its_diffs(alloc, bank, clause)
 }

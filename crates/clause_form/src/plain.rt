@@ -1,44 +1,7 @@
 //! Clauses over owned trees: they outlast every bank.
 
-ghost use Rattle.std.specs.Prelude.{◌≡◌, IfOk};
-
+use clause_diffs::{PlainDiffs, Tree, Trees};
 use std::marker::Model;
-use term_tree::Sym;
-
-/// A term as a tree that is owned: a variable by its number, or a symbol over its arguments.
-#[cycle(tree)]
-#[derive(Debug, Drop)]
-pub enum Tree {
-    Var(u32),
-    App(Sym, Trees),
-}
-
-/// Trees in order.
-#[cycle(tree)]
-#[derive(Debug, Drop)]
-pub struct Trees {
-    pub items: Vec<Tree>,
-}
-
-impl Model for Trees {
-    ghost use Rattle.std.specs.Prelude.{List, map};
-    ghost use Rattle.spec_trees.specs.Tree.{depths, trees};
-    ghost use Rattle.spec_terms.specs.Term.{Term, coded_terms};
-
-    ghost Value = { List Term };
-
-    ghost coded = { coded_terms };
-
-    ghost use Rattle.clause_form.specs.Plain.{term_of};
-
-    ghost view = { λ a. map term_of a.items.items };
-
-    ghost size = { λ ts. depths (trees ts) };
-
-    ghost use Rattle.clause_form.specs.PlainDepths.{trees_fall};
-
-    ghost size_decreases = { λ a h. trees_fall a.items.items };
-}
 
 /// A fact over owned trees.
 #[derive(Debug, Drop)]
@@ -76,11 +39,11 @@ impl Model for PlainFacts {
 #[derive(Debug, Drop)]
 pub struct PlainClause {
     pub hyps: PlainFacts,
+    pub diffs: PlainDiffs,
     pub concl: PlainFact,
 }
 
 impl Model for PlainClause {
-    ghost use Rattle.std.specs.Prelude.{[]};
     ghost use Rattle.spec_terms.specs.Term.{Term, coded_term};
     ghost use Rattle.spec_clauses.specs.Fact as horn;
     ghost use Rattle.clause_form.specs.Codes.{coded_clause};
@@ -93,7 +56,7 @@ impl Model for PlainClause {
 
     ghost view = { λ c. record {
       hypotheses = c.hyps;
-      diffs = [];
+      diffs = c.diffs;
       conclusion = plain_fact_of c.concl;
     } };
 }

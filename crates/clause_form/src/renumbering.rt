@@ -1,20 +1,22 @@
 //! Facts and clauses with their variables renumbered.
 
-ghost use Rattle.std.specs.Prelude.{◌≡◌, ◌↔◌, ◌<◌, true, IsTrue, [], ◌∷◌, nat_eq, length, map, flat_map, IfOk, OnOk};
+ghost use Rattle.std.specs.Prelude.{◌≡◌, ◌↔◌, ◌<◌, true, IsTrue, ◌∷◌, nat_eq, length, map, flat_map, IfOk, OnOk};
 ghost use Rattle.spec_trees.specs.Tree.{Leaf, bind};
 ghost use Rattle.spec_clauses.specs.Fact.{fact_under};
 ghost use Rattle.spec_clauses.specs.Variables.{fact_variables};
 ghost use Rattle.spec_clauses.specs.Norm.{distinct, numbered_anew};
 ghost use Rattle.term_tree.specs.Bank.{tree_at, AreKnown, Names, Grows};
-ghost use Rattle.clause_form.specs.Facts.{fact_of};
-ghost use Rattle.clause_form.specs.Seen.{fact_at, IsFactIn, AreFactsIn, NameTerms, NamesFact, NameFacts, NamesClause};
-ghost use Rattle.clause_form.specs.Numbers.{placed};
+ghost use Rattle.clause_diffs.specs.Diffs.{diffs_at, AreDiffsIn};
+ghost use Rattle.clause_diffs.specs.Numbers.{placed};
+ghost use Rattle.clause_form.specs.Facts.{fact_of, clause_of};
+ghost use Rattle.clause_form.specs.Normals.{AreOwn, BindAfter};
+ghost use Rattle.clause_form.specs.Seen.{fact_at, clause_at, IsFactIn, AreFactsIn, NameTerms, NamesFact, NameFacts, NamesClause};
 ghost use Rattle.clause_form.specs.Remembered.{AreRemembered};
 
-use crate::facts::{Clause, Fact, Facts, Ids};
+use crate::facts::{Clause, Fact, Facts};
 use crate::memo::{Change, PLACES, remember, remembered};
-use crate::numbers::Order;
 use crate::variables::variables_of;
+use clause_diffs::{Diff, Diffs, Ids, Order, tidied};
 use std::alloc::{AllocError, Global};
 use term_tree::{Bank, Id, Node};
 use unify_match::argument;
@@ -186,52 +188,56 @@ fn order_of<B: Bank>(
     Order::new(alloc, numbers)
 }
 
-/// The clause with its variables numbered by this order, that of their first occurrence. On `Err` the bank may
-/// have grown.
+/// The clause with these constraints, the variables of its facts numbered by this order. On `Err` the bank may have
+/// grown.
 fn clause_in_order<B: Bank>(
-    alloc: Global,
     bank: &mut B,
     order: &Order,
     concl: &Fact,
     hyps: &[Fact],
+    diffs: Diffs,
 ) -> Result<Clause, AllocError>
     requires concl { IsFactIn (B.trees bank.old) (fact_of concl.now) }
     requires hyps { AreFactsIn (B.trees bank.old) (map fact_of hyps.now) }
-    requires order { order.now ≡ distinct nat_eq
-        (flat_map fact_variables (fact_at (B.trees bank.old) (fact_of concl.now) ∷ map
-        (fact_at (B.trees bank.old)) (map fact_of hyps.now))) }
+    requires diffs { AreDiffsIn (B.trees bank.old) diffs }
     ensures grows { Grows (B.trees bank.old) (B.trees bank.new) }
-    ensures names { IfOk result (λ made. NamesClause (B.trees bank.new) made
-        (numbered_anew record {
-          hypotheses = map (fact_at (B.trees bank.old)) (map fact_of hyps.now);
-          diffs = [];
-          conclusion = fact_at (B.trees bank.old) (fact_of concl.now);
-        })) }
+    ensures names { IfOk result (λ made. NamesClause (B.trees bank.new) made record {
+      hypotheses = map (fact_under (placed order.now))
+          (map (fact_at (B.trees bank.old)) (map fact_of hyps.now));
+      diffs = diffs_at (B.trees bank.old) diffs;
+      conclusion = fact_under (placed order.now)
+          (fact_at (B.trees bank.old) (fact_of concl.now));
+    }) }
+    ensures diffs { IfOk result (λ made. made.diffs ≡ diffs) }
 {
-    let mut stack = Vec::with_capacity(alloc, 16)?;
+    let mut stack = Vec::with_capacity(*diffs.items.allocator(), 16)?;
     let mut changes = [None; PLACES];
     let hyps = renumbered_facts(bank, order, &mut stack, &mut changes, hyps)?;
     let concl = renumbered_fact(bank, order, &mut stack, &mut changes, concl)?;
-    Ok(Clause { hyps, concl })
+    Ok(Clause { hyps, diffs, concl })
 }
 
-/// The clause with its variables numbered by their first occurrence. On `Err` the bank may have grown.
+/// The clause with its variables numbered by their first occurrence in its facts, and those that a constraint binds by their
+/// first occurrence there, after the others; of equal constraints the first is kept. On `Err` the bank may have grown.
 pub(crate) fn numbered_clause<B: Bank>(
     alloc: Global,
     bank: &mut B,
     concl: &Fact,
     hyps: &[Fact],
+    diffs: &[Diff],
 ) -> Result<Clause, AllocError>
     requires concl { IsFactIn (B.trees bank.old) (fact_of concl.now) }
     requires hyps { AreFactsIn (B.trees bank.old) (map fact_of hyps.now) }
+    requires diffs { AreDiffsIn (B.trees bank.old) diffs.now }
+    requires own { AreOwn (clause_at (B.trees bank.old)
+        (clause_of concl.now hyps.now diffs.now)) }
     ensures grows { Grows (B.trees bank.old) (B.trees bank.new) }
     ensures names { IfOk result (λ made. NamesClause (B.trees bank.new) made
-        (numbered_anew record {
-          hypotheses = map (fact_at (B.trees bank.old)) (map fact_of hyps.now);
-          diffs = [];
-          conclusion = fact_at (B.trees bank.old) (fact_of concl.now);
-        })) }
+        (numbered_anew (clause_at (B.trees bank.old)
+        (clause_of concl.now hyps.now diffs.now)))) }
+    ensures first { IfOk result (λ made. BindAfter (B.trees bank.new) made) }
 {
     let order = order_of(alloc, bank, concl, hyps)?;
-    clause_in_order(alloc, bank, &order, concl, hyps)
+    let tidy = tidied(alloc, bank, &order, diffs)?;
+    clause_in_order(bank, &order, concl, hyps, tidy)
 }

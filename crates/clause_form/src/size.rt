@@ -1,9 +1,8 @@
 //! Sizes of facts and of clauses.
 
-ghost use Rattle.std.specs.Prelude.{◌≡◌, ℕ, ◌+◌, map};
-ghost use Rattle.spec_trees.specs.Tree.{size};
+ghost use Rattle.std.specs.Prelude.{◌≡◌, map};
 ghost use Rattle.spec_clauses.specs.Fact.{total, fact_size, clause_size};
-ghost use Rattle.term_tree.specs.Bank.{tree_at, AreKnown, capped};
+ghost use Rattle.term_tree.specs.Bank.{capped};
 ghost use Rattle.clause_form.specs.Facts.{fact_of};
 ghost use Rattle.spec_clauses.specs.Head.{head_size};
 ghost use Rattle.clause_form.specs.Heads.{head_seen};
@@ -11,26 +10,8 @@ ghost use Rattle.clause_form.specs.Seen.{fact_at, clause_at, IsFactIn, AreFactsI
 
 use crate::facts::{Clause, Fact};
 use crate::heads::Head;
-use term_tree::{Bank, Id, SIZE_LIMIT};
-
-/// So many symbols more, as they are told.
-fn add_symbols(symbols: u64, more: u64) -> u64
-    ensures { (m n : ℕ) → symbols ≡ capped m → more ≡ capped n → result ≡ capped (m + n) }
-{
-    symbols.saturating_add(more).min(SIZE_LIMIT)
-}
-
-/// The size of terms together.
-fn size_of_terms<B: Bank>(bank: &B, terms: &[Id]) -> u64
-    requires { AreKnown (B.trees bank.now) terms.now }
-    ensures { result ≡ capped (total size (map (tree_at (B.trees bank.now)) terms.now)) }
-{
-    let mut symbols = 0u64;
-    for term in terms {
-        symbols = add_symbols(symbols, bank.size(*term));
-    }
-    symbols
-}
+use clause_diffs::{add_symbols, size_of_diffs, size_of_terms};
+use term_tree::Bank;
 
 /// The symbols of a head: its predicate, and the name of a table or an event.
 pub fn head_symbols(head: Head) -> u64
@@ -67,12 +48,13 @@ fn size_of_facts<B: Bank>(bank: &B, facts: &[Fact]) -> u64
     symbols
 }
 
-/// The size of a clause: one for each predicate, table, event, symbol and occurrence of a variable, or
+/// The size of a clause: one for each predicate, table, event, constraint, symbol and occurrence of a variable, or
 /// `SIZE_LIMIT` where it is greater. Takes no memory.
 pub fn size_of<B: Bank>(bank: &B, clause: &Clause) -> u64
     requires { IsClauseIn (B.trees bank.now) clause.now }
     ensures { result ≡ capped (clause_size (clause_at (B.trees bank.now) clause.now)) }
 {
     let symbols = size_of_fact(bank, &clause.concl);
-    add_symbols(symbols, size_of_facts(bank, &clause.hyps.items))
+    let facts = add_symbols(symbols, size_of_facts(bank, &clause.hyps.items));
+    add_symbols(facts, size_of_diffs(bank, &clause.diffs.items))
 }

@@ -6,6 +6,7 @@ ghost use Rattle.spec_terms.specs.Term.{Term};
 ghost use Rattle.spec_clauses.specs.Fact.{Clause as ClauseOf};
 ghost use Rattle.spec_clauses.specs.Norm.{norm as norm_of, norms};
 ghost use Rattle.term_tree.specs.Bank.{Grows};
+ghost use Rattle.clause_form.specs.Fit.{AreLowWithinLimit};
 ghost use Rattle.clause_form.specs.Seen.{clause_at, IsClauseIn, AreClausesIn, NameClauses};
 
 use clause_form::{Clause, Clauses, Normal, flatten, norm};
@@ -24,6 +25,9 @@ fn add_norm<B: Bank>(
     ensures names { OnOk result ((before : List (ClauseOf Term)) → NameClauses (B.trees bank.old)
         made.old before → NameClauses (B.trees bank.new) made.new
         (before ++ filter_map norm_of (clause_at (B.trees bank.old) part ∷ []))) }
+    ensures low { OnOk result (AreClausesIn (B.trees bank.old) made.old →
+        AreLowWithinLimit (B.trees bank.old) made.old →
+        AreLowWithinLimit (B.trees bank.new) made.new) }
 {
     match norm(alloc, bank, part)? {
         Normal::Tautology => Ok(()),
@@ -40,6 +44,7 @@ fn norms_of_all<B: Bank>(alloc: Global, bank: &mut B, parts: Clauses) -> Result<
     ensures grows { Grows (B.trees bank.old) (B.trees bank.new) }
     ensures names { IfOk result (λ made. NameClauses (B.trees bank.new) made
         (filter_map norm_of (map (clause_at (B.trees bank.old)) parts))) }
+    ensures low { IfOk result (λ made. AreLowWithinLimit (B.trees bank.new) made) }
 {
     let mut made = Clauses {
         items: Vec::new(alloc),
@@ -52,7 +57,7 @@ fn norms_of_all<B: Bank>(alloc: Global, bank: &mut B, parts: Clauses) -> Result<
 
 /// The norms of a clause's flat parts in order, tautologies left out.
 ///
-/// `Err` comes only for want of memory; then the bank is as before.
+/// `Err` comes for want of memory, and where a part with constraints has 2 ^ 32 variables; then the bank is as before.
 pub fn norms_of<B: Bank>(
     alloc: Global,
     bank: &mut B,
@@ -62,6 +67,7 @@ pub fn norms_of<B: Bank>(
     ensures grows { Grows (B.trees bank.old) (B.trees bank.new) }
     ensures names { IfOk result (λ made. NameClauses (B.trees bank.new) made
         (norms (clause_at (B.trees bank.old) clause.now))) }
+    ensures low { IfOk result (λ made. AreLowWithinLimit (B.trees bank.new) made) }
     ensures err { OnErr result (B.trees bank.new ≡ B.trees bank.old) }
 {
     let parts = flatten(alloc, bank, clause)?;

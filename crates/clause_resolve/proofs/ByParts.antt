@@ -9,9 +9,10 @@ use Rattle.spec_clauses.specs.Head.{head_of}
 use Rattle.spec_clauses.proofs.Parts.{parts_determine, head_of-map}
 use Rattle.term_tree.specs.Bank.{tree_at}
 use Rattle.term_tree.specs.declared.bank.Id.{Id}
+use Rattle.clause_diffs.specs.Meeting.{IsMguOfAll, HaveNoUnifierOfAll}
 use Rattle.clause_form.specs.Seen.{fact_at}
 use Rattle.clause_form.proofs.Made.{terms_under}
-use Rattle.clause_resolve.specs.Meeting.{IsMguOfAll, HaveNoUnifierOfAll, IsMguOfFacts, HaveNoUnifier, NeverMeet}
+use Rattle.clause_resolve.specs.Meeting.{IsMguOfFacts, HaveNoUnifier, NeverMeet}
 
 -- a fact of ids under a substitution has the head that it has
 pub head_under : (all : List Term) (s : Subst) (f : Fact Id) → head_of (fact_under s (fact_at all f)) ≡ head_of f

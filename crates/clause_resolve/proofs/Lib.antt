@@ -1,8 +1,11 @@
 pub mod Stopping
 pub mod Clashing
 pub mod ByParts
-pub mod Spending
+pub mod SpendingLaws
 pub mod Parting
+pub mod Low
+pub mod Moving
+pub mod LiftingLaws
 pub mod Shifting
 pub mod Answering
 pub mod Removing

@@ -4,7 +4,8 @@ use Rattle.std.specs.List.{list_any}
 use Rattle.std.proofs.lemmas.List.Folds.{list_any-append, flat_map-map}
 use Rattle.spec_terms.specs.Term.{Sym, Term}
 use Rattle.spec_trees.specs.Tree.{node}
-use Rattle.spec_clauses.specs.Fact.{Fact, total, fact_size, clause_size}
+use Rattle.spec_clauses.specs.Diff.{Diff, diff_size}
+use Rattle.spec_clauses.specs.Fact.{Fact, Clause, total, fact_size, clause_size}
 use Rattle.spec_clauses.specs.Flat.{is_data, flat}
 use Rattle.spec_clauses.specs.Limits.{is_large_clause}
 use Rattle.term_tree.specs.Bank.{tree_at, capped}
@@ -13,7 +14,7 @@ use Rattle.clause_form.specs.declared.facts.Fact as declared
 use Rattle.clause_form.specs.Facts.{fact_of}
 use Rattle.clause_form.specs.Seen.{fact_at}
 use Rattle.clause_form.proofs.Lists.{total-append, flat_map_more, flat_map_all}
-use Rattle.clause_form.proofs.Flattening.{parts_at, data_flat, with_hypotheses}
+use Rattle.clause_form.proofs.Flattening.{parts_at, data_flat}
 use Rattle.clause_resolve.specs.Budget.{is_over, some_over}
 
 -- the size of one fact alone
@@ -44,11 +45,14 @@ module _ {X : Type 0} (parts : X → List (Fact Term)) where
 pub facts_flat : (all : List Term) (fs : List declared.Fact) → flat_map (λ f. flat (fact_at all (fact_of f))) fs ≡ flat_map flat (map (fact_at all) (map fact_of fs))
 facts_flat all fs = sym (flat_map-map (λ f. flat (fact_at all f)) fact_of fs) ∙ sym (flat_map-map flat (fact_at all) (map fact_of fs))
 
--- a flat part for each conclusion, over the limit where it is with the hypotheses
-pub parts_over : (hypotheses concls : List (Fact Term)) → list_any is_large_clause (map (with_hypotheses hypotheses) concls) ≡ some_over (total fact_size hypotheses) concls
-parts_over hypotheses [] = refl
-parts_over hypotheses (f ∷ fs) = λ i. is_over (whole i) || parts_over hypotheses fs i where
-  whole : clause_size (with_hypotheses hypotheses f) ≡ fact_size f + total fact_size hypotheses
+-- a flat part for each conclusion, over the limit where it is with the hypotheses and the constraints
+pub parts_over : (hypotheses : List (Fact Term)) (ds : List Diff) (concls : List (Fact Term)) → list_any is_large_clause (map (λ f. record { hypotheses = hypotheses; diffs = ds; conclusion = f }) concls) ≡ some_over (total fact_size hypotheses + total diff_size ds) concls
+parts_over hypotheses ds [] = refl
+parts_over hypotheses ds (f ∷ fs) = λ i. is_over (whole i) || parts_over hypotheses ds fs i where
+  part : Clause Term
+  part = record { hypotheses = hypotheses; diffs = ds; conclusion = f }
+
+  whole : clause_size part ≡ fact_size f + (total fact_size hypotheses + total diff_size ds)
   whole = omega arith
 
 -- one of the arguments is over the limit, or none is

@@ -9,24 +9,30 @@ use Rattle.spec_trees.proofs.Occurrence.{or_true}
 use Rattle.spec_terms.specs.Term.{Sym, Term, has_var}
 use Rattle.spec_terms.specs.Unifier.{moved}
 use Rattle.spec_calculus.specs.Bounds.{most_symbols}
-use Rattle.spec_clauses.specs.Fact.{Fact, Att, Mess, Tab, Ev, Mev, Bad, terms_of, clause_terms, fact_under, clause_under}
+use Rattle.spec_clauses.specs.Fact.{Fact, Att, Mess, Tab, Ev, Mev, Bad, terms_of, fact_under, clause_under}
 use Rattle.spec_clauses.specs.Fact as horn
-use Rattle.spec_clauses.specs.Diff.{diff_under}
-use Rattle.spec_clauses.specs.Variables.{IsBelow, AreBelow, constrained_variables}
+use Rattle.spec_clauses.specs.Diff.{Diff, diff_under}
+use Rattle.spec_clauses.specs.Variables.{IsBelow, AreBelow}
 use Rattle.spec_clauses.specs.Selection.{Selection, select, IsFirstOfLargest}
 use Rattle.spec_clauses.proofs.Lists.{all_first, all_second}
+use Rattle.spec_clauses.proofs.Parts.{terms_of-map}
 use Rattle.spec_clauses.proofs.Selection.{select-first_of_largest}
 use Rattle.term_tree.specs.Bank.{tree_at, AreKnown, Grows}
 use Rattle.term_tree.specs.declared.bank.Id.{Id}
 use Rattle.term_tree.proofs.BankLaws.{Grows_trans, Grows-length, tree_at-grows}
+use Rattle.clause_diffs.specs.Diffs.{DiffOf, diffs_at, NameDiffs}
+use Rattle.clause_diffs.proofs.Below.{diffs_below-grow}
+use Rattle.clause_diffs.proofs.Naming.{diffs_at-grow}
 use Rattle.clause_form.specs.declared.facts.Fact as declared
 use Rattle.clause_form.specs.Facts.{fact_of}
-use Rattle.clause_form.specs.Seen.{fact_at, clause_at, IsFactIn, AreFactsIn, IsClauseIn, NamesFact, NameFacts, NamesClause}
-use Rattle.clause_form.proofs.Flattening.{AreFactsIn-append}
+use Rattle.clause_form.specs.Fit.{HasLowVariables}
+use Rattle.clause_form.specs.Seen.{fact_at, clause_at, IsFactIn, AreFactsIn, IsClauseIn, NamesFact, NameFacts, NamesClause, IdClause}
+use Rattle.clause_form.proofs.Flattening.{AreFactsIn-append, clause_with}
 use Rattle.clause_form.proofs.Copying.{fact_at-grows, facts_at-grow, NamesFact-grows, NameFacts-grows, NamesClause-grows, clause_named}
-use Rattle.clause_resolve.specs.Low.{IsLow, AreLow, IsLowFact, AreLowFacts, HasLowVariables}
+use Rattle.clause_resolve.specs.Low.{IsLow, AreLow, IsLowFact, AreLowFacts, AreDiffsBelow, bound_from, AreBelowBound}
 use Rattle.clause_resolve.specs.Apart.{IsSelectedAt, IsApartIn, IsApart}
 use Rattle.clause_resolve.specs.declared.apart.Apart.{Apart}
+use Rattle.clause_resolve.proofs.Low.{moved_fact_below}
 
 -- a variable that stands in a term is below what all of its leaves are below
 mutual
@@ -101,9 +107,16 @@ facts_known_low all [] low = tt
 facts_known_low all (f ∷ fs) low = (fact_known_low all f low.0, facts_known_low all fs low.1)
 
 -- a known clause with low variables has low facts
-lows : (all : List Term) (ids : List Id) → AreKnown all ids → AreBelow most_symbols (map (tree_at all) ids) → AreLow all ids
+pub lows : (all : List Term) (ids : List Id) → AreKnown all ids → AreBelow most_symbols (map (tree_at all) ids) → AreLow all ids
 lows all [] known below = tt
 lows all (id ∷ ids) known below = (record { known = known.0; below = below.0 }, lows all ids known.1 below.1)
+
+below_lows : (all : List Term) (ids : List Id) → AreLow all ids → AreBelow most_symbols (map (tree_at all) ids)
+below_lows all [] low = tt
+below_lows all (id ∷ ids) low = let first = low.0 in (first.below, below_lows all ids low.1)
+
+pub fact_below : (all : List Term) (f : Fact Id) → IsLowFact all f → AreBelow most_symbols (terms_of (fact_at all f))
+fact_below all f low = subst (λ (ts : List Term). AreBelow most_symbols ts) (sym (terms_of-map (tree_at all) f)) (below_lows all (terms_of f) low)
 
 fact_lows : (all : List Term) (f : Fact Id) → IsFactIn all f → AreBelow most_symbols (terms_of (fact_at all f)) → IsLowFact all f
 fact_lows all (Att k t) known below = lows all (t ∷ []) known below
@@ -120,14 +133,11 @@ facts_lows all (f ∷ fs) known below = (
   facts_lows all fs known.1 (all_second (IsBelow most_symbols) (terms_of (fact_at all f)) (flat_map terms_of (map (fact_at all) fs)) below),
 )
 
-terms_low : (all : List Term) (c : horn.Clause Id) → HasLowVariables (clause_at all c) → AreBelow most_symbols (clause_terms (clause_at all c))
-terms_low all c low = all_first (IsBelow most_symbols) (clause_terms (clause_at all c)) (map Leaf (constrained_variables (clause_at all c))) low
+pub conclusion_low : (all : List Term) (c : IdClause) → IsClauseIn all c → HasLowVariables all c → IsLowFact all c.conclusion
+conclusion_low all c known low = fact_lows all c.conclusion known.conclusion (all_first (IsBelow most_symbols) (terms_of (fact_at all c.conclusion)) (flat_map terms_of (map (fact_at all) c.hypotheses)) low.facts)
 
-pub conclusion_low : (all : List Term) (c : horn.Clause Id) → IsClauseIn all c → HasLowVariables (clause_at all c) → IsLowFact all c.conclusion
-conclusion_low all c known low = fact_lows all c.conclusion known.conclusion (all_first (IsBelow most_symbols) (terms_of (fact_at all c.conclusion)) (flat_map terms_of (map (fact_at all) c.hypotheses)) (terms_low all c low))
-
-pub hypotheses_low : (all : List Term) (c : horn.Clause Id) → IsClauseIn all c → HasLowVariables (clause_at all c) → AreLowFacts all c.hypotheses
-hypotheses_low all c known low = facts_lows all c.hypotheses known.hypotheses (all_second (IsBelow most_symbols) (terms_of (fact_at all c.conclusion)) (flat_map terms_of (map (fact_at all) c.hypotheses)) (terms_low all c low))
+pub hypotheses_low : (all : List Term) (c : IdClause) → IsClauseIn all c → HasLowVariables all c → AreLowFacts all c.hypotheses
+hypotheses_low all c known low = facts_lows all c.hypotheses known.hypotheses (all_second (IsBelow most_symbols) (terms_of (fact_at all c.conclusion)) (flat_map terms_of (map (fact_at all) c.hypotheses)) low.facts)
 
 -- facts one after the other
 pub facts_after : (now next : List Term) (fs gs : List (Fact Id)) (ts us : List (Fact Term)) → Grows now next → NameFacts now fs ts → NameFacts next gs us → NameFacts next (fs ++ gs) (ts ++ us)
@@ -193,21 +203,30 @@ placed c at e = go (select c.hypotheses) refl e where
   go None is absent = cc
   go (Some s) is some = let same : s.index ≡ at = cc in placed_first c at s is (select-first_of_largest c.hypotheses s is) same
 
+-- what a clause is that is raised by the limit of size, with these hypotheses
+abbrev raised_clause : List (Fact Term) → horn.Clause Term → horn.Clause Term
+raised_clause others c = record { hypotheses = map (fact_under (moved most_symbols)) others; diffs = map (diff_under (moved most_symbols)) c.diffs; conclusion = fact_under (moved most_symbols) c.conclusion }
+
 -- the clause is set apart
-pub clause_apart : (first second third : List Term) (c : horn.Clause Term) (at : ℕ) (selected : declared.Fact) (hyps : List (Fact Id)) (concl : declared.Fact) (fact : Fact Term) (trees : List (Fact Term)) → IsSelectedAt c at → c.diffs ≡ [] → Grows first second → Grows second third
-    → NamesFact first (fact_of selected) (fact_under (moved most_symbols) fact) → fact ≡ get_or c.hypotheses at fact → NameFacts second hyps (map (fact_under (moved most_symbols)) trees) → trees ≡ take at c.hypotheses ++ drop (at + 1) c.hypotheses
-    → NamesFact third (fact_of concl) (fact_under (moved most_symbols) c.conclusion) → IsApart third c record { selected = selected; rest = record { hypotheses = hyps; diffs = []; conclusion = fact_of concl } }
-clause_apart first second third c at selected hyps concl fact trees place no_diffs one two fact_named fact_is hyps_named trees_are concl_named =
+clause_apart : (first second third fourth : List Term) (c : horn.Clause Term) (at : ℕ) (selected : declared.Fact) (hyps : List (Fact Id)) (ds : List (DiffOf Id)) (concl : declared.Fact) (fact : Fact Term) (trees : List (Fact Term)) → IsSelectedAt c at → Grows first second → Grows second third → Grows third fourth
+    → NamesFact first (fact_of selected) (fact_under (moved most_symbols) fact) → AreBelow most_symbols (terms_of fact) → fact ≡ get_or c.hypotheses at fact → NameFacts second hyps (map (fact_under (moved most_symbols)) trees) → trees ≡ take at c.hypotheses ++ drop (at + 1) c.hypotheses
+    → NameDiffs third ds (map (diff_under (moved most_symbols)) c.diffs) → AreDiffsBelow bound_from third ds → NamesFact fourth (fact_of concl) (fact_under (moved most_symbols) c.conclusion)
+    → IsApart fourth c record { selected = selected; rest = record { hypotheses = hyps; diffs = ds; conclusion = fact_of concl } }
+clause_apart first second third fourth c at selected hyps ds concl fact trees place one two three fact_named fact_is_below fact_is hyps_named trees_are ds_named ds_below concl_named =
     let p = placed c at place in
-    let later = NamesFact-grows first third (fact_of selected) (fact_under (moved most_symbols) fact) (Grows_trans first second third one two) fact_named in
+    let later = NamesFact-grows first fourth (fact_of selected) (fact_under (moved most_symbols) fact) (Grows_trans first third fourth (Grows_trans first second third one two) three) fact_named in
     let same : fact ≡ p.selection.fact = fact_is ∙ p.fact fact in
     let others : trees ≡ p.selection.others = trees_are ∙ p.others in
     record {
       at = p.selection;
       is_selected = p.is_selected;
-      selected = subst (λ (f : Fact Term). NamesFact third (fact_of selected) (fact_under (moved most_symbols) f)) same later;
-      rest = subst (λ (l : List (Fact Term)). NamesClause third record { hypotheses = hyps; diffs = []; conclusion = fact_of concl } record { hypotheses = map (fact_under (moved most_symbols)) l; diffs = map (diff_under (moved most_symbols)) c.diffs; conclusion = fact_under (moved most_symbols) c.conclusion }) others
-          (clause_named second third hyps (fact_of concl) (map (fact_under (moved most_symbols)) trees) record { hypotheses = map (fact_under (moved most_symbols)) trees; diffs = map (diff_under (moved most_symbols)) c.diffs; conclusion = fact_under (moved most_symbols) c.conclusion } two hyps_named refl concl_named (ap (map (diff_under (moved most_symbols))) no_diffs));
+      selected = subst (λ (f : Fact Term). NamesFact fourth (fact_of selected) (fact_under (moved most_symbols) f)) same later;
+      rest = subst (λ (l : List (Fact Term)). NamesClause fourth record { hypotheses = hyps; diffs = ds; conclusion = fact_of concl } (raised_clause l c)) others
+          (clause_named second third fourth hyps ds (fact_of concl) (map (fact_under (moved most_symbols)) trees) (map (diff_under (moved most_symbols)) c.diffs) (raised_clause trees c) two three hyps_named refl ds_named refl concl_named);
+      low = record {
+        fact = subst (λ (f : Fact Term). AreBelow bound_from (terms_of f)) (sym later.is) (moved_fact_below most_symbols most_symbols fact fact_is_below);
+        diffs = diffs_below-grow bound_from third fourth ds three ds_named.known ds_below;
+      };
     }
 
 -- and stays so
@@ -216,14 +235,18 @@ apart_grows old new unsolved apart grows was = record {
   at = was.at;
   is_selected = was.is_selected;
   selected = NamesFact-grows old new (fact_of apart.selected) (fact_under (moved most_symbols) was.at.fact) grows was.selected;
-  rest = NamesClause-grows old new apart.rest record { hypotheses = map (fact_under (moved most_symbols)) was.at.others; diffs = map (diff_under (moved most_symbols)) unsolved.diffs; conclusion = fact_under (moved most_symbols) unsolved.conclusion } grows was.rest;
+  rest = NamesClause-grows old new apart.rest (raised_clause was.at.others unsolved) grows was.rest;
+  low = record {
+    fact = subst (λ (f : Fact Term). AreBelow bound_from (terms_of f)) (sym (fact_at-grows old new (fact_of apart.selected) grows was.selected.known)) was.low.fact;
+    diffs = diffs_below-grow bound_from old new apart.rest.diffs grows was.rest.known.diffs was.low.diffs;
+  };
 }
 
 pub apart_known : (all : List Term) (unsolved : horn.Clause Term) (apart : Apart) → IsApart all unsolved apart → IsApartIn all apart
-apart_known all unsolved apart was = record { selected = was.selected.known; rest = was.rest.known }
+apart_known all unsolved apart was = record { selected = was.selected.known; rest = was.rest.known; low = was.low }
 
 -- a fact of a bank at the place of the selected one
-pub selected_within : (all : List Term) (c : horn.Clause Id) (fs : List declared.Fact) (at : ℕ) → map fact_of fs ≡ c.hypotheses → IsSelectedAt (clause_at all c) at → at < length fs
+pub selected_within : (all : List Term) (c : IdClause) (fs : List declared.Fact) (at : ℕ) → map fact_of fs ≡ c.hypotheses → IsSelectedAt (clause_at all c) at → at < length fs
 selected_within all c fs at is place =
     let p = placed (clause_at all c) at place in
     let within : at < length (map (fact_at all) c.hypotheses) = p.within in
@@ -234,29 +257,62 @@ got_map f [] i d e within = absurd (omega arith)
 got_map f (x ∷ xs) zero d e within = refl
 got_map f (x ∷ xs) (suc i) d e within = got_map f xs i d e (omega arith)
 
-pub selected_fact : (all : List Term) (c : horn.Clause Id) (fs : List declared.Fact) (at : ℕ) (f : declared.Fact) (d : Fact Term) → map fact_of fs ≡ c.hypotheses → at < length fs → f ≡ get_or fs at f → fact_at all (fact_of f) ≡ get_or (clause_at all c).hypotheses at d
+pub selected_fact : (all : List Term) (c : IdClause) (fs : List declared.Fact) (at : ℕ) (f : declared.Fact) (d : Fact Term) → map fact_of fs ≡ c.hypotheses → at < length fs → f ≡ get_or fs at f → fact_at all (fact_of f) ≡ get_or (clause_at all c).hypotheses at d
 selected_fact all c fs at f d is within e =
     ap (λ x. fact_at all (fact_of x)) e
     ∙ (sym (got_map (λ x. fact_at all x) (map fact_of fs) at (fact_of (get_or fs at f)) d (omega (arith, length-map fs fact_of)) ∙ ap (fact_at all) (got_map fact_of fs at f (fact_of (get_or fs at f)) within)) ∙ ap (λ l. get_or (map (fact_at all) l) at d) is)
 
--- the clause is set apart, step by step: the selected hypothesis, the others, and the conclusion
-pub clause_set_apart : (old first second third : List Term) (c : horn.Clause Id) (at : ℕ) (fs : List declared.Fact) (f : declared.Fact) (k : Fact Id) (selected : declared.Fact) (hyps : List (Fact Id)) (concl : declared.Fact) → map fact_of fs ≡ c.hypotheses → k ≡ c.conclusion → c.diffs ≡ []
-    → IsClauseIn old c → IsSelectedAt (clause_at old c) at → f ≡ get_or fs at f → Grows old first → Grows first second → Grows second third → NamesFact first (fact_of selected) (fact_under (moved most_symbols) (fact_at old (fact_of f)))
-    → NameFacts second hyps (map (fact_under (moved most_symbols)) (take at (map (fact_at first) (map fact_of fs)) ++ drop (at + 1) (map (fact_at first) (map fact_of fs)))) → NamesFact third (fact_of concl) (fact_under (moved most_symbols) (fact_at second k))
-    → IsApart third (clause_at old c) record { selected = selected; rest = record { hypotheses = hyps; diffs = []; conclusion = fact_of concl } }
-clause_set_apart old first second third c at fs f k selected hyps concl hyps_are concl_is no_diffs known place f_is one two three selected_named hyps_named concl_named =
-    let within = selected_within old c fs at hyps_are place in
-    let facts : map (fact_at first) (map fact_of fs) ≡ map (fact_at old) c.hypotheses = ap (map (fact_at first)) hyps_are ∙ facts_at-grow old first c.hypotheses one known.hypotheses in
-    let conclusion : fact_at second k ≡ fact_at old c.conclusion = ap (fact_at second) concl_is ∙ fact_at-grows old second c.conclusion (Grows_trans old first second one two) known.conclusion in
-    clause_apart first second third (clause_at old c) at selected hyps concl (fact_at old (fact_of f)) (take at (map (fact_at first) (map fact_of fs)) ++ drop (at + 1) (map (fact_at first) (map fact_of fs))) place no_diffs two three selected_named
-    (selected_fact old c fs at f (fact_at old (fact_of f)) hyps_are within f_is) hyps_named (ap (λ l. take at l ++ drop (at + 1) l) facts)
-    (subst (λ (t : Fact Term). NamesFact third (fact_of concl) (fact_under (moved most_symbols) t)) conclusion concl_named)
+-- The clause is set apart, step by step: the selected hypothesis, the others, the constraints and the conclusion.
+clause_set_apart : (old first second third fourth : List Term) (at : ℕ) (fs : List declared.Fact) (es : List (DiffOf Id)) (k : Fact Id) (f : declared.Fact) (selected : declared.Fact) (hyps : List (Fact Id)) (ds : List (DiffOf Id)) (concl : declared.Fact) → IsClauseIn old (clause_with (map fact_of fs) es k)
+    → IsSelectedAt (clause_at old (clause_with (map fact_of fs) es k)) at → f ≡ get_or fs at f → IsLowFact old (fact_of f) → Grows old first → Grows first second → Grows second third → Grows third fourth → NamesFact first (fact_of selected) (fact_under (moved most_symbols) (fact_at old (fact_of f)))
+    → NameFacts second hyps (map (fact_under (moved most_symbols)) (take at (map (fact_at first) (map fact_of fs)) ++ drop (at + 1) (map (fact_at first) (map fact_of fs)))) → NameDiffs third ds (map (diff_under (moved most_symbols)) (diffs_at second es)) → AreDiffsBelow bound_from third ds
+    → NamesFact fourth (fact_of concl) (fact_under (moved most_symbols) (fact_at third k)) → IsApart fourth (clause_at old (clause_with (map fact_of fs) es k)) record { selected = selected; rest = record { hypotheses = hyps; diffs = ds; conclusion = fact_of concl } }
+clause_set_apart old first second third fourth at fs es k f selected hyps ds concl known place f_is f_low one two three four selected_named hyps_named ds_named ds_below concl_named =
+    let c = clause_with (map fact_of fs) es k in
+    let within = selected_within old c fs at refl place in
+    let to_second = Grows_trans old first second one two in
+    let facts : map (fact_at first) (map fact_of fs) ≡ map (fact_at old) (map fact_of fs) = facts_at-grow old first (map fact_of fs) one known.hypotheses in
+    let diffs : diffs_at second es ≡ diffs_at old es = diffs_at-grow old second es to_second known.diffs in
+    let conclusion : fact_at third k ≡ fact_at old k = fact_at-grows old third k (Grows_trans old second third to_second three) known.conclusion in
+    clause_apart first second third fourth (clause_at old c) at selected hyps ds concl (fact_at old (fact_of f)) (take at (map (fact_at first) (map fact_of fs)) ++ drop (at + 1) (map (fact_at first) (map fact_of fs))) place two three four selected_named (fact_below old (fact_of f) f_low)
+    (selected_fact old c fs at f (fact_at old (fact_of f)) refl within f_is) hyps_named (ap (λ l. take at l ++ drop (at + 1) l) facts)
+    (subst (λ (l : List Diff). NameDiffs third ds (map (diff_under (moved most_symbols)) l)) diffs ds_named) ds_below
+    (subst (λ (t : Fact Term). NamesFact fourth (fact_of concl) (fact_under (moved most_symbols) t)) conclusion concl_named)
 
--- a clause set apart as a whole
-pub clause_moved : (old now next : List Term) (c : horn.Clause Id) (fs : List declared.Fact) (k : Fact Id) (hyps : List (Fact Id)) (concl : Fact Id) → map fact_of fs ≡ c.hypotheses → k ≡ c.conclusion → c.diffs ≡ [] → IsClauseIn old c → Grows old now → Grows now next
-    → NameFacts now hyps (map (fact_under (moved most_symbols)) (map (fact_at old) (map fact_of fs))) → NamesFact next concl (fact_under (moved most_symbols) (fact_at now k))
-    → NamesClause next record { hypotheses = hyps; diffs = []; conclusion = concl } (clause_under (moved most_symbols) (clause_at old c))
-clause_moved old now next c fs k hyps concl hyps_are concl_is no_diffs known grows later hyps_named concl_named =
-    let conclusion : fact_under (moved most_symbols) (fact_at now k) ≡ fact_under (moved most_symbols) (fact_at old c.conclusion) = ap (λ f. fact_under (moved most_symbols) (fact_at now f)) concl_is ∙ ap (fact_under (moved most_symbols)) (fact_at-grows old now c.conclusion grows known.conclusion) in
-    clause_named now next hyps concl (map (fact_under (moved most_symbols)) (map (fact_at old) (map fact_of fs))) (clause_under (moved most_symbols) (clause_at old c)) later hyps_named (ap (λ l. map (fact_under (moved most_symbols)) (map (fact_at old) l)) hyps_are)
-    (subst (λ (t : Fact Term). NamesFact next concl t) conclusion concl_named) (ap (map (diff_under (moved most_symbols))) no_diffs)
+-- the same where the clause is given
+pub clause_set_apart_as : (old first second third fourth : List Term) (c : IdClause) (at : ℕ) (fs : List declared.Fact) (es : List (DiffOf Id)) (k : Fact Id) (f : declared.Fact) (selected : declared.Fact) (hyps : List (Fact Id)) (ds : List (DiffOf Id)) (concl : declared.Fact) → clause_with (map fact_of fs) es k ≡ c → IsClauseIn old c
+    → IsSelectedAt (clause_at old c) at → f ≡ get_or fs at f → IsLowFact old (fact_of f) → Grows old first → Grows first second → Grows second third → Grows third fourth → NamesFact first (fact_of selected) (fact_under (moved most_symbols) (fact_at old (fact_of f)))
+    → NameFacts second hyps (map (fact_under (moved most_symbols)) (take at (map (fact_at first) (map fact_of fs)) ++ drop (at + 1) (map (fact_at first) (map fact_of fs)))) → NameDiffs third ds (map (diff_under (moved most_symbols)) (diffs_at second es)) → AreDiffsBelow bound_from third ds
+    → NamesFact fourth (fact_of concl) (fact_under (moved most_symbols) (fact_at third k)) → IsApart fourth (clause_at old c) record { selected = selected; rest = record { hypotheses = hyps; diffs = ds; conclusion = fact_of concl } }
+clause_set_apart_as old first second third fourth c at fs es k f selected hyps ds concl is known place f_is f_low one two three four selected_named hyps_named ds_named ds_below concl_named =
+    subst (λ (x : IdClause). IsApart fourth (clause_at old x) record { selected = selected; rest = record { hypotheses = hyps; diffs = ds; conclusion = fact_of concl } }) is
+    (clause_set_apart old first second third fourth at fs es k f selected hyps ds concl (subst (λ (x : IdClause). IsClauseIn old x) (sym is) known) (subst (λ (x : IdClause). IsSelectedAt (clause_at old x) at) (sym is) place)
+    f_is f_low one two three four selected_named hyps_named ds_named ds_below concl_named)
+
+-- A clause set apart as a whole.
+pub record IsClauseMoved (old new : List Term) (c made : IdClause) : Type 0 where
+  pub names : NamesClause new made (clause_under (moved most_symbols) (clause_at old c))
+  pub below : AreBelowBound new made.conclusion made.diffs
+
+clause_moved : (old first second third : List Term) (c : IdClause) (hyps : List (Fact Id)) (ds : List (DiffOf Id)) (concl : Fact Id) → IsClauseIn old c → IsLowFact old c.conclusion → Grows old first → Grows first second → Grows second third → NameFacts first hyps (map (fact_under (moved most_symbols)) (map (fact_at old) c.hypotheses))
+    → NameDiffs second ds (map (diff_under (moved most_symbols)) (diffs_at first c.diffs)) → AreDiffsBelow bound_from second ds → NamesFact third concl (fact_under (moved most_symbols) (fact_at second c.conclusion)) → IsClauseMoved old third c (clause_with hyps ds concl)
+clause_moved old first second third c hyps ds concl known low one two three hyps_named ds_named ds_below concl_named =
+    let diffs : diffs_at first c.diffs ≡ diffs_at old c.diffs = diffs_at-grow old first c.diffs one known.diffs in
+    let conclusion : fact_at second c.conclusion ≡ fact_at old c.conclusion = fact_at-grows old second c.conclusion (Grows_trans old first second one two) known.conclusion in
+    let named = subst (λ (t : Fact Term). NamesFact third concl (fact_under (moved most_symbols) t)) conclusion concl_named in
+    record {
+      names = clause_named first second third hyps ds concl (map (fact_under (moved most_symbols)) (map (fact_at old) c.hypotheses)) (map (diff_under (moved most_symbols)) (diffs_at first c.diffs)) (clause_under (moved most_symbols) (clause_at old c)) two three
+          hyps_named refl ds_named (ap (map (diff_under (moved most_symbols))) diffs) named;
+      below = record {
+        fact = subst (λ (t : Fact Term). AreBelow bound_from (terms_of t)) (sym named.is) (moved_fact_below most_symbols most_symbols (fact_at old c.conclusion) (fact_below old c.conclusion low));
+        diffs = diffs_below-grow bound_from second third ds three ds_named.known ds_below;
+      };
+    }
+
+-- the same where the parts of the clause are given
+pub clause_moved_as : (old first second third : List Term) (c : IdClause) (h : List (Fact Id)) (es : List (DiffOf Id)) (k : Fact Id) (hyps : List (Fact Id)) (ds : List (DiffOf Id)) (concl : Fact Id) → clause_with h es k ≡ c → IsClauseIn old c → HasLowVariables old c → Grows old first → Grows first second → Grows second third
+    → NameFacts first hyps (map (fact_under (moved most_symbols)) (map (fact_at old) h)) → NameDiffs second ds (map (diff_under (moved most_symbols)) (diffs_at first es)) → AreDiffsBelow bound_from second ds → NamesFact third concl (fact_under (moved most_symbols) (fact_at second k)) → IsClauseMoved old third c (clause_with hyps ds concl)
+clause_moved_as old first second third c h es k hyps ds concl is known low one two three hyps_named ds_named ds_below concl_named =
+    let e = clause_with h es k in
+    subst (λ (x : IdClause). IsClauseMoved old third x (clause_with hyps ds concl)) is
+    (clause_moved old first second third e hyps ds concl (subst (λ (x : IdClause). IsClauseIn old x) (sym is) known) (subst (λ (x : IdClause). IsLowFact old x.conclusion) (sym is) (conclusion_low old c known low)) one two three hyps_named ds_named ds_below concl_named)

@@ -22,18 +22,18 @@ use Rattle.spec_clauses.proofs.Apart.{mix, mix-high, mix-clause}
 use Rattle.spec_clauses.proofs.Selection.{select-first_of_largest}
 use Rattle.spec_clauses.proofs.Answers.{no_unifier}
 use Rattle.term_tree.specs.declared.bank.Id.{Id}
+use Rattle.clause_diffs.specs.Diffs.{diffs_at}
 use Rattle.clause_form.specs.declared.facts.Fact as declared
 use Rattle.clause_form.specs.Facts.{fact_of}
-use Rattle.clause_form.specs.Seen.{fact_at, clause_at, AreFactsIn, IsClauseIn}
+use Rattle.clause_form.specs.Seen.{fact_at, clause_at, AreFactsIn, IsClauseIn, IdClause}
 use Rattle.clause_form.proofs.Flattening.{AreFactsIn-append}
 use Rattle.clause_resolve.specs.declared.resolving.Resolved.{Resolved}
 use Rattle.clause_resolve.specs.Meeting.{IsMguOfFacts, HaveNoUnifier}
-use Rattle.clause_resolve.specs.Low.{HasLowVariables}
 use Rattle.clause_resolve.specs.Apart.{IsSelectedAt, IsMoved}
 use Rattle.clause_resolve.specs.Joining.{together, without, IsFoundOf}
 use Rattle.clause_resolve.specs.Answers.{Gives, IsAnswerOf}
 use Rattle.clause_resolve.proofs.Shifting.{IsPlaced, placed, selected_fact}
-use Rattle.clause_resolve.proofs.Answering.{together_known, found_answers}
+use Rattle.clause_resolve.proofs.Answering.{together_known, together_at, found_answers}
 use Rattle.clause_resolve.proofs.Removing.{map_remove}
 
 -- variables below n, and those from there to n + n, trade places
@@ -146,12 +146,12 @@ swapped_resolvent n solved unsolved at s low unsolved_low selected mgu =
     }
 
 -- In a bank: the clause without its selected hypothesis,
-without_at : (all : List Term) (unsolved : Clause Id) (at : ℕ) (p : IsPlaced (clause_at all unsolved) at) → clause_at all (without at unsolved) ≡ record { hypotheses = p.selection.others; diffs = unsolved.diffs; conclusion = (clause_at all unsolved).conclusion }
+without_at : (all : List Term) (unsolved : IdClause) (at : ℕ) (p : IsPlaced (clause_at all unsolved) at) → clause_at all (without at unsolved) ≡ record { hypotheses = p.selection.others; diffs = (clause_at all unsolved).diffs; conclusion = (clause_at all unsolved).conclusion }
 without_at all unsolved at p =
     let next : suc at ≡ at + 1 = omega arith in
     let hyps = map (fact_at all) unsolved.hypotheses in
     let parts : map (fact_at all) (remove unsolved.hypotheses at) ≡ take at hyps ++ drop (at + 1) hyps = map_remove (fact_at all) unsolved.hypotheses at ∙ ap (λ n. take at hyps ++ drop n hyps) next in
-    ap (λ l. record { hypotheses = l; diffs = unsolved.diffs; conclusion = fact_at all unsolved.conclusion }) (parts ∙ p.others)
+    ap (λ l. record { hypotheses = l; diffs = diffs_at all unsolved.diffs; conclusion = fact_at all unsolved.conclusion }) (parts ∙ p.others)
 
 -- whose ids are known,
 known_take : (all : List Term) (n : ℕ) (fs : List (Fact Id)) → AreFactsIn all fs → AreFactsIn all (take n fs)
@@ -164,24 +164,22 @@ known_drop all zero fs known = known
 known_drop all (suc n) [] known = tt
 known_drop all (suc n) (f ∷ fs) known = known_drop all n fs known.1
 
-pub together_without_known : (all : List Term) (moved_clause unsolved : Clause Id) (at : ℕ) → IsClauseIn all moved_clause → IsClauseIn all unsolved → IsClauseIn all (together moved_clause (without at unsolved))
+pub together_without_known : (all : List Term) (moved_clause unsolved : IdClause) (at : ℕ) → IsClauseIn all moved_clause → IsClauseIn all unsolved → IsClauseIn all (together moved_clause (without at unsolved))
 together_without_known all moved_clause unsolved at first second =
     together_known all moved_clause (without at unsolved) first record {
       hypotheses = AreFactsIn-append all (take at unsolved.hypotheses) (drop (suc at) unsolved.hypotheses) (known_take all at unsolved.hypotheses second.hypotheses) (known_drop all (suc at) unsolved.hypotheses second.hypotheses);
+      diffs = second.diffs;
       conclusion = second.conclusion;
     }
 
 -- the raised solved clause with it,
-moved_together : (all : List Term) (solved : Clause Term) (moved_clause unsolved : Clause Id) (at : ℕ) (p : IsPlaced (clause_at all unsolved) at) → IsMoved all solved moved_clause
-    → clause_at all (together moved_clause (without at unsolved)) ≡ together (clause_under (moved most_symbols) solved) record { hypotheses = p.selection.others; diffs = unsolved.diffs; conclusion = (clause_at all unsolved).conclusion }
-moved_together all solved moved_clause unsolved at p m =
-    let split : clause_at all (together moved_clause (without at unsolved)) ≡ together (clause_at all moved_clause) (clause_at all (without at unsolved)) =
-    ap (λ l. record { hypotheses = l; diffs = moved_clause.diffs ++ unsolved.diffs; conclusion = fact_at all unsolved.conclusion }) (map-append (fact_at all) moved_clause.hypotheses (remove unsolved.hypotheses at)) in
-    split ∙ (λ i. together (m.names.is i) (without_at all unsolved at p i))
+pub moved_together : (all : List Term) (solved : Clause Term) (moved_clause unsolved : IdClause) (at : ℕ) (p : IsPlaced (clause_at all unsolved) at) → IsMoved all solved moved_clause
+    → clause_at all (together moved_clause (without at unsolved)) ≡ together (clause_under (moved most_symbols) solved) record { hypotheses = p.selection.others; diffs = (clause_at all unsolved).diffs; conclusion = (clause_at all unsolved).conclusion }
+moved_together all solved moved_clause unsolved at p m = together_at all moved_clause (without at unsolved) ∙ (λ i. together (m.names.is i) (without_at all unsolved at p i))
 
 -- and so the pair's answer: what was found,
-pub moved_result : (all new : List Term) (solved : Clause Term) (moved_clause unsolved made : Clause Id) (at : ℕ) (k : Fact Id) (facts : List declared.Fact) (f : declared.Fact) (s : Subst) (r : Result Resolved AllocError) → k ≡ moved_clause.conclusion → map fact_of facts ≡ unsolved.hypotheses → at < length facts → f ≡ get_or facts at f
-    → made ≡ together moved_clause (without at unsolved) → HasLowVariables (clause_at all unsolved) → IsSelectedAt (clause_at all unsolved) at → IsMguOfFacts (fact_at all k) (fact_at all (fact_of f)) s → IfOk r (λ found. IsFoundOf new (clause_under s (clause_at all made)) found) → IsMoved all solved moved_clause
+pub moved_result : (all new : List Term) (solved : Clause Term) (moved_clause unsolved made : IdClause) (at : ℕ) (k : Fact Id) (facts : List declared.Fact) (f : declared.Fact) (s : Subst) (r : Result Resolved AllocError) → k ≡ moved_clause.conclusion → map fact_of facts ≡ unsolved.hypotheses → at < length facts → f ≡ get_or facts at f
+    → made ≡ together moved_clause (without at unsolved) → AreBelow most_symbols (all_terms (clause_at all unsolved)) → IsSelectedAt (clause_at all unsolved) at → IsMguOfFacts (fact_at all k) (fact_at all (fact_of f)) s → IfOk r (λ found. IsFoundOf new (clause_under s (clause_at all made)) found) → IsMoved all solved moved_clause
     → IfOk r (λ found. IsAnswerOf new solved (clause_at all unsolved) found)
 moved_result all new solved moved_clause unsolved made at k facts f s (Err failed) k_is hyps_are within f_is e low selected mgu found m = tt
 moved_result all new solved moved_clause unsolved made at k facts f s (Ok answer_found) k_is hyps_are within f_is e low selected mgu found m =
@@ -190,12 +188,12 @@ moved_result all new solved moved_clause unsolved made at k facts f s (Ok answer
     let fact : fact_at all (fact_of f) ≡ p.selection.fact = selected_fact all unsolved facts at f p.selection.fact hyps_are within f_is ∙ p.fact p.selection.fact in
     let mgu_is : IsMguOfFacts (fact_under (moved most_symbols) solved.conclusion) p.selection.fact s = subst (λ (h : Fact Term). IsMguOfFacts (fact_under (moved most_symbols) solved.conclusion) h s) fact (subst (λ (h : Fact Term). IsMguOfFacts h (fact_at all (fact_of f)) s) concl mgu) in
     let whole = ap (clause_at all) e ∙ moved_together all solved moved_clause unsolved at p m in
-    found_answers new solved (clause_at all unsolved) (clause_under s (together (clause_under (moved most_symbols) solved) record { hypotheses = p.selection.others; diffs = unsolved.diffs; conclusion = (clause_at all unsolved).conclusion })) p.selection answer_found p.is_selected
+    found_answers new solved (clause_at all unsolved) (clause_under s (together (clause_under (moved most_symbols) solved) record { hypotheses = p.selection.others; diffs = (clause_at all unsolved).diffs; conclusion = (clause_at all unsolved).conclusion })) p.selection answer_found p.is_selected
     (swapped_resolvent most_symbols solved (clause_at all unsolved) p.selection s m.low low p.is_selected mgu_is) (subst (λ (c : Clause Term). IsFoundOf new (clause_under s c) answer_found) whole found)
 
 -- or that nothing unifies them.
-pub moved_unanswered : (all : List Term) (solved : Clause Term) (moved_clause unsolved : Clause Id) (at : ℕ) (k : Fact Id) (facts : List declared.Fact) (f : declared.Fact) → k ≡ moved_clause.conclusion → map fact_of facts ≡ unsolved.hypotheses → at < length facts → f ≡ get_or facts at f
-    → HasLowVariables (clause_at all unsolved) → IsSelectedAt (clause_at all unsolved) at → HaveNoUnifier (fact_at all k) (fact_at all (fact_of f)) → IsMoved all solved moved_clause → Gives solved (clause_at all unsolved) answer.NoUnifier
+pub moved_unanswered : (all : List Term) (solved : Clause Term) (moved_clause unsolved : IdClause) (at : ℕ) (k : Fact Id) (facts : List declared.Fact) (f : declared.Fact) → k ≡ moved_clause.conclusion → map fact_of facts ≡ unsolved.hypotheses → at < length facts → f ≡ get_or facts at f
+    → AreBelow most_symbols (all_terms (clause_at all unsolved)) → IsSelectedAt (clause_at all unsolved) at → HaveNoUnifier (fact_at all k) (fact_at all (fact_of f)) → IsMoved all solved moved_clause → Gives solved (clause_at all unsolved) answer.NoUnifier
 moved_unanswered all solved moved_clause unsolved at k facts f k_is hyps_are within f_is low selected never m =
     let p = placed (clause_at all unsolved) at selected in
     let concl : fact_at all k ≡ fact_under (moved most_symbols) solved.conclusion = ap (fact_at all) k_is ∙ ap (λ (c : Clause Term). c.conclusion) m.names.is in

@@ -5,6 +5,7 @@ use Rattle.spec_clauses.specs.Fact as horn
 use Rattle.spec_clauses.specs.Selection.{Selection, select}
 use Rattle.spec_clauses.specs.Resolvents.{Answer, Resolves}
 use Rattle.spec_clauses.specs.Resolvents as answer
+use Rattle.clause_form.specs.Fit.{AreLowWithinLimit}
 use Rattle.clause_form.specs.Seen.{NameClauses}
 use Rattle.clause_resolve.specs.declared.resolving.Resolved.{Resolved}
 use Rattle.clause_resolve.specs.declared.resolving.Resolved.TheVariants.{NoUnifier, Large, Clauses}
@@ -26,3 +27,9 @@ abbrev pub LeavesBank : List Term → List Term → Resolved → Type 0
 LeavesBank old new NoUnifier = new ≡ old
 LeavesBank old new Large = new ≡ old
 LeavesBank old new (Clauses cs) = Unit {0}
+
+-- the variables of the clauses that were found, if any, have low numbers, where these are within the limit of size
+abbrev pub AreFoundLow : List Term → Resolved → Type 0
+AreFoundLow all NoUnifier = Unit {0}
+AreFoundLow all Large = Unit {0}
+AreFoundLow all (Clauses cs) = AreLowWithinLimit all cs

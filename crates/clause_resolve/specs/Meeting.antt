@@ -1,16 +1,8 @@
--- Unification of facts, and of their terms.
-use Rattle.std.specs.Prelude.{◌≡◌, List}
+-- Unification of facts.
+use Rattle.std.specs.Prelude.{◌≡◌}
 use Rattle.spec_terms.specs.Term.{Term, Subst}
-use Rattle.spec_terms.specs.Unifier.{UnifiesAll, IsMostGeneral}
+use Rattle.spec_terms.specs.Unifier.{IsMostGeneral}
 use Rattle.spec_clauses.specs.Fact.{Fact, fact_under}
-
--- s is a most general unifier of the two lists of terms, item by item
-abbrev pub IsMguOfAll : List Term → List Term → Subst → Type 0
-IsMguOfAll xs ys s = IsMostGeneral (λ r. UnifiesAll r xs ys) s
-
--- nothing unifies the two lists
-abbrev pub HaveNoUnifierOfAll : List Term → List Term → Type 0
-HaveNoUnifierOfAll xs ys = (s : Subst) → UnifiesAll s xs ys → ⊥
 
 -- s is a most general unifier of the two facts
 abbrev pub IsMguOfFacts : Fact Term → Fact Term → Subst → Type 0

@@ -1,17 +1,21 @@
 //! An unsolved clause whose variables are set apart from those of all solved clauses, by one offset.
 
-ghost use Rattle.std.specs.Prelude.{◌≡◌, ◌<◌, ◌++◌, ◌+◌, length, map, take, drop, IfOk, OnErr};
+ghost use Rattle.std.specs.Prelude.{◌≡◌, ℕ, ◌<◌, ◌≤◌, ◌++◌, ◌+◌, length, map, take, drop, IfOk, OnErr};
 ghost use Rattle.spec_trees.specs.Tree.{bind};
 ghost use Rattle.spec_terms.specs.Unifier.{moved};
 ghost use Rattle.spec_calculus.specs.Bounds.{most_symbols};
+ghost use Rattle.spec_clauses.specs.Diff.{diff_under};
 ghost use Rattle.spec_clauses.specs.Fact.{fact_under, clause_under};
 ghost use Rattle.term_tree.specs.Bank.{tree_at, Grows};
+ghost use Rattle.clause_diffs.specs.Diffs.{diff_at, diffs_at, IsDiffIn, AreDiffsIn, AreDiffLeavesBelow, NameTerms, NamesDiff, NameDiffs};
 ghost use Rattle.clause_form.specs.Facts.{fact_of};
-ghost use Rattle.clause_form.specs.Seen.{fact_at, clause_at, IsClauseIn, NameTerms, NamesFact, NameFacts, NamesClause};
-ghost use Rattle.clause_resolve.specs.Low.{AreLow, IsLowFact, AreLowFacts, HasLowVariables};
+ghost use Rattle.clause_form.specs.Fit.{HasLowVariables};
+ghost use Rattle.clause_form.specs.Seen.{fact_at, clause_at, IsClauseIn, NamesFact, NameFacts, NamesClause};
+ghost use Rattle.clause_resolve.specs.Low.{AreLow, IsLowFact, AreLowFacts, AreDiffsBelow, bound_from, AreBelowBound};
 ghost use Rattle.clause_resolve.specs.Apart.{IsSelectedAt, IsApart};
 
-use clause_form::{Clause, Fact, Facts, Ids};
+use clause_diffs::{Diff, Diffs, Ids};
+use clause_form::{Clause, Fact, Facts};
 use limits::MOST_SYMBOLS;
 use std::alloc::{AllocError, Global};
 use term_tree::{Bank, Id};
@@ -95,6 +99,50 @@ fn shifted_others<B: Bank>(
     Ok(made)
 }
 
+/// The number from which on a constraint that is set apart binds variables, where its variables are below the limit of
+/// size.
+fn raised(first: u32) -> u32
+    ensures own { (x : ℕ) → x < most_symbols → x < first → x + most_symbols < result }
+    ensures bound { (x : ℕ) → x < most_symbols → first ≤ x → result ≡ first + most_symbols }
+{
+    first.saturating_add(OFFSET)
+}
+
+/// A constraint set apart, with the variables that it binds. On `Err` the bank may have grown.
+fn shifted_diff<B: Bank>(alloc: Global, bank: &mut B, diff: &Diff) -> Result<Diff, AllocError>
+    requires known { IsDiffIn (B.trees bank.old) diff.now }
+    requires low { AreDiffLeavesBelow most_symbols (B.trees bank.old) diff.now }
+    ensures grows { Grows (B.trees bank.old) (B.trees bank.new) }
+    ensures names { IfOk result (λ made. NamesDiff (B.trees bank.new) made
+        (diff_under (moved most_symbols) (diff_at (B.trees bank.old) diff.now))) }
+    ensures low { IfOk result (λ made. AreDiffLeavesBelow bound_from (B.trees bank.new) made) }
+{
+    let left = shifted_terms(alloc, bank, &diff.left.items)?;
+    let right = shifted_terms(alloc, bank, &diff.right.items)?;
+    Ok(Diff {
+        first: raised(diff.first),
+        left,
+        right,
+    })
+}
+
+/// The constraints set apart. On `Err` the bank may have grown.
+fn shifted_diffs<B: Bank>(alloc: Global, bank: &mut B, diffs: &[Diff]) -> Result<Diffs, AllocError>
+    requires known { AreDiffsIn (B.trees bank.old) diffs.now }
+    requires low { AreDiffsBelow most_symbols (B.trees bank.old) diffs.now }
+    ensures grows { Grows (B.trees bank.old) (B.trees bank.new) }
+    ensures names { IfOk result (λ made. NameDiffs (B.trees bank.new) made
+        (map (diff_under (moved most_symbols)) (diffs_at (B.trees bank.old) diffs.now))) }
+    ensures low { IfOk result (λ made. AreDiffsBelow bound_from (B.trees bank.new) made) }
+{
+    let mut items = Vec::with_capacity(alloc, diffs.len())?;
+    'each: for diff in diffs {
+        let next = shifted_diff(alloc, bank, diff)?;
+        items.push(next)?;
+    }
+    Ok(Diffs { items })
+}
+
 /// The clause with its selected hypothesis, set apart. On `Err` the bank may have grown.
 fn shifted_clause<B: Bank>(
     alloc: Global,
@@ -103,7 +151,7 @@ fn shifted_clause<B: Bank>(
     at: usize,
 ) -> Result<Apart, AllocError>
     requires known { IsClauseIn (B.trees bank.old) unsolved.now }
-    requires low { HasLowVariables (clause_at (B.trees bank.old) unsolved.now) }
+    requires low { HasLowVariables (B.trees bank.old) unsolved.now }
     requires selected { IsSelectedAt (clause_at (B.trees bank.old) unsolved.now) at }
     ensures grows { Grows (B.trees bank.old) (B.trees bank.new) }
     ensures apart { IfOk result (λ made. IsApart (B.trees bank.new)
@@ -112,10 +160,11 @@ fn shifted_clause<B: Bank>(
     let facts = unsolved.hyps.items.as_slice();
     let selected = shifted_fact(alloc, bank, &facts[at])?;
     let hyps = shifted_others(alloc, bank, facts, at)?;
+    let diffs = shifted_diffs(alloc, bank, &unsolved.diffs.items)?;
     let concl = shifted_fact(alloc, bank, &unsolved.concl)?;
     Ok(Apart {
         selected,
-        rest: Clause { hyps, concl },
+        rest: Clause { hyps, diffs, concl },
     })
 }
 
@@ -127,14 +176,17 @@ pub(crate) fn moved_clause<B: Bank>(
     clause: &Clause,
 ) -> Result<Clause, AllocError>
     requires known { IsClauseIn (B.trees bank.old) clause.now }
-    requires low { HasLowVariables (clause_at (B.trees bank.old) clause.now) }
+    requires low { HasLowVariables (B.trees bank.old) clause.now }
     ensures grows { Grows (B.trees bank.old) (B.trees bank.new) }
     ensures names { IfOk result (λ made. NamesClause (B.trees bank.new) made
         (clause_under (moved most_symbols) (clause_at (B.trees bank.old) clause.now))) }
+    ensures low { IfOk result (λ made.
+        AreBelowBound (B.trees bank.new) made.conclusion made.diffs) }
 {
     let hyps = shifted_facts(alloc, bank, &clause.hyps.items)?;
+    let diffs = shifted_diffs(alloc, bank, &clause.diffs.items)?;
     let concl = shifted_fact(alloc, bank, &clause.concl)?;
-    Ok(Clause { hyps, concl })
+    Ok(Clause { hyps, diffs, concl })
 }
 
 /// An unsolved clause, whose hypothesis at `at` is selected, set apart from all clauses with variables
@@ -148,7 +200,7 @@ pub fn set_apart<B: Bank>(
     at: usize,
 ) -> Result<Apart, AllocError>
     requires known { IsClauseIn (B.trees bank.old) unsolved.now }
-    requires low { HasLowVariables (clause_at (B.trees bank.old) unsolved.now) }
+    requires low { HasLowVariables (B.trees bank.old) unsolved.now }
     requires selected { IsSelectedAt (clause_at (B.trees bank.old) unsolved.now) at }
     ensures grows { Grows (B.trees bank.old) (B.trees bank.new) }
     ensures apart { IfOk result (λ made. IsApart (B.trees bank.new)

@@ -1,60 +1,29 @@
 //! Clauses under the bindings of a unifier, as long as they are within the limit of size: what is left of the
 //! limit is counted before each term is built.
 
-ghost use Rattle.std.specs.Prelude.{◌≡◌, ◌+◌, ◌<◌, ◌≤◌, length, map, MatchResult};
+ghost use Rattle.std.specs.Prelude.{◌≡◌, ◌+◌, ◌<◌, ◌≤◌, map, MatchResult};
 ghost use Rattle.spec_trees.specs.Tree.{bind, size};
 ghost use Rattle.spec_terms.specs.Binding.{resolved};
 ghost use Rattle.spec_calculus.specs.Bounds.{most_symbols};
 ghost use Rattle.spec_clauses.specs.Fact.{total, fact_size, clause_size, fact_under, clause_under};
 ghost use Rattle.spec_clauses.specs.Limits.{IsWithinLimit};
-ghost use Rattle.term_tree.specs.Bank.{tree_at, AreKnown, Names, Grows};
+ghost use Rattle.term_tree.specs.Bank.{tree_at, AreKnown, Grows};
 ghost use Rattle.unify_match.specs.Seen.{seen, IsReady};
+ghost use Rattle.clause_diffs.specs.Diffs.{NameTerms};
 ghost use Rattle.clause_form.specs.Facts.{fact_of};
-ghost use Rattle.clause_form.specs.Seen.{fact_at, clause_at, IsFactIn, AreFactsIn, IsClauseIn, NameTerms, NamesFact, NameFacts, NamesClause};
+ghost use Rattle.clause_form.specs.Seen.{fact_at, clause_at, IsFactIn, AreFactsIn, IsClauseIn, NamesFact, NameFacts, NamesClause};
+ghost use Rattle.clause_resolve.specs.Low.{bound_from, AreDiffsBelow, KeepsBelow};
 ghost use Rattle.clause_resolve.specs.Stops.{StopsAt};
 
+use crate::lifting::applied_diffs;
+use crate::spending::{applied, spend};
 use crate::stop::Stop;
-use clause_form::{Clause, Fact, Facts, Ids, head_symbols};
+use clause_diffs::Ids;
+use clause_form::{Clause, Fact, Facts, head_symbols};
 use limits::MOST_SYMBOLS;
 use std::alloc::Global;
 use term_tree::{Bank, Id};
-use unify_match::{Binds, apply_bound};
-
-/// Takes symbols from those that are left.
-fn spend(symbols: u64, left: &mut u64) -> Result<(), Stop>
-    ensures at_most { left.new ≤ left.old }
-    ensures outcome { MatchResult result
-        (λ _. left.new + symbols ≡ left.old)
-        (λ stop. StopsAt stop (left.old < symbols)) }
-{
-    if *left < symbols {
-        return Err(Stop::Large);
-    }
-    *left -= symbols;
-    Ok(())
-}
-
-/// A term under the bindings. On `Err` the bank may have grown.
-fn applied<B: Bank>(bank: &mut B, binds: &Binds, id: Id, left: &mut u64) -> Result<Id, Stop>
-    requires known { id.index < length (B.trees bank.old) }
-    requires ready { IsReady (B.trees bank.old) binds.now.pairs }
-    requires small { left.old ≤ most_symbols }
-    ensures grows { Grows (B.trees bank.old) (B.trees bank.new) }
-    ensures at_most { left.new ≤ left.old }
-    ensures outcome { let term = bind (resolved (seen (B.trees bank.old) binds.now.pairs))
-        (tree_at (B.trees bank.old) id) in
-        MatchResult result
-        (λ made. Names (B.trees bank.new) made term × (left.new + size term ≡ left.old))
-        (λ stop. StopsAt stop (left.old < size term)) }
-{
-    match apply_bound(bank, id, binds, *left)? {
-        Some(made) => {
-            *left -= bank.size(made);
-            Ok(made)
-        }
-        None => Err(Stop::Large),
-    }
-}
+use unify_match::Binds;
 
 /// The terms under the bindings. On `Err` the bank may have grown.
 fn applied_terms<B: Bank>(
@@ -150,6 +119,9 @@ pub(crate) fn applied_clause<B: Bank>(
 ) -> Result<Clause, Stop>
     requires known { IsClauseIn (B.trees bank.old) clause.now }
     requires ready { IsReady (B.trees bank.old) binds.now.pairs }
+    requires low { AreDiffsBelow bound_from (B.trees bank.old) clause.now.diffs }
+    requires kept { KeepsBelow bound_from
+        (resolved (seen (B.trees bank.old) binds.now.pairs)) }
     ensures grows { Grows (B.trees bank.old) (B.trees bank.new) }
     ensures outcome { let tree = clause_under (resolved (seen (B.trees bank.old) binds.now.pairs))
         (clause_at (B.trees bank.old) clause.now) in
@@ -160,5 +132,6 @@ pub(crate) fn applied_clause<B: Bank>(
     let mut left = MOST_SYMBOLS;
     let concl = applied_fact(alloc, bank, binds, &clause.concl, &mut left)?;
     let hyps = applied_facts(alloc, bank, binds, &clause.hyps.items, &mut left)?;
-    Ok(Clause { hyps, concl })
+    let diffs = applied_diffs(alloc, bank, binds, &clause.diffs.items, &mut left)?;
+    Ok(Clause { hyps, diffs, concl })
 }

@@ -4,20 +4,23 @@
 
 ghost use Rattle.std.specs.Prelude.{List};
 ghost use Rattle.spec_terms.specs.Term.{Term};
+ghost use Rattle.spec_calculus.specs.Bounds.{most_symbols};
 ghost use Rattle.spec_clauses.specs.Fact.{Clause as ClauseOf};
 ghost use Rattle.spec_clauses.specs.Norm.{IsNormal};
 ghost use Rattle.spec_clauses.specs.Limits.{IsWithinLimit};
+ghost use Rattle.spec_clauses.specs.Variables.{AreBelow, all_terms};
 ghost use Rattle.term_tree.specs.Bank.{Grows};
-ghost use Rattle.clause_resolve.specs.Low.{HasLowVariables};
 ghost use Rattle.clause_resolve.specs.declared.apart.Apart.{Apart};
 ghost use Rattle.clause_resolve.specs.Apart.{IsApartIn, IsApart};
 
 mod apart;
 mod applying;
 mod clash;
+mod lifting;
 mod meeting;
 mod parts;
 mod resolving;
+mod spending;
 mod stop;
 
 pub use crate::apart::{Apart, set_apart};
@@ -32,7 +35,8 @@ pub fn what_is_apart_outlasts_growth()
         IsApart all unsolved apart → IsApartIn all apart }
 {}
 
-/// A clause that is its own norm within the limit of size has variables below the limit.
+/// A clause that is its own norm within the limit of size has variables below the limit, those in its constraints too.
 pub fn normal_clauses_have_low_variables()
-    ensures { (c : ClauseOf Term) → IsNormal c → IsWithinLimit c → HasLowVariables c }
+    ensures { (c : ClauseOf Term) → IsNormal c → IsWithinLimit c →
+        AreBelow most_symbols (all_terms c) }
 {}

@@ -11,16 +11,10 @@ ghost use Rattle.clause_form.specs.Facts.{fact_of};
 ghost use Rattle.clause_form.specs.Seen.{fact_at, clause_at, IsFactIn, AreFactsIn, IsClauseIn};
 ghost use Rattle.clause_resolve.specs.Budget.{is_over, some_over};
 
+use clause_diffs::{add_symbols, size_of_diffs};
 use clause_form::{Clause, Fact, is_data_symbol, size_of_fact};
 use limits::MOST_SYMBOLS;
-use term_tree::{Bank, Id, Node, SIZE_LIMIT};
-
-/// So many symbols more, as they are told.
-fn add_symbols(symbols: u64, more: u64) -> u64
-    ensures { (m n : ℕ) → symbols ≡ capped m → more ≡ capped n → result ≡ capped (m + n) }
-{
-    symbols.saturating_add(more).min(SIZE_LIMIT)
-}
+use term_tree::{Bank, Id, Node};
 
 /// The size of `att` of a term, in whatever phase.
 fn size_of_att<B: Bank>(bank: &B, id: Id) -> u64
@@ -122,12 +116,13 @@ fn some_flat_over<B: Bank>(bank: &B, fact: &Fact, symbols: u64) -> bool
     }
 }
 
-/// Whether a flat part of a clause has more symbols than the limit. Takes no memory.
+/// Whether a flat part of a clause, which keeps all its constraints, has more symbols than the limit. Takes no memory.
 pub(crate) fn some_part_large<B: Bank>(bank: &B, clause: &Clause) -> bool
     requires { IsClauseIn (B.trees bank.now) clause.now }
     ensures { result ≡
         list_any is_large_clause (flat_parts (clause_at (B.trees bank.now) clause.now)) }
 {
-    let symbols = flat_size_of_facts(bank, &clause.hyps.items);
+    let hyps = flat_size_of_facts(bank, &clause.hyps.items);
+    let symbols = add_symbols(hyps, size_of_diffs(bank, &clause.diffs.items));
     some_flat_over(bank, &clause.concl, symbols)
 }

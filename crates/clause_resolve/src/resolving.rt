@@ -1,7 +1,7 @@
 //! Resolution of a solved clause with an unsolved one, on its selected hypothesis (Blanchet 2001, section 4;
 //! resolution with free selection, Bachmair and Ganzinger 2001).
 
-ghost use Rattle.std.specs.Prelude.{◌≡◌, ◌<◌, true, false, nat_lt, length, IfOk, OnErr, MatchResult};
+ghost use Rattle.std.specs.Prelude.{◌≡◌, ◌<◌, ◌++◌, true, false, nat_lt, length, IfOk, OnErr, MatchResult};
 ghost use Rattle.std.specs.List.{remove};
 ghost use Rattle.spec_terms.specs.Binding.{resolved};
 ghost use Rattle.spec_clauses.specs.Fact.{Clause as ClauseOf, clause_size, clause_under};
@@ -10,12 +10,13 @@ ghost use Rattle.spec_clauses.specs.Limits.{is_large_raw, IsWithinLimit};
 ghost use Rattle.spec_terms.specs.Term.{Term};
 ghost use Rattle.term_tree.specs.Bank.{Grows, capped};
 ghost use Rattle.unify_match.specs.Seen.{seen, IsReady};
+ghost use Rattle.clause_form.specs.Fit.{HasLowVariables, AreLowWithinLimit};
 ghost use Rattle.clause_form.specs.Seen.{clause_at, IsClauseIn, NameClauses};
 ghost use Rattle.clause_resolve.specs.Stops.{StopsAt};
 ghost use Rattle.clause_resolve.specs.Joining.{together, without, IsFoundOf};
-ghost use Rattle.clause_resolve.specs.Low.{HasLowVariables};
+ghost use Rattle.clause_resolve.specs.Low.{bound_from, AreDiffsBelow, AreBelowBound, KeepsBelow};
 ghost use Rattle.clause_resolve.specs.Apart.{IsSelectedAt, IsApartIn, IsApart, IsMoved};
-ghost use Rattle.clause_resolve.specs.Answers.{IsAnswerOf, LeavesBank};
+ghost use Rattle.clause_resolve.specs.Answers.{IsAnswerOf, LeavesBank, AreFoundLow};
 
 use crate::apart::{Apart, moved_clause, set_apart};
 use crate::applying::applied_clause;
@@ -23,6 +24,7 @@ use crate::clash::clash;
 use crate::meeting::unify_facts;
 use crate::parts::some_part_large;
 use crate::stop::Stop;
+use clause_diffs::Diffs;
 use clause_form::{Clause, Clauses, Facts, size_of};
 use clause_norms::norms_of;
 use std::alloc::{AllocError, Global};
@@ -50,6 +52,7 @@ fn resolvents_of<B: Bank>(alloc: Global, bank: &mut B, raw: &Clause) -> Result<C
         MatchResult result
         (λ made. (is_large_raw tree ≡ false) × NameClauses (B.trees bank.new) made (norms tree))
         (λ stop. StopsAt stop (is_large_raw tree ≡ true)) }
+    ensures low { IfOk result (λ made. AreLowWithinLimit (B.trees bank.new) made) }
 {
     if some_part_large(bank, raw) {
         return Err(Stop::Large);
@@ -67,12 +70,16 @@ fn resolvents_under<B: Bank>(
 ) -> Result<Clauses, Stop>
     requires known { IsClauseIn (B.trees bank.old) joined.now }
     requires ready { IsReady (B.trees bank.old) binds.now.pairs }
+    requires low { AreDiffsBelow bound_from (B.trees bank.old) joined.now.diffs }
+    requires kept { KeepsBelow bound_from
+        (resolved (seen (B.trees bank.old) binds.now.pairs)) }
     ensures grows { Grows (B.trees bank.old) (B.trees bank.new) }
     ensures outcome { let raw = clause_under (resolved (seen (B.trees bank.old) binds.now.pairs))
         (clause_at (B.trees bank.old) joined.now) in
         MatchResult result
         (λ made. (is_large_raw raw ≡ false) × NameClauses (B.trees bank.new) made (norms raw))
         (λ stop. StopsAt stop (is_large_raw raw ≡ true)) }
+    ensures low { IfOk result (λ made. AreLowWithinLimit (B.trees bank.new) made) }
 {
     let raw = applied_clause(alloc, bank, binds, joined)?;
     resolvents_of(alloc, bank, &raw)
@@ -87,10 +94,14 @@ fn found_under<B: Bank>(
 ) -> Result<Resolved, AllocError>
     requires known { IsClauseIn (B.trees bank.old) joined.now }
     requires ready { IsReady (B.trees bank.old) binds.now.pairs }
+    requires low { AreDiffsBelow bound_from (B.trees bank.old) joined.now.diffs }
+    requires kept { KeepsBelow bound_from
+        (resolved (seen (B.trees bank.old) binds.now.pairs)) }
     ensures grows { Grows (B.trees bank.old) (B.trees bank.new) }
     ensures found { IfOk result (λ found. IsFoundOf (B.trees bank.new)
         (clause_under (resolved (seen (B.trees bank.old) binds.now.pairs))
         (clause_at (B.trees bank.old) joined.now)) found) }
+    ensures low { IfOk result (λ found. AreFoundLow (B.trees bank.new) found) }
     ensures as_before { IfOk result
         (λ found. LeavesBank (B.trees bank.old) (B.trees bank.new) found) }
     ensures err { OnErr result (B.trees bank.new ≡ B.trees bank.old) }
@@ -109,15 +120,26 @@ fn found_under<B: Bank>(
     }
 }
 
-/// The hypotheses of two clauses, and the second one's conclusion.
+/// The constraints of two clauses.
+fn both_diffs(alloc: Global, first: &Diffs, second: &Diffs) -> Result<Diffs, AllocError>
+    ensures { IfOk result (λ made. made ≡ first.now ++ second.now) }
+{
+    let mut diffs = first.copy(alloc)?;
+    let mut others = second.copy(alloc)?;
+    diffs.items.append(&mut others.items)?;
+    Ok(diffs)
+}
+
+/// The hypotheses and the constraints of two clauses, and the second one's conclusion.
 fn joined(alloc: Global, solved: &Clause, rest: &Clause) -> Result<Clause, AllocError>
     ensures { IfOk result (λ made. made ≡ together solved.now rest.now) }
 {
     let mut hyps = solved.hyps.copy(alloc)?;
     let mut others = rest.hyps.copy(alloc)?;
     hyps.items.append(&mut others.items)?;
+    let diffs = both_diffs(alloc, &solved.diffs, &rest.diffs)?;
     let concl = rest.concl.copy(alloc)?;
-    Ok(Clause { hyps, concl })
+    Ok(Clause { hyps, diffs, concl })
 }
 
 /// The same as `resolvents`, with an unsolved clause that was set apart, in this bank or before it grew: so it is
@@ -131,12 +153,13 @@ pub fn resolve_apart<B: Bank>(
     apart: &Apart,
 ) -> Result<Resolved, AllocError>
     requires solved { IsClauseIn (B.trees bank.old) solved.now }
-    requires solved_low { HasLowVariables (clause_at (B.trees bank.old) solved.now) }
+    requires solved_low { HasLowVariables (B.trees bank.old) solved.now }
     requires apart { IsApartIn (B.trees bank.old) apart.now }
     ensures grows { Grows (B.trees bank.old) (B.trees bank.new) }
     ensures answer { (unsolved : ClauseOf Term) → IsApart (B.trees bank.old) unsolved apart.now →
         IfOk result (λ found. IsAnswerOf (B.trees bank.new)
         (clause_at (B.trees bank.old) solved.now) unsolved found) }
+    ensures low { IfOk result (λ found. AreFoundLow (B.trees bank.new) found) }
     ensures as_before { IfOk result
         (λ found. LeavesBank (B.trees bank.old) (B.trees bank.new) found) }
     ensures err { OnErr result (B.trees bank.new ≡ B.trees bank.old) }
@@ -163,7 +186,8 @@ fn without_fact(alloc: Global, facts: &Facts, at: usize) -> Result<Facts, AllocE
     Ok(made)
 }
 
-/// The hypotheses of a clause, and those of another but the one at `at`, with that one's conclusion.
+/// The hypotheses of a clause, and those of another but the one at `at`, with the constraints of both and that one's
+/// conclusion.
 fn joined_without(
     alloc: Global,
     moved: &Clause,
@@ -176,8 +200,9 @@ fn joined_without(
     let mut hyps = moved.hyps.copy(alloc)?;
     let mut others = without_fact(alloc, &unsolved.hyps, at)?;
     hyps.items.append(&mut others.items)?;
+    let diffs = both_diffs(alloc, &moved.diffs, &unsolved.diffs)?;
     let concl = unsolved.concl.copy(alloc)?;
-    Ok(Clause { hyps, concl })
+    Ok(Clause { hyps, diffs, concl })
 }
 
 /// The answer of a pair whose solved clause was set apart as a whole. Where there are no clauses the bank may have grown.
@@ -189,13 +214,15 @@ fn resolve_moved<B: Bank>(
     at: usize,
 ) -> Result<Resolved, AllocError>
     requires moved { IsClauseIn (B.trees bank.old) moved.now }
+    requires moved_low { AreBelowBound (B.trees bank.old) moved.now.conclusion moved.now.diffs }
     requires unsolved { IsClauseIn (B.trees bank.old) unsolved.now }
-    requires unsolved_low { HasLowVariables (clause_at (B.trees bank.old) unsolved.now) }
+    requires unsolved_low { HasLowVariables (B.trees bank.old) unsolved.now }
     requires selected { IsSelectedAt (clause_at (B.trees bank.old) unsolved.now) at }
     ensures grows { Grows (B.trees bank.old) (B.trees bank.new) }
     ensures answer { (solved : ClauseOf Term) → IsMoved (B.trees bank.old) solved moved.now →
         IfOk result (λ found. IsAnswerOf (B.trees bank.new) solved
         (clause_at (B.trees bank.old) unsolved.now) found) }
+    ensures low { IfOk result (λ found. AreFoundLow (B.trees bank.new) found) }
 {
     let mut binds = Binds::new(alloc)?;
     let facts = unsolved.hyps.items.as_slice();
@@ -226,14 +253,15 @@ fn resolvents_grown<B: Bank>(
     at: usize,
 ) -> Result<Resolved, AllocError>
     requires solved { IsClauseIn (B.trees bank.old) solved.now }
-    requires solved_low { HasLowVariables (clause_at (B.trees bank.old) solved.now) }
+    requires solved_low { HasLowVariables (B.trees bank.old) solved.now }
     requires unsolved { IsClauseIn (B.trees bank.old) unsolved.now }
-    requires unsolved_low { HasLowVariables (clause_at (B.trees bank.old) unsolved.now) }
+    requires unsolved_low { HasLowVariables (B.trees bank.old) unsolved.now }
     requires selected { IsSelectedAt (clause_at (B.trees bank.old) unsolved.now) at }
     ensures grows { Grows (B.trees bank.old) (B.trees bank.new) }
     ensures answer { IfOk result (λ found. IsAnswerOf (B.trees bank.new)
         (clause_at (B.trees bank.old) solved.now)
         (clause_at (B.trees bank.old) unsolved.now) found) }
+    ensures low { IfOk result (λ found. AreFoundLow (B.trees bank.new) found) }
 {
     if is_smaller(bank, solved, unsolved) {
         let moved = moved_clause(alloc, bank, solved)?;
@@ -255,14 +283,15 @@ pub fn resolvents<B: Bank>(
     at: usize,
 ) -> Result<Resolved, AllocError>
     requires solved { IsClauseIn (B.trees bank.old) solved.now }
-    requires solved_low { HasLowVariables (clause_at (B.trees bank.old) solved.now) }
+    requires solved_low { HasLowVariables (B.trees bank.old) solved.now }
     requires unsolved { IsClauseIn (B.trees bank.old) unsolved.now }
-    requires unsolved_low { HasLowVariables (clause_at (B.trees bank.old) unsolved.now) }
+    requires unsolved_low { HasLowVariables (B.trees bank.old) unsolved.now }
     requires selected { IsSelectedAt (clause_at (B.trees bank.old) unsolved.now) at }
     ensures grows { Grows (B.trees bank.old) (B.trees bank.new) }
     ensures answer { IfOk result (λ found. IsAnswerOf (B.trees bank.new)
         (clause_at (B.trees bank.old) solved.now)
         (clause_at (B.trees bank.old) unsolved.now) found) }
+    ensures low { IfOk result (λ found. AreFoundLow (B.trees bank.new) found) }
     ensures as_before { IfOk result
         (λ found. LeavesBank (B.trees bank.old) (B.trees bank.new) found) }
     ensures err { OnErr result (B.trees bank.new ≡ B.trees bank.old) }

@@ -15,8 +15,7 @@ use Rattle.spec_saturation.proofs.Closing.{goal_before}
 use Rattle.spec_saturation.proofs.Common.{any_goal, turn_before, with_goal_length}
 use Rattle.spec_saturation.proofs.Moving.{below_all, self_not_before}
 use Rattle.term_tree.specs.Bank.{Grows}
-use Rattle.term_tree.specs.declared.bank.Id.{Id}
-use Rattle.clause_form.specs.Seen.{clause_at}
+use Rattle.clause_form.specs.Seen.{clause_at, IdClause}
 use Rattle.clause_form.specs.Fit.{AreFit}
 use Rattle.clause_saturate.specs.declared.log.Entry.{Entry}
 use Rattle.clause_saturate.specs.declared.walk.Live.{Live}
@@ -194,7 +193,7 @@ common_set all shared common finished h =
     common_kept all all shared common (record { alloc = common.alloc; begun = common.begun; live = common.live; budget = common.budget; number = common.number; mark = common.mark; finished = finished }) h h.within refl refl refl refl refl refl
 
 -- clauses that are fit are proper
-pub fit_proper : (all : List Term) (cs : List (Clause Id)) → AreFit all cs → AreProper (map (clause_at all) cs)
+pub fit_proper : (all : List Term) (cs : List IdClause) → AreFit all cs → AreProper (map (clause_at all) cs)
 fit_proper all cs fit = record { normal = fit_normal all cs fit; small = fit_small all cs fit }
 
 -- what ends before the goal is the log with each goal

@@ -9,7 +9,7 @@ use Rattle.spec_clauses.specs.Selection.{is_solved}
 use Rattle.spec_saturation.proofs.Places.{numbered_within}
 use Rattle.term_tree.specs.Bank.{AreShared}
 use Rattle.term_tree.specs.declared.bank.Id.{Id}
-use Rattle.clause_form.specs.Seen.{clause_at, IsClauseIn}
+use Rattle.clause_form.specs.Seen.{clause_at, IsClauseIn, IdClause}
 use Rattle.clause_form.specs.Fit.{AreFit}
 use Rattle.clause_saturate.specs.declared.log.Entry.{Entry}
 use Rattle.clause_saturate.specs.declared.walk.Live.{Live}
@@ -27,18 +27,18 @@ use Rattle.clause_saturate.proofs.Partners.{covers_there, some_among}
 ended_there : (all : List Term) (es : List Entry) (id : Id) (numbers : List ℕ) (n : ℕ) (x : Entry) → AreThose (ends_of es) id numbers → numbered es n ≡ Some x → closed_end_of all x.clause ≡ Some id → IsAmong numbers n
 ended_there all es id numbers n x those at end =
     let last = (closed_is all (last_term x.clause.conclusion) id end).0 in
-    those.every n (seen_there (λ (c : Clause Id). last_term c.conclusion) (clauses_of es) n x.clause (seen_there (λ (e : Entry). e.clause) es n x at) ∙ ap Some last)
+    those.every n (seen_there (λ (c : IdClause). last_term c.conclusion) (clauses_of es) n x.clause (seen_there (λ (e : Entry). e.clause) es n x at) ∙ ap Some last)
 
 -- they are numbers of entries
 pub those_within : (es : List Entry) (id : Id) (numbers : List ℕ) → AreThose (ends_of es) id numbers → (n : ℕ) → IsAmong numbers n → (0 < n) × (n ≤ length es)
 those_within es id numbers those n among =
     let within = numbered_within (ends_of es) n (Some id) (those.those n among) in
-    let count = length-map (clauses_of es) (λ (c : Clause Id). last_term c.conclusion) in
+    let count = length-map (clauses_of es) (λ (c : IdClause). last_term c.conclusion) in
     let clauses = length-map es (λ (e : Entry). e.clause) in
     (within.0, omega (arith, within.1, count, clauses))
 
 -- in a shared bank what covers a clause doesn't end with a closed term, or it ends with one as the clause does
-ended_covers : (all : List Term) (es : List Entry) (live : Live) (clause : Clause Id) → AreShared all → AreFit all (clauses_of es) → AreListed all es live → IsClauseIn all clause → SomeLiveCovers all es (clause_at all clause)
+ended_covers : (all : List Term) (es : List Entry) (live : Live) (clause : IdClause) → AreShared all → AreFit all (clauses_of es) → AreListed all es live → IsClauseIn all clause → SomeLiveCovers all es (clause_at all clause)
     → CoversAmong all es live.unclosed.items (clause_at all clause) ⊎ ((id : Id) × (closed_end_of all clause ≡ Some id) × ((numbers : List ℕ) → AreThose (ends_of es) id numbers → CoversAmong all es numbers (clause_at all clause)))
 ended_covers all es live clause shared fit listed known some =
     let there = covers_there all es (clause_at all clause) some in
@@ -54,14 +54,14 @@ ended_covers all es live clause shared fit listed known some =
     )
 
 -- a clause that doesn't end with a closed term is covered by those that don't alone
-pub unclosed_uncovered : (all : List Term) (es : List Entry) (live : Live) (clause : Clause Id) → AreShared all → AreFit all (clauses_of es) → AreListed all es live → IsClauseIn all clause → closed_end_of all clause ≡ None → (CoversAmong all es live.unclosed.items (clause_at all clause) → ⊥) → SomeLiveCovers all es (clause_at all clause) → ⊥
+pub unclosed_uncovered : (all : List Term) (es : List Entry) (live : Live) (clause : IdClause) → AreShared all → AreFit all (clauses_of es) → AreListed all es live → IsClauseIn all clause → closed_end_of all clause ≡ None → (CoversAmong all es live.unclosed.items (clause_at all clause) → ⊥) → SomeLiveCovers all es (clause_at all clause) → ⊥
 unclosed_uncovered all es live clause shared fit listed known end none some = elim (ended_covers all es live clause shared fit listed known some) as (λ _. ⊥) [
   | inl first ↦ none first
   | inr second ↦ (let wrong : None ≡ Some second.0 = sym end ∙ second.1 in cc)
 ]
 
 -- one that does by those, or by those that end as it does
-pub ended_told : (all : List Term) (es : List Entry) (live : Live) (clause : Clause Id) (id : Id) (numbers : List ℕ) (found : Bool) → AreShared all → AreFit all (clauses_of es) → AreListed all es live → IsClauseIn all clause → closed_end_of all clause ≡ Some id → AreThose (ends_of es) id numbers → (CoversAmong all es live.unclosed.items (clause_at all clause) → ⊥)
+pub ended_told : (all : List Term) (es : List Entry) (live : Live) (clause : IdClause) (id : Id) (numbers : List ℕ) (found : Bool) → AreShared all → AreFit all (clauses_of es) → AreListed all es live → IsClauseIn all clause → closed_end_of all clause ≡ Some id → AreThose (ends_of es) id numbers → (CoversAmong all es live.unclosed.items (clause_at all clause) → ⊥)
     → MatchBool found (CoversAmong all es numbers (clause_at all clause)) (CoversAmong all es numbers (clause_at all clause) → ⊥) → MatchBool found (SomeLiveCovers all es (clause_at all clause)) (SomeLiveCovers all es (clause_at all clause) → ⊥)
 ended_told all es live clause id numbers true shared fit listed known end those none h = some_among all es numbers (clause_at all clause) h
 ended_told all es live clause id numbers false shared fit listed known end those none h = λ some. elim (ended_covers all es live clause shared fit listed known some) as (λ _. ⊥) [
@@ -74,7 +74,7 @@ ended_told all es live clause id numbers false shared fit listed known end those
 ]
 
 -- what a clause beats that ends with a closed term ends with it too
-pub ended_beatable : (all : List Term) (es : List Entry) (clause : Clause Id) (id : Id) (numbers : List ℕ) → AreShared all → AreFit all (clauses_of es) → IsClauseIn all clause → closed_end_of all clause ≡ Some id → AreThose (ends_of es) id numbers → AreBeatable all es (clause_at all clause) numbers
+pub ended_beatable : (all : List Term) (es : List Entry) (clause : IdClause) (id : Id) (numbers : List ℕ) → AreShared all → AreFit all (clauses_of es) → IsClauseIn all clause → closed_end_of all clause ≡ Some id → AreThose (ends_of es) id numbers → AreBeatable all es (clause_at all clause) numbers
 ended_beatable all es clause id numbers shared fit known end those = record {
   within = those_within es id numbers those;
   every = λ n x at beats. ended_there all es id numbers n x those at (closed_subsumes all clause x.clause id shared known (fit_numbered all es n x fit at).known end beats.1);

@@ -7,13 +7,13 @@ use Rattle.std.proofs.lemmas.Option.{slice_get-map}
 use Rattle.spec_trees.specs.Tree.{bind}
 use Rattle.spec_terms.specs.Term.{Term, is_ground}
 use Rattle.spec_terms.proofs.Ground.{ground-bind}
-use Rattle.spec_clauses.specs.Fact.{Fact, Clause, terms_of, map_fact}
+use Rattle.spec_clauses.specs.Fact.{Fact, terms_of, map_fact}
 use Rattle.spec_clauses.specs.Subsumption.{Subsumes}
 use Rattle.spec_clauses.proofs.Parts.{terms_of-map}
 use Rattle.term_tree.specs.Bank.{tree_at, Grows, AreShared}
 use Rattle.term_tree.specs.declared.bank.Id.{Id}
 use Rattle.term_tree.proofs.BankLaws.{tree_at-grows, AreKnown-at}
-use Rattle.clause_form.specs.Seen.{fact_at, clause_at, IsFactIn, IsClauseIn}
+use Rattle.clause_form.specs.Seen.{fact_at, clause_at, IsFactIn, IsClauseIn, IdClause}
 use Rattle.clause_saturate.specs.Ends.{last_term, if_closed, closed_end_of}
 
 -- the last term of a fact with f of each term
@@ -27,7 +27,7 @@ pub end_known : (all : List Term) (h : Fact Id) (id : Id) → IsFactIn all h →
 end_known all h id known is = AreKnown-at all (terms_of h) (length (terms_of h) - 1) id known is
 
 -- so it is below the number of the trees
-pub end_below : (all : List Term) (c : Clause Id) (o : Option Id) (n : ℕ) → IsClauseIn all c → o ≡ last_term c.conclusion → n ≡ length all → IfSome o (λ id. id.index < n)
+pub end_below : (all : List Term) (c : IdClause) (o : Option Id) (n : ℕ) → IsClauseIn all c → o ≡ last_term c.conclusion → n ≡ length all → IfSome o (λ id. id.index < n)
 end_below all c None n known is size = tt
 end_below all c (Some id) n known is size = let within = end_known all c.conclusion id known.conclusion (sym is) in omega (arith, within, size)
 
@@ -44,7 +44,7 @@ pub is_closed : (all : List Term) (o : Option Id) (id : Id) → o ≡ Some id �
 is_closed all o id is told = ap (if_closed all) is ∙ ap (λ b. cond b (Some id) None) told
 
 -- as the bank grows, a conclusion ends as it did
-pub end_grows : (a b : List Term) (c : Clause Id) → Grows a b → IsClauseIn a c → closed_end_of b c ≡ closed_end_of a c
+pub end_grows : (a b : List Term) (c : IdClause) → Grows a b → IsClauseIn a c → closed_end_of b c ≡ closed_end_of a c
 end_grows a b c grows known = go (last_term c.conclusion) refl
   where
     go : (o : Option Id) → last_term c.conclusion ≡ o → if_closed b (last_term c.conclusion) ≡ if_closed a (last_term c.conclusion)
@@ -54,7 +54,7 @@ end_grows a b c grows known = go (last_term c.conclusion) refl
         ap (if_closed b) is ∙ (ap (λ t. cond (is_ground t) (Some id) None) same ∙ sym (ap (if_closed a) is))
 
 -- the terms with which the conclusions of a clause and of one that it subsumes end
-ends_match : (all : List Term) (general special : Clause Id) (h : Subsumes (clause_at all general) (clause_at all special)) (id : Id) → last_term general.conclusion ≡ Some id
+ends_match : (all : List Term) (general special : IdClause) (h : Subsumes (clause_at all general) (clause_at all special)) (id : Id) → last_term general.conclusion ≡ Some id
     → option_map (tree_at all) (last_term special.conclusion) ≡ Some (bind h.by (tree_at all id))
 ends_match all general special h id is =
     sym (last_seen (tree_at all) special.conclusion)
@@ -66,7 +66,7 @@ named_end all None t is = absurd (cc)
 named_end all (Some id) t is = (id, refl, cc)
 
 -- Where the general clause's conclusion ends with a closed term, so does the special one's, with the same id in a shared bank.
-pub closed_subsumes : (all : List Term) (general special : Clause Id) (id : Id) → AreShared all → IsClauseIn all general → IsClauseIn all special → closed_end_of all general ≡ Some id → Subsumes (clause_at all general) (clause_at all special) → closed_end_of all special ≡ Some id
+pub closed_subsumes : (all : List Term) (general special : IdClause) (id : Id) → AreShared all → IsClauseIn all general → IsClauseIn all special → closed_end_of all general ≡ Some id → Subsumes (clause_at all general) (clause_at all special) → closed_end_of all special ≡ Some id
 closed_subsumes all general special id shared known also is h =
     let end = closed_is all (last_term general.conclusion) id is in
     let other = named_end all (last_term special.conclusion) (bind h.by (tree_at all id)) (ends_match all general special h id end.0) in

@@ -1,4 +1,4 @@
--- The clauses of a log are normal and within the limit of size, and stay so as the bank grows.
+-- The clauses of a log are normal, within the limit of size and with variables of low numbers, and stay so as the bank grows.
 use Rattle.std.proofs.Common.{◌≡◌, ℕ, zero, suc, ◌<◌, ◌≤◌, ◌^◌, Bool, true, false, cond, Some, List, [], ◌∷◌, length, map, get_or, ap, sym, subst, inl, inr, arith}
 use Rattle.std.proofs.lemmas.List.{length-map}
 use Rattle.spec_terms.specs.Term.{Term}
@@ -13,8 +13,7 @@ use Rattle.spec_saturation.specs.Key as offered
 use Rattle.spec_saturation.specs.Log.{IsOffered, goal_key}
 use Rattle.spec_saturation.proofs.Pairs.{has_numbered, offers_normal}
 use Rattle.term_tree.specs.Bank.{Grows}
-use Rattle.term_tree.specs.declared.bank.Id.{Id}
-use Rattle.clause_form.specs.Seen.{clause_at}
+use Rattle.clause_form.specs.Seen.{clause_at, IdClause}
 use Rattle.clause_saturate.specs.declared.log.Entry.{Entry}
 use Rattle.clause_saturate.specs.declared.walk.Walk.{Walk}
 use Rattle.clause_form.specs.Fit.{IsFit, AreFit}
@@ -26,7 +25,7 @@ use Rattle.clause_saturate.proofs.Listing.{listed_grows, listed_back}
 use Rattle.clause_saturate.proofs.Telling.{TellLog-grows, TellLog-back, log_length}
 
 -- the clause at a place has the number behind it
-pub numbered_given : (all : List Term) (cs : List (Clause Id)) (i : ℕ) (c : Clause Id) → c ≡ get_or cs i c → i < length cs → numbered (map (clause_at all) cs) (suc i) ≡ Some (clause_at all c)
+pub numbered_given : (all : List Term) (cs : List IdClause) (i : ℕ) (c : IdClause) → c ≡ get_or cs i c → i < length cs → numbered (map (clause_at all) cs) (suc i) ≡ Some (clause_at all c)
 numbered_given all [] i c is within = absurd (omega arith)
 numbered_given all (d ∷ cs) zero c is within = ap (λ x. Some (clause_at all x)) (sym is)
 numbered_given all (d ∷ cs) (suc i) c is within = numbered_given all cs i c is (omega arith)
@@ -41,7 +40,7 @@ tell_fit : (all : List Term) (log : List offered.Entry) (n : ℕ) (entries : Lis
 tell_fit all log n [] es t normal small = tt
 tell_fit all log n (x ∷ xs) [] t normal small = absurd t
 tell_fit all log n (x ∷ xs) (e ∷ es) t normal small = (
-  record { known = t.0.clause.known; normal = subst IsNormal (sym t.0.clause.is) (normal e (es, here)); small = subst IsWithinLimit (sym t.0.clause.is) (small e (es, here)) },
+  record { known = t.0.clause.known; normal = subst IsNormal (sym t.0.clause.is) (normal e (es, here)); small = subst IsWithinLimit (sym t.0.clause.is) (small e (es, here)); low = t.0.low },
   tell_fit all log (suc n) xs es t.2 (λ d h. normal d (e ∷ h.0, there h.1)) (λ d h. small d (e ∷ h.0, there h.1)),
 )
 
@@ -101,21 +100,21 @@ walked_back a b task old new from at grows same (log, was) (after, w) = (
 )
 
 -- fit clauses are normal and within the limit
-pub fit_normal : (all : List Term) (cs : List (Clause Id)) → AreFit all cs → (c : Clause Term) → Has (map (clause_at all) cs) c → IsNormal c
+pub fit_normal : (all : List Term) (cs : List IdClause) → AreFit all cs → (c : Clause Term) → Has (map (clause_at all) cs) c → IsNormal c
 fit_normal all [] fit c h = elim h.1 [ ]
 fit_normal all (d ∷ cs) fit c (rest, here) = fit.0.normal
 fit_normal all (d ∷ cs) fit c (rest, there p) = fit_normal all cs fit.1 c (_, p)
 
-pub fit_small : (all : List Term) (cs : List (Clause Id)) → AreFit all cs → (c : Clause Term) → Has (map (clause_at all) cs) c → IsWithinLimit c
+pub fit_small : (all : List Term) (cs : List IdClause) → AreFit all cs → (c : Clause Term) → Has (map (clause_at all) cs) c → IsWithinLimit c
 fit_small all [] fit c h = elim h.1 [ ]
 fit_small all (d ∷ cs) fit c (rest, here) = fit.0.small
 fit_small all (d ∷ cs) fit c (rest, there p) = fit_small all cs fit.1 c (_, p)
 
 -- given clauses that are fit make a task
-pub fit_task : (all : List Term) (cs : List (Clause Id)) (budget : ℕ) → 0 < length cs → AreFit all cs → IsTask (record { given = map (clause_at all) cs; budget = budget; asked = false })
+pub fit_task : (all : List Term) (cs : List IdClause) (budget : ℕ) → 0 < length cs → AreFit all cs → IsTask (record { given = map (clause_at all) cs; budget = budget; asked = false })
 fit_task all cs budget some fit = record { some = omega (arith, some, length-map cs (clause_at all)); normal = fit_normal all cs fit; small = fit_small all cs fit }
 
-pub fit_size : (all : List Term) (c : Clause Id) → IsFit all c → clause_size (clause_at all c) < 2 ^ 63
+pub fit_size : (all : List Term) (c : IdClause) → IsFit all c → clause_size (clause_at all c) < 2 ^ 63
 fit_size all c fit = let small = fit.small in omega (arith, small)
 
 pub turn_within : (all : List Term) (task : Task) (walk : Walk) (at : Key) → IsWalked all task walk at → length walk.items.items ≤ task.budget

@@ -10,7 +10,7 @@ use Rattle.spec_saturation.proofs.Places.{numbered_within}
 use Rattle.term_tree.specs.Bank.{Grows}
 use Rattle.clause_resolve.specs.declared.resolving.Resolved.{Resolved}
 use Rattle.clause_resolve.specs.declared.resolving.Resolved.TheVariants.{NoUnifier, Large, Clauses}
-use Rattle.clause_resolve.specs.Answers.{Gives, IsAnswerOf}
+use Rattle.clause_resolve.specs.Answers.{Gives, IsAnswerOf, AreFoundLow}
 use Rattle.clause_form.specs.Seen.{clause_at, IsClauseIn}
 use Rattle.clause_saturate.specs.declared.log.Entry.{Entry}
 use Rattle.clause_saturate.specs.declared.walk.Pair.{Pair}
@@ -100,8 +100,8 @@ gives_found all es pair due x y result p q g = record {
   give = subst (λ (z : Entry). Resolves (clause_at all due.solved.clause) (clause_at all z.clause) g.at result) q (subst (λ (z : Entry). Resolves (clause_at all z.clause) (clause_at all y.clause) g.at result) p g.gives);
 }
 
-pub answer_found : (all now : List Term) (es : List Entry) (pair : Pair) (due : IsDuePair all es (major pair) (minor pair) pair) (x y : Entry) (found : Resolved) → x ≡ get_or es (pair.solved - 1) x → y ≡ get_or es (pair.unsolved - 1) y → IsAnswerOf now (clause_at all x.clause) (clause_at all y.clause) found → IsFoundFor all now es pair found
-answer_found all now es pair due x y found p q h = go found h
+pub answer_found : (all now : List Term) (es : List Entry) (pair : Pair) (due : IsDuePair all es (major pair) (minor pair) pair) (x y : Entry) (found : Resolved) → x ≡ get_or es (pair.solved - 1) x → y ≡ get_or es (pair.unsolved - 1) y → IsAnswerOf now (clause_at all x.clause) (clause_at all y.clause) found → AreFoundLow now found → IsFoundFor all now es pair found
+answer_found all now es pair due x y found p q h low = go found h low
   where
     left : x ≡ due.solved
     left = solved_is all es (major pair) (minor pair) pair due x p
@@ -109,10 +109,10 @@ answer_found all now es pair due x y found p q h = go found h
     right : y ≡ due.unsolved
     right = unsolved_is all es (major pair) (minor pair) pair due y q
 
-    go : (found : Resolved) → IsAnswerOf now (clause_at all x.clause) (clause_at all y.clause) found → IsFoundFor all now es pair found
-    go NoUnifier h = gives_found all es pair due x y answer.NoUnifier left right h
-    go Large h = gives_found all es pair due x y answer.Large left right h
-    go (Clauses cs) h = record { resolvents = h.0; name = h.1; gives = gives_found all es pair due x y (answer.Resolvents h.0) left right h.2 }
+    go : (found : Resolved) → IsAnswerOf now (clause_at all x.clause) (clause_at all y.clause) found → AreFoundLow now found → IsFoundFor all now es pair found
+    go NoUnifier h low = gives_found all es pair due x y answer.NoUnifier left right h
+    go Large h low = gives_found all es pair due x y answer.Large left right h
+    go (Clauses cs) h low = record { resolvents = h.0; name = h.1; low = low; gives = gives_found all es pair due x y (answer.Resolvents h.0) left right h.2 }
 
 -- a hypothesis of the unsolved clause is selected
 pub never_none : (all : List Term) (es : List Entry) (pair : Pair) (due : IsDuePair all es (major pair) (minor pair) pair) (y : Entry) (o : Option ℕ) → y ≡ get_or es (pair.unsolved - 1) y → o ≡ None → (IsNone o → is_solved (clause_at all y.clause).hypotheses ≡ true) → ⊥

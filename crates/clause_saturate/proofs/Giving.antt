@@ -9,15 +9,14 @@ use Rattle.spec_clauses.specs.Limits.{IsWithinLimit}
 use Rattle.spec_clauses.specs.Inclusion.{here, there, Has}
 use Rattle.spec_saturation.specs.Common.{with_goal}
 use Rattle.spec_saturation.proofs.Common.{with_goal_length}
-use Rattle.term_tree.specs.declared.bank.Id.{Id}
 use Rattle.term_tree.proofs.BankLaws.{slice_get-append, slice_get-next}
-use Rattle.clause_form.specs.Seen.{clause_at}
+use Rattle.clause_form.specs.Seen.{clause_at, IdClause}
 use Rattle.clause_form.specs.Fit.{AreFit}
 use Rattle.clause_saturate.specs.Walked.{Task, IsTask, AreGivenOf}
 use Rattle.clause_saturate.proofs.Fitting.{numbered_given}
 
 -- the clause at a place, counted from 1
-pub number_given : (all : List Term) (cs : List (Clause Id)) (k : ℕ) (c : Clause Id) → c ≡ get_or cs (k - 1) c → 0 < k → k ≤ length cs → numbered (map (clause_at all) cs) k ≡ Some (clause_at all c)
+pub number_given : (all : List Term) (cs : List IdClause) (k : ℕ) (c : IdClause) → c ≡ get_or cs (k - 1) c → 0 < k → k ≤ length cs → numbered (map (clause_at all) cs) k ≡ Some (clause_at all c)
 number_given all cs zero c is some within = absurd (omega arith)
 number_given all cs (suc k) c is some within =
     let same : suc k - 1 ≡ k = omega arith in
@@ -32,28 +31,28 @@ numbered_before clauses goal (suc k) few = slice_get-append clauses (goal ∷ []
 pub numbered_goal : (clauses : List (Clause Term)) (goal : Clause Term) (number : ℕ) → number ≡ suc (length clauses) → numbered (with_goal clauses goal) number ≡ Some goal
 numbered_goal clauses goal number last = ap (numbered (with_goal clauses goal)) last ∙ slice_get-next clauses goal []
 
-pub given_count : (all : List Term) (cs : List (Clause Id)) (task : Task) → AreGivenOf all cs task → length task.given ≡ suc (length cs)
+pub given_count : (all : List Term) (cs : List IdClause) (task : Task) → AreGivenOf all cs task → length task.given ≡ suc (length cs)
 given_count all cs task (goal, are) =
     ap length are ∙ (with_goal_length (map (clause_at all) cs) goal ∙ ap (λ n. suc n) (length-map cs (clause_at all)))
 
-pub given_number : (all : List Term) (cs : List (Clause Id)) (task : Task) (k : ℕ) (c : Clause Id) → AreGivenOf all cs task → c ≡ get_or cs (k - 1) c → 0 < k → k ≤ length cs → numbered task.given k ≡ Some (clause_at all c)
+pub given_number : (all : List Term) (cs : List IdClause) (task : Task) (k : ℕ) (c : IdClause) → AreGivenOf all cs task → c ≡ get_or cs (k - 1) c → 0 < k → k ≤ length cs → numbered task.given k ≡ Some (clause_at all c)
 given_number all cs task k c (goal, are) is some within =
     ap (λ xs. numbered xs k) are
     ∙ (numbered_before (map (clause_at all) cs) goal k (let count = length-map cs (clause_at all) in omega (arith, within, count))
     ∙ number_given all cs k c is some within)
 
 -- all but the last of a list
-pub all_but_last : (all : List Term) (cs : List (Clause Id)) (n : ℕ) (task : Task) → 0 < length cs → n ≡ length cs - 1 → map (clause_at all) cs ≡ task.given → AreGivenOf all (take n cs) task
+pub all_but_last : (all : List Term) (cs : List IdClause) (n : ℕ) (task : Task) → 0 < length cs → n ≡ length cs - 1 → map (clause_at all) cs ≡ task.given → AreGivenOf all (take n cs) task
 all_but_last all [] n task some count are = absurd (omega (arith, some))
 all_but_last all (c ∷ cs) n task some count are =
     let size : n ≡ length cs = omega (arith, count) in
     subst (λ m. AreGivenOf all (take m (c ∷ cs)) task) (sym size) (let split = front c cs in (split.0, sym are ∙ split.1))
   where
-    front : (c : Clause Id) (cs : List (Clause Id)) → (goal : Clause Term) × (map (clause_at all) (c ∷ cs) ≡ with_goal (map (clause_at all) (take (length cs) (c ∷ cs))) goal)
+    front : (c : IdClause) (cs : List IdClause) → (goal : Clause Term) × (map (clause_at all) (c ∷ cs) ≡ with_goal (map (clause_at all) (take (length cs) (c ∷ cs))) goal)
     front c [] = (clause_at all c, refl)
     front c (d ∷ ds) = let split = front d ds in (split.0, ap (λ xs. clause_at all c ∷ xs) split.1)
 
-pub fit_front : (all : List Term) (cs : List (Clause Id)) (n : ℕ) → AreFit all cs → AreFit all (take n cs)
+pub fit_front : (all : List Term) (cs : List IdClause) (n : ℕ) → AreFit all cs → AreFit all (take n cs)
 fit_front all cs zero fit = tt
 fit_front all [] (suc n) fit = tt
 fit_front all (c ∷ cs) (suc n) fit = (fit.0, fit_front all cs n fit.1)

@@ -14,8 +14,7 @@ use Rattle.fact_fingerprint.specs.Seen.{fingerprint_seen}
 use Rattle.spec_clauses.specs.Flat.{is_flat}
 use Rattle.spec_clauses.specs.Subsumption.{Subsumes}
 use Rattle.spec_features.specs.Features.{features_of}
-use Rattle.term_tree.specs.declared.bank.Id.{Id}
-use Rattle.clause_form.specs.Seen.{clause_at}
+use Rattle.clause_form.specs.Seen.{clause_at, IdClause}
 use Rattle.clause_form.specs.Fit.{IsFit, AreFit}
 use Rattle.feature_index.specs.declared.lanes.Features.{Features}
 use Rattle.clause_saturate.specs.declared.log.Entry.{Entry}
@@ -39,14 +38,14 @@ abbrev pub IsTold : Features → Features → Bool → Type 0
 IsTold f g found = (c d : Clause Term) → f.lanes ≡ features_of c → g.lanes ≡ features_of d → list_all is_flat c.hypotheses ≡ true → Subsumes c d → found ≡ true
 
 -- where features tell that a clause doesn't subsume another, it doesn't
-pub told_apart : (all : List Term) (general special : Clause Id) (f g : Features) (found : Bool) → IsFit all general → HasFeatures all general f → HasFeatures all special g → IsTold f g found → found ≡ false → Subsumes (clause_at all general) (clause_at all special) → ⊥
+pub told_apart : (all : List Term) (general special : IdClause) (f g : Features) (found : Bool) → IsFit all general → HasFeatures all general f → HasFeatures all special g → IsTold f g found → found ≡ false → Subsumes (clause_at all general) (clause_at all special) → ⊥
 told_apart all general special f g found fit first second told none h =
     let c = clause_at all general in
     let flats = (and_true (is_flat c.conclusion) (list_all is_flat c.hypotheses) fit.normal.flat).1 in
     true≢false (sym (told c (clause_at all special) first second flats h) ∙ none)
 
 -- nor does the entry of a number, where they are those that stand beside it
-pub number_apart : (all : List Term) (es : List Entry) (fs : List Features) (number : ℕ) (clause : Clause Id) (f g : Features) (found : Bool) → AreFit all (clauses_of es) → kept_lanes fs ≡ lanes_of all es → f ≡ get_or fs (number - 1) f → HasFeatures all clause g → IsTold f g found → found ≡ false → NumberCovers all es (clause_at all clause) number → ⊥
+pub number_apart : (all : List Term) (es : List Entry) (fs : List Features) (number : ℕ) (clause : IdClause) (f g : Features) (found : Bool) → AreFit all (clauses_of es) → kept_lanes fs ≡ lanes_of all es → f ≡ get_or fs (number - 1) f → HasFeatures all clause g → IsTold f g found → found ≡ false → NumberCovers all es (clause_at all clause) number → ⊥
 number_apart all es fs number clause f g found fit same is has told none h = go number is h.at
   where
     go : (n : ℕ) → f ≡ get_or fs (n - 1) f → numbered es n ≡ Some h.entry → ⊥
@@ -61,7 +60,7 @@ abbrev pub IsMetBy : Fingerprint → Fingerprint → Bool → Type 0
 IsMetBy f g found = (c d : Fact Term) (s t : Subst) → fingerprint_seen f ≡ fingerprint_of c → fingerprint_seen g ≡ fingerprint_of d → fact_under s c ≡ fact_under t d → found ≡ true
 
 -- where they tell that the conclusions don't meet, the clause doesn't subsume the other
-pub conclusions_apart : (all : List Term) (general special : Clause Id) (f g : Fingerprint) (found : Bool) → HasConclusion all general f → HasConclusion all special g → IsMetBy f g found → found ≡ false → Subsumes (clause_at all general) (clause_at all special) → ⊥
+pub conclusions_apart : (all : List Term) (general special : IdClause) (f g : Fingerprint) (found : Bool) → HasConclusion all general f → HasConclusion all special g → IsMetBy f g found → found ≡ false → Subsumes (clause_at all general) (clause_at all special) → ⊥
 conclusions_apart all general special f g found first second told none h =
     let c = clause_at all general in
     let d = clause_at all special in
@@ -69,7 +68,7 @@ conclusions_apart all general special f g found first second told none h =
     true≢false (sym (told c.conclusion d.conclusion (after h.by h.by) h.by first second one) ∙ none)
 
 -- nor does the entry of a number, where it is the one that stands beside it
-pub conclusion_apart : (all : List Term) (es : List Entry) (ps : List Fingerprint) (number : ℕ) (clause : Clause Id) (f g : Fingerprint) (found : Bool) → kept_prints ps ≡ conclusion_prints all es → f ≡ get_or ps (number - 1) f → HasConclusion all clause g → IsMetBy f g found → found ≡ false → NumberCovers all es (clause_at all clause) number → ⊥
+pub conclusion_apart : (all : List Term) (es : List Entry) (ps : List Fingerprint) (number : ℕ) (clause : IdClause) (f g : Fingerprint) (found : Bool) → kept_prints ps ≡ conclusion_prints all es → f ≡ get_or ps (number - 1) f → HasConclusion all clause g → IsMetBy f g found → found ≡ false → NumberCovers all es (clause_at all clause) number → ⊥
 conclusion_apart all es ps number clause f g found same is has told none h = go number is h.at
   where
     go : (n : ℕ) → f ≡ get_or ps (n - 1) f → numbered es n ≡ Some h.entry → ⊥

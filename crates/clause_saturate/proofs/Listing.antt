@@ -10,7 +10,7 @@ use Rattle.spec_clauses.specs.Selection.{is_solved}
 use Rattle.spec_saturation.proofs.Places.{numbered_within}
 use Rattle.term_tree.specs.Bank.{Grows}
 use Rattle.term_tree.specs.declared.bank.Id.{Id}
-use Rattle.clause_form.specs.Seen.{clause_at}
+use Rattle.clause_form.specs.Seen.{clause_at, IdClause}
 use Rattle.clause_form.proofs.Copying.{NamesClause-grows}
 use Rattle.clause_saturate.specs.declared.log.Entry.{Entry}
 use Rattle.clause_saturate.specs.declared.walk.Live.{Live}
@@ -323,7 +323,7 @@ marked_listed all c number olds marked was now h m alive = record {
   conclusions = ap kept_prints alive.conclusions ∙ (h.conclusions ∙ sym (told_same conclusion_seen all olds marked (marked_clauses all c number olds marked m)));
   solved_classes = classed_same marked was.prints.items now.prints.items (filter (is_live_at marked) was.solved.items) now.solved.items was.solved_classes now.solved_classes alive.prints alive.solved alive.solved_classes (marked_classed all c number olds marked (kept_prints was.prints.items) was.solved.items was.solved_classes m h.solved_classes);
   unsolved_classes = classed_same marked was.prints.items now.prints.items (filter (is_live_at marked) was.unsolved.items) now.unsolved.items was.unsolved_classes now.unsolved_classes alive.prints alive.unsolved alive.unsolved_classes (marked_classed all c number olds marked (kept_prints was.prints.items) was.unsolved.items was.unsolved_classes m h.unsolved_classes);
-  chained = chains_same (ends_of marked) was.chains now.chains alive.last alive.previous (subst (λ (cs : List (Clause Id)). AreChained (map (λ (d : Clause Id). last_term d.conclusion) cs) was.chains.last.items was.chains.previous.items) (sym (marked_clauses all c number olds marked m)) h.chained);
+  chained = chains_same (ends_of marked) was.chains now.chains alive.last alive.previous (subst (λ (cs : List IdClause). AreChained (map (λ (d : IdClause). last_term d.conclusion) cs) was.chains.last.items was.chains.previous.items) (sym (marked_clauses all c number olds marked m)) h.chained);
 }
 
 -- and with a new entry

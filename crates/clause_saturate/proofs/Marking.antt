@@ -6,8 +6,7 @@ use Rattle.spec_trees.proofs.Occurrence.{or_false}
 use Rattle.spec_terms.specs.Term.{Term}
 use Rattle.spec_clauses.specs.Fact.{Clause}
 use Rattle.spec_clauses.specs.Subsumption.{Subsumes}
-use Rattle.term_tree.specs.declared.bank.Id.{Id}
-use Rattle.clause_form.specs.Seen.{clause_at, IsClauseIn, AreClausesIn}
+use Rattle.clause_form.specs.Seen.{clause_at, IsClauseIn, AreClausesIn, IdClause}
 use Rattle.clause_saturate.specs.declared.log.Entry.{Entry}
 use Rattle.clause_form.specs.Fit.{IsFit, AreFit}
 use Rattle.clause_saturate.specs.Beating.{clauses_of, BeatsLive, IsMarked, AreMarked}
@@ -86,7 +85,7 @@ marked_twice all c number d m e one two = record {
     | inr unbeaten ↦ inr (
       unbeaten.0,
       elim two.by as (λ _. e.by ≡ d.by) [
-        | inl again ↦ absurd (unbeaten.0 (sym unbeaten.1 ∙ again.0.0, subst (λ (x : Clause Id). Subsumes c (clause_at all x)) one.clause again.0.1))
+        | inl again ↦ absurd (unbeaten.0 (sym unbeaten.1 ∙ again.0.0, subst (λ (x : IdClause). Subsumes c (clause_at all x)) one.clause again.0.1))
         | inr still ↦ still.1 ∙ unbeaten.1
       ],
     )

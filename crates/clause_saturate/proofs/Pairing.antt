@@ -17,8 +17,7 @@ use Rattle.spec_saturation.proofs.Pairs.{live_behind}
 use Rattle.spec_saturation.proofs.Moving.{below_all, self_not_before}
 use Rattle.spec_saturation.proofs.Turns.{pair_undue, pair_apart, pair_offered, gives_push}
 use Rattle.term_tree.specs.Bank.{Grows}
-use Rattle.term_tree.specs.declared.bank.Id.{Id}
-use Rattle.clause_form.specs.Seen.{clause_at, NameClauses}
+use Rattle.clause_form.specs.Seen.{clause_at, NameClauses, IdClause}
 use Rattle.clause_resolve.specs.declared.resolving.Resolved.{Resolved}
 use Rattle.clause_resolve.specs.declared.resolving.Resolved.TheVariants as resolving
 use Rattle.clause_saturate.specs.declared.log.Entry.{Entry}
@@ -239,7 +238,7 @@ resolvent_offered : (given : List (Clause Term)) (log : List offered.Entry) (m i
 resolvent_offered given log m i k cs c gives at = inr (inl (record { resolvents = cs; gives = gives; clause = at }))
 
 -- The first k resolvents of a pair are offered.
-pub record IsOffering (all : List Term) (task : Task) (walk : Walk) (pair : Pair) (clauses : List (Clause Id)) (k : ℕ) : Type 0 where
+pub record IsOffering (all : List Term) (task : Task) (walk : Walk) (pair : Pair) (clauses : List IdClause) (k : ℕ) : Type 0 where
   pub log : List offered.Entry
   pub resolvents : List (Clause Term)
   pub at : IsAt all task walk (key (major pair) (minor pair) (suc k)) log
@@ -248,7 +247,7 @@ pub record IsOffering (all : List Term) (task : Task) (walk : Walk) (pair : Pair
   pub solved : IsSolvedAt log pair.solved
   pub name : NameClauses all clauses resolvents
 
-pub offering_begins : (all : List Term) (task : Task) (walk : Walk) (pair : Pair) (clauses : List (Clause Id)) → IsMadeBy all all walk.items.items pair clauses → IsWalked all task walk (key (major pair) (minor pair) 1) → IsOffering all task walk pair clauses 0
+pub offering_begins : (all : List Term) (task : Task) (walk : Walk) (pair : Pair) (clauses : List IdClause) → IsMadeBy all all walk.items.items pair clauses → IsWalked all task walk (key (major pair) (minor pair) 1) → IsOffering all task walk pair clauses 0
 offering_begins all task walk pair clauses made (log, w) = record {
   log = log;
   resolvents = made.resolvents;
@@ -259,10 +258,10 @@ offering_begins all task walk pair clauses made (log, w) = record {
   name = made.name;
 }
 
-pub offering_walked : (all : List Term) (task : Task) (walk : Walk) (pair : Pair) (clauses : List (Clause Id)) (k : ℕ) → IsOffering all task walk pair clauses k → IsWalked all task walk (key (major pair) (minor pair) (suc k))
+pub offering_walked : (all : List Term) (task : Task) (walk : Walk) (pair : Pair) (clauses : List IdClause) (k : ℕ) → IsOffering all task walk pair clauses k → IsWalked all task walk (key (major pair) (minor pair) (suc k))
 offering_walked all task walk pair clauses k o = (o.log, o.at)
 
-named_number : (all : List Term) (clauses : List (Clause Id)) (cs : List (Clause Term)) (k : ℕ) (c : Clause Id) → map (clause_at all) clauses ≡ cs → c ≡ get_or clauses k c → k < length clauses → slice_get cs k ≡ Some (clause_at all c)
+named_number : (all : List Term) (clauses : List IdClause) (cs : List (Clause Term)) (k : ℕ) (c : IdClause) → map (clause_at all) clauses ≡ cs → c ≡ get_or clauses k c → k < length clauses → slice_get cs k ≡ Some (clause_at all c)
 named_number all [] cs k c are is within = absurd (omega arith)
 named_number all (d ∷ clauses) [] k c are is within = cc
 named_number all (d ∷ clauses) (t ∷ ts) zero c are is within = let first : clause_at all d ≡ t = cc in ap Some (sym first ∙ ap (clause_at all) (sym is))
@@ -273,7 +272,7 @@ abbrev pub resolvent_origin : Pair → ℕ → Origin
 resolvent_origin pair k = Resolvent (k + 1) pair.solved pair.unsolved
 
 -- one more is offered
-pub offering_step : (all : List Term) (task : Task) (old new : Walk) (pair : Pair) (clauses : List (Clause Id)) (k : ℕ) (c : Clause Id) → IsOffering all task old pair clauses k → c ≡ get_or clauses k c → k < length clauses → new.budget ≡ old.budget
+pub offering_step : (all : List Term) (task : Task) (old new : Walk) (pair : Pair) (clauses : List IdClause) (k : ℕ) (c : IdClause) → IsOffering all task old pair clauses k → c ≡ get_or clauses k c → k < length clauses → new.budget ≡ old.budget
     → AreListed all new.items.items new.live → ((log : List offered.Entry) (at : Key) → TellLog all old.items.items log → IsOrigin log (resolvent_origin pair k) at → IsOfferMade all log old.items.items new.items.items old.budget (record { key = at; clause = clause_at all c }) None) → IsOffering all task new pair clauses (k + 1)
 offering_step all task old new pair clauses k c o is within kept listed made =
     let m = major pair in
@@ -303,7 +302,7 @@ offering_step all task old new pair clauses k c o is within kept listed made =
     solved_after after e (inr more) h = subst (λ l. IsSolvedAt l pair.solved) (sym more) (IsSolvedAt-push o.log e pair.solved h)
 
 -- or is due
-pub offering_due : (all : List Term) (task : Task) (old new : Walk) (pair : Pair) (clauses : List (Clause Id)) (k : ℕ) (c : Clause Id) (due : Entry) → IsOffering all task old pair clauses k → c ≡ get_or clauses k c → k < length clauses
+pub offering_due : (all : List Term) (task : Task) (old new : Walk) (pair : Pair) (clauses : List IdClause) (k : ℕ) (c : IdClause) (due : Entry) → IsOffering all task old pair clauses k → c ≡ get_or clauses k c → k < length clauses
     → ((log : List offered.Entry) (at : Key) → TellLog all old.items.items log → IsOrigin log (resolvent_origin pair k) at → IsOfferMade all log old.items.items new.items.items old.budget (record { key = at; clause = clause_at all c }) (Some due)) → HasSpent all task new.items.items due
 offering_due all task old new pair clauses k c due o is within made =
     let m = major pair in
@@ -314,26 +313,26 @@ offering_due all task old new pair clauses k c due o is within made =
     (made o.log (key m i (suc k)) o.at.tell (ap (λ j. key m i j) number, o.solved))
 
 -- all are offered
-pub offering_ends : (all : List Term) (task : Task) (walk : Walk) (pair : Pair) (clauses : List (Clause Id)) (k : ℕ) → IsOffering all task walk pair clauses k → k ≡ length clauses → IsWalked all task walk (key (major pair) (minor pair + 1) 1)
+pub offering_ends : (all : List Term) (task : Task) (walk : Walk) (pair : Pair) (clauses : List IdClause) (k : ℕ) → IsOffering all task walk pair clauses k → k ≡ length clauses → IsWalked all task walk (key (major pair) (minor pair + 1) 1)
 offering_ends all task walk pair clauses k o end =
     let count = named_length clauses o.resolvents o.name.are in
     let same : k ≡ length o.resolvents = omega (arith, count, end) in
     behind all task walk (major pair) (minor pair) (moved all task walk (major pair) (minor pair) k o.log o.order o.at (pair_offered task.given o.at.is_task.some o.log (major pair) (minor pair) o.resolvents o.order (subst (λ j. IsLogUpTo task.given (Some (key (major pair) (minor pair) (suc j))) o.log) same o.at.up_to) o.gives))
   where
-    named_length : (clauses : List (Clause Id)) (cs : List (Clause Term)) → map (clause_at all) clauses ≡ cs → length clauses ≡ length cs
+    named_length : (clauses : List IdClause) (cs : List (Clause Term)) → map (clause_at all) clauses ≡ cs → length clauses ≡ length cs
     named_length [] [] are = refl
     named_length [] (d ∷ ds) are = cc
     named_length (c ∷ clauses) [] are = cc
     named_length (c ∷ clauses) (d ∷ ds) are = let rest : map (clause_at all) clauses ≡ ds = cc in ap suc (named_length clauses ds rest)
 
 -- what an offer of a resolvent made, where its answer is known
-pub step_made : (all : List Term) (old new : Walk) (pair : Pair) (k : ℕ) (c : Clause Id) (found due : Option Entry) → found ≡ due
+pub step_made : (all : List Term) (old new : Walk) (pair : Pair) (k : ℕ) (c : IdClause) (found due : Option Entry) → found ≡ due
     → ((log : List offered.Entry) (at : Key) → TellLog all old.items.items log → IsOrigin log (resolvent_origin pair k) at → IsOfferMade all log old.items.items new.items.items old.budget (record { key = at; clause = clause_at all c }) found)
     → ((log : List offered.Entry) (at : Key) → TellLog all old.items.items log → IsOrigin log (resolvent_origin pair k) at → IsOfferMade all log old.items.items new.items.items old.budget (record { key = at; clause = clause_at all c }) due)
 step_made all old new pair k c found due same made = λ log at t o. subst (IsOfferMade all log old.items.items new.items.items old.budget (record { key = at; clause = clause_at all c })) same (made log at t o)
 
 -- An offer of a resolvent leaves the entries as they are, or adds one.
-pub offer_kept : (all : List Term) (task : Task) (old new : Walk) (pair : Pair) (clauses : List (Clause Id)) (k : ℕ) (c : Clause Id) (due : Option Entry) → IsOffering all task old pair clauses k
+pub offer_kept : (all : List Term) (task : Task) (old new : Walk) (pair : Pair) (clauses : List IdClause) (k : ℕ) (c : IdClause) (due : Option Entry) → IsOffering all task old pair clauses k
     → ((log : List offered.Entry) (at : Key) → TellLog all old.items.items log → IsOrigin log (resolvent_origin pair k) at → IsOfferMade all log old.items.items new.items.items old.budget (record { key = at; clause = clause_at all c }) due) → AreSameOrMore old.items.items new.items.items
 offer_kept all task old new pair clauses k c due o made =
     let number : suc k ≡ k + 1 = omega arith in
@@ -377,7 +376,7 @@ pub found_same : (all now : List Term) (xs ys : List Entry) (pair : Pair) (found
 found_same all now xs ys pair found same h = subst (λ (es : List Entry). IsFoundFor all now es pair found) same h
 
 -- as the bank grows, a due pair stays one, with what it gives
-pub made_grows : (a b : List Term) (entries : List Entry) (pair : Pair) (clauses : List (Clause Id)) → Grows a b → IsMadeBy a b entries pair clauses → AreFit a (clauses_of entries) → IsMadeBy b b entries pair clauses
+pub made_grows : (a b : List Term) (entries : List Entry) (pair : Pair) (clauses : List IdClause) → Grows a b → IsMadeBy a b entries pair clauses → AreFit a (clauses_of entries) → IsMadeBy b b entries pair clauses
 made_grows a b entries pair clauses grows made fit =
     let due = made.gives.due in
     let left = same_clause a b entries pair.solved due.solved grows fit due.solved_at in
@@ -385,6 +384,7 @@ made_grows a b entries pair clauses grows made fit =
     record {
       resolvents = made.resolvents;
       name = made.name;
+      low = made.low;
       gives = record {
         due = record {
           solved = due.solved;
@@ -416,5 +416,5 @@ too_large_step all now task walk pair xs found is grows same h w =
     let g : GivesAnswer all walk.items.items pair Large = subst (λ (f : Resolved). IsFoundFor all now walk.items.items pair f) is (found_same all now xs walk.items.items pair found same h) in
     large_grows all now task walk.items.items pair.solved pair.unsolved grows (large_step all task walk pair g w)
 
-pub made_step : (all now : List Term) (pair : Pair) (xs ys : List Entry) (found : Resolved) (clauses : List (Clause Id)) → found ≡ resolving.Clauses clauses → xs ≡ ys → IsFoundFor all now xs pair found → IsMadeBy all now ys pair clauses
+pub made_step : (all now : List Term) (pair : Pair) (xs ys : List Entry) (found : Resolved) (clauses : List IdClause) → found ≡ resolving.Clauses clauses → xs ≡ ys → IsFoundFor all now xs pair found → IsMadeBy all now ys pair clauses
 made_step all now pair xs ys found clauses is same h = subst (λ (f : Resolved). IsFoundFor all now ys pair f) is (found_same all now xs ys pair found same h)

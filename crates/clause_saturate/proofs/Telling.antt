@@ -12,7 +12,9 @@ use Rattle.spec_saturation.specs.Log.{IsBeaten, IsLive, IsCoveredBy}
 use Rattle.spec_saturation.proofs.Pairs.{live_behind}
 use Rattle.term_tree.specs.Bank.{Grows}
 use Rattle.clause_form.specs.Seen.{clause_at, NamesClause}
+use Rattle.clause_form.specs.Fit.{HasLowVariables}
 use Rattle.clause_form.proofs.Copying.{NamesClause-grows}
+use Rattle.clause_form.proofs.Fit.{HasLowVariables-grows}
 use Rattle.clause_saturate.specs.declared.log.Origin.{Origin}
 use Rattle.clause_saturate.specs.declared.log.Origin.TheVariants.{Given, Resolvent}
 use Rattle.clause_saturate.specs.declared.log.Entry.{Entry}
@@ -21,7 +23,11 @@ use Rattle.clause_saturate.specs.Beating.{SomeLiveCovers, IsMarked, AreMarked, I
 
 -- as the bank grows, entries tell what they did
 TellsEntry-grows : (a b : List Term) (log : List offered.Entry) (entry : Entry) (e : offered.Entry) → Grows a b → TellsEntry a log entry e → TellsEntry b log entry e
-TellsEntry-grows a b log entry e grows t = record { clause = NamesClause-grows a b entry.clause e.clause grows t.clause; origin = t.origin }
+TellsEntry-grows a b log entry e grows t = record {
+  clause = NamesClause-grows a b entry.clause e.clause grows t.clause;
+  low = HasLowVariables-grows a b entry.clause grows t.clause.known t.low;
+  origin = t.origin;
+}
 
 TellEntries-grow : (a b : List Term) (log : List offered.Entry) (n : ℕ) (entries : List Entry) (es : List offered.Entry) → Grows a b → TellEntries a log n entries es → TellEntries b log n entries es
 TellEntries-grow a b log n [] [] grows t = tt
@@ -41,7 +47,7 @@ TellEntries-back a b was log n (x ∷ xs) [] (e ∷ es) grows t u = absurd t
 TellEntries-back a b was log n (x ∷ xs) (d ∷ ds) (e ∷ es) grows t u =
     let known = t.0.clause.known in
     let same = NamesClause-grows a b x.clause (clause_at a x.clause) grows (record { known = known; is = refl }) in
-    (record { clause = record { known = known; is = sym same.is ∙ u.0.clause.is }; origin = u.0.origin }, u.1, TellEntries-back a b was log (suc n) xs ds es grows t.2 u.2)
+    (record { clause = record { known = known; is = sym same.is ∙ u.0.clause.is }; low = t.0.low; origin = u.0.origin }, u.1, TellEntries-back a b was log (suc n) xs ds es grows t.2 u.2)
 
 pub TellLog-back : (a b : List Term) (entries : List Entry) (was log : List offered.Entry) → Grows a b → TellLog a entries was → TellLog b entries log → TellLog a entries log
 TellLog-back a b entries was log grows t u = TellEntries-back a b was log 1 entries was log grows t u
@@ -142,6 +148,7 @@ tell_push all log n number (x ∷ olds) (y ∷ news) [] entry e count t m last n
 tell_push all log n number (x ∷ olds) (y ∷ news) (d ∷ es) entry e count t m last none = (
   record {
     clause = subst (λ c. NamesClause all c d.clause) (sym m.0.clause) t.0.clause;
+    low = subst (HasLowVariables all) (sym m.0.clause) t.0.low;
     origin = subst (λ o. IsOrigin (log ++ e ∷ []) o d.key) (sym m.0.origin) (IsOrigin-push log e x.origin d.key t.0.origin);
   },
   first_push all (suc n) number es e x y d.clause (omega (arith, count)) t.0.clause.is t.1 m.0,
@@ -153,5 +160,5 @@ pub pushed_tells : (all : List Term) (log : List offered.Entry) (old new : List 
 pushed_tells all log old new entry e t pushed is last none =
     let count = log_length all old log t in
     let marked : AreMarked all e.clause (length old + 1) old pushed.marked = subst (λ c. AreMarked all c (length old + 1) old pushed.marked) is pushed.are_marked in
-    let told = tell_push all log 1 (length old + 1) old pushed.marked log entry e (omega (arith, count)) t marked (record { clause = last.clause; origin = IsOrigin-push log e entry.origin e.key last.origin }) none in
+    let told = tell_push all log 1 (length old + 1) old pushed.marked log entry e (omega (arith, count)) t marked (record { clause = last.clause; low = last.low; origin = IsOrigin-push log e entry.origin e.key last.origin }) none in
     subst (λ xs. TellLog all xs (log ++ e ∷ [])) (sym pushed.is) told

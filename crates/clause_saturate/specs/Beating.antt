@@ -6,13 +6,12 @@ use Rattle.spec_clauses.specs.Subsumption.{Subsumes}
 use Rattle.spec_saturation.specs.Key.{Key}
 use Rattle.spec_saturation.specs.Key as offered
 use Rattle.spec_saturation.specs.Log.{IsCoveredBy}
-use Rattle.term_tree.specs.declared.bank.Id.{Id}
-use Rattle.clause_form.specs.Seen.{clause_at}
+use Rattle.clause_form.specs.Seen.{clause_at, IdClause}
 use Rattle.clause_saturate.specs.declared.log.Entry.{Entry}
 use Rattle.clause_saturate.specs.Logs.{TellLog, TellsEntry}
 
 -- the clauses of entries
-abbrev pub clauses_of : List Entry → List (Clause Id)
+abbrev pub clauses_of : List Entry → List IdClause
 clauses_of entries = map (λ e. e.clause) entries
 
 -- the entry is live and subsumes the clause; some entry does

@@ -4,8 +4,8 @@ use Rattle.std.proofs.Common.{inl, inr}
 use Rattle.std.specs.Coded.{Coded, code_by, coded×, coded⊎, coded_ℕ, coded_list, coded_option}
 use Rattle.spec_terms.specs.Term.{Term, coded_term}
 use Rattle.spec_clauses.specs.Fact.{Clause}
-use Rattle.term_tree.specs.declared.bank.Id.{Id}
-use Rattle.clause_form.specs.Codes.{coded_id, coded_clause}
+use Rattle.clause_form.specs.Codes.{coded_clause, coded_id_clause}
+use Rattle.clause_form.specs.Seen.{IdClause}
 use Rattle.clause_saturate.specs.declared.log.Origin.{Origin}
 use Rattle.clause_saturate.specs.declared.log.Origin.TheVariants.{Given, Resolvent}
 use Rattle.clause_saturate.specs.declared.log.Entry.{Entry}
@@ -28,7 +28,7 @@ abbrev pub coded_origin : Coded Origin
 coded_origin = code_by (ℕ ⊎ (ℕ × (ℕ × ℕ))) (coded⊎ coded_ℕ (coded× coded_ℕ (coded× coded_ℕ coded_ℕ))) origin_parts parts_origin parts_origin-origin_parts
 
 abbrev pub coded_entries : Coded (List Entry)
-coded_entries = coded_list (code_by (Clause Id × (Origin × Option ℕ)) (coded× (coded_clause coded_id) (coded× coded_origin (coded_option coded_ℕ))) (λ e. (e.clause, (e.origin, e.by))) (λ p. record { clause = p.0; origin = p.1.0; by = p.1.1 }) (λ _. refl))
+coded_entries = coded_list (code_by (IdClause × (Origin × Option ℕ)) (coded× coded_id_clause (coded× coded_origin (coded_option coded_ℕ))) (λ e. (e.clause, (e.origin, e.by))) (λ p. record { clause = p.0; origin = p.1.0; by = p.1.1 }) (λ _. refl))
 
 abbrev pub coded_plain_entries : Coded (List PlainEntry)
 coded_plain_entries = coded_list (code_by (Clause Term × (Origin × Option ℕ)) (coded× (coded_clause coded_term) (coded× coded_origin (coded_option coded_ℕ))) (λ e. (e.clause, (e.origin, e.by))) (λ p. record { clause = p.0; origin = p.1.0; by = p.1.1 }) (λ _. refl))

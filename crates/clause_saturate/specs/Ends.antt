@@ -2,11 +2,12 @@
 use Rattle.std.specs.Prelude.{◌≡◌, ℕ, suc, ◌-◌, ◌<◌, cond, Option, Some, None, List, length, map, get_or, slice_get}
 use Rattle.spec_terms.specs.Term.{Term, is_ground}
 use Rattle.spec_calculus.specs.Points.{numbered}
-use Rattle.spec_clauses.specs.Fact.{Fact, Clause, terms_of}
+use Rattle.spec_clauses.specs.Fact.{Fact, terms_of}
 use Rattle.term_tree.specs.Bank.{tree_at}
 use Rattle.term_tree.specs.declared.bank.Id.{Id}
 use Rattle.clause_saturate.specs.declared.log.Entry.{Entry}
 use Rattle.clause_saturate.specs.Beating.{clauses_of}
+use Rattle.clause_form.specs.Seen.{IdClause}
 
 -- the last term of a fact, if it has terms
 abbrev pub last_term : {X : Type 0} → Fact X → Option X
@@ -18,7 +19,7 @@ if_closed all None = None
 if_closed all (Some id) = cond (is_ground (tree_at all id)) (Some id) None
 
 -- the id with which a clause's conclusion ends, if it names a closed term
-abbrev pub closed_end_of : List Term → Clause Id → Option Id
+abbrev pub closed_end_of : List Term → IdClause → Option Id
 closed_end_of all c = if_closed all (last_term c.conclusion)
 
 -- the ids with which the conclusions of entries end

@@ -7,7 +7,7 @@ use Rattle.spec_clauses.specs.Fact.{Clause}
 use Rattle.spec_clauses.specs.Selection.{is_solved}
 use Rattle.spec_features.specs.Features.{features_of}
 use Rattle.term_tree.specs.declared.bank.Id.{Id}
-use Rattle.clause_form.specs.Seen.{clause_at}
+use Rattle.clause_form.specs.Seen.{clause_at, IdClause}
 use Rattle.spec_fingerprints.specs.Fingerprints as print
 use Rattle.spec_fingerprints.specs.Fingerprints.{may_meet, clause_print, fingerprint_of}
 use Rattle.feature_index.specs.declared.lanes.Features.{Features}
@@ -55,14 +55,14 @@ abbrev pub conclusion_prints : List Term → List Entry → List print.Fingerpri
 conclusion_prints all entries = map (λ entry. fingerprint_of (clause_at all entry.clause).conclusion) entries
 
 -- they are the clause's
-abbrev pub HasFeatures : List Term → Clause Id → Features → Type 0
+abbrev pub HasFeatures : List Term → IdClause → Features → Type 0
 HasFeatures all clause features = features.lanes ≡ features_of (clause_at all clause)
 
 -- it is that of the clause's conclusion
-abbrev pub HasConclusion : List Term → Clause Id → Fingerprint → Type 0
+abbrev pub HasConclusion : List Term → IdClause → Fingerprint → Type 0
 HasConclusion all clause seen = fingerprint_seen seen ≡ fingerprint_of (clause_at all clause).conclusion
 
-pub record HasLooks (all : List Term) (clause : Clause Id) (looks : Looks) : Type 0 where
+pub record HasLooks (all : List Term) (clause : IdClause) (looks : Looks) : Type 0 where
   pub features : HasFeatures all clause looks.features
   pub conclusion : HasConclusion all clause looks.conclusion
 
@@ -154,7 +154,7 @@ IsUnclosedListed None number old new = new ≡ old ++ number ∷ []
 IsUnclosedListed (Some id) number old new = new ≡ old
 
 -- so does that of the clause's entry, which the chains lead to, and all else is the same
-pub record IsEndListed (all : List Term) (clause : Clause Id) (number : ℕ) (old new : Live) : Type 0 where
+pub record IsEndListed (all : List Term) (clause : IdClause) (number : ℕ) (old new : Live) : Type 0 where
   pub solved : new.solved.items ≡ old.solved.items
   pub unsolved : new.unsolved.items ≡ old.unsolved.items
   pub features : new.features.items ≡ old.features.items

@@ -10,6 +10,7 @@ use Rattle.spec_saturation.specs.Key as offered
 use Rattle.spec_saturation.specs.End.{End, IsLog}
 use Rattle.spec_saturation.specs.End as ending
 use Rattle.clause_form.specs.Seen.{clause_at, NamesClause}
+use Rattle.clause_form.specs.Fit.{HasLowVariables}
 use Rattle.clause_saturate.specs.declared.log.Origin.{Origin}
 use Rattle.clause_saturate.specs.declared.log.Origin.TheVariants.{Given, Resolvent}
 use Rattle.clause_saturate.specs.declared.log.Entry.{Entry}
@@ -32,9 +33,10 @@ IsFirstSubsumer number [] c by = by ≡ None
 IsFirstSubsumer number (e ∷ es) c by = (Subsumes e.clause c × (by ≡ Some number))
     ⊎ ((Subsumes e.clause c → ⊥) × IsFirstSubsumer (suc number) es c by)
 
--- the entry's clause and origin
+-- the entry's clause, whose variables have low numbers, and its origin
 pub record TellsEntry (all : List Term) (log : List offered.Entry) (entry : Entry) (e : offered.Entry) : Type 0 where
   pub clause : NamesClause all entry.clause e.clause
+  pub low : HasLowVariables all entry.clause
   pub origin : IsOrigin log entry.origin e.key
 
 -- the entries, the first of which has that number, one by one

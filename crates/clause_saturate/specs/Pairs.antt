@@ -6,8 +6,8 @@ use Rattle.spec_clauses.specs.Fact as horn
 use Rattle.spec_clauses.specs.Selection.{Selection, select, is_solved}
 use Rattle.spec_clauses.specs.Resolvents.{Answer, Resolves}
 use Rattle.spec_clauses.specs.Resolvents as answer
-use Rattle.term_tree.specs.declared.bank.Id.{Id}
-use Rattle.clause_form.specs.Seen.{clause_at, NameClauses}
+use Rattle.clause_form.specs.Seen.{clause_at, NameClauses, IdClause}
+use Rattle.clause_form.specs.Fit.{AreLowWithinLimit}
 use Rattle.clause_resolve.specs.declared.resolving.Resolved.{Resolved}
 use Rattle.clause_resolve.specs.declared.resolving.Resolved.TheVariants.{NoUnifier, Large, Clauses}
 use Rattle.clause_saturate.specs.declared.log.Entry.{Entry}
@@ -73,9 +73,10 @@ IsNextPair all entries later from None = AllArePassedBy all entries later from l
 IsNextPair all entries later from (Some pair) = IsFirstPair all entries later from pair
 
 -- the clauses name, in a bank that may have grown, the resolvents of the due pair
-pub record IsMadeBy (all now : List Term) (entries : List Entry) (pair : Pair) (clauses : List (horn.Clause Id)) : Type 0 where
+pub record IsMadeBy (all now : List Term) (entries : List Entry) (pair : Pair) (clauses : List IdClause) : Type 0 where
   pub resolvents : List (horn.Clause Term)
   pub name : NameClauses now clauses resolvents
+  pub low : AreLowWithinLimit now clauses
   pub gives : GivesAnswer all entries pair (answer.Resolvents resolvents)
 
 -- what was found is the pair's answer

@@ -10,8 +10,7 @@ use Rattle.spec_saturation.specs.Key as offered
 use Rattle.spec_saturation.specs.Log.{goal_key, EndsAt}
 use Rattle.spec_saturation.specs.End.{IsLogUpTo}
 use Rattle.spec_saturation.specs.Common.{with_goal}
-use Rattle.term_tree.specs.declared.bank.Id.{Id}
-use Rattle.clause_form.specs.Seen.{clause_at}
+use Rattle.clause_form.specs.Seen.{clause_at, IdClause}
 use Rattle.clause_saturate.specs.declared.log.Entry.{Entry}
 use Rattle.clause_saturate.specs.declared.walk.Walk.{Walk}
 use Rattle.clause_saturate.specs.declared.walk.Stop.{Stop}
@@ -29,7 +28,7 @@ abbrev pub with_asked : Task → Bool → Task
 with_asked task asked = record { given = task.given; budget = task.budget; asked = asked }
 
 -- these name the task's given clauses but the goal
-abbrev pub AreGivenOf : List Term → List (Clause Id) → Task → Type 0
+abbrev pub AreGivenOf : List Term → List IdClause → Task → Type 0
 AreGivenOf all clauses task = (goal : Clause Term) × (task.given ≡ with_goal (map (clause_at all) clauses) goal)
 
 -- there are given clauses, each its own norm within the limit of size

@@ -191,7 +191,7 @@ fn ended(walk: Walk, stop: Option<Stop>) -> Saturated
 }
 
 /// The log of the given clauses, the goal last, with at most so many entries, and its end: the one that the
-/// definitions give. Each clause is to be its own norm within the limit of size.
+/// definitions give. Each clause is to be its own norm within the limit of size, with variables of low numbers.
 ///
 /// `Err` comes only for want of memory; then the bank is as before.
 pub fn saturate<B: Bank>(

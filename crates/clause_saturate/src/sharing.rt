@@ -56,8 +56,8 @@ fn begun(walk: Walk, stop: Option<Stop>, number: usize, mark: Mark) -> Begun
 }
 
 /// The part before the goal of the log of the given clauses, with at most so many entries, and how it ends: the same
-/// whatever the goal, which is not among the given clauses. Each of these is to be its own norm within the limit of size;
-/// there may be none.
+/// whatever the goal, which is not among the given clauses. Each of these is to be its own norm within the limit of size,
+/// with variables of low numbers; there may be none.
 ///
 /// `Err` comes only for want of memory; then the bank is as before.
 pub fn begin<B: Bank>(
@@ -133,7 +133,7 @@ fn end_of(stop: Option<Stop>) -> End
 
 /// Goes on with a goal from where `begin` left the log, to the log's end: with `log`, the log of the given clauses of
 /// `begin` and that goal, and its end. The bank is to be that of `begin`, with all the trees that `begin` left, and the
-/// goal its own norm within the limit of size.
+/// goal its own norm within the limit of size, with variables of low numbers.
 ///
 /// `Err` comes only for want of memory; then the bank is as before, and the log as `begin` left it.
 pub fn finish<B: Bank>(bank: &mut B, common: &mut Common, goal: Clause) -> Result<End, AllocError>

@@ -12,7 +12,6 @@ use Rattle.spec_clauses.specs.Fact.{Clause}
 use Rattle.spec_clauses.specs.Norm.{norms}
 use Rattle.spec_clauses.specs.Variables.{AreBelow}
 use Rattle.term_tree.specs.Bank.{Grows}
-use Rattle.term_tree.specs.declared.bank.Id.{Id}
 use Rattle.spec_translation.specs.Visit.{Visit, visit_terms, is_large_visit, after_input, after_copy, after_new, after_event}
 use Rattle.spec_translation.specs.Course as course
 use Rattle.spec_translation.specs.Course.{Outcome, Done, TooLarge, Course, Finished, Unless, preceded}
@@ -29,6 +28,7 @@ use Rattle.clause_translate.specs.Jobs.{Job, Once, Uncounted, Each, Runs, IsDone
 use Rattle.process_visits.proofs.Named.{if_ok}
 use Rattle.process_visits.proofs.Listings.{lists_none, lists_behind, lists_no_more}
 use Rattle.process_visits.proofs.Courses.{unless_large, unless_small, each_join, each_large}
+use Rattle.clause_form.specs.Seen.{IdClause}
 
 -- the same job, where it runs so
 pub ends_as : (P : Protocol) (below job : Job) (new : List Term) (before after : Listing) (large : Option ℕ) → ((out : Outcome) → Runs P below before.left out → Runs P job before.left out) → Ends P below new before after large → Ends P job new before after large
@@ -86,8 +86,9 @@ counted P process point v new before low after None same kept less h = record {
   runs = subst (λ n. Visited P process point v n (Done h.more after.left)) (sym less) h.runs;
   lists = record {
     made = h.lists.made;
-    clauses = h.lists.clauses ∙ ap (λ (cs : List (Clause Id)). cs ++ h.lists.made) same;
+    clauses = h.lists.clauses ∙ ap (λ (cs : List IdClause). cs ++ h.lists.made) same;
     names = λ keeps. h.lists.names (kept ∙ keeps);
+    low = λ keeps. h.lists.low (kept ∙ keeps);
     none = λ gone. h.lists.none (kept ∙ gone);
     keeps = h.lists.keeps ∙ kept;
   };

@@ -11,6 +11,7 @@ ghost use Rattle.pi_tree.specs.declared.accessors.Kind.TheVariants.{Query as OfQ
 ghost use Rattle.term_tree.specs.Bank.{Grows};
 ghost use Rattle.spec_translation.specs.Visit.{first_visit};
 ghost use Rattle.spec_translation.specs.Translation.{goal_clauses};
+ghost use Rattle.clause_form.specs.Fit.{AreLowWithinLimit};
 ghost use Rattle.clause_form.specs.Seen.{clause_at, AreClausesIn, NameClauses};
 ghost use Rattle.query_derive.specs.GoalRows.{OfQuery};
 ghost use Rattle.process_visits.specs.Places.{HasFewPoints};
@@ -99,6 +100,7 @@ fn visited<B: Bank>(
     clauses: Clauses,
 ) -> Result<Translated, AllocError>
     requires clauses { AreClausesIn (B.trees bank.old) clauses }
+    requires low { AreLowWithinLimit (B.trees bank.old) clauses }
     requires fit { IsFitProcess (protocol_of protocol.now) (protocol_of protocol.now).main }
     requires rules { HasFitRules (protocol_of protocol.now) }
     requires points { HasFewPoints 1 (protocol_of protocol.now).main }

@@ -1,10 +1,9 @@
 -- Facts of two classes never meet. And lists of numbers with a number more.
 use Rattle.std.proofs.Common.{◌≡◌, ◌∙◌, ℕ, zero, suc, ◌+◌, ◌*◌, ◌%◌, ◌<◌, ◌≤◌, Bool, true, false, ◌&&◌, cond, Option, Some, None, List, [], ◌∷◌, ◌++◌, length, map, get_or, set, refl, ap, sym, arith}
-use Rattle.std.specs.Prelude.{nat_le}
+use Rattle.std.specs.Prelude.{nat_eq, nat_le}
 use Rattle.std.specs.Global.{Vec}
 use Rattle.std.proofs.lemmas.Bool.{false≢true, leb-true, eqb-true}
 use Rattle.spec_trees.proofs.Equality.{and_true}
-use Rattle.spec_clauses.specs.Head.{same_head}
 use Rattle.spec_features.specs.Features.{are_at_most}
 use Rattle.spec_fingerprints.specs.Fingerprints.{Fingerprint, may_meet}
 use Rattle.fact_classes.specs.declared.classes.Classes.{Classes}
@@ -22,7 +21,7 @@ at_most_at (m ∷ ms) (n ∷ ns) (suc i) h = at_most_at ms ns i (and_true (nat_l
 -- what is told at a position of two fingerprints that may meet is one number
 told_one : (p q : Fingerprint) (i : ℕ) → may_meet p q ≡ true → is_told_at p i ≡ true → is_told_at q i ≡ true → get_or p.least i 0 ≡ get_or q.least i 0
 told_one p q i meet first second =
-    let ranges = (and_true (same_head p.head q.head) (are_at_most p.least q.most && are_at_most q.least p.most) meet).1 in
+    let ranges = (and_true (nat_eq p.head q.head) (are_at_most p.least q.most && are_at_most q.least p.most) meet).1 in
     let both = and_true (are_at_most p.least q.most) (are_at_most q.least p.most) ranges in
     let below = at_most_at p.least q.most i both.0 in
     let above = at_most_at q.least p.most i both.1 in

@@ -1,9 +1,10 @@
 //! Fingerprints of facts, and of the facts on which clauses are resolved.
 
 ghost use Rattle.std.specs.Prelude.{◌≡◌, length, map, option_map, IfOk};
-ghost use Rattle.spec_fingerprints.specs.Fingerprints.{least_of, most_of, roots_among, fingerprint_of, hypothesis_print, clause_print};
+ghost use Rattle.spec_fingerprints.specs.Fingerprints.{number_of_head, least_of, most_of, roots_among, fingerprint_of, hypothesis_print, clause_print};
 ghost use Rattle.term_tree.specs.Bank.{tree_at, AreKnown};
 ghost use Rattle.clause_form.specs.Facts.{fact_of};
+ghost use Rattle.clause_form.specs.Heads.{head_seen};
 ghost use Rattle.clause_form.specs.Seen.{fact_at, clause_at, IsFactIn};
 ghost use Rattle.clause_form.specs.Fit.{IsFit, AreFit, clauses_at};
 ghost use Rattle.fact_fingerprint.specs.Ranges.{ways_of};
@@ -55,11 +56,11 @@ const POSITIONS: [&[usize]; PLACES] = [
     &[1, 3, 1],
 ];
 
-/// A fact's fingerprint: its head, and at each position the least and the greatest number of what may stand there. Numbers
-/// have sixteen bits, so that all positions are compared at once.
+/// A fact's fingerprint: the number of its head, and at each position the least and the greatest number of what may stand
+/// there. These have sixteen bits, so that all positions are compared at once.
 #[derive(Clone, Copy)]
 pub struct Fingerprint {
-    pub head: Head,
+    pub head: u64,
     pub least: [u16; 32],
     pub most: [u16; 32],
 }
@@ -90,6 +91,20 @@ fn ranges_among<B: Bank>(bank: &B, terms: &[Id], positions: &[&[usize]]) -> Rang
     Ranges { least, most }
 }
 
+/// The number of a head.
+fn head_number(head: Head) -> u64
+    ensures { result ≡ number_of_head (head_seen head) }
+{
+    match head {
+        Head::Att(phase) => 8 * u64::from(phase),
+        Head::Mess(phase) => 8 * u64::from(phase) + 1,
+        Head::Tab(table) => 8 * u64::from(table) + 2,
+        Head::Ev(event) => 8 * u64::from(event) + 3,
+        Head::Mev(event) => 8 * u64::from(event) + 4,
+        Head::Bad => 5,
+    }
+}
+
 /// The fingerprint of a fact. Takes no memory.
 pub fn fingerprint_of_fact<B: Bank>(bank: &B, fact: &Fact) -> Fingerprint
     requires { IsFactIn (B.trees bank.now) (fact_of fact.now) }
@@ -99,7 +114,7 @@ pub fn fingerprint_of_fact<B: Bank>(bank: &B, fact: &Fact) -> Fingerprint
     let parts = fact.terms();
     let ranges = ranges_among(bank, parts.as_slice(), &POSITIONS);
     let (least, most) = (ranges.least, ranges.most);
-    let head = fact.head();
+    let head = head_number(fact.head());
     Fingerprint { head, least, most }
 }
 

@@ -1,6 +1,6 @@
 //! The test of two fingerprints.
 
-ghost use Rattle.std.specs.Prelude.{◌≡◌, ◌↔◌, ◌&&◌, true, option_map, IsTrue};
+ghost use Rattle.std.specs.Prelude.{◌≡◌, ◌&&◌, true, option_map};
 ghost use Rattle.spec_terms.specs.Term.{Term, Subst};
 ghost use Rattle.spec_clauses.specs.Fact.{Fact as FactOf, fact_under};
 ghost use Rattle.spec_features.specs.Features.{are_at_most};
@@ -8,15 +8,7 @@ ghost use Rattle.spec_fingerprints.specs.Fingerprints.{fingerprint_of, may_meet,
 ghost use Rattle.fact_fingerprint.specs.Seen.{fingerprint_seen};
 
 use crate::fingerprints::Fingerprint;
-use clause_form::Head;
 use std::simd::prelude::*;
-
-/// Whether two heads are the same.
-fn are_one(left: Head, right: Head) -> bool
-    ensures { IsTrue result ↔ (left ≡ right) }
-{
-    left == right
-}
 
 /// Whether no number is greater than the one at its place.
 fn are_within(lows: &[u16; 32], highs: &[u16; 32]) -> bool
@@ -42,10 +34,7 @@ pub fn may_meet(left: &Fingerprint, right: &Fingerprint) -> bool
         fingerprint_seen right.now ≡ fingerprint_of g →
         fact_under s f ≡ fact_under t g → result ≡ true }
 {
-    if !are_one(left.head, right.head) {
-        return false;
-    }
-    ranges_meet(left, right)
+    left.head == right.head && ranges_meet(left, right)
 }
 
 /// Whether a solved clause with this fingerprint of its conclusion may have resolvents with a clause that has this one of its

@@ -11,13 +11,14 @@ use Rattle.unify_match.specs.declared.bound.Bound.{Bound}
 use Rattle.unify_match.specs.Trail.{Extends}
 use Rattle.unify_match.specs.Seen.{seen}
 use Rattle.unify_match.proofs.Trails.{undone}
+use Rattle.clause_diffs.specs.Diffs.{diffs_at}
 use Rattle.clause_form.specs.declared.facts.Fact.{Fact}
 use Rattle.clause_form.specs.Facts.{fact_of}
 use Rattle.clause_form.specs.Seen.{fact_at, IsFactIn, AreFactsIn}
 use Rattle.spec_placements.specs.Placing.{linked_variables, NoFactMatch}
 use Rattle.spec_placements.proofs.Linked.{linked_next}
 use Rattle.spec_placements.proofs.Standing.{holds_one, one_holds, row_long}
-use Rattle.fact_placing.specs.declared.board.Loose.{Loose}
+use Rattle.fact_placing.specs.declared.board.Ending.{Ending}
 use Rattle.fact_placing.specs.Boards.{facts_at, loose_seen, ending_at, IsAsBefore, IsPut, CannotPut, HoldsOn, HoldsNotOn, AreLinkedOn}
 
 some_same : {X : Type 0} {x y : X} → Some x ≡ Some y → x ≡ y
@@ -89,25 +90,25 @@ positions_more row k position p within is at so_far =
     let front = ap (map suc) (map-append pred (take k row) (suc p ∷ [])) ∙ (map-append suc (map pred (take k row)) (p ∷ []) ∙ ap (λ l. l ++ suc p ∷ []) so_far) in
     subst (λ (l : List ℕ). map suc (map pred l) ≡ l) (sym more) front
 
-module _ (all : List Term) (hyps : List (horn.Fact Id)) (loose : List Loose) where
+module _ (all : List Term) (hyps : List (horn.Fact Id)) (ending : Ending) where
   -- a fact that was put at its position of the row
   pub put_on : (old new : List Bound) (taken_old taken_new : List Bool) (facts rest : List (horn.Fact Id)) (fact : horn.Fact Id) (row more : List ℕ) (position p : ℕ) → facts ≡ fact ∷ rest → row ≡ position ∷ more → position ≡ suc p → IsPut all hyps old new taken_old taken_new fact p
-      → HoldsOn all hyps loose old taken_old facts (map pred row) ↔ HoldsOn all hyps loose new taken_new rest (map pred more)
+      → HoldsOn all hyps ending old taken_old facts (map pred row) ↔ HoldsOn all hyps ending new taken_new rest (map pred more)
   put_on old new taken_old taken_new facts rest fact row more position p facts_are row_is at put =
       let rows : map pred row ≡ p ∷ map pred more = ap (map pred) row_is ∙ ap (λ n. pred n ∷ map pred more) at in
       let H = facts_at all hyps in (
         λ held.
-            let first : HoldsOn all hyps loose old taken_old (fact ∷ rest) (p ∷ map pred more) = subst (λ ps. HoldsOn all hyps loose old taken_old (fact ∷ rest) ps) rows (subst (λ fs. HoldsOn all hyps loose old taken_old fs (map pred row)) facts_are held) in
-            subst (λ flags. HoldsOn all hyps loose new flags rest (map pred more)) (sym put.flags) (one_holds H taken_old (ending_at loose) (seen all old) (seen all new) (fact_at all fact) put.there p put.stands put.matched (facts_at all rest) (map pred more) first),
+            let first : HoldsOn all hyps ending old taken_old (fact ∷ rest) (p ∷ map pred more) = subst (λ ps. HoldsOn all hyps ending old taken_old (fact ∷ rest) ps) rows (subst (λ fs. HoldsOn all hyps ending old taken_old fs (map pred row)) facts_are held) in
+            subst (λ flags. HoldsOn all hyps ending new flags rest (map pred more)) (sym put.flags) (one_holds H taken_old (ending_at all ending) (seen all old) (seen all new) (fact_at all fact) put.there p put.stands put.matched (facts_at all rest) (map pred more) first),
         λ held.
-            let more_held : HoldsOn all hyps loose new (set taken_old p true) rest (map pred more) = subst (λ flags. HoldsOn all hyps loose new flags rest (map pred more)) put.flags held in
-            let first : HoldsOn all hyps loose old taken_old (fact ∷ rest) (p ∷ map pred more) = holds_one H taken_old (ending_at loose) (seen all old) (seen all new) (fact_at all fact) put.there p put.stands put.matched (facts_at all rest) (map pred more) put.free more_held in
-            subst (λ ps. HoldsOn all hyps loose old taken_old facts ps) (sym rows) (subst (λ fs. HoldsOn all hyps loose old taken_old fs (p ∷ map pred more)) (sym facts_are) first),
+            let more_held : HoldsOn all hyps ending new (set taken_old p true) rest (map pred more) = subst (λ flags. HoldsOn all hyps ending new flags rest (map pred more)) put.flags held in
+            let first : HoldsOn all hyps ending old taken_old (fact ∷ rest) (p ∷ map pred more) = holds_one H taken_old (ending_at all ending) (seen all old) (seen all new) (fact_at all fact) put.there p put.stands put.matched (facts_at all rest) (map pred more) put.free more_held in
+            subst (λ ps. HoldsOn all hyps ending old taken_old facts ps) (sym rows) (subst (λ fs. HoldsOn all hyps ending old taken_old fs (p ∷ map pred more)) (sym facts_are) first),
       )
 
-  pub linked_on : (old new : List Bound) (taken_old taken_new : List Bool) (facts rest : List (horn.Fact Id)) (fact : horn.Fact Id) (p : ℕ) → facts ≡ fact ∷ rest → IsPut all hyps old new taken_old taken_new fact p → AreLinkedOn all loose old facts → AreLinkedOn all loose new rest
+  pub linked_on : (old new : List Bound) (taken_old taken_new : List Bool) (facts rest : List (horn.Fact Id)) (fact : horn.Fact Id) (p : ℕ) → facts ≡ fact ∷ rest → IsPut all hyps old new taken_old taken_new fact p → AreLinkedOn all ending old facts → AreLinkedOn all ending new rest
   linked_on old new taken_old taken_new facts rest fact p facts_are put linked =
-      linked_next (seen all old) (seen all new) (linked_variables (map loose_seen loose) []) (facts_at all (fact ∷ rest)) (facts_at all rest) (fact_at all fact) put.there here put.matched (subst (λ fs. AreLinkedOn all loose old fs) facts_are linked)
+      linked_next (seen all old) (seen all new) (linked_variables (map loose_seen ending.loose.now) (diffs_at all ending.diffs.now)) (facts_at all (fact ∷ rest)) (facts_at all rest) (fact_at all fact) put.there here put.matched (subst (λ fs. AreLinkedOn all ending old fs) facts_are linked)
 
   -- positions of a row that counts from 1
   pub positions_back : (inner : List ℕ) → map pred (map suc inner) ≡ inner
@@ -122,18 +123,18 @@ module _ (all : List Term) (hyps : List (horn.Fact Id)) (loose : List Loose) whe
 
   -- a fact that can't be put at its position of the row
   pub put_fails : (start old : List Bound) (taken_start taken_old : List Bool) (facts front rest : List (horn.Fact Id)) (fact : horn.Fact Id) (row more : List ℕ) (k position : ℕ)
-      → HoldsOn all hyps loose start taken_start facts (map pred row) ↔ HoldsOn all hyps loose old taken_old front (map pred (drop k row))
-      → front ≡ fact ∷ rest → drop k row ≡ position ∷ more → ((p : ℕ) → position ≡ suc p → CannotPut all hyps old taken_old fact p) → HoldsNotOn all hyps loose start taken_start facts row
+      → HoldsOn all hyps ending start taken_start facts (map pred row) ↔ HoldsOn all hyps ending old taken_old front (map pred (drop k row))
+      → front ≡ fact ∷ rest → drop k row ≡ position ∷ more → ((p : ℕ) → position ≡ suc p → CannotPut all hyps old taken_old fact p) → HoldsNotOn all hyps ending start taken_start facts row
   put_fails start old taken_start taken_old facts front rest fact row more k position so_far front_is row_is never inner same held =
       let at = position_at inner k position more (ap (drop k) (sym same) ∙ row_is) in
       let back : map pred row ≡ inner = ap (map pred) same ∙ positions_back inner in
-      let now = so_far.0 (subst (λ ps. HoldsOn all hyps loose start taken_start facts ps) (sym back) held) in
-      let first : HoldsOn all hyps loose old taken_old (fact ∷ rest) (pred position ∷ map pred more) = subst (λ ps. HoldsOn all hyps loose old taken_old (fact ∷ rest) (map pred ps)) row_is (subst (λ fs. HoldsOn all hyps loose old taken_old fs (map pred (drop k row))) front_is now) in
+      let now = so_far.0 (subst (λ ps. HoldsOn all hyps ending start taken_start facts ps) (sym back) held) in
+      let first : HoldsOn all hyps ending old taken_old (fact ∷ rest) (pred position ∷ map pred more) = subst (λ ps. HoldsOn all hyps ending old taken_old (fact ∷ rest) (map pred ps)) row_is (subst (λ fs. HoldsOn all hyps ending old taken_old fs (map pred (drop k row))) front_is now) in
       never (pred position) at first.by first.agrees first.takes.0 first.takes.1
 
   -- as many positions as facts
-  pub too_long : (pairs : List Bound) (taken : List Bool) (facts : List (horn.Fact Id)) (row : List ℕ) → (length facts ≡ length row → ⊥) → HoldsNotOn all hyps loose pairs taken facts row
-  too_long pairs taken facts row differ inner same held = differ (sym (ap length same ∙ (length-of_map inner ∙ (row_long (facts_at all hyps) taken (ending_at loose) (seen all pairs) (facts_at all facts) inner held ∙ length-facts facts)))) where
+  pub too_long : (pairs : List Bound) (taken : List Bool) (facts : List (horn.Fact Id)) (row : List ℕ) → (length facts ≡ length row → ⊥) → HoldsNotOn all hyps ending pairs taken facts row
+  too_long pairs taken facts row differ inner same held = differ (sym (ap length same ∙ (length-of_map inner ∙ (row_long (facts_at all hyps) taken (ending_at all ending) (seen all pairs) (facts_at all facts) inner held ∙ length-facts facts)))) where
     length-of_map : (inner : List ℕ) → length (map suc inner) ≡ length inner
     length-of_map [] = refl
     length-of_map (p ∷ inner) = ap suc (length-of_map inner)

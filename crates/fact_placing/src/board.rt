@@ -9,6 +9,7 @@ ghost use Rattle.clause_form.specs.Facts.{fact_of};
 ghost use Rattle.clause_form.specs.Seen.{fact_at, IsFactIn, AreFactsIn, NameFacts};
 ghost use Rattle.fact_placing.specs.Boards.{facts_at, loose_seen};
 
+use clause_diffs::Diff;
 use clause_form::{Fact, is_variable_known};
 use std::alloc::{AllocError, Global};
 use term_tree::{Bank, Node};
@@ -20,15 +21,26 @@ pub struct Loose {
     pub variable: u32,
 }
 
-/// The hypotheses of the special clause, at whose positions those of the general one are placed, and the hypotheses `att`
-/// of a variable of the general one: their terms have to be known at further positions. Where it is divided,
-/// the hypotheses of the general clause fall into parts that share no variable that isn't bound.
+/// What is left to decide once the other hypotheses of the general clause are placed: the terms of its hypotheses `att` of a
+/// variable have to be known at further positions, and its constraints have to be kept in those of the special clause.
+#[derive(Clone, Copy)]
+pub struct Ending<'a> {
+    /// The hypotheses `att` of a variable of the general clause.
+    pub loose: &'a [Loose],
+    /// Its constraints.
+    pub diffs: &'a [Diff],
+    /// The constraints of the special clause.
+    pub kept_in: &'a [Diff],
+}
+
+/// The hypotheses of the special clause, at whose positions those of the general one are placed, and what is left to decide
+/// then. Where it is divided, the hypotheses of the general clause fall into parts that share no variable that isn't bound.
 #[derive(Drop)]
 pub struct Board<'a, B> {
     pub alloc: Global,
     pub bank: &'a B,
     pub hyps: &'a [Fact],
-    pub loose: &'a [Loose],
+    pub ending: Ending<'a>,
     pub is_divided: bool,
 }
 

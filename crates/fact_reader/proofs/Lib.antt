@@ -1,2 +1,5 @@
 pub mod Places
 pub mod Things
+pub mod WordsThere
+pub mod Rounds
+pub mod KeptState

@@ -1,14 +1,9 @@
 -- Bytes at a place.
-use Rattle.std.proofs.Common.{◌≡◌, ℕ, zero, suc, ◌+◌, ◌-◌, ◌<◌, ◌≤◌, ◌==◌, if◌then◌else◌, ◌≢◌, true, false, List, [], ◌∷◌, Option, length, take, drop, get_or, refl, sym, ◌∙◌, ap, arith}
-use Rattle.std.specs.List.{prefix_len}
+use Rattle.std.proofs.Common.{◌≡◌, ℕ, zero, suc, ◌+◌, ◌<◌, ◌≤◌, ◌==◌, if◌then◌else◌, ◌≢◌, true, false, List, [], ◌∷◌, length, drop, get_or, refl, sym, ◌∙◌, ap, arith}
 use Rattle.std.proofs.lemmas.Bool.Decides.{nat_tests}
 use Rattle.std.proofs.lemmas.List.{drop-drop}
 use Rattle.spec_certificate_text.specs.Terms.{Syntax}
-use Rattle.spec_calculus.specs.Syntax.{Protocol}
-use Rattle.spec_protocol_tokens.specs.Bytes.{begins_word, is_in_word}
-use Rattle.spec_certificate_text.specs.Names.{CalledEvent, event_called}
-use Rattle.spec_certificate_text.specs.Outcomes.{Found, Faulty, front, ended, read_fixed}
-use Rattle.spec_certificate_text.specs.Facts.{event_named, read_event}
+use Rattle.spec_certificate_text.specs.Outcomes.{Found, Faulty, front, read_fixed}
 use Rattle.term_reader.proofs.Walk.{next_byte, all_dropped}
 
 pub some_left : (bytes : List ℕ) (place : ℕ) → place < length bytes → drop place bytes ≢ []
@@ -81,18 +76,3 @@ fixed_done text bytes at i place going past =
     sym going.read ∙ (ap (λ ws. read_fixed ws (drop place bytes) place) (all_dropped text i past) ∙ done_step (drop place bytes) place)
 
 pub ruleset fixed = (fixed_start, fixed_on, fixed_other, fixed_cut, fixed_done)
-
--- An event whose word begins at a place and ends at another, before the end of the bytes, is read of what this word names.
-pub event_behind : (P : Protocol) (bytes : List ℕ) (at behind : ℕ) (called : Option CalledEvent) → begins_word (front (drop at bytes)) ≡ true → behind ≡ at + prefix_len is_in_word (drop at bytes) → behind ≤ length bytes → behind ≢ length bytes
-    → called ≡ event_called P (take (behind - at) (drop at bytes)) → read_event P (drop at bytes) at ≡ event_named P called at behind (drop behind bytes)
-event_behind P bytes at behind called begins is within other named =
-    let n = prefix_len is_in_word (drop at bytes) in
-    let word = take n (drop at bytes) in
-    let size : behind - at ≡ n = omega (arith, is) in
-    let below : behind < length bytes = omega (arith, within) in
-    let rest : drop n (drop at bytes) ≡ drop behind bytes = drop-drop n at bytes ∙ ap (λ k. drop k bytes) (sym is) in
-    ap (λ b. if b then ended (at + n) (drop n (drop at bytes)) (event_named P (event_called P word) at (at + n) (drop n (drop at bytes))) else Faulty at Syntax) begins
-    ∙ (ap (λ k. ended k (drop n (drop at bytes)) (event_named P (event_called P word) at k (drop n (drop at bytes)))) (sym is)
-    ∙ (ap (λ r. ended behind r (event_named P (event_called P word) at behind r)) (rest ∙ next_byte bytes behind below)
-    ∙ (ap (λ r. event_named P (event_called P word) at behind r) (sym (next_byte bytes behind below))
-    ∙ ap (λ o. event_named P o at behind (drop behind bytes)) (ap (λ k. event_called P (take k (drop at bytes))) (sym size) ∙ sym named))))

@@ -1,6 +1,5 @@
 -- Things in a row, of which some are read already.
-use Rattle.std.proofs.Common.{◌≡◌, ℕ, suc, ◌+◌, ◌-◌, ◌<◌, ◌≤◌, if◌then◌else◌, Bool, true, false, List, [], ◌∷◌, ◌++◌, length, map, drop, refl, sym, ap, subst, ◌∙◌, arith, length-drop}
-use Rattle.std.proofs.lemmas.List.{map-append}
+use Rattle.std.proofs.Common.{◌≡◌, ℕ, suc, ◌+◌, ◌-◌, ◌<◌, ◌≤◌, if◌then◌else◌, Bool, true, false, List, [], ◌∷◌, ◌++◌, length, drop, refl, sym, ap, subst, ◌∙◌, arith, length-drop}
 use Rattle.spec_certificate_text.specs.Terms as terms
 use Rattle.spec_certificate_text.specs.Outcomes.{Outcome, Found, Faulty, next, Reader, things_from, things}
 use Rattle.fact_reader.specs.declared.error.CertError.{CertError}
@@ -58,18 +57,6 @@ pub things_fault : {A : Type 0} (one : Reader (A × Bool)) (whole : Outcome (Lis
 things_fault {A} one whole most round rest place xs e going below fault =
     subst (λ (o : Outcome (List A)). HasFault e o) (sym (more one whole most round rest place xs going below))
     (next_fault {B = List A} e (one rest place) (behind_thing one (most - (round + 1)) xs) fault)
-
--- the same of things that are seen as others
-
-pub viewed_on : {T A : Type 0} (f : T → A) (one : Reader (A × Bool)) (whole : Outcome (List A)) (most round : ℕ) (rest : List ℕ) (place : ℕ) (ts : List T) (behind : List ℕ) (at : ℕ) (us : List T) (t : T) (goes : Bool)
-    → us ≡ ts ++ t ∷ [] → goes ≡ true → IsGoing one whole (most - round) rest place (map f ts) → round < most → one rest place ≡ Found (f t, goes) at behind → IsGoing one whole (most - (round + 1)) behind at (map f us)
-viewed_on f one whole most round rest place ts behind at us t goes is on going below found =
-    things_on one whole most round rest place (map f ts) behind at (map f us) (f t) goes (ap (map f) is ∙ map-append f ts (t ∷ [])) on going below found
-
-pub viewed_end : {T A : Type 0} (f : T → A) (one : Reader (A × Bool)) (whole : Outcome (List A)) (most round : ℕ) (rest : List ℕ) (place : ℕ) (ts : List T) (behind : List ℕ) (at : ℕ) (us : List T) (t : T) (goes : Bool)
-    → us ≡ ts ++ t ∷ [] → goes ≡ false → IsGoing one whole (most - round) rest place (map f ts) → round < most → one rest place ≡ Found (f t, goes) at behind → whole ≡ Found (map f us) at behind
-viewed_end f one whole most round rest place ts behind at us t goes is ends going below found =
-    things_end one whole most round rest place (map f ts) behind at (map f us) (f t) goes (ap (map f) is ∙ map-append f ts (t ∷ [])) ends going below found
 
 none_left : {A : Type 0} (one : Reader (A × Bool)) (xs : List A) (bytes : List ℕ) (at : ℕ) → things_from one 0 xs bytes at ≡ Faulty at terms.Syntax
 unfolding things_from

@@ -1,4 +1,5 @@
 pub mod Errors
 pub mod Gives
 pub mod Reads
-pub mod Seen
+pub mod Walks
+pub mod Over

@@ -1,138 +1,198 @@
-//! Facts.
+//! Facts, whatever the way in which terms are read.
 
-ghost use Rattle.std.specs.Prelude.{◌≡◌};
+ghost use Rattle.std.specs.Prelude.{◌≡◌, map, IfOk};
+ghost use Rattle.std.specs.List.{AllByRecursion};
+ghost use Rattle.spec_certificate_text.specs.Walks as walks;
 ghost use Rattle.term_reader.specs.Naming.{protocol_in};
-ghost use Rattle.clause_form.specs.PlainFacts.{plain_fact_of};
-ghost use Rattle.spec_certificate_text.specs.Facts as reading;
-ghost use Rattle.fact_reader.specs.Gives.{same};
-ghost use Rattle.fact_reader.specs.Reads.{Reads};
+ghost use Rattle.fact_reader.specs.Walks.{Walks};
 
-use crate::arguments::{term, terms};
 use crate::cursor::Cursor;
 use crate::error::CertError;
-use crate::events::event;
-use clause_form::{PlainFact, Trees};
+use crate::rows::{event, terms};
+use crate::terms::{ReadFact, TermReader};
+use std::alloc::Global;
 use term_reader::Names;
 
 /// `att(`, a term and `)`.
-fn att(names: &Names<'_>, cursor: &mut Cursor<'_>) -> Result<PlainFact, CertError>
-    ensures read { Reads plain_fact_of (reading.read_att (protocol_in names.now))
-        cursor.old cursor.new result }
+fn att<R: TermReader>(
+    reader: &R,
+    cursor: &mut Cursor<'_>,
+    state: &mut R::State,
+) -> Result<R::Fact, CertError>
+    ensures read { Walks (R.fact_of reader.now) (walks.read_att (R.walk reader.now) R.counts)
+        (R.seen state.old) (R.seen state.new) cursor.old cursor.new result }
     ensures same { cursor.new.bytes.now ≡ cursor.old.bytes.now }
+    ensures known { IfOk result (R.IsFact reader.now) }
 {
     cursor.pass(b"att(")?;
-    let known = term(names, cursor)?;
+    reader.count(state, 1);
+    let known = reader.read_term(cursor, state)?;
     cursor.pass(b")")?;
-    Ok(PlainFact::Att(0, known))
+    Ok(reader.make_fact(ReadFact::Att(known)))
 }
 
 /// `mess(`, two terms with a comma between, and `)`.
-fn mess(names: &Names<'_>, cursor: &mut Cursor<'_>) -> Result<PlainFact, CertError>
-    ensures read { Reads plain_fact_of (reading.read_mess (protocol_in names.now))
-        cursor.old cursor.new result }
+fn mess<R: TermReader>(
+    reader: &R,
+    cursor: &mut Cursor<'_>,
+    state: &mut R::State,
+) -> Result<R::Fact, CertError>
+    ensures read { Walks (R.fact_of reader.now) (walks.read_mess (R.walk reader.now) R.counts)
+        (R.seen state.old) (R.seen state.new) cursor.old cursor.new result }
     ensures same { cursor.new.bytes.now ≡ cursor.old.bytes.now }
+    ensures known { IfOk result (R.IsFact reader.now) }
 {
     cursor.pass(b"mess(")?;
-    let channel = term(names, cursor)?;
+    reader.count(state, 1);
+    let channel = reader.read_term(cursor, state)?;
     cursor.pass(b",")?;
-    let message = term(names, cursor)?;
+    let message = reader.read_term(cursor, state)?;
     cursor.pass(b")")?;
-    Ok(PlainFact::Mess(0, channel, message))
+    Ok(reader.make_fact(ReadFact::Mess(channel, message)))
 }
 
 /// `ev(`, an event and `)`.
-fn ev(names: &Names<'_>, cursor: &mut Cursor<'_>) -> Result<PlainFact, CertError>
-    ensures read { Reads plain_fact_of (reading.read_ev (protocol_in names.now))
-        cursor.old cursor.new result }
+fn ev<R: TermReader>(
+    names: &Names<'_>,
+    reader: &R,
+    cursor: &mut Cursor<'_>,
+    state: &mut R::State,
+) -> Result<R::Fact, CertError>
+    ensures read { Walks (R.fact_of reader.now) (walks.read_ev (R.walk reader.now) R.counts
+        (protocol_in names.now))
+        (R.seen state.old) (R.seen state.new) cursor.old cursor.new result }
     ensures same { cursor.new.bytes.now ≡ cursor.old.bytes.now }
+    ensures known { IfOk result (R.IsFact reader.now) }
 {
     cursor.pass(b"ev(")?;
-    let performed = event(names, cursor)?;
+    reader.count(state, 2);
+    let performed = event(names, reader, cursor, state)?;
     cursor.pass(b")")?;
-    Ok(PlainFact::Ev(performed.event, performed.arguments))
+    Ok(reader.make_fact(ReadFact::Ev(performed.event, performed.arguments)))
 }
 
 /// `mev(`, an event and `)`.
-fn mev(names: &Names<'_>, cursor: &mut Cursor<'_>) -> Result<PlainFact, CertError>
-    ensures read { Reads plain_fact_of (reading.read_mev (protocol_in names.now))
-        cursor.old cursor.new result }
+fn mev<R: TermReader>(
+    names: &Names<'_>,
+    reader: &R,
+    cursor: &mut Cursor<'_>,
+    state: &mut R::State,
+) -> Result<R::Fact, CertError>
+    ensures read { Walks (R.fact_of reader.now) (walks.read_mev (R.walk reader.now) R.counts
+        (protocol_in names.now))
+        (R.seen state.old) (R.seen state.new) cursor.old cursor.new result }
     ensures same { cursor.new.bytes.now ≡ cursor.old.bytes.now }
+    ensures known { IfOk result (R.IsFact reader.now) }
 {
     cursor.pass(b"mev(")?;
-    let performed = event(names, cursor)?;
+    reader.count(state, 2);
+    let performed = event(names, reader, cursor, state)?;
     cursor.pass(b")")?;
-    Ok(PlainFact::Mev(performed.event, performed.arguments))
+    Ok(reader.make_fact(ReadFact::Mev(performed.event, performed.arguments)))
 }
 
 /// The arguments of `bad` and `)`; there may be none.
-#[tactic(auto, using(crate::proofs::Places::drop_next))]
-fn bad_arguments(names: &Names<'_>, cursor: &mut Cursor<'_>) -> Result<Trees, CertError>
-    ensures read { Reads same (reading.bad_arguments (protocol_in names.now))
-        cursor.old cursor.new result }
+fn bad_arguments<R: TermReader>(
+    alloc: Global,
+    reader: &R,
+    cursor: &mut Cursor<'_>,
+    state: &mut R::State,
+) -> Result<Vec<R::Term>, CertError>
+    ensures read { Walks (λ ts. map (R.term_of reader.now) ts.items)
+        (walks.bad_arguments (R.walk reader.now))
+        (R.seen state.old) (R.seen state.new) cursor.old cursor.new result }
     ensures same { cursor.new.bytes.now ≡ cursor.old.bytes.now }
+    ensures known { IfOk result (λ ts. AllByRecursion (R.IsTerm reader.now) ts.items) }
 {
     if cursor.front() == b')' {
-        cursor.at += 1;
-        let items = Vec::new(names.alloc);
-        return Ok(Trees { items });
+        cursor.pass(b")")?;
+        return Ok(Vec::new(alloc));
     }
-    terms(names, cursor)
+    terms(alloc, reader, cursor, state)
 }
 
 /// `bad(`, terms and `)`.
-fn bad(names: &Names<'_>, cursor: &mut Cursor<'_>) -> Result<PlainFact, CertError>
-    ensures read { Reads plain_fact_of (reading.read_bad (protocol_in names.now))
-        cursor.old cursor.new result }
+fn bad<R: TermReader>(
+    alloc: Global,
+    reader: &R,
+    cursor: &mut Cursor<'_>,
+    state: &mut R::State,
+) -> Result<R::Fact, CertError>
+    ensures read { Walks (R.fact_of reader.now) (walks.read_bad (R.walk reader.now) R.counts)
+        (R.seen state.old) (R.seen state.new) cursor.old cursor.new result }
     ensures same { cursor.new.bytes.now ≡ cursor.old.bytes.now }
+    ensures known { IfOk result (R.IsFact reader.now) }
 {
     cursor.pass(b"bad(")?;
-    let arguments = bad_arguments(names, cursor)?;
-    Ok(PlainFact::Bad(arguments))
+    reader.count(state, 1);
+    let arguments = bad_arguments(alloc, reader, cursor, state)?;
+    Ok(reader.make_fact(ReadFact::Bad(arguments)))
 }
 
 /// A fact that begins with `m`: its third byte tells `mev` from `mess`.
-fn mev_or_mess(names: &Names<'_>, cursor: &mut Cursor<'_>) -> Result<PlainFact, CertError>
-    ensures read { Reads plain_fact_of (reading.read_mev_or_mess (protocol_in names.now))
-        cursor.old cursor.new result }
+fn mev_or_mess<R: TermReader>(
+    names: &Names<'_>,
+    reader: &R,
+    cursor: &mut Cursor<'_>,
+    state: &mut R::State,
+) -> Result<R::Fact, CertError>
+    ensures read { Walks (R.fact_of reader.now) (walks.read_mev_or_mess (R.walk reader.now) R.counts
+        (protocol_in names.now))
+        (R.seen state.old) (R.seen state.new) cursor.old cursor.new result }
     ensures same { cursor.new.bytes.now ≡ cursor.old.bytes.now }
+    ensures known { IfOk result (R.IsFact reader.now) }
 {
     if cursor.front_behind(2) == b'v' {
-        mev(names, cursor)
+        mev(names, reader, cursor, state)
     } else {
-        mess(names, cursor)
+        mess(reader, cursor, state)
     }
 }
 
 /// A fact that may be a hypothesis: any but `bad`.
-pub fn read_hypothesis(names: &Names<'_>, cursor: &mut Cursor<'_>) -> Result<PlainFact, CertError>
-    ensures read { Reads plain_fact_of (reading.read_hypothesis (protocol_in names.now))
-        cursor.old cursor.new result }
+pub(crate) fn read_hypothesis<R: TermReader>(
+    names: &Names<'_>,
+    reader: &R,
+    cursor: &mut Cursor<'_>,
+    state: &mut R::State,
+) -> Result<R::Fact, CertError>
+    ensures read { Walks (R.fact_of reader.now) (walks.read_hypothesis (R.walk reader.now) R.counts
+        (protocol_in names.now))
+        (R.seen state.old) (R.seen state.new) cursor.old cursor.new result }
     ensures same { cursor.new.bytes.now ≡ cursor.old.bytes.now }
+    ensures known { IfOk result (R.IsFact reader.now) }
 {
     let first = cursor.front();
     if first == b'm' {
-        mev_or_mess(names, cursor)
+        mev_or_mess(names, reader, cursor, state)
     } else if first == b'e' {
-        ev(names, cursor)
+        ev(names, reader, cursor, state)
     } else {
-        att(names, cursor)
+        att(reader, cursor, state)
     }
 }
 
 /// A fact that may be a conclusion: any but `mev`.
-pub fn read_conclusion(names: &Names<'_>, cursor: &mut Cursor<'_>) -> Result<PlainFact, CertError>
-    ensures read { Reads plain_fact_of (reading.read_conclusion (protocol_in names.now))
-        cursor.old cursor.new result }
+pub(crate) fn read_conclusion<R: TermReader>(
+    names: &Names<'_>,
+    reader: &R,
+    cursor: &mut Cursor<'_>,
+    state: &mut R::State,
+) -> Result<R::Fact, CertError>
+    ensures read { Walks (R.fact_of reader.now) (walks.read_conclusion (R.walk reader.now) R.counts
+        (protocol_in names.now))
+        (R.seen state.old) (R.seen state.new) cursor.old cursor.new result }
     ensures same { cursor.new.bytes.now ≡ cursor.old.bytes.now }
+    ensures known { IfOk result (R.IsFact reader.now) }
 {
     let first = cursor.front();
     if first == b'm' {
-        mess(names, cursor)
+        mess(reader, cursor, state)
     } else if first == b'e' {
-        ev(names, cursor)
+        ev(names, reader, cursor, state)
     } else if first == b'b' {
-        bad(names, cursor)
+        bad(names.alloc, reader, cursor, state)
     } else {
-        att(names, cursor)
+        att(reader, cursor, state)
     }
 }

@@ -4,17 +4,19 @@
 //! definitions of the crate `spec_certificate_text`. Certificates and reports are to be read by what comes above.
 #![tactic(auto)]
 
-mod arguments;
 mod bytes;
-mod clause;
+mod clauses;
 mod cursor;
 mod error;
-mod events;
 mod facts;
+mod rows;
+mod spelled;
+mod terms;
+mod words;
 
-pub use crate::bytes::front;
-pub use crate::clause::read_clause;
+pub use crate::clauses::{ReadClause, read_clause_by};
 pub use crate::cursor::Cursor;
 pub use crate::error::{CertError, code_and_place};
-pub use crate::events::{Performed, behind_word, with_arguments};
-pub use crate::facts::{read_conclusion, read_hypothesis};
+pub use crate::spelled::read_clause;
+pub use crate::terms::{ReadFact, TermReader};
+pub use crate::words::word_end;

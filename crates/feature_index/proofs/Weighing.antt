@@ -1,7 +1,7 @@
 -- The lanes of a clause: what is counted, and that it fits 16 bits.
 use Rattle.std.proofs.Common.{◌≡◌, ℕ, ◌+◌, ◌^◌, ◌<◌, ◌≤◌, List, [], ◌∷◌, length, map, take, refl, ap, sym, ◌∙◌, arith}
 use Rattle.spec_terms.specs.Term.{Term}
-use Rattle.spec_clauses.specs.Fact.{Clause, total, fact_size, clause_size}
+use Rattle.spec_clauses.specs.Fact.{total, fact_size, clause_size}
 use Rattle.spec_clauses.specs.Fact as horn
 use Rattle.spec_clauses.specs.Limits.{IsWithinLimit}
 use Rattle.spec_clauses.specs.Subsumption.{firm}
@@ -12,7 +12,7 @@ use Rattle.spec_features.proofs.Fitting.{firm_size, one_size, fact_symbols_size}
 use Rattle.term_tree.specs.declared.bank.Id.{Id}
 use Rattle.clause_form.specs.declared.facts.Fact.{Fact}
 use Rattle.clause_form.specs.Facts.{fact_of}
-use Rattle.clause_form.specs.Seen.{fact_at, clause_at}
+use Rattle.clause_form.specs.Seen.{fact_at, clause_at, IdClause}
 use Rattle.clause_form.proofs.Lists.{total_all, total-map}
 use Rattle.feature_index.specs.declared.clause_features.Lane.{Lane}
 use Rattle.feature_index.specs.declared.clause_features.Lane.TheVariants.{Att, Mess, Ev, Mev, Symbols}
@@ -62,14 +62,14 @@ pub record IsLane (n lane : ℕ) : Type 0 where
   pub is : n ≡ lane
   pub fits : n < 2 ^ 16
 
-pub lane_fits : (all : List Term) (c : Clause Id) (lane : Lane) (hs : List (horn.Fact Id)) (n : ℕ) → IsWithinLimit (clause_at all c) → hs ≡ c.hypotheses → n ≡ told (total (weight lane) (firm (map (fact_at all) hs)))
+pub lane_fits : (all : List Term) (c : IdClause) (lane : Lane) (hs : List (horn.Fact Id)) (n : ℕ) → IsWithinLimit (clause_at all c) → hs ≡ c.hypotheses → n ≡ told (total (weight lane) (firm (map (fact_at all) hs)))
     → IsLane n (total (weight lane) (firm (clause_at all c).hypotheses))
 lane_fits all c lane hs n small same told_is =
     let there : total (weight lane) (firm (clause_at all c).hypotheses) ≡ total (weight lane) (firm (map (fact_at all) hs)) = ap (λ l. total (weight lane) (firm (map (fact_at all) l))) (sym same) in
     let bound = firm_size (weight lane) (weight_size lane) (clause_at all c).hypotheses in
     record { is = omega (arith, told_is, there, bound, small); fits = omega (arith, told_is, there, bound, small) }
 
-pub conclusion_fits : (all : List Term) (c : Clause Id) (f : horn.Fact Id) (n : ℕ) → IsWithinLimit (clause_at all c) → f ≡ c.conclusion → n ≡ told (0 + fact_symbols (fact_at all f)) → IsLane n (fact_symbols (clause_at all c).conclusion)
+pub conclusion_fits : (all : List Term) (c : IdClause) (f : horn.Fact Id) (n : ℕ) → IsWithinLimit (clause_at all c) → f ≡ c.conclusion → n ≡ told (0 + fact_symbols (fact_at all f)) → IsLane n (fact_symbols (clause_at all c).conclusion)
 conclusion_fits all c f n small same told_is =
     let there : fact_symbols (clause_at all c).conclusion ≡ fact_symbols (fact_at all f) = ap (λ g. fact_symbols (fact_at all g)) (sym same) in
     let bound = fact_symbols_size (clause_at all c).conclusion in

@@ -5,7 +5,7 @@ use Rattle.spec_clauses.specs.Fact as horn
 use Rattle.term_tree.specs.declared.bank.Id.{Id}
 use Rattle.unify_match.specs.declared.bound.Bound.{Bound}
 use Rattle.unify_match.specs.Trail.{Extends}
-use Rattle.fact_placing.specs.declared.board.Loose.{Loose}
+use Rattle.fact_placing.specs.declared.board.Ending.{Ending}
 use Rattle.fact_placing.specs.Boards.{IsPlacing, IsAsBefore, IsPut, AreLinkedOn}
 use Rattle.fact_placing.proofs.Putting.{is_taken_back}
 
@@ -25,8 +25,8 @@ as_forth P old new taken_old taken_new same p = subst (λ (flags : List Bool). P
 pub placing_as : (all : List Term) (hyps : List (horn.Fact Id)) (old new : List Bound) (taken_old taken_new : List Bool) → IsAsBefore old new taken_old taken_new → IsPlacing all hyps old taken_old → IsPlacing all hyps new taken_new
 placing_as all hyps old new taken_old taken_new same placing = as_forth (IsPlacing all hyps) old new taken_old taken_new same placing
 
-pub linked_as : (all : List Term) (loose : List Loose) (old new : List Bound) (taken_old taken_new : List Bool) (facts : List (horn.Fact Id)) → IsAsBefore old new taken_old taken_new → AreLinkedOn all loose old facts → AreLinkedOn all loose new facts
-linked_as all loose old new taken_old taken_new facts same linked = subst (λ (pairs : List Bound). AreLinkedOn all loose pairs facts) (sym same.bindings) linked
+pub linked_as : (all : List Term) (ending : Ending) (old new : List Bound) (taken_old taken_new : List Bool) (facts : List (horn.Fact Id)) → IsAsBefore old new taken_old taken_new → AreLinkedOn all ending old facts → AreLinkedOn all ending new facts
+linked_as all ending old new taken_old taken_new facts same linked = subst (λ (pairs : List Bound). AreLinkedOn all ending pairs facts) (sym same.bindings) linked
 
 -- what was put is taken back, with nothing placed besides in between
 pub is_taken_back_later : (all : List Term) (hyps : List (horn.Fact Id)) (old new later back : List Bound) (taken_old taken_new taken_later taken_back : List Bool) (fact : horn.Fact Id) (p level : ℕ) → level ≡ length old → IsPut all hyps old new taken_old taken_new fact p → Extends old new

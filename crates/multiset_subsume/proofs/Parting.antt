@@ -10,11 +10,12 @@ use Rattle.spec_clauses.specs.Inclusion as inclusion
 use Rattle.spec_clauses.proofs.Inclusion.{within_self, within-trans, within-map, within-append, within-more_right}
 use Rattle.term_tree.specs.declared.bank.Id.{Id}
 use Rattle.unify_match.specs.declared.bound.Bound.{Bound}
+use Rattle.unify_match.specs.Seen.{seen}
 use Rattle.clause_form.specs.declared.facts.Fact.{Fact}
 use Rattle.clause_form.specs.Seen.{fact_at, IsFactIn, AreFactsIn}
 use Rattle.spec_placements.specs.Takes.{left}
-use Rattle.spec_placements.specs.Placing.{all_known}
-use Rattle.fact_placing.specs.declared.board.Loose.{Loose}
+use Rattle.spec_placements.specs.Placing.{Ending, CanPlace, all_known}
+use Rattle.fact_placing.specs.declared.board.Ending as declared
 use Rattle.fact_placing.specs.Boards.{facts_at, loose_seen, CanPlaceOn}
 use Rattle.fact_placing.proofs.Listing.{unref}
 
@@ -27,21 +28,24 @@ pub within_known : (all : List Term) (part facts : List (horn.Fact Id)) → IsWi
 within_known all [] facts within known = tt
 within_known all (f ∷ part) facts (rest, pick, within) known = let one = pick_known all pick known in (one.0, within_known all part rest within one.1)
 
--- what can be placed with loose parts can be placed in part, and without them
-pub part_placed : (all : List Term) (hyps : List (horn.Fact Id)) (loose none : List Loose) (pairs : List Bound) (taken : List Bool) (facts part : List (horn.Fact Id)) → none ≡ [] → IsWithin part facts → CanPlaceOn all hyps loose pairs taken facts → CanPlaceOn all hyps none pairs taken part
-part_placed all hyps loose none pairs taken facts part is within can =
+-- what can be placed with loose parts and constraints can be placed in part, and without them
+abbrev pub nothing_left : Ending
+nothing_left = record { loose = []; diffs = []; kept_in = [] }
+
+pub part_placed : (all : List Term) (hyps : List (horn.Fact Id)) (ending : declared.Ending) (pairs : List Bound) (taken : List Bool) (facts part : List (horn.Fact Id)) → IsWithin part facts → CanPlaceOn all hyps ending pairs taken facts → CanPlace (seen all pairs) taken (facts_at all hyps) (facts_at all part) nothing_left
+part_placed all hyps ending pairs taken facts part within can =
     let f = fact_under can.by in
     let these = map f (facts_at all part) in
     let those = map f (facts_at all facts) in
     let free = left taken (facts_at all hyps) in
     let among : IsWithin these those = within-map f (facts_at all part) (facts_at all facts) (within-map (fact_at all) part facts within) in
-    let inside : IsWithin these free = within-trans these (those ++ flat_under can.by (all_known (map loose_seen loose))) free (within-more_right these those (flat_under can.by (all_known (map loose_seen loose))) among) can.within in
-    subst (λ (xs : List Loose). CanPlaceOn all hyps xs pairs taken part) (sym is) (record {
+    let inside : IsWithin these free = within-trans these (those ++ flat_under can.by (all_known (map loose_seen ending.loose.now))) free (within-more_right these those (flat_under can.by (all_known (map loose_seen ending.loose.now))) among) can.within in
+    record {
       by = can.by;
       agrees = can.agrees;
       kept = tt;
       within = subst (λ (ys : List (horn.Fact Term)). IsWithin ys free) (sym (append-nil these)) inside;
-    })
+    }
 
 -- a fact more, of which the part may be one
 pub member_more : (facts : List (Bor Fact)) (i : ℕ) (f : Bor Fact) (b : Bool) (old new : List (horn.Fact Id)) → i < length facts → f ≡ get_or facts i f → new ≡ cond b (old ++ unref f ∷ []) old → IsWithin old (map unref (take i facts)) → IsWithin new (map unref (take (i + 1) facts))

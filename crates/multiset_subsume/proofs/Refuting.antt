@@ -20,7 +20,7 @@ use Rattle.term_tree.specs.declared.bank.Id.{Id}
 use Rattle.unify_match.proofs.Matchings.{match_applications_fail}
 use Rattle.clause_form.specs.declared.facts.Fact.{Fact}
 use Rattle.clause_form.specs.Facts.{fact_of}
-use Rattle.clause_form.specs.Seen.{fact_at, clause_at}
+use Rattle.clause_form.specs.Seen.{fact_at, clause_at, IdClause}
 use Rattle.fact_placing.specs.Boards.{facts_at}
 use Rattle.multiset_subsume.specs.Apart.{AreApart, StandsNowhere, CannotAllStand}
 use Rattle.fact_placing.proofs.Putting.{there_at}
@@ -111,12 +111,12 @@ row_within general special row h =
     (takes_within special.hypotheses (map (fact_under h.by) (firm general.hypotheses)) _ row (record { distinct = h.distinct; firmly = map-map Some (fact_under h.by) (firm general.hypotheses) ∙ h.firmly; loosely = h.loosely }))
 
 -- no row of clauses that are put together
-pub no_row_apart : (all : List Term) (general special g s : Clause Id) → g ≡ general → s ≡ special → AreApart all g.conclusion s.conclusion → (row : List ℕ) → RowHolds (clause_at all general) (clause_at all special) row → ⊥
+pub no_row_apart : (all : List Term) (general special g s : IdClause) → g ≡ general → s ≡ special → AreApart all g.conclusion s.conclusion → (row : List ℕ) → RowHolds (clause_at all general) (clause_at all special) row → ⊥
 no_row_apart all general special g s g_is s_is apart row holds =
-    let own : RowHolds (clause_at all g) (clause_at all s) row = subst (λ (c : Clause Id). RowHolds (clause_at all c) (clause_at all s) row) (sym g_is) (subst (λ (c : Clause Id). RowHolds (clause_at all general) (clause_at all c) row) (sym s_is) holds) in
+    let own : RowHolds (clause_at all g) (clause_at all s) row = subst (λ (c : IdClause). RowHolds (clause_at all c) (clause_at all s) row) (sym g_is) (subst (λ (c : IdClause). RowHolds (clause_at all general) (clause_at all c) row) (sym s_is) holds) in
     apart own.by own.conclusion
 
-pub no_row_crowded : (all : List Term) (general special g s : Clause Id) → g ≡ general → s ≡ special → CannotAllStand all g.hypotheses s.hypotheses → (row : List ℕ) → RowHolds (clause_at all general) (clause_at all special) row → ⊥
+pub no_row_crowded : (all : List Term) (general special g s : IdClause) → g ≡ general → s ≡ special → CannotAllStand all g.hypotheses s.hypotheses → (row : List ℕ) → RowHolds (clause_at all general) (clause_at all special) row → ⊥
 no_row_crowded all general special g s g_is s_is cannot row holds =
-    let own : RowHolds (clause_at all g) (clause_at all s) row = subst (λ (c : Clause Id). RowHolds (clause_at all c) (clause_at all s) row) (sym g_is) (subst (λ (c : Clause Id). RowHolds (clause_at all general) (clause_at all c) row) (sym s_is) holds) in
+    let own : RowHolds (clause_at all g) (clause_at all s) row = subst (λ (c : IdClause). RowHolds (clause_at all c) (clause_at all s) row) (sym g_is) (subst (λ (c : IdClause). RowHolds (clause_at all general) (clause_at all c) row) (sym s_is) holds) in
     cannot own.by (row_within (clause_at all g) (clause_at all s) row own)

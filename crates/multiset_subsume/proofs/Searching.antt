@@ -7,25 +7,22 @@ use Rattle.std.proofs.lemmas.List.{length-map}
 use Rattle.spec_terms.specs.Term.{Term}
 use Rattle.spec_terms.specs.Binding.{bound_to}
 use Rattle.spec_clauses.specs.Fact as horn
-use Rattle.spec_clauses.specs.Inclusion.{IsWithin}
 use Rattle.term_tree.specs.declared.bank.Id.{Id}
 use Rattle.unify_match.specs.declared.bound.Bound.{Bound}
 use Rattle.unify_match.specs.Seen.{seen}
+use Rattle.clause_diffs.specs.Diffs.{diffs_at}
 use Rattle.clause_form.specs.declared.facts.Fact.{Fact}
 use Rattle.clause_form.specs.Seen.{fact_at, AreFactsIn}
-use Rattle.spec_placements.specs.Takes.{left}
 use Rattle.spec_placements.specs.Placing.{some_fact_has, fact_has, linked_variables, HoldsFrom, CanStand}
 use Rattle.spec_placements.proofs.Standing.{holds_nothing, back_holds, some_stand, in_range, pick_removed, stand_placed, holds_one, row_long}
-use Rattle.fact_placing.specs.declared.board.Loose.{Loose}
-use Rattle.fact_placing.specs.Boards.{facts_at, loose_seen, ending_at, loose_parts, IsPlacing, IsPut, CannotPut, CanPlaceOn, CanStandOn, HoldsOn, AreLinkedOn, HoldsInserted}
+use Rattle.fact_placing.specs.declared.board.Ending.{Ending}
+use Rattle.fact_placing.specs.Boards.{facts_at, loose_seen, ending_at, IsPlacing, IsPut, CannotPut, CanPlaceOn, CanStandOn, HoldsOn, AreLinkedOn, CanEndOn, HoldsInserted}
 use Rattle.fact_placing.proofs.Listing.{unref}
-use Rattle.multiset_subsume.proofs.Along.{loose_stand}
 
--- no fact is left, and the loose parts stand
-pub placed_nothing : (all : List Term) (hyps : List (horn.Fact Id)) (loose : List Loose) (pairs : List Bound) (taken : List Bool) (facts : List (horn.Fact Id)) → length facts ≡ 0 → IsPlacing all hyps pairs taken → AreLinkedOn all loose pairs facts
-    → IsWithin (loose_parts (seen all pairs) loose) (left taken (facts_at all hyps)) → HoldsOn all hyps loose pairs taken facts []
-placed_nothing all hyps loose pairs taken [] none placing linked within = holds_nothing (facts_at all hyps) taken (ending_at loose) (seen all pairs) (loose_stand all hyps loose pairs taken placing linked within)
-placed_nothing all hyps loose pairs taken (f ∷ facts) none placing linked within = absurd (omega (arith, none))
+-- no fact is left, and all can be placed then
+pub placed_nothing : (all : List Term) (hyps : List (horn.Fact Id)) (ending : Ending) (pairs : List Bound) (taken : List Bool) (facts : List (horn.Fact Id)) → length facts ≡ 0 → AreLinkedOn all ending pairs facts → CanEndOn all hyps ending pairs taken → HoldsOn all hyps ending pairs taken facts []
+placed_nothing all hyps ending pairs taken [] none linked can = holds_nothing (facts_at all hyps) taken (ending_at all ending) (seen all pairs) (can linked)
+placed_nothing all hyps ending pairs taken (f ∷ facts) none linked can = absurd (omega (arith, none))
 
 -- the fact at an index
 pub fact_at_index : (all : List Term) (facts : List (Bor Fact)) (at : ℕ) (f : Bor Fact) → f ≡ get_or facts at f → at < length facts → slice_get (facts_at all (map unref facts)) at ≡ Some (fact_at all (unref f))
@@ -56,10 +53,10 @@ any_front p [] at x e = cc
 any_front p (y ∷ xs) zero x e = ap (λ z. p z || list_any p xs) (some_same e)
 any_front p (y ∷ xs) (suc at) x e = ap (λ b. p y || b) (any_front p xs at x e) ∙ either_way (p y) (p x) (list_any p (remove xs at))
 
-module _ (all : List Term) (hyps : List (horn.Fact Id)) (loose : List Loose) (pairs : List Bound) (taken : List Bool) where
+module _ (all : List Term) (hyps : List (horn.Fact Id)) (ending : Ending) (pairs : List Bound) (taken : List Bool) where
   -- one of the facts goes in front
-  pub linked_front : (unplaced rest : List (Bor Fact)) (at : ℕ) (f : Bor Fact) → f ≡ get_or unplaced at f → at < length unplaced → rest ≡ remove unplaced at → AreLinkedOn all loose pairs (map unref unplaced) → AreLinkedOn all loose pairs (unref f ∷ map unref rest)
-  linked_front unplaced rest at f is within rest_is linked = go (linked_variables (map loose_seen loose) []) linked where
+  pub linked_front : (unplaced rest : List (Bor Fact)) (at : ℕ) (f : Bor Fact) → f ≡ get_or unplaced at f → at < length unplaced → rest ≡ remove unplaced at → AreLinkedOn all ending pairs (map unref unplaced) → AreLinkedOn all ending pairs (unref f ∷ map unref rest)
+  linked_front unplaced rest at f is within rest_is linked = go (linked_variables (map loose_seen ending.loose.now) (diffs_at all ending.diffs.now)) linked where
     others : facts_at all (map unref rest) ≡ remove (facts_at all (map unref unplaced)) at
     others = ap (λ (fs : List (Bor Fact)). facts_at all (map unref fs)) rest_is ∙ (ap (facts_at all) (map_removed unref unplaced at) ∙ map_removed (fact_at all) (map unref unplaced) at)
 
@@ -72,8 +69,8 @@ module _ (all : List Term) (hyps : List (horn.Fact Id)) (loose : List Loose) (pa
 
   -- all can be placed as one of them can stand
   pub placed_told : {X : Type 0} (r : Result (Option X) AllocError) (items : X → List ℕ) (unplaced rest : List (Bor Fact)) (at n : ℕ) (f : Bor Fact) → length hyps ≤ n → f ≡ get_or unplaced at f → at < length unplaced → rest ≡ remove unplaced at → IsPlacing all hyps pairs taken
-      → IfOk r (λ found. MatchOption found ((p : ℕ) → p < n → CanStandOn all hyps loose pairs taken (unref f) (map unref rest) p → ⊥) (λ row. HoldsInserted all hyps loose pairs taken (unref f) (map unref rest) at (items row)))
-      → IfOk r (λ found. MatchOption found (CanPlaceOn all hyps loose pairs taken (map unref unplaced) → ⊥) (λ row. HoldsOn all hyps loose pairs taken (map unref unplaced) (items row)))
+      → IfOk r (λ found. MatchOption found ((p : ℕ) → p < n → CanStandOn all hyps ending pairs taken (unref f) (map unref rest) p → ⊥) (λ row. HoldsInserted all hyps ending pairs taken (unref f) (map unref rest) at (items row)))
+      → IfOk r (λ found. MatchOption found (CanPlaceOn all hyps ending pairs taken (map unref unplaced) → ⊥) (λ row. HoldsOn all hyps ending pairs taken (map unref unplaced) (items row)))
   placed_told {X} r items unplaced rest at n f past is within rest_is placing told = go r told where
     which : slice_get (facts_at all (map unref unplaced)) at ≡ Some (fact_at all (unref f))
     which = fact_at_index all unplaced at f is within
@@ -81,31 +78,31 @@ module _ (all : List Term) (hyps : List (horn.Fact Id)) (loose : List Loose) (pa
     others_are : facts_at all (map unref rest) ≡ remove (facts_at all (map unref unplaced)) at
     others_are = ap (λ (fs : List (Bor Fact)). facts_at all (map unref fs)) rest_is ∙ (ap (facts_at all) (map_removed unref unplaced at) ∙ map_removed (fact_at all) (map unref unplaced) at)
 
-    go : (r : Result (Option X) AllocError) → IfOk r (λ found. MatchOption found ((p : ℕ) → p < n → CanStandOn all hyps loose pairs taken (unref f) (map unref rest) p → ⊥) (λ row. HoldsInserted all hyps loose pairs taken (unref f) (map unref rest) at (items row)))
-        → IfOk r (λ found. MatchOption found (CanPlaceOn all hyps loose pairs taken (map unref unplaced) → ⊥) (λ row. HoldsOn all hyps loose pairs taken (map unref unplaced) (items row)))
+    go : (r : Result (Option X) AllocError) → IfOk r (λ found. MatchOption found ((p : ℕ) → p < n → CanStandOn all hyps ending pairs taken (unref f) (map unref rest) p → ⊥) (λ row. HoldsInserted all hyps ending pairs taken (unref f) (map unref rest) at (items row)))
+        → IfOk r (λ found. MatchOption found (CanPlaceOn all hyps ending pairs taken (map unref unplaced) → ⊥) (λ row. HoldsOn all hyps ending pairs taken (map unref unplaced) (items row)))
     go (Ok None) never = λ can.
-        let some = some_stand (facts_at all hyps) taken (ending_at loose) (seen all pairs) (facts_at all (map unref unplaced)) (remove (facts_at all (map unref unplaced)) at) (fact_at all (unref f)) placing.flags (pick_removed (facts_at all (map unref unplaced)) at (fact_at all (unref f)) which) can in
-        let stand : CanStandOn all hyps loose pairs taken (unref f) (map unref rest) some.0 = subst (λ (fs : List (horn.Fact Term)). CanStand (seen all pairs) taken (facts_at all hyps) (fact_at all (unref f)) fs (ending_at loose) some.0) (sym others_are) some.1 in
-        let inside = in_range (facts_at all hyps) taken (ending_at loose) (seen all pairs) (fact_at all (unref f)) (facts_at all (map unref rest)) some.0 stand in
+        let some = some_stand (facts_at all hyps) taken (ending_at all ending) (seen all pairs) (facts_at all (map unref unplaced)) (remove (facts_at all (map unref unplaced)) at) (fact_at all (unref f)) placing.flags (pick_removed (facts_at all (map unref unplaced)) at (fact_at all (unref f)) which) can in
+        let stand : CanStandOn all hyps ending pairs taken (unref f) (map unref rest) some.0 = subst (λ (fs : List (horn.Fact Term)). CanStand (seen all pairs) taken (facts_at all hyps) (fact_at all (unref f)) fs (ending_at all ending) some.0) (sym others_are) some.1 in
+        let inside = in_range (facts_at all hyps) taken (ending_at all ending) (seen all pairs) (fact_at all (unref f)) (facts_at all (map unref rest)) some.0 stand in
         never some.0 (omega (arith, past, inside, length-map hyps (fact_at all))) stand
     go (Ok (Some row)) h =
-        let held = subst (λ (fs : List (horn.Fact Term)). HoldsFrom (seen all pairs) taken (facts_at all hyps) (fact_at all (unref f) ∷ fs) (ending_at loose) (h.position ∷ h.others)) others_are h.holds in
-        subst (λ (ps : List ℕ). HoldsOn all hyps loose pairs taken (map unref unplaced) ps) (sym h.inserted)
-        (back_holds (facts_at all hyps) taken (ending_at loose) (seen all pairs) placing.flags (facts_at all (map unref unplaced)) h.others at h.position (fact_at all (unref f)) which held)
+        let held = subst (λ (fs : List (horn.Fact Term)). HoldsFrom (seen all pairs) taken (facts_at all hyps) (fact_at all (unref f) ∷ fs) (ending_at all ending) (h.position ∷ h.others)) others_are h.holds in
+        subst (λ (ps : List ℕ). HoldsOn all hyps ending pairs taken (map unref unplaced) ps) (sym h.inserted)
+        (back_holds (facts_at all hyps) taken (ending_at all ending) (seen all pairs) placing.flags (facts_at all (map unref unplaced)) h.others at h.position (fact_at all (unref f)) which held)
     go (Err e) t = tt
 
 -- a fact that was put can stand there as the rest can be placed
-pub stand_told : (all : List Term) (hyps : List (horn.Fact Id)) (loose : List Loose) (old new : List Bound) (taken_old taken_new : List Bool) (fact : horn.Fact Id) (rest : List (horn.Fact Id)) (p : ℕ) {X : Type 0} (r : Result (Option X) AllocError) (items : X → List ℕ) → IsPut all hyps old new taken_old taken_new fact p
-    → IfOk r (λ found. MatchOption found (CanPlaceOn all hyps loose new taken_new rest → ⊥) (λ row. HoldsOn all hyps loose new taken_new rest (items row)))
-    → IfOk r (λ found. MatchOption found (CanStandOn all hyps loose old taken_old fact rest p → ⊥) (λ row. HoldsOn all hyps loose old taken_old (fact ∷ rest) (p ∷ items row)))
-stand_told all hyps loose old new taken_old taken_new fact rest p (Ok None) items put never = λ stand.
-    never (subst (λ (flags : List Bool). CanPlaceOn all hyps loose new flags rest) (sym put.flags) (stand_placed (facts_at all hyps) taken_old (ending_at loose) (seen all old) (seen all new) (fact_at all fact) put.there (facts_at all rest) p put.stands put.matched stand))
-stand_told all hyps loose old new taken_old taken_new fact rest p (Ok (Some row)) items put held =
-    holds_one (facts_at all hyps) taken_old (ending_at loose) (seen all old) (seen all new) (fact_at all fact) put.there p put.stands put.matched (facts_at all rest) (items row) put.free (subst (λ (flags : List Bool). HoldsOn all hyps loose new flags rest (items row)) put.flags held)
-stand_told all hyps loose old new taken_old taken_new fact rest p (Err e) items put t = tt
+pub stand_told : (all : List Term) (hyps : List (horn.Fact Id)) (ending : Ending) (old new : List Bound) (taken_old taken_new : List Bool) (fact : horn.Fact Id) (rest : List (horn.Fact Id)) (p : ℕ) {X : Type 0} (r : Result (Option X) AllocError) (items : X → List ℕ) → IsPut all hyps old new taken_old taken_new fact p
+    → IfOk r (λ found. MatchOption found (CanPlaceOn all hyps ending new taken_new rest → ⊥) (λ row. HoldsOn all hyps ending new taken_new rest (items row)))
+    → IfOk r (λ found. MatchOption found (CanStandOn all hyps ending old taken_old fact rest p → ⊥) (λ row. HoldsOn all hyps ending old taken_old (fact ∷ rest) (p ∷ items row)))
+stand_told all hyps ending old new taken_old taken_new fact rest p (Ok None) items put never = λ stand.
+    never (subst (λ (flags : List Bool). CanPlaceOn all hyps ending new flags rest) (sym put.flags) (stand_placed (facts_at all hyps) taken_old (ending_at all ending) (seen all old) (seen all new) (fact_at all fact) put.there (facts_at all rest) p put.stands put.matched stand))
+stand_told all hyps ending old new taken_old taken_new fact rest p (Ok (Some row)) items put held =
+    holds_one (facts_at all hyps) taken_old (ending_at all ending) (seen all old) (seen all new) (fact_at all fact) put.there p put.stands put.matched (facts_at all rest) (items row) put.free (subst (λ (flags : List Bool). HoldsOn all hyps ending new flags rest (items row)) put.flags held)
+stand_told all hyps ending old new taken_old taken_new fact rest p (Err e) items put t = tt
 
-pub cannot_stand : (all : List Term) (hyps : List (horn.Fact Id)) (loose : List Loose) (pairs : List Bound) (taken : List Bool) (fact : horn.Fact Id) (rest : List (horn.Fact Id)) (p : ℕ) → CannotPut all hyps pairs taken fact p → CanStandOn all hyps loose pairs taken fact rest p → ⊥
-cannot_stand all hyps loose pairs taken fact rest p cannot stand = cannot stand.by stand.agrees stand.free stand.stands
+pub cannot_stand : (all : List Term) (hyps : List (horn.Fact Id)) (ending : Ending) (pairs : List Bound) (taken : List Bool) (fact : horn.Fact Id) (rest : List (horn.Fact Id)) (p : ℕ) → CannotPut all hyps pairs taken fact p → CanStandOn all hyps ending pairs taken fact rest p → ⊥
+cannot_stand all hyps ending pairs taken fact rest p cannot stand = cannot stand.by stand.agrees stand.free stand.stands
 
 -- the others stay known, and as many are left
 pub known_removed : (all : List Term) (facts : List (Bor Fact)) (at : ℕ) → AreFactsIn all (map unref facts) → AreFactsIn all (map unref (remove facts at))
@@ -115,7 +112,7 @@ known_removed all (f ∷ facts) zero known = known.1
 known_removed all (f ∷ facts) (suc at) known = (known.0, known_removed all facts at known.1)
 
 -- a row for a fact and others is one longer than these
-pub row_length : (all : List Term) (hyps : List (horn.Fact Id)) (loose : List Loose) (pairs : List Bound) (taken : List Bool) (fact : horn.Fact Id) (rest : List (Bor Fact)) (p : ℕ) (row : List ℕ) → HoldsOn all hyps loose pairs taken (fact ∷ map unref rest) (p ∷ row) → length row ≡ length rest
-row_length all hyps loose pairs taken fact rest p row held =
-    let long = row_long (facts_at all hyps) taken (ending_at loose) (seen all pairs) (fact_at all fact ∷ facts_at all (map unref rest)) (p ∷ row) held in
+pub row_length : (all : List Term) (hyps : List (horn.Fact Id)) (ending : Ending) (pairs : List Bound) (taken : List Bool) (fact : horn.Fact Id) (rest : List (Bor Fact)) (p : ℕ) (row : List ℕ) → HoldsOn all hyps ending pairs taken (fact ∷ map unref rest) (p ∷ row) → length row ≡ length rest
+row_length all hyps ending pairs taken fact rest p row held =
+    let long = row_long (facts_at all hyps) taken (ending_at all ending) (seen all pairs) (fact_at all fact ∷ facts_at all (map unref rest)) (p ∷ row) held in
     omega (arith, long, length-map (map unref rest) (fact_at all), length-map rest unref)

@@ -6,7 +6,7 @@ ghost use Rattle.spec_clauses.specs.Limits.{IsWithinLimit};
 ghost use Rattle.spec_clauses.specs.Subsumption.{Subsumes, RowHolds, IsFirstRow};
 ghost use Rattle.clause_form.specs.Facts.{fact_of};
 ghost use Rattle.clause_form.specs.Seen.{clause_at, IsFactIn, AreFactsIn, IsClauseIn};
-ghost use Rattle.fact_placing.specs.Boards.{IsBoard, IsPlacing, IsAsBefore};
+ghost use Rattle.fact_placing.specs.Boards.{IsBoard, IsEndingIn, IsPlacing, IsAsBefore};
 ghost use Rattle.fact_placing.specs.Boards.{AreLinkedOn, CanPlaceOn, HoldsOn, IsLeastRow};
 ghost use Rattle.fact_placing.specs.Boards.{IsNextRow, IsFirstByOn};
 
@@ -14,7 +14,7 @@ use crate::parts::{placed_apart, stands_apart};
 use crate::quick::shows_no_row;
 use crate::row::Row;
 use clause_form::{Clause, Fact};
-use fact_placing::board::{Board, firm_of, loose_of};
+use fact_placing::board::{Board, Ending, firm_of, loose_of};
 use fact_placing::placing::{Placing, begun, put};
 use std::alloc::{AllocError, Global};
 use term_tree::Bank;
@@ -32,15 +32,16 @@ fn least_row<B: Bank>(
         placing.old.binds.pairs placing.old.taken.items }
     requires fact { IsFactIn (B.trees board.now.bank.now) (fact_of fact.now) }
     requires rest { AreFactsIn (B.trees board.now.bank.now) (map (λ f. fact_of f.now) rest.now) }
-    requires linked { AreLinkedOn (B.trees board.now.bank.now) board.now.loose.now
+    requires linked { AreLinkedOn (B.trees board.now.bank.now) board.now.ending
         placing.old.binds.pairs (fact_of fact.now ∷ (map (λ f. fact_of f.now) rest.now)) }
     requires known { HoldsOn (B.trees board.now.bank.now) (map fact_of board.now.hyps.now)
-        board.now.loose.now placing.old.binds.pairs placing.old.taken.items
+        board.now.ending placing.old.binds.pairs placing.old.taken.items
         (fact_of fact.now ∷ (map (λ f. fact_of f.now) rest.now)) known.items }
+    requires ending { IsEndingIn (B.trees board.now.bank.now) board.now.ending }
     ensures same { IsAsBefore placing.old.binds.pairs placing.new.binds.pairs
         placing.old.taken.items placing.new.taken.items }
     ensures outcome { IfOk result (λ row. IsLeastRow (B.trees board.now.bank.now)
-        (map fact_of board.now.hyps.now) board.now.loose.now placing.old.binds.pairs
+        (map fact_of board.now.hyps.now) board.now.ending placing.old.binds.pairs
         placing.old.taken.items (fact_of fact.now) (map (λ f. fact_of f.now) rest.now) row.items) }
 {
     let end = known[0];
@@ -69,15 +70,16 @@ fn place_first<B: Bank>(
         placing.old.binds.pairs placing.old.taken.items }
     requires fact { IsFactIn (B.trees board.now.bank.now) (fact_of fact.now) }
     requires rest { AreFactsIn (B.trees board.now.bank.now) (map (λ f. fact_of f.now) rest.now) }
-    requires linked { AreLinkedOn (B.trees board.now.bank.now) board.now.loose.now
+    requires linked { AreLinkedOn (B.trees board.now.bank.now) board.now.ending
         placing.old.binds.pairs (fact_of fact.now ∷ (map (λ f. fact_of f.now) rest.now)) }
     requires known { HoldsOn (B.trees board.now.bank.now) (map fact_of board.now.hyps.now)
-        board.now.loose.now placing.old.binds.pairs placing.old.taken.items
+        board.now.ending placing.old.binds.pairs placing.old.taken.items
         (fact_of fact.now ∷ (map (λ f. fact_of f.now) rest.now)) known.items }
+    requires ending { IsEndingIn (B.trees board.now.bank.now) board.now.ending }
     ensures placing { IsPlacing (B.trees board.now.bank.now) (map fact_of board.now.hyps.now)
         placing.new.binds.pairs placing.new.taken.items }
     ensures outcome { IfOk result (λ row. IsNextRow (B.trees board.now.bank.now)
-        (map fact_of board.now.hyps.now) board.now.loose.now placing.old.binds.pairs
+        (map fact_of board.now.hyps.now) board.now.ending placing.old.binds.pairs
         placing.new.binds.pairs placing.old.taken.items placing.new.taken.items (fact_of fact.now)
         (map (λ f. fact_of f.now) rest.now) row.items) }
 {
@@ -97,13 +99,14 @@ fn ordered<B: Bank>(
     requires placing { IsPlacing (B.trees board.now.bank.now) (map fact_of board.now.hyps.now)
         placing.binds.pairs placing.taken.items }
     requires facts { AreFactsIn (B.trees board.now.bank.now) (map (λ f. fact_of f.now) facts.now) }
-    requires linked { AreLinkedOn (B.trees board.now.bank.now) board.now.loose.now
+    requires linked { AreLinkedOn (B.trees board.now.bank.now) board.now.ending
         placing.binds.pairs (map (λ f. fact_of f.now) facts.now) }
     requires known { HoldsOn (B.trees board.now.bank.now) (map fact_of board.now.hyps.now)
-        board.now.loose.now placing.binds.pairs placing.taken.items
+        board.now.ending placing.binds.pairs placing.taken.items
         (map (λ f. fact_of f.now) facts.now) known.items }
+    requires ending { IsEndingIn (B.trees board.now.bank.now) board.now.ending }
     ensures { IfOk result (λ row. IsFirstByOn (B.trees board.now.bank.now)
-        (map fact_of board.now.hyps.now) board.now.loose.now placing.binds.pairs
+        (map fact_of board.now.hyps.now) board.now.ending placing.binds.pairs
         placing.taken.items (map (λ f. fact_of f.now) facts.now) row) }
 {
     let mut row = known;
@@ -126,14 +129,15 @@ fn first_row<B: Bank>(
     requires placing { IsPlacing (B.trees board.now.bank.now) (map fact_of board.now.hyps.now)
         placing.binds.pairs placing.taken.items }
     requires facts { AreFactsIn (B.trees board.now.bank.now) (map (λ f. fact_of f.now) facts.now) }
-    requires linked { AreLinkedOn (B.trees board.now.bank.now) board.now.loose.now
+    requires linked { AreLinkedOn (B.trees board.now.bank.now) board.now.ending
         placing.binds.pairs (map (λ f. fact_of f.now) facts.now) }
+    requires ending { IsEndingIn (B.trees board.now.bank.now) board.now.ending }
     ensures { IfOk result (λ found. MatchOption found
         (CanPlaceOn (B.trees board.now.bank.now) (map fact_of board.now.hyps.now)
-        board.now.loose.now placing.binds.pairs placing.taken.items
+        board.now.ending placing.binds.pairs placing.taken.items
         (map (λ f. fact_of f.now) facts.now) → ⊥)
         (λ row. IsFirstByOn (B.trees board.now.bank.now) (map fact_of board.now.hyps.now)
-        board.now.loose.now placing.binds.pairs placing.taken.items
+        board.now.ending placing.binds.pairs placing.taken.items
         (map (λ f. fact_of f.now) facts.now) row)) }
 {
     match placed_apart(board, &mut placing, facts)? {
@@ -145,6 +149,9 @@ fn first_row<B: Bank>(
 /// The first row that holds for the two clauses, in dictionary order, or `None` where there is none, and the general
 /// clause doesn't subsume the special one. The conditions hold of norms within the limit of size. Where predicates or
 /// numbers of hypotheses differ, so that no row holds, it takes no memory.
+///
+/// `Err` comes for want of memory, and where constraints are compared and variables of the special clause are numbered past 31
+/// bits: those of norms within the limit aren't.
 pub fn cover_row<B: Bank>(
     alloc: Global,
     bank: &B,
@@ -173,7 +180,11 @@ pub fn cover_row<B: Bank>(
         alloc,
         bank,
         hyps: &special.hyps.items,
-        loose: &[],
+        ending: Ending {
+            diffs: &general.diffs.items,
+            kept_in: &special.diffs.items,
+            loose: &[],
+        },
         is_divided: false,
     };
     match begun(&matching, &general.concl, &special.concl)? {
@@ -181,10 +192,12 @@ pub fn cover_row<B: Bank>(
         Some(placing) => {
             let facts = firm_of(alloc, bank, &general.hyps.items)?;
             let loose = loose_of(alloc, bank, &general.hyps.items)?;
-            let board = Board {
+            let ending = Ending {
                 loose: &loose,
-                ..matching
+                diffs: matching.ending.diffs,
+                kept_in: matching.ending.kept_in,
             };
+            let board = Board { ending, ..matching };
             first_row(&board, placing, &facts)
         }
     }

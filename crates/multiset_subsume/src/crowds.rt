@@ -228,7 +228,7 @@ fn overcrowded<B: Bank>(
     ensures same { IsAsBefore placing.old.binds.pairs placing.new.binds.pairs
         placing.old.taken.items placing.new.taken.items }
     ensures crowded { IfOk result (λ yes. yes ≡ true → CanPlaceOn (B.trees board.now.bank.now)
-        (map fact_of board.now.hyps.now) board.now.loose.now placing.old.binds.pairs
+        (map fact_of board.now.hyps.now) board.now.ending placing.old.binds.pairs
         placing.old.taken.items (map (λ f. fact_of f.now) unplaced.now) → ⊥) }
 {
     if choice.count <= 1 {
@@ -256,7 +256,7 @@ pub(crate) fn next_of<B: Bank>(
         placing.old.taken.items placing.new.taken.items }
     ensures outcome { IfOk result (λ found. MatchOption found
         (CanPlaceOn (B.trees board.now.bank.now) (map fact_of board.now.hyps.now)
-        board.now.loose.now placing.old.binds.pairs placing.old.taken.items
+        board.now.ending placing.old.binds.pairs placing.old.taken.items
         (map (λ f. fact_of f.now) unplaced.now) → ⊥) (λ at. at < length unplaced.now)) }
 {
     let choice = most_constrained(board, placing, unplaced)?;

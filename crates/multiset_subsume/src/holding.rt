@@ -6,16 +6,17 @@ ghost use Rattle.spec_clauses.specs.Norm.{IsNormal};
 ghost use Rattle.spec_clauses.specs.Limits.{IsWithinLimit};
 ghost use Rattle.spec_clauses.specs.Subsumption.{RowHolds};
 ghost use Rattle.spec_placements.specs.Placing.{FactMatched, AreLinked, linked_variables};
+ghost use Rattle.clause_diffs.specs.Diffs.{diffs_at};
 ghost use Rattle.clause_form.specs.Facts.{fact_of};
 ghost use Rattle.clause_form.specs.Seen.{fact_at, clause_at, IsFactIn, AreFactsIn, IsClauseIn};
-ghost use Rattle.fact_placing.specs.Boards.{facts_at, loose_seen, IsBoard, IsPlacing, IsPut};
+ghost use Rattle.fact_placing.specs.Boards.{facts_at, loose_seen, IsBoard, IsEndingIn, IsPlacing, IsPut};
 ghost use Rattle.fact_placing.specs.Boards.{CannotPut, ArePut, AreLinkedOn, HoldsNotOn, HoldsByOn};
 ghost use Rattle.fact_placing.specs.Boards.{HoldsWith, FailsWith};
 
-use crate::loose::loose_may_stand;
+use crate::ending::may_go_on;
 use crate::row::Row;
 use clause_form::{Clause, Fact};
-use fact_placing::board::{Board, firm_of, loose_of};
+use fact_placing::board::{Board, Ending, firm_of, loose_of};
 use fact_placing::placing::{Placing, begun, put};
 use std::alloc::{AllocError, Global};
 use term_tree::Bank;
@@ -64,10 +65,10 @@ fn put_along<B: Bank>(
     ensures placing { IsPlacing (B.trees board.now.bank.now) (map fact_of board.now.hyps.now)
         placing.new.binds.pairs placing.new.taken.items }
     ensures outcome { let all = B.trees board.now.bank.now in IfOk result
-        (λ yes. MatchBool yes (ArePut all (map fact_of board.now.hyps.now) board.now.loose.now
+        (λ yes. MatchBool yes (ArePut all (map fact_of board.now.hyps.now) board.now.ending
         placing.old.binds.pairs placing.new.binds.pairs placing.old.taken.items
         placing.new.taken.items (map (λ f. fact_of f.now) facts.now) row.now)
-        (HoldsNotOn all (map fact_of board.now.hyps.now) board.now.loose.now
+        (HoldsNotOn all (map fact_of board.now.hyps.now) board.now.ending
         placing.old.binds.pairs placing.old.taken.items (map (λ f. fact_of f.now) facts.now)
         row.now)) }
 {
@@ -93,18 +94,19 @@ fn holds_from<B: Bank>(
     requires placing { IsPlacing (B.trees board.now.bank.now) (map fact_of board.now.hyps.now)
         placing.binds.pairs placing.taken.items }
     requires facts { AreFactsIn (B.trees board.now.bank.now) (map (λ f. fact_of f.now) facts.now) }
-    requires linked { AreLinkedOn (B.trees board.now.bank.now) board.now.loose.now
+    requires linked { AreLinkedOn (B.trees board.now.bank.now) board.now.ending
         placing.binds.pairs (map (λ f. fact_of f.now) facts.now) }
+    requires ending { IsEndingIn (B.trees board.now.bank.now) board.now.ending }
     ensures { let all = B.trees board.now.bank.now in IfOk result
-        (λ yes. MatchBool yes (HoldsByOn all (map fact_of board.now.hyps.now) board.now.loose.now
+        (λ yes. MatchBool yes (HoldsByOn all (map fact_of board.now.hyps.now) board.now.ending
         placing.binds.pairs placing.taken.items (map (λ f. fact_of f.now) facts.now) row.now)
-        (HoldsNotOn all (map fact_of board.now.hyps.now) board.now.loose.now placing.binds.pairs
+        (HoldsNotOn all (map fact_of board.now.hyps.now) board.now.ending placing.binds.pairs
         placing.taken.items (map (λ f. fact_of f.now) facts.now) row.now)) }
 {
     if !put_along(board, &mut placing, facts, row)? {
         return Ok(false);
     }
-    loose_may_stand(board, &placing)
+    may_go_on(board, &placing)
 }
 
 /// Whether the row holds the facts, and the conclusions match.
@@ -121,12 +123,14 @@ fn holds_matched<B: Bank>(
     requires special { IsFactIn (B.trees board.now.bank.now) (fact_of special.now) }
     requires linked { let all = B.trees board.now.bank.now in (bs : List Binding) → FactMatched []
         bs (fact_at all (fact_of general.now)) (fact_at all (fact_of special.now)) → AreLinked bs
-        (linked_variables (map loose_seen board.now.loose.now) [])
+        (linked_variables (map loose_seen board.now.ending.loose.now)
+        (diffs_at all board.now.ending.diffs.now))
         (facts_at all (map (λ f. fact_of f.now) facts.now)) }
+    requires ending { IsEndingIn (B.trees board.now.bank.now) board.now.ending }
     ensures { let all = B.trees board.now.bank.now in IfOk result
-        (λ yes. MatchBool yes (HoldsWith all (map fact_of board.now.hyps.now) board.now.loose.now
+        (λ yes. MatchBool yes (HoldsWith all (map fact_of board.now.hyps.now) board.now.ending
         (map (λ f. fact_of f.now) facts.now) (fact_of general.now) (fact_of special.now) row.now)
-        (FailsWith all (map fact_of board.now.hyps.now) board.now.loose.now
+        (FailsWith all (map fact_of board.now.hyps.now) board.now.ending
         (map (λ f. fact_of f.now) facts.now) (fact_of general.now) (fact_of special.now) row.now)) }
 {
     match begun(board, general, special)? {
@@ -137,11 +141,14 @@ fn holds_matched<B: Bank>(
 
 /// Whether the row holds for the two clauses. Nothing is searched for. The conditions hold of norms within the limit of
 /// size.
-pub fn row_holds<B: Bank>(
+///
+/// `Err` comes for want of memory, and where constraints are compared and variables of the special clause are numbered past 31
+/// bits: those of norms within the limit aren't.
+pub fn row_holds<'a, B: Bank>(
     alloc: Global,
-    bank: &B,
-    general: &Clause,
-    special: &Clause,
+    bank: &'a B,
+    general: &'a Clause,
+    special: &'a Clause,
     row: &Row,
 ) -> Result<bool, AllocError>
     requires general { IsClauseIn (B.trees bank.now) general.now }
@@ -157,7 +164,11 @@ pub fn row_holds<B: Bank>(
         alloc,
         bank,
         hyps: &special.hyps.items,
-        loose: &loose,
+        ending: Ending {
+            loose: &loose,
+            diffs: &general.diffs.items,
+            kept_in: &special.diffs.items,
+        },
         is_divided: false,
     };
     holds_matched(&board, &facts, &general.concl, &special.concl, &row.items)

@@ -134,11 +134,11 @@ fn take_loose<B: Bank>(board: &Board<'_, B>, binds: &Binds, taken: &mut [bool]) 
         (map fact_of board.now.hyps.now)) }
     ensures { let all = B.trees board.now.bank.now in MatchBool result
         (Removes (facts_at all (map fact_of board.now.hyps.now)) taken.old taken.new
-        (loose_parts (seen all binds.now.pairs) board.now.loose.now))
+        (loose_parts (seen all binds.now.pairs) board.now.ending.loose.now))
         (HasNoRoom (facts_at all (map fact_of board.now.hyps.now)) taken.old
-        (loose_parts (seen all binds.now.pairs) board.now.loose.now)) }
+        (loose_parts (seen all binds.now.pairs) board.now.ending.loose.now)) }
 {
-    'each: for loose in board.loose {
+    'each: for loose in board.ending.loose {
         if !take_bound(board.bank, board.hyps, binds, *loose, taken) {
             return false;
         }
@@ -156,7 +156,7 @@ pub(crate) fn loose_may_stand<B: Bank>(
     requires placing { IsPlacing (B.trees board.now.bank.now) (map fact_of board.now.hyps.now)
         placing.now.binds.pairs placing.now.taken.items }
     ensures { let all = B.trees board.now.bank.now in let parts = loose_parts
-        (seen all placing.now.binds.pairs) board.now.loose.now in IfOk result
+        (seen all placing.now.binds.pairs) board.now.ending.loose.now in IfOk result
         (λ yes. MatchBool yes (IsWithin parts (left placing.now.taken.items
         (facts_at all (map fact_of board.now.hyps.now))))
         (HasNoRoom (facts_at all (map fact_of board.now.hyps.now)) placing.now.taken.items parts)) }

@@ -5,13 +5,13 @@ ghost use Rattle.std.specs.Prelude.{◌≡◌, ◌<◌, ◌∷◌, ◌++◌, [],
 ghost use Rattle.spec_clauses.specs.Inclusion.{IsWithin};
 ghost use Rattle.clause_form.specs.Facts.{fact_of};
 ghost use Rattle.clause_form.specs.Seen.{IsFactIn, AreFactsIn};
-ghost use Rattle.fact_placing.specs.Boards.{IsBoard, IsPlacing, IsAsBefore, AreLinkedOn};
+ghost use Rattle.fact_placing.specs.Boards.{IsBoard, IsEndingIn, IsPlacing, IsAsBefore, AreLinkedOn};
 ghost use Rattle.fact_placing.specs.Boards.{CanPlaceOn, CanStandOn, HoldsOn};
 
 use crate::linking::{Parts, count_of, is_divided, number_at, parts_of};
 use crate::search::can_place;
 use clause_form::Fact;
-use fact_placing::board::Board;
+use fact_placing::board::{Board, Ending};
 use fact_placing::placing::{Placing, put, take_back};
 use std::alloc::{AllocError, Global};
 use term_tree::Bank;
@@ -55,7 +55,7 @@ fn members<'a>(
     Ok(found)
 }
 
-/// Whether the facts of one part can be placed, without loose parts. One fact by itself isn't asked for: that is found
+/// Whether the facts of one part can be placed, without loose parts and constraints. One fact by itself isn't asked for: that is found
 /// without trying others.
 fn part_may_stand<B: Bank>(
     board: &Board<'_, B>,
@@ -71,7 +71,7 @@ fn part_may_stand<B: Bank>(
     ensures same { IsAsBefore placing.old.binds.pairs placing.new.binds.pairs
         placing.old.taken.items placing.new.taken.items }
     ensures refused { IfOk result (λ yes. yes ≡ false → CanPlaceOn (B.trees board.now.bank.now)
-        (map fact_of board.now.hyps.now) board.now.loose.now placing.old.binds.pairs
+        (map fact_of board.now.hyps.now) board.now.ending placing.old.binds.pairs
         placing.old.taken.items (map (λ f. fact_of f.now) facts.now) → ⊥) }
 {
     if count_of(parts, number) <= 1 {
@@ -82,7 +82,11 @@ fn part_may_stand<B: Bank>(
         alloc: board.alloc,
         bank: board.bank,
         hyps: board.hyps,
-        loose: &board.loose[..0],
+        ending: Ending {
+            loose: &board.ending.loose[..0],
+            diffs: &board.ending.diffs[..0],
+            kept_in: &board.ending.kept_in[..0],
+        },
         is_divided: false,
     };
     match can_place(&apart, placing, &part)? {
@@ -105,7 +109,7 @@ fn parts_may_stand<B: Bank>(
     ensures same { IsAsBefore placing.old.binds.pairs placing.new.binds.pairs
         placing.old.taken.items placing.new.taken.items }
     ensures refused { IfOk result (λ yes. yes ≡ false → CanPlaceOn (B.trees board.now.bank.now)
-        (map fact_of board.now.hyps.now) board.now.loose.now placing.old.binds.pairs
+        (map fact_of board.now.hyps.now) board.now.ending placing.old.binds.pairs
         placing.old.taken.items (map (λ f. fact_of f.now) facts.now) → ⊥) }
 {
     'each: for number in 0..facts.len() {
@@ -135,16 +139,17 @@ pub(crate) fn placed_apart<B: Bank>(
     requires placing { IsPlacing (B.trees board.now.bank.now) (map fact_of board.now.hyps.now)
         placing.old.binds.pairs placing.old.taken.items }
     requires facts { AreFactsIn (B.trees board.now.bank.now) (map (λ f. fact_of f.now) facts.now) }
-    requires linked { AreLinkedOn (B.trees board.now.bank.now) board.now.loose.now
+    requires linked { AreLinkedOn (B.trees board.now.bank.now) board.now.ending
         placing.old.binds.pairs (map (λ f. fact_of f.now) facts.now) }
+    requires ending { IsEndingIn (B.trees board.now.bank.now) board.now.ending }
     ensures same { IsAsBefore placing.old.binds.pairs placing.new.binds.pairs
         placing.old.taken.items placing.new.taken.items }
     ensures outcome { IfOk result (λ found. MatchOption found
         (CanPlaceOn (B.trees board.now.bank.now) (map fact_of board.now.hyps.now)
-        board.now.loose.now placing.old.binds.pairs placing.old.taken.items
+        board.now.ending placing.old.binds.pairs placing.old.taken.items
         (map (λ f. fact_of f.now) facts.now) → ⊥)
         (λ row. HoldsOn (B.trees board.now.bank.now) (map fact_of board.now.hyps.now)
-        board.now.loose.now placing.old.binds.pairs placing.old.taken.items
+        board.now.ending placing.old.binds.pairs placing.old.taken.items
         (map (λ f. fact_of f.now) facts.now) row.items)) }
 {
     if !are_many(board, facts) {
@@ -161,7 +166,7 @@ pub(crate) fn placed_apart<B: Bank>(
         alloc: board.alloc,
         bank: board.bank,
         hyps: board.hyps,
-        loose: board.loose,
+        ending: board.ending,
         is_divided: true,
     };
     can_place(&divided, placing, facts)
@@ -180,17 +185,18 @@ pub(crate) fn stands_apart<B: Bank>(
         placing.old.binds.pairs placing.old.taken.items }
     requires fact { IsFactIn (B.trees board.now.bank.now) (fact_of fact.now) }
     requires rest { AreFactsIn (B.trees board.now.bank.now) (map (λ f. fact_of f.now) rest.now) }
-    requires linked { AreLinkedOn (B.trees board.now.bank.now) board.now.loose.now
+    requires linked { AreLinkedOn (B.trees board.now.bank.now) board.now.ending
         placing.old.binds.pairs (fact_of fact.now ∷ (map (λ f. fact_of f.now) rest.now)) }
     requires position { p < length board.now.hyps.now }
+    requires ending { IsEndingIn (B.trees board.now.bank.now) board.now.ending }
     ensures same { IsAsBefore placing.old.binds.pairs placing.new.binds.pairs
         placing.old.taken.items placing.new.taken.items }
     ensures outcome { IfOk result (λ found. MatchOption found
         (CanStandOn (B.trees board.now.bank.now) (map fact_of board.now.hyps.now)
-        board.now.loose.now placing.old.binds.pairs placing.old.taken.items (fact_of fact.now)
+        board.now.ending placing.old.binds.pairs placing.old.taken.items (fact_of fact.now)
         (map (λ f. fact_of f.now) rest.now) p → ⊥)
         (λ row. HoldsOn (B.trees board.now.bank.now) (map fact_of board.now.hyps.now)
-        board.now.loose.now placing.old.binds.pairs placing.old.taken.items
+        board.now.ending placing.old.binds.pairs placing.old.taken.items
         (fact_of fact.now ∷ (map (λ f. fact_of f.now) rest.now)) (p ∷ row.items))) }
 {
     let level = placing.binds.level();

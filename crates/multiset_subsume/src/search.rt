@@ -3,11 +3,11 @@
 ghost use Rattle.std.specs.Prelude.{◌≡◌, ℕ, ◌<◌, ◌≤◌, ◌∷◌, length, map, IfOk, MatchOption};
 ghost use Rattle.clause_form.specs.Facts.{fact_of};
 ghost use Rattle.clause_form.specs.Seen.{IsFactIn, AreFactsIn};
-ghost use Rattle.fact_placing.specs.Boards.{IsBoard, IsPlacing, IsAsBefore, AreLinkedOn};
+ghost use Rattle.fact_placing.specs.Boards.{IsBoard, IsEndingIn, IsPlacing, IsAsBefore, AreLinkedOn};
 ghost use Rattle.fact_placing.specs.Boards.{CanPlaceOn, CanStandOn, HoldsOn, HoldsInserted};
 
 use crate::crowds::next_of;
-use crate::loose::loose_may_stand;
+use crate::ending::may_go_on;
 use clause_form::Fact;
 use fact_placing::board::Board;
 use fact_placing::placing::{Placing, put, take_back};
@@ -26,19 +26,20 @@ pub(crate) fn can_place<B: Bank>(
         placing.old.binds.pairs placing.old.taken.items }
     requires facts { AreFactsIn (B.trees board.now.bank.now)
         (map (λ f. fact_of f.now) unplaced.now) }
-    requires linked { AreLinkedOn (B.trees board.now.bank.now) board.now.loose.now
+    requires linked { AreLinkedOn (B.trees board.now.bank.now) board.now.ending
         placing.old.binds.pairs (map (λ f. fact_of f.now) unplaced.now) }
+    requires ending { IsEndingIn (B.trees board.now.bank.now) board.now.ending }
     ensures same { IsAsBefore placing.old.binds.pairs placing.new.binds.pairs
         placing.old.taken.items placing.new.taken.items }
     ensures outcome { IfOk result (λ found. MatchOption found
         (CanPlaceOn (B.trees board.now.bank.now) (map fact_of board.now.hyps.now)
-        board.now.loose.now placing.old.binds.pairs placing.old.taken.items
+        board.now.ending placing.old.binds.pairs placing.old.taken.items
         (map (λ f. fact_of f.now) unplaced.now) → ⊥)
         (λ row. HoldsOn (B.trees board.now.bank.now) (map fact_of board.now.hyps.now)
-        board.now.loose.now placing.old.binds.pairs placing.old.taken.items
+        board.now.ending placing.old.binds.pairs placing.old.taken.items
         (map (λ f. fact_of f.now) unplaced.now) row.items)) }
 {
-    if !loose_may_stand(board, placing)? {
+    if !may_go_on(board, placing)? {
         return Ok(None);
     }
     if unplaced.is_empty() {
@@ -63,17 +64,18 @@ fn place_some<B: Bank>(
         placing.old.binds.pairs placing.old.taken.items }
     requires facts { AreFactsIn (B.trees board.now.bank.now)
         (map (λ f. fact_of f.now) unplaced.now) }
-    requires linked { AreLinkedOn (B.trees board.now.bank.now) board.now.loose.now
+    requires linked { AreLinkedOn (B.trees board.now.bank.now) board.now.ending
         placing.old.binds.pairs (map (λ f. fact_of f.now) unplaced.now) }
     requires index { at < length unplaced.now }
+    requires ending { IsEndingIn (B.trees board.now.bank.now) board.now.ending }
     ensures same { IsAsBefore placing.old.binds.pairs placing.new.binds.pairs
         placing.old.taken.items placing.new.taken.items }
     ensures outcome { IfOk result (λ found. MatchOption found
         (CanPlaceOn (B.trees board.now.bank.now) (map fact_of board.now.hyps.now)
-        board.now.loose.now placing.old.binds.pairs placing.old.taken.items
+        board.now.ending placing.old.binds.pairs placing.old.taken.items
         (map (λ f. fact_of f.now) unplaced.now) → ⊥)
         (λ row. HoldsOn (B.trees board.now.bank.now) (map fact_of board.now.hyps.now)
-        board.now.loose.now placing.old.binds.pairs placing.old.taken.items
+        board.now.ending placing.old.binds.pairs placing.old.taken.items
         (map (λ f. fact_of f.now) unplaced.now) row.items)) }
 {
     let mut rest = unplaced.to_vec(board.alloc)?;
@@ -95,17 +97,18 @@ fn place_beside<B: Bank>(
         placing.old.binds.pairs placing.old.taken.items }
     requires fact { IsFactIn (B.trees board.now.bank.now) (fact_of fact.now) }
     requires rest { AreFactsIn (B.trees board.now.bank.now) (map (λ f. fact_of f.now) rest.now) }
-    requires linked { AreLinkedOn (B.trees board.now.bank.now) board.now.loose.now
+    requires linked { AreLinkedOn (B.trees board.now.bank.now) board.now.ending
         placing.old.binds.pairs (fact_of fact.now ∷ (map (λ f. fact_of f.now) rest.now)) }
     requires index { at ≤ length rest.now }
+    requires ending { IsEndingIn (B.trees board.now.bank.now) board.now.ending }
     ensures same { IsAsBefore placing.old.binds.pairs placing.new.binds.pairs
         placing.old.taken.items placing.new.taken.items }
     ensures outcome { IfOk result (λ found. MatchOption found
         ((p : ℕ) → p < length board.now.hyps.now → CanStandOn (B.trees board.now.bank.now)
-        (map fact_of board.now.hyps.now) board.now.loose.now placing.old.binds.pairs
+        (map fact_of board.now.hyps.now) board.now.ending placing.old.binds.pairs
         placing.old.taken.items (fact_of fact.now) (map (λ f. fact_of f.now) rest.now) p → ⊥)
         (λ row. HoldsInserted (B.trees board.now.bank.now) (map fact_of board.now.hyps.now)
-        board.now.loose.now placing.old.binds.pairs placing.old.taken.items (fact_of fact.now)
+        board.now.ending placing.old.binds.pairs placing.old.taken.items (fact_of fact.now)
         (map (λ f. fact_of f.now) rest.now) at row.items)) }
 {
     'each: for p in 0..board.hyps.len() {
@@ -134,17 +137,18 @@ fn can_stand<B: Bank>(
         placing.old.binds.pairs placing.old.taken.items }
     requires fact { IsFactIn (B.trees board.now.bank.now) (fact_of fact.now) }
     requires rest { AreFactsIn (B.trees board.now.bank.now) (map (λ f. fact_of f.now) rest.now) }
-    requires linked { AreLinkedOn (B.trees board.now.bank.now) board.now.loose.now
+    requires linked { AreLinkedOn (B.trees board.now.bank.now) board.now.ending
         placing.old.binds.pairs (fact_of fact.now ∷ (map (λ f. fact_of f.now) rest.now)) }
     requires position { p < length board.now.hyps.now }
+    requires ending { IsEndingIn (B.trees board.now.bank.now) board.now.ending }
     ensures same { IsAsBefore placing.old.binds.pairs placing.new.binds.pairs
         placing.old.taken.items placing.new.taken.items }
     ensures outcome { IfOk result (λ found. MatchOption found
         (CanStandOn (B.trees board.now.bank.now) (map fact_of board.now.hyps.now)
-        board.now.loose.now placing.old.binds.pairs placing.old.taken.items (fact_of fact.now)
+        board.now.ending placing.old.binds.pairs placing.old.taken.items (fact_of fact.now)
         (map (λ f. fact_of f.now) rest.now) p → ⊥)
         (λ row. HoldsOn (B.trees board.now.bank.now) (map fact_of board.now.hyps.now)
-        board.now.loose.now placing.old.binds.pairs placing.old.taken.items
+        board.now.ending placing.old.binds.pairs placing.old.taken.items
         (fact_of fact.now ∷ (map (λ f. fact_of f.now) rest.now)) (p ∷ row.items))) }
 {
     let level = placing.binds.level();

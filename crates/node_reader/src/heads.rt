@@ -9,8 +9,7 @@ ghost use Rattle.fact_reader.specs.Reads.{Finds, Reads};
 ghost use Rattle.node_reader.specs.Seen.{head_of};
 ghost use Rattle.spec_node_counts.specs.Words.{read_word_head};
 
-use crate::words::word_end;
-use fact_reader::{CertError, Cursor};
+use fact_reader::{CertError, Cursor, word_end};
 use numerals::number;
 use term_reader::{Named, Names, begins_word, behind_first, is_variable};
 use term_tree::Sym;

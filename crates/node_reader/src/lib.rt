@@ -10,7 +10,5 @@ mod nodes;
 mod numbers;
 mod row;
 mod table;
-mod words;
 
 pub use crate::table::{Table, read_nodes};
-pub use crate::words::word_end;

@@ -13,17 +13,17 @@ struct Row {
 
 /// The start of the node of that number; 0 where there is none.
 #[tactic(auto, using(crate::proofs::Starts::start))]
-pub fn start_at(starts: &[usize], number: usize) -> usize
+pub fn start_at(starts: &[u32], number: usize) -> usize
     ensures { result ≡ walks.start_at starts.now number }
 {
     if number == 0 || number > starts.len() {
         return 0;
     }
-    starts[number - 1]
+    starts[number - 1] as usize
 }
 
 /// The walk through one more.
-fn through(starts: &[usize], row: Row, number: usize) -> Row
+fn through(starts: &[u32], row: Row, number: usize) -> Row
     ensures { row_of result ≡ walks.through starts.now (row_of row) number }
 {
     if number <= row.last {
@@ -45,7 +45,7 @@ fn through(starts: &[usize], row: Row, number: usize) -> Row
 
 /// The walk through the numbers, where nothing is complete.
 #[tactic(auto, using(crate::proofs::Starts::rows))]
-fn through_row(starts: &[usize], numbers: &[u32]) -> Row
+fn through_row(starts: &[u32], numbers: &[u32]) -> Row
     ensures { row_of result ≡
         walks.through_row starts.now record { least = 0; last = 0 } numbers.now }
 {
@@ -57,7 +57,7 @@ fn through_row(starts: &[usize], numbers: &[u32]) -> Row
 }
 
 /// The start of a node behind so many, by the numbers behind its head.
-pub fn start_of(starts: &[usize], nodes: usize, numbers: &[u32]) -> usize
+pub fn start_of(starts: &[u32], nodes: usize, numbers: &[u32]) -> usize
     ensures { result ≡ walks.start_of starts.now nodes numbers.now }
 {
     let row = through_row(starts, numbers);

@@ -27,7 +27,7 @@ use term_tree::{Bank, Id};
 #[derive(Drop)]
 pub struct Table {
     pub bank: SharedBank,
-    pub starts: Vec<usize>,
+    pub starts: Vec<u32>,
 }
 
 /// No nodes.
@@ -60,12 +60,22 @@ fn put(alloc: Global, bank: &mut SharedBank, node: &TableNode) -> Result<Id, All
 }
 
 /// The start of the node, behind so many.
-fn start_of_node(starts: &[usize], nodes: usize, node: &TableNode) -> usize
+fn start_of_node(starts: &[u32], nodes: usize, node: &TableNode) -> usize
     ensures { result ≡ walks.start_of starts.now nodes (node_numbers (node_of node.now)) }
 {
     match node {
         TableNode::Variable(_) => start_of(starts, nodes, &[]),
         TableNode::Over(_, numbers) => start_of(starts, nodes, &numbers.items),
+    }
+}
+
+/// A start in 32 bits. `Err` is want of memory: one that doesn't fit stands behind more nodes than any memory has.
+fn in_32_bits(start: usize) -> Result<u32, AllocError>
+    ensures { IfOk result (λ small. small ≡ start) }
+{
+    match u32::try_from(start) {
+        Ok(small) => Ok(small),
+        Err(_) => Err(AllocError),
     }
 }
 
@@ -100,6 +110,7 @@ impl Table {
     {
         let nodes = self.len();
         let start = start_of_node(&self.starts, nodes, node);
+        let small = in_32_bits(start)?;
         let id = put(alloc, &mut self.bank, node)?;
         if self.len() == nodes {
             return Err(CertError::NodeOrder(from));
@@ -107,7 +118,7 @@ impl Table {
         if self.bank.size(id) > MOST_SYMBOLS {
             return Err(CertError::NodeLarge(from));
         }
-        self.starts.push(start)?;
+        self.starts.push(small)?;
         Ok(())
     }
 

@@ -16,7 +16,7 @@ use Rattle.spec_node_tables.proofs.Numbers.{at_place, place_within}
 use Rattle.term_tree.specs.Bank.{tree_at, Names, Grows, AreShared}
 use Rattle.term_tree.specs.declared.bank.Id.{Id}
 use Rattle.term_store.specs.SharedBank.{Finds, IsKnown, AddsNew}
-use Rattle.clause_form.specs.declared.plain.Tree.{Tree}
+use Rattle.clause_diffs.specs.declared.plain.Tree.{Tree}
 use Rattle.clause_form.specs.Plain.{term_of}
 use Rattle.clause_form.proofs.Copying.{IsCopied, copied_on}
 use Rattle.node_table.specs.Entered.{table_of, with_term, with_terms}

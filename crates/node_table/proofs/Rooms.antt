@@ -9,6 +9,7 @@ use Rattle.spec_trees.proofs.Measures.{size-positive}
 use Rattle.spec_calculus.specs.Bounds.{most_symbols}
 use Rattle.spec_terms.specs.Term.{Sym, Term}
 use Rattle.spec_clauses.specs.Fact.{Fact, Clause, terms_of, total, fact_size, clause_size}
+use Rattle.spec_clauses.specs.Diff.{Diff, diff_size}
 use Rattle.spec_clauses.specs.Head.{head_of, head_size}
 use Rattle.spec_clauses.specs.Inclusion.{Has}
 use Rattle.spec_clauses.proofs.Parts.{fact_size-parts}
@@ -18,7 +19,7 @@ use Rattle.spec_node_tables.specs.Table.{facts_in_order, terms_in_order, table}
 use Rattle.spec_node_tables.specs.Large.{most_certificate_symbols, up_to_terms, up_to_fact, up_to_facts, up_to_clauses, AreUpTo, FitsInNodes, is_large_in_nodes}
 use Rattle.spec_node_tables.proofs.Walks.{table_has}
 use Rattle.spec_node_tables.proofs.Back.{all_there}
-use Rattle.spec_node_tables.proofs.Sizes.{spelled_total, subterm_size, large_decides}
+use Rattle.spec_node_tables.proofs.Sizes.{ordered_total, subterm_size, large_decides}
 use Rattle.clause_form.proofs.Lists.{total_more, total_all, total-map, total-append}
 use Rattle.node_table.specs.Room.{room_less, room_behind_fact, room_behind_facts, room_behind_next}
 
@@ -47,6 +48,10 @@ is_over room n = go (nat_le n room) refl where
   go : (b : Bool) → nat_le n room ≡ b → None ≡ cond b (Some (room - n)) None → room < n
   go true e none = cc
   go false e none = grind (arith, nat_tests)
+
+-- constraints one by one: so many symbols less, down to none
+pub diffs_less : (room left less : ℕ) (ds : List Diff) (i : ℕ) (d : Diff) → left ≡ room - total diff_size (take i ds) → less ≡ left - diff_size d → i < length ds → d ≡ get_or ds i d → less ≡ room - total diff_size (take (i + 1) ds)
+diffs_less room left less ds i d so_far here below is = omega (arith, so_far, here, total_more diff_size ds i d below, ap diff_size is)
 
 -- Trees one by one.
 
@@ -107,18 +112,18 @@ some_again : (o : Option ℕ) → option_and_then (λ n. Some n) o ≡ o
 some_again None = refl
 some_again (Some n) = refl
 
-abbrev clause_of : List (Fact Term) → Fact Term → Clause Term
-clause_of hypotheses conclusion = record { hypotheses = hypotheses; diffs = []; conclusion = conclusion }
+abbrev clause_of : List (Fact Term) → List Diff → Fact Term → Clause Term
+clause_of hypotheses diffs conclusion = record { hypotheses = hypotheses; diffs = diffs; conclusion = conclusion }
 
-pub behind_clause : (c : Clause Term) (hypotheses : List (Fact Term)) (conclusion : Fact Term) (room left : ℕ) (r : Option ℕ) → clause_of hypotheses conclusion ≡ c → Some left ≡ room_behind_facts room hypotheses → r ≡ room_behind_fact left conclusion → r ≡ room_behind_facts room (facts_in_order c)
-behind_clause c hypotheses conclusion room left r is first last =
+pub behind_clause : (c : Clause Term) (hypotheses : List (Fact Term)) (diffs : List Diff) (conclusion : Fact Term) (room left : ℕ) (r : Option ℕ) → clause_of hypotheses diffs conclusion ≡ c → Some left ≡ room_behind_facts room hypotheses → r ≡ room_behind_fact left conclusion → r ≡ room_behind_facts room (facts_in_order c)
+behind_clause c hypotheses diffs conclusion room left r is first last =
     last
     ∙ (sym (some_again (room_behind_fact left conclusion))
     ∙ (ap (option_and_then (λ less. option_and_then (λ n. Some n) (room_behind_fact less conclusion))) first
     ∙ (sym (behind_append hypotheses (conclusion ∷ []) room) ∙ ap (λ d. room_behind_facts room (facts_in_order d)) is)))
 
-pub none_behind_clause : (c : Clause Term) (hypotheses : List (Fact Term)) (conclusion : Fact Term) (room : ℕ) → clause_of hypotheses conclusion ≡ c → None ≡ room_behind_facts room hypotheses → None ≡ room_behind_facts room (facts_in_order c)
-none_behind_clause c hypotheses conclusion room is none =
+pub none_behind_clause : (c : Clause Term) (hypotheses : List (Fact Term)) (diffs : List Diff) (conclusion : Fact Term) (room : ℕ) → clause_of hypotheses diffs conclusion ≡ c → None ≡ room_behind_facts room hypotheses → None ≡ room_behind_facts room (facts_in_order c)
+none_behind_clause c hypotheses diffs conclusion room is none =
     ap (option_and_then (λ left. room_behind_facts left (conclusion ∷ []))) none
     ∙ (sym (behind_append hypotheses (conclusion ∷ []) room) ∙ ap (λ d. room_behind_facts room (facts_in_order d)) is)
 
@@ -220,8 +225,8 @@ clauses_behind (d ∷ cs) c before =
 total_behind : (cs : List (Clause Term)) (c : Clause Term) → total clause_size (cs ++ (c ∷ [])) ≡ total clause_size cs + clause_size c
 total_behind cs c = omega (arith, total-append clause_size cs (c ∷ []))
 
-one_counted : (cs : List (Clause Term)) (c : Clause Term) (left some less : ℕ) → AreCounted cs left → c.diffs ≡ [] → Some some ≡ room_behind_facts most_symbols (facts_in_order c) → Some less ≡ room_behind_facts left (facts_in_order c) → AreCounted (cs ++ (c ∷ [])) less
-one_counted cs c left some less counted no_diffs own whole =
+one_counted : (cs : List (Clause Term)) (c : Clause Term) (left some less last : ℕ) → AreCounted cs left → Some some ≡ room_behind_facts most_symbols (facts_in_order c) → Some less ≡ room_behind_facts left (facts_in_order c) → last ≡ less - total diff_size c.diffs → AreCounted (cs ++ (c ∷ [])) last
+one_counted cs c left some less last counted own whole behind =
     let alone = facts_fit most_symbols (facts_in_order c) 0 most_symbols some (omega arith) (sym own) in
     let before = total clause_size cs in
     let among = facts_fit most_certificate_symbols (facts_in_order c) before left less counted.room (sym whole) in
@@ -230,20 +235,22 @@ one_counted cs c left some less counted no_diffs own whole =
       together = subst (AreUpTo most_certificate_symbols) (sym (clauses_behind cs c 0 ∙ ap (λ n. up_to_clauses 0 cs ++ (up_to_facts n (facts_in_order c) ++ [])) (omega arith)))
           (all_append (λ n. n ≤ most_certificate_symbols) (up_to_clauses 0 cs) (up_to_facts before (facts_in_order c) ++ []) counted.together
           (all_append (λ n. n ≤ most_certificate_symbols) (up_to_facts before (facts_in_order c)) [] among.0 tt));
-      room = omega (arith, among.1, total_behind cs c, spelled_total c no_diffs);
+      room = omega (arith, among.1, behind, total_behind cs c, ordered_total c);
     }
 
-pub nothing_counted : (left : ℕ) → left ≡ most_certificate_symbols → AreCounted [] left
-nothing_counted left is = record { each = tt; together = tt; room = omega (arith, is) }
+-- none of them yet
+pub none_counted : (cs : List (Clause Term)) (left : ℕ) → left ≡ most_certificate_symbols → AreCounted (take 0 cs) left
+none_counted [] left is = record { each = tt; together = tt; room = omega (arith, is) }
+none_counted (c ∷ cs) left is = record { each = tt; together = tt; room = omega (arith, is) }
 
 -- one more clause of a list
-pub counted_on : (cs : List (Clause Term)) (i : ℕ) (c : Clause Term) (left less : ℕ) → AreCounted (take i cs) left → i < length cs → c ≡ get_or cs i c → c.diffs ≡ [] → Some less ≡ room_behind_next left (facts_in_order c) → AreCounted (take (i + 1) cs) less
-counted_on cs i c left less counted below is no_diffs next = go (room_behind_facts most_symbols (facts_in_order c)) refl next where
-  go : (o : Option ℕ) → room_behind_facts most_symbols (facts_in_order c) ≡ o → Some less ≡ option_and_then (λ alone. room_behind_facts left (facts_in_order c)) o → AreCounted (take (i + 1) cs) less
+pub counted_on : (cs : List (Clause Term)) (i : ℕ) (c : Clause Term) (left less last : ℕ) → AreCounted (take i cs) left → i < length cs → c ≡ get_or cs i c → Some less ≡ room_behind_next left (facts_in_order c) → last ≡ less - total diff_size c.diffs → AreCounted (take (i + 1) cs) last
+counted_on cs i c left less last counted below is next behind = go (room_behind_facts most_symbols (facts_in_order c)) refl next where
+  go : (o : Option ℕ) → room_behind_facts most_symbols (facts_in_order c) ≡ o → Some less ≡ option_and_then (λ alone. room_behind_facts left (facts_in_order c)) o → AreCounted (take (i + 1) cs) last
   go None own whole = cc
   go (Some alone) own whole =
       let taken : take (i + 1) cs ≡ take i cs ++ (c ∷ []) = take_more cs i c below ∙ ap (λ d. take i cs ++ (d ∷ [])) (sym is) in
-      subst (λ ds. AreCounted ds less) (sym taken) (one_counted (take i cs) c left alone less counted no_diffs (sym own) whole)
+      subst (λ ds. AreCounted ds last) (sym taken) (one_counted (take i cs) c left alone less last counted (sym own) whole behind)
 
 -- a term is no larger than what stands up to it
 terms_small : (most : ℕ) (ts : List Term) (before : ℕ) → AreUpTo most (up_to_terms before ts) → AllByRecursion (λ t. size t ≤ most) ts

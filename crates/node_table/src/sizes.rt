@@ -1,7 +1,9 @@
 //! Whether clauses are too large for a table: their symbols are counted up to each term, as long as they are within the limits.
 
-ghost use Rattle.std.specs.Prelude.{◌≡◌, [], map};
+ghost use Rattle.std.specs.Prelude.{◌≡◌, ◌-◌, map};
+ghost use Rattle.std.specs.Rc.{rc_value};
 ghost use Rattle.spec_trees.specs.Tree.{size};
+ghost use Rattle.spec_clauses.specs.Diff.{diff_size};
 ghost use Rattle.spec_clauses.specs.Fact.{total};
 ghost use Rattle.spec_clauses.specs.Head.{head_of, head_size};
 ghost use Rattle.spec_node_tables.specs.Table.{facts_in_order};
@@ -10,8 +12,9 @@ ghost use Rattle.clause_form.specs.Plain.{term_of};
 ghost use Rattle.clause_form.specs.PlainFacts.{plain_fact_of};
 ghost use Rattle.node_table.specs.Room.{room_less, room_behind_fact, room_behind_facts, room_behind_next};
 
-use clause_form::{PlainClause, PlainFact, PlainFacts, Tree};
+use clause_form::{PlainClause, PlainDiff, PlainFact, PlainFacts, Tree};
 use limits::{MOST_REPORT_BYTES, MOST_SYMBOLS};
+use std::rc::Rc;
 
 /// The most symbols of all clauses of a certificate that is written by a table: as many as a report has bytes at most.
 const MOST_CERTIFICATE_SYMBOLS: u64 = MOST_REPORT_BYTES as u64;
@@ -94,10 +97,38 @@ fn room_behind_facts(facts: &PlainFacts, room: u64) -> Option<u64>
     Some(left)
 }
 
-/// Room for so many symbols, less those of a clause; none where there are too many up to one of its terms.
+/// Room for so many symbols, less those of trees; 0 where these have more.
+fn less_trees(trees: &[Tree], room: u64) -> u64
+    ensures { result ≡ room - total size (map term_of trees.now) }
+{
+    match room_behind_trees(trees, room) {
+        Some(left) => left,
+        None => 0,
+    }
+}
+
+/// Room for so many symbols, less those of a constraint; 0 where it has more.
+fn less_diff(diff: &PlainDiff, room: u64) -> u64
+    ensures { result ≡ room - diff_size diff.now }
+{
+    let left = less_trees(&diff.left.items, room.saturating_sub(1));
+    less_trees(&diff.right.items, left)
+}
+
+/// Room for so many symbols, less those of a clause's constraints; 0 where these have more.
+fn room_behind_diffs(clause: &PlainClause, room: u64) -> u64
+    ensures { result ≡ room - total diff_size clause.now.diffs }
+{
+    let mut left = room;
+    'each: for diff in &clause.diffs.items {
+        left = less_diff(diff, left);
+    }
+    left
+}
+
+/// Room for so many symbols, less those of a clause's facts; none where there are too many up to one of its terms.
 fn room_behind_clause(clause: &PlainClause, room: u64) -> Option<u64>
-    ensures room { result ≡ room_behind_facts room (facts_in_order clause.now) }
-    ensures no_diffs { clause.now.diffs ≡ [] }
+    ensures { result ≡ room_behind_facts room (facts_in_order clause.now) }
 {
     match room_behind_facts(&clause.hyps, room) {
         Some(left) => room_behind_fact(&clause.concl, left),
@@ -105,11 +136,10 @@ fn room_behind_clause(clause: &PlainClause, room: u64) -> Option<u64>
     }
 }
 
-/// Room for so many symbols of all clauses, less those of this one; none where there are too many up to one of its terms, of the
-/// clause alone or of all. One walk tells where it leaves room.
+/// Room for so many symbols of all clauses, less those of this one's facts; none where there are too many up to one of its
+/// terms, of the clause alone or of all. One walk tells where it leaves room.
 fn room_behind_next(clause: &PlainClause, room: u64) -> Option<u64>
-    ensures room { result ≡ room_behind_next room (facts_in_order clause.now) }
-    ensures no_diffs { clause.now.diffs ≡ [] }
+    ensures { result ≡ room_behind_next room (facts_in_order clause.now) }
 {
     let least = room.min(MOST_SYMBOLS);
     match room_behind_clause(clause, least) {
@@ -123,13 +153,13 @@ fn room_behind_next(clause: &PlainClause, room: u64) -> Option<u64>
 }
 
 /// Whether the clauses are too large for a table. Takes no memory.
-pub fn is_large_in_nodes(clauses: &[PlainClause]) -> bool
-    ensures { result ≡ is_large_in_nodes clauses.now }
+pub fn is_large_in_nodes(clauses: &[Rc<PlainClause>]) -> bool
+    ensures { result ≡ is_large_in_nodes (map rc_value clauses.now) }
 {
     let mut left = MOST_CERTIFICATE_SYMBOLS;
     'each: for clause in clauses {
         match room_behind_next(clause, left) {
-            Some(less) => left = less,
+            Some(less) => left = room_behind_diffs(clause, less),
             None => return true,
         }
     }

@@ -1,104 +1,23 @@
 //! Clauses, and all that stands before the rows of a certificate.
 
-ghost use Rattle.std.specs.Prelude.{◌≡◌, map, IfOk};
-ghost use Rattle.clause_form.specs.Facts.{fact_of};
+ghost use Rattle.std.specs.Prelude.{◌≡◌, IfOk};
 ghost use Rattle.clause_form.specs.Fit.{clauses_at};
-ghost use Rattle.clause_form.specs.Seen.{fact_at, clause_at, IsFactIn, AreFactsIn, IsClauseIn, AreClausesIn};
+ghost use Rattle.clause_form.specs.Seen.{clause_at, IsClauseIn, AreClausesIn};
 ghost use Rattle.term_reader.specs.Naming.{protocol_in};
 ghost use Rattle.fact_reader.specs.Gives.{same};
 ghost use Rattle.fact_reader.specs.Reads.{Reads};
 ghost use Rattle.spec_node_counts.specs.ReadClauses as reading;
 ghost use Rattle.node_reader.specs.Tables.{table_of};
 ghost use Rattle.numbered_reader.specs.Walks.{walked_of, Walks};
-ghost use Rattle.numbered_reader.specs.Seen.{hypothesis_in};
 
-use crate::facts::{read_conclusion, read_hypothesis};
+use crate::numbers::NumberedTerms;
 use crate::walked::Walked;
-use clause_form::{Clause, Clauses, Fact, Facts};
-use fact_reader::{CertError, Cursor};
+use clause_form::{Clause, Clauses, Diffs, Facts};
+use fact_reader::{CertError, Cursor, read_clause_by};
 use limits::MOST_CLAUSES;
 use node_reader::{Table, read_nodes};
 use shared_cert::SharedClauses;
 use term_reader::Names;
-
-/// A hypothesis and what stands behind it: `, ` where another follows, or ` => `.
-fn one_hypothesis(
-    names: &Names<'_>,
-    table: &Table,
-    cursor: &mut Cursor<'_>,
-    walked: &mut Walked,
-) -> Result<(Fact, bool), CertError>
-    ensures read { Walks (hypothesis_in (table_of table.now).terms)
-        (reading.one_hypothesis (protocol_in names.now) (table_of table.now))
-        walked.old walked.new cursor.old cursor.new result }
-    ensures same { cursor.new.bytes.now ≡ cursor.old.bytes.now }
-    ensures known { IfOk result (λ x. IsFactIn (table_of table.now).terms (fact_of x.0)) }
-{
-    let found = read_hypothesis(names, table, cursor, walked)?;
-    if cursor.front() == b',' {
-        match cursor.pass(b", ") {
-            Ok(_) => Ok((found, true)),
-            Err(error) => {
-                drop(found);
-                Err(error)
-            }
-        }
-    } else {
-        match cursor.pass(b" => ") {
-            Ok(_) => Ok((found, false)),
-            Err(error) => {
-                drop(found);
-                Err(error)
-            }
-        }
-    }
-}
-
-/// Hypotheses, a comma and a space between each two, and ` => ` behind the last.
-#[tactic(auto, using(crate::proofs::Loops::going))]
-fn some_hypotheses(
-    names: &Names<'_>,
-    table: &Table,
-    cursor: &mut Cursor<'_>,
-    walked: &mut Walked,
-) -> Result<Facts, CertError>
-    ensures read { Walks (map (fact_at (table_of table.now).terms))
-        (reading.some_hypotheses (protocol_in names.now) (table_of table.now))
-        walked.old walked.new cursor.old cursor.new result }
-    ensures same { cursor.new.bytes.now ≡ cursor.old.bytes.now }
-    ensures known { IfOk result (AreFactsIn (table_of table.now).terms) }
-{
-    let mut items = Vec::new(names.alloc);
-    for round in cursor.at..cursor.bytes.len() + 1 {
-        let (next, more) = one_hypothesis(names, table, cursor, walked)?;
-        items.push(next)?;
-        if !more {
-            return Ok(Facts { items });
-        }
-    }
-    Err(CertError::Syntax(cursor.at))
-}
-
-/// The hypotheses of a clause, which may be none, and `=> `.
-fn hypotheses(
-    names: &Names<'_>,
-    table: &Table,
-    cursor: &mut Cursor<'_>,
-    walked: &mut Walked,
-) -> Result<Facts, CertError>
-    ensures read { Walks (map (fact_at (table_of table.now).terms))
-        (reading.read_hypotheses (protocol_in names.now) (table_of table.now))
-        walked.old walked.new cursor.old cursor.new result }
-    ensures same { cursor.new.bytes.now ≡ cursor.old.bytes.now }
-    ensures known { IfOk result (AreFactsIn (table_of table.now).terms) }
-{
-    if cursor.front() == b'=' {
-        cursor.pass(b"=> ")?;
-        let items = Vec::new(names.alloc);
-        return Ok(Facts { items });
-    }
-    some_hypotheses(names, table, cursor, walked)
-}
 
 /// The clause that stands there.
 fn clause(
@@ -113,9 +32,12 @@ fn clause(
     ensures same { cursor.new.bytes.now ≡ cursor.old.bytes.now }
     ensures known { IfOk result (IsClauseIn (table_of table.now).terms) }
 {
-    let hyps = hypotheses(names, table, cursor, walked)?;
-    let concl = read_conclusion(names, table, cursor, walked)?;
-    Ok(Clause { hyps, concl })
+    let read = read_clause_by(names, &NumberedTerms { table }, cursor, walked)?;
+    Ok(Clause {
+        hyps: Facts { items: read.hyps },
+        diffs: Diffs::new(names.alloc),
+        concl: read.concl,
+    })
 }
 
 /// `c `, a clause and the end of its line.

@@ -6,8 +6,7 @@
 #![tactic(auto)]
 
 mod clauses;
-mod events;
-mod facts;
+mod numbers;
 mod walked;
 
 pub use crate::clauses::read_numbered;

@@ -8,25 +8,25 @@ use Rattle.spec_clauses.specs.Norm.{norms}
 use Rattle.term_tree.specs.Bank.{Grows}
 use Rattle.term_tree.specs.declared.bank.Id.{Id}
 use Rattle.spec_translation.specs.Visit.{Visit, raw_clause}
-use Rattle.clause_form.specs.Seen.{clause_at, NamesFact, NameFacts, NamesClause, AreClausesIn, NameClauses}
+use Rattle.clause_form.specs.Seen.{clause_at, NamesFact, NameFacts, NamesClause, AreClausesIn, NameClauses, IdClause}
 use Rattle.clause_form.proofs.Copying.{NameClauses-grow}
 use Rattle.process_visits.specs.declared.listing.Listing.{Listing}
 use Rattle.process_visits.specs.Forms.{Adds}
 
 -- clauses of a bank that grew
-pub clauses_later : (old now : List Term) (cs : List (Clause Id)) → Grows old now → AreClausesIn old cs → NameClauses now cs (map (clause_at old) cs)
+pub clauses_later : (old now : List Term) (cs : List IdClause) → Grows old now → AreClausesIn old cs → NameClauses now cs (map (clause_at old) cs)
 clauses_later old now cs grows known = NameClauses-grow old now cs (map (clause_at old) cs) grows record { known = known; are = refl }
 
 -- a raw clause without constraints whose parts are named is
 pub raw_named : (all : List Term) (hyps : List (Fact Id)) (concl : Fact Id) (v : Visit) (f : Fact Term) → NameFacts all hyps v.hypotheses → NamesFact all concl f → [] ≡ v.diffs
     → NamesClause all (record { hypotheses = hyps; diffs = []; conclusion = concl }) (raw_clause v f)
 raw_named all hyps concl v f first last unconstrained = record {
-  known = record { hypotheses = first.known; conclusion = last.known };
+  known = record { hypotheses = first.known; diffs = tt; conclusion = last.known };
   is = λ i. record { hypotheses = first.are i; diffs = unconstrained i; conclusion = last.is i };
 }
 
 -- what `add` tells of a clause, of the raw clause that it names
-module _ {E : Type 0} (r : Result Bool E) (mid new : List Term) (before after : Listing) (raw : Clause Id) (c : Clause Term) (names : NamesClause mid raw c)
+module _ {E : Type 0} (r : Result Bool E) (mid new : List Term) (before after : Listing) (raw : IdClause) (c : Clause Term) (names : NamesClause mid raw c)
     (adds : IfOk r (λ added. MatchBool added (Adds new before after (norms (clause_at mid raw))) (is_large_raw (clause_at mid raw) ≡ true)))
     (small : IfOk r (λ added. added ≡ true → is_large_raw (clause_at mid raw) ≡ false)) where
   pub is_added : IfOk r (λ added. added ≡ true → Adds new before after (norms c))

@@ -2,7 +2,7 @@
 use Rattle.std.proofs.Common.{◌≡◌, ℕ, Bool, true, false, ◌||◌, Option, Some, None, List, [], ◌∷◌, ◌++◌, map, refl, ap, sym, subst}
 use Rattle.std.specs.Prelude.{flat_map, MatchBool}
 use Rattle.spec_terms.specs.Term.{Term}
-use Rattle.spec_clauses.specs.Fact.{Fact, Ev, Mev, Clause, terms_of}
+use Rattle.spec_clauses.specs.Fact.{Fact, Ev, Mev, terms_of}
 use Rattle.spec_clauses.specs.Variables.{IsBelow, AreBelow}
 use Rattle.spec_clauses.proofs.Lists.{all_append, all_first, all_second}
 use Rattle.spec_calculus.specs.Syntax.{EventTerm, Protocol}
@@ -12,7 +12,7 @@ use Rattle.spec_translation.specs.Visit.{Visit, is_large_visit, after_event}
 use Rattle.term_tree.specs.Bank.{tree_at, AreKnown}
 use Rattle.term_tree.specs.declared.bank.Id.{Id}
 use Rattle.term_tree.proofs.BankLaws.{Grows_refl}
-use Rattle.clause_form.specs.Seen.{NamesFact, NamesClause}
+use Rattle.clause_form.specs.Seen.{NamesFact, NamesClause, IdClause}
 use Rattle.clause_form.proofs.Copying.{NameFacts-push}
 use Rattle.process_visits.specs.declared.visit.Visit as source
 use Rattle.process_visits.specs.declared.listing.Listing.{Listing}
@@ -24,9 +24,9 @@ use Rattle.process_visits.proofs.Adding.{raw_named}
 event_fact : (all : List Term) (event : ℕ) (ids : List Id) → AreKnown all ids → NamesFact all (Ev event ids) (Ev event (map (tree_at all) ids))
 event_fact all event ids known = record { known = known; is = refl }
 
-pub event_named : (all : List Term) (v : source.Visit) (event : ℕ) (ids : List Id) (raw : Clause Id) → IsVisitIn all v → AreKnown all ids → raw ≡ record { hypotheses = v.hypotheses; diffs = []; conclusion = Ev event ids } → NamesClause all raw (raw_event (visit_at all v) event (map (tree_at all) ids))
+pub event_named : (all : List Term) (v : source.Visit) (event : ℕ) (ids : List Id) (raw : IdClause) → IsVisitIn all v → AreKnown all ids → raw ≡ record { hypotheses = v.hypotheses; diffs = []; conclusion = Ev event ids } → NamesClause all raw (raw_event (visit_at all v) event (map (tree_at all) ids))
 event_named all v event ids raw known args e =
-    subst (λ (c : Clause Id). NamesClause all c (raw_event (visit_at all v) event (map (tree_at all) ids))) (sym e)
+    subst (λ (c : IdClause). NamesClause all c (raw_event (visit_at all v) event (map (tree_at all) ids))) (sym e)
     (raw_named all v.hypotheses (Ev event ids) (visit_at all v) (Ev event (map (tree_at all) ids)) (hypotheses_later all all v (Grows_refl all) known) (event_fact all event ids args) refl)
 
 -- one more fact's variables

@@ -8,10 +8,10 @@ use Rattle.spec_terms.specs.Term.{Term}
 use Rattle.spec_clauses.specs.Fact.{Ev, Mev, Clause}
 use Rattle.spec_clauses.specs.Limits.{is_large_raw}
 use Rattle.spec_clauses.specs.Norm.{norms}
-use Rattle.term_tree.specs.declared.bank.Id.{Id}
 use Rattle.spec_translation.specs.Conversion.{Scope, term_in, Fresh}
 use Rattle.spec_translation.specs.Visit.{Visit, is_large_term, is_large_visit, sent, raw_clause, IsFresh, after_input, event_terms, after_event}
-use Rattle.clause_form.specs.Seen.{NameClauses}
+use Rattle.clause_form.specs.Seen.{NameClauses, IdClause}
+use Rattle.clause_form.specs.Fit.{AreLowWithinLimit}
 use Rattle.process_visits.specs.declared.listing.Listing.{Listing}
 use Rattle.process_visits.specs.declared.visit.Visit as source
 use Rattle.process_visits.specs.Visits.{NamesVisit}
@@ -20,11 +20,12 @@ use Rattle.process_visits.specs.Visits.{NamesVisit}
 abbrev pub are_large_in : Protocol → Scope → List calculus.Term → Bool
 are_large_in P scope terms = list_any (λ t. is_large_term (term_in P scope t)) terms
 
--- clauses stand behind those that were there, or none does where they aren't kept
+-- clauses with variables of low numbers stand behind those that were there, or none does where they aren't kept
 pub record Lists (all : List Term) (before after : Listing) (more : List (Clause Term)) : Type 0 where
-  pub made : List (Clause Id)
+  pub made : List IdClause
   pub clauses : after.clauses ≡ before.clauses ++ made
   pub names : before.keeps ≡ true → NameClauses all made more
+  pub low : before.keeps ≡ true → AreLowWithinLimit all made
   pub none : before.keeps ≡ false → made ≡ []
   pub keeps : after.keeps ≡ before.keeps
 

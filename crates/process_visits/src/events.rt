@@ -15,7 +15,7 @@ use crate::large::{is_large_visit, some_large_term};
 use crate::listing::Listing;
 use crate::place::Place;
 use crate::visit::Visit;
-use clause_form::{Clause, Fact, Ids};
+use clause_form::{Clause, Diffs, Fact, Ids};
 use clause_terms::terms_in;
 use pi_tree::Atom;
 use std::alloc::{AllocError, Global};
@@ -39,6 +39,7 @@ fn event_clause(
     let arguments = arguments.copy(alloc)?;
     Ok(Clause {
         hyps,
+        diffs: Diffs::new(alloc),
         concl: Fact::Ev(event, arguments),
     })
 }

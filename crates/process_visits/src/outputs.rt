@@ -20,7 +20,7 @@ use crate::large::is_large_term;
 use crate::listing::Listing;
 use crate::place::Place;
 use crate::visit::Visit;
-use clause_form::{Clause, Fact};
+use clause_form::{Clause, Diffs, Fact};
 use clause_terms::{Scope, term_in};
 use pi_tree::Term;
 use std::alloc::AllocError;
@@ -67,7 +67,11 @@ fn output_clause<B: Bank>(
 {
     let hyps = visit.hypotheses.copy(place.alloc)?;
     let concl = sent_in(place, bank, &visit.scope, channel, message)?;
-    Ok(Clause { hyps, concl })
+    Ok(Clause {
+        hyps,
+        diffs: Diffs::new(place.alloc),
+        concl,
+    })
 }
 
 /// Adds what an output adds, unless it is too large, and tells whether it did. On `Err` the bank may have grown.

@@ -5,8 +5,7 @@ use Rattle.spec_trees.specs.Tree.{Leaf}
 use Rattle.spec_terms.specs.Term.{Term}
 use Rattle.spec_clauses.specs.Fact.{Clause}
 use Rattle.spec_translation.specs.Attacker.{variables_from}
-use Rattle.term_tree.specs.declared.bank.Id.{Id}
-use Rattle.clause_form.specs.Seen.{clause_at, NameClauses}
+use Rattle.clause_form.specs.Seen.{clause_at, NameClauses, IdClause}
 
 -- one variable more
 variables-next : (n k : ℕ) → variables_from n (suc k) ≡ variables_from n k ++ Leaf (n + k) ∷ []
@@ -17,5 +16,5 @@ pub variables_more : (k : ℕ) → variables_from 0 (k + 1) ≡ variables_from 0
 variables_more k = let same : 0 + k ≡ k = omega arith in rw add-one (variables-next 0 k ∙ ap (λ x. variables_from 0 k ++ Leaf x ∷ []) same)
 
 -- what is named is as much as there is
-pub one_named : (all : List Term) (made : List (Clause Id)) (goal : Clause Term) (trees : List (Clause Term)) → NameClauses all made trees → trees ≡ goal ∷ [] → length made ≡ 1
+pub one_named : (all : List Term) (made : List IdClause) (goal : Clause Term) (trees : List (Clause Term)) → NameClauses all made trees → trees ≡ goal ∷ [] → length made ≡ 1
 one_named all made goal trees names one = omega (arith, ap length names.are, ap length one, length-map made (clause_at all))

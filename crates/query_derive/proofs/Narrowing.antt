@@ -20,7 +20,7 @@ use Rattle.unify_match.specs.Trail.{Extends, id_of}
 use Rattle.unify_match.specs.Seen.{seen, AreBindings}
 use Rattle.unify_match.proofs.SeenLemmas.{bound_to-seen}
 use Rattle.unify_match.proofs.Trails.{Extends-refl, Extends-trans}
-use Rattle.clause_form.specs.declared.plain.Tree as declared
+use Rattle.clause_diffs.specs.declared.plain.Tree as declared
 use Rattle.clause_form.specs.declared.facts.Fact as facts
 use Rattle.clause_form.specs.Facts.{fact_of}
 use Rattle.clause_form.specs.Plain.{term_of}

@@ -15,12 +15,15 @@ ghost use Rattle.pi_tree.specs.Queries.{query_of};
 ghost use Rattle.pi_tree.specs.Accessors.{IsThere};
 ghost use Rattle.pi_tree.specs.declared.accessors.Kind.TheVariants.{Query as OfQueries};
 ghost use Rattle.term_tree.specs.Bank.{Grows};
+ghost use Rattle.clause_form.specs.Fit.{AreLowWithinLimit};
 ghost use Rattle.clause_form.specs.PlainFacts.{plain_fact_of};
 ghost use Rattle.clause_form.specs.Seen.{NameClauses};
 ghost use Rattle.query_derive.specs.GoalRows.{OfQuery};
 
 use crate::wanted::{bad_arguments, tree_of, trees_of};
-use clause_form::{Clauses, PlainClause, PlainFact, PlainFacts, Tree, Trees, copy_into};
+use clause_form::{
+    Clauses, PlainClause, PlainDiffs, PlainFact, PlainFacts, Tree, Trees, copy_into,
+};
 use clause_norms::norms_of;
 use pi_tree::{Protocol, Query};
 use std::alloc::{AllocError, Global};
@@ -33,8 +36,12 @@ fn bad_where(alloc: Global, hypothesis: PlainFact, bad: Trees) -> Result<PlainCl
 {
     let mut items = Vec::new(alloc);
     items.push(hypothesis)?;
+    let diffs = PlainDiffs {
+        items: Vec::new(alloc),
+    };
     Ok(PlainClause {
         hyps: PlainFacts { items },
+        diffs,
         concl: PlainFact::Bad(bad),
     })
 }
@@ -86,6 +93,7 @@ fn norms_grown<B: Bank>(
 ) -> Result<Clauses, AllocError>
     ensures grows { Grows (B.trees bank.old) (B.trees bank.new) }
     ensures names { IfOk result (λ made. NameClauses (B.trees bank.new) made (norms raw.now)) }
+    ensures low { IfOk result (λ made. AreLowWithinLimit (B.trees bank.new) made) }
 {
     let clause = copy_into(alloc, bank, raw)?;
     let made = norms_of(alloc, bank, &clause);
@@ -101,6 +109,7 @@ fn norms_into<B: Bank>(
 ) -> Result<Clauses, AllocError>
     ensures grows { Grows (B.trees bank.old) (B.trees bank.new) }
     ensures names { IfOk result (λ made. NameClauses (B.trees bank.new) made (norms raw.now)) }
+    ensures low { IfOk result (λ made. AreLowWithinLimit (B.trees bank.new) made) }
     ensures err { OnErr result (B.trees bank.new ≡ B.trees bank.old) }
 {
     let mark = bank.mark();
@@ -113,7 +122,7 @@ fn norms_into<B: Bank>(
     }
 }
 
-/// The goal clause of a query, as it stands last in the translation: one clause, always.
+/// The goal clause of a query, as it stands last in the translation: one clause, always, with variables of low numbers.
 ///
 /// `Err` is want of memory; the bank is then as before.
 pub fn goal_clause<B: Bank>(
@@ -128,6 +137,7 @@ pub fn goal_clause<B: Bank>(
     ensures grows { Grows (B.trees bank.old) (B.trees bank.new) }
     ensures names { IfOk result (λ made. OfQuery (protocol_of protocol.now) query (λ q.
         NameClauses (B.trees bank.new) made (goal_clauses (protocol_of protocol.now) q))) }
+    ensures low { IfOk result (λ made. AreLowWithinLimit (B.trees bank.new) made) }
     ensures one { IfOk result (λ made. length made ≡ 1) }
     ensures err { OnErr result (B.trees bank.new ≡ B.trees bank.old) }
 {

@@ -3,12 +3,10 @@ use Rattle.std.proofs.Common.{◌≡◌, ◌∙◌, ℕ, Some, List, map, ap, sy
 use Rattle.spec_calculus.specs.Syntax.{Query, Protocol}
 use Rattle.spec_calculus.specs.Points.{numbered}
 use Rattle.spec_terms.specs.Term.{Term}
-use Rattle.spec_clauses.specs.Fact.{Clause}
 use Rattle.spec_translation.specs.Translation.{Clauses, LargeAt, IsTranslation}
 use Rattle.spec_certificates.specs.Certificate.{Certificate}
 use Rattle.spec_verdicts.specs.Verdict.{Proved, Budget, SizePair, SizePoint, Unmet}
-use Rattle.term_tree.specs.declared.bank.Id.{Id}
-use Rattle.clause_form.specs.Seen.{clause_at}
+use Rattle.clause_form.specs.Seen.{clause_at, IdClause}
 use Rattle.clause_saturate.specs.declared.log.Entry.{Entry}
 use Rattle.clause_saturate.specs.declared.log.PlainEntry.{PlainEntry}
 use Rattle.clause_saturate.specs.Logs.{IsClosedLog, IsSpentLog, IsLargeLog}
@@ -23,14 +21,14 @@ use Rattle.query_verify.specs.Told.{IsAnswer}
 use Rattle.query_verify.proofs.Telling.{plain_tells, due_tells}
 
 -- the translation is that of the query, whatever it is told as
-pub translation_at : (P : Protocol) (number : ℕ) (all : List Term) (given : List (Clause Id)) (t : TranslatesTo P number all given) (q : Query) → numbered P.queries number ≡ Some q → IsTranslation P q (Clauses t.list)
+pub translation_at : (P : Protocol) (number : ℕ) (all : List Term) (given : List IdClause) (t : TranslatesTo P number all given) (q : Query) → numbered P.queries number ≡ Some q → IsTranslation P q (Clauses t.list)
 translation_at P number all given t q is =
     let one : Some t.query ≡ Some q = sym t.is ∙ is in
     let same : t.query ≡ q = cc in
     subst (λ x. IsTranslation P x (Clauses t.list)) same t.translates
 
 -- so are the clauses that the ids name
-pub named_translation : (P : Protocol) (number : ℕ) (all : List Term) (given : List (Clause Id)) → TranslatesTo P number all given → OfQuery P number (λ q. IsTranslation P q (Clauses (map (clause_at all) given)))
+pub named_translation : (P : Protocol) (number : ℕ) (all : List Term) (given : List IdClause) → TranslatesTo P number all given → OfQuery P number (λ q. IsTranslation P q (Clauses (map (clause_at all) given)))
 named_translation P number all given t = λ q is. subst (λ l. IsTranslation P q (Clauses l)) (sym t.names.are) (translation_at P number all given t q is)
 
 -- the translation is too large
@@ -41,7 +39,7 @@ point_answer P number budget point e = λ q is.
     record { verdict = SizePoint point; tells = refl; is = inl (point, subst (λ x. IsTranslation P x (LargeAt point)) same e.translates, refl) }
 
 -- the budget is spent
-pub spent_answer : (P : Protocol) (number budget : ℕ) (all : List Term) (given : List (Clause Id)) (entries : List Entry) (entry : Entry) (plain : List PlainEntry) (due : PlainEntry) → TranslatesTo P number all given → IsSpentLog all (map (clause_at all) given) budget entries entry
+pub spent_answer : (P : Protocol) (number budget : ℕ) (all : List Term) (given : List IdClause) (entries : List Entry) (entry : Entry) (plain : List PlainEntry) (due : PlainEntry) → TranslatesTo P number all given → IsSpentLog all (map (clause_at all) given) budget entries entry
     → plain ≡ map (plain_entry all) entries → due ≡ plain_entry all entry → OfQuery P number (λ q. IsAnswer P q budget (made.Budget plain due))
 spent_answer P number budget all given entries entry plain due t log plain_is due_is = λ q is. record {
   verdict = Budget log.log log.due;
@@ -50,7 +48,7 @@ spent_answer P number budget all given entries entry plain due t log plain_is du
 }
 
 -- a pair is too large
-pub pair_answer : (P : Protocol) (number budget : ℕ) (all : List Term) (given : List (Clause Id)) (entries : List Entry) (solved unsolved : ℕ) (plain : List PlainEntry) → TranslatesTo P number all given → IsLargeLog all (map (clause_at all) given) budget entries solved unsolved
+pub pair_answer : (P : Protocol) (number budget : ℕ) (all : List Term) (given : List IdClause) (entries : List Entry) (solved unsolved : ℕ) (plain : List PlainEntry) → TranslatesTo P number all given → IsLargeLog all (map (clause_at all) given) budget entries solved unsolved
     → plain ≡ map (plain_entry all) entries → OfQuery P number (λ q. IsAnswer P q budget (made.SizePair plain solved unsolved))
 pair_answer P number budget all given entries solved unsolved plain t log plain_is = λ q is. record {
   verdict = SizePair log.log solved unsolved;
@@ -59,7 +57,7 @@ pair_answer P number budget all given entries solved unsolved plain t log plain_
 }
 
 -- the log is closed, and there is a certificate
-pub proved_answer : (P : Protocol) (number budget : ℕ) (all : List Term) (given : List (Clause Id)) (entries : List Entry) (found : Certified) (cert : Certificate) → OfQuery P number (λ q. (b : ℕ) → IsClosedLog all (map (clause_at all) given) b entries → IsVerdictOf P q b all entries found)
+pub proved_answer : (P : Protocol) (number budget : ℕ) (all : List Term) (given : List IdClause) (entries : List Entry) (found : Certified) (cert : Certificate) → OfQuery P number (λ q. (b : ℕ) → IsClosedLog all (map (clause_at all) given) b entries → IsVerdictOf P q b all entries found)
     → found ≡ certified.Cert cert → IsClosedLog all (map (clause_at all) given) budget entries → OfQuery P number (λ q. IsAnswer P q budget (made.Proved cert))
 proved_answer P number budget all given entries found cert verdict is closed = λ q there. record {
   verdict = Proved cert;
@@ -68,7 +66,7 @@ proved_answer P number budget all given entries found cert verdict is closed = �
 }
 
 -- or an entry that is unmet, which is read out when the bank is the same again
-pub unmet_answer : (P : Protocol) (number budget : ℕ) (all now : List Term) (given : List (Clause Id)) (entries : List Entry) (found : Certified) (unmet : ℕ) (plain : List PlainEntry) → OfQuery P number (λ q. (b : ℕ) → IsClosedLog all (map (clause_at all) given) b entries → IsVerdictOf P q b all entries found)
+pub unmet_answer : (P : Protocol) (number budget : ℕ) (all now : List Term) (given : List IdClause) (entries : List Entry) (found : Certified) (unmet : ℕ) (plain : List PlainEntry) → OfQuery P number (λ q. (b : ℕ) → IsClosedLog all (map (clause_at all) given) b entries → IsVerdictOf P q b all entries found)
     → found ≡ certified.Unsatisfied unmet → IsClosedLog all (map (clause_at all) given) budget entries → now ≡ all → plain ≡ map (plain_entry now) entries → OfQuery P number (λ q. IsAnswer P q budget (made.Unmet plain unmet))
 unmet_answer P number budget all now given entries found unmet plain verdict is closed same plain_is = λ q there.
     let told = subst (λ x. IsVerdictOf P q budget all entries x) is (verdict q there budget closed) in

@@ -17,8 +17,7 @@ use Rattle.spec_saturation.specs.Common.{with_goal}
 use Rattle.spec_saturation.proofs.Common.{with_goal_length}
 use Rattle.spec_translation.specs.Translation.{Clauses, IsTranslation, goal_clauses}
 use Rattle.term_tree.specs.Bank.{Grows}
-use Rattle.term_tree.specs.declared.bank.Id.{Id}
-use Rattle.clause_form.specs.Seen.{clause_at, AreClausesIn, NameClauses}
+use Rattle.clause_form.specs.Seen.{clause_at, AreClausesIn, NameClauses, IdClause}
 use Rattle.clause_form.specs.Fit.{AreFit}
 use Rattle.clause_saturate.specs.declared.log.Entry.{Entry}
 use Rattle.clause_saturate.specs.declared.log.Saturated.{Saturated}
@@ -27,28 +26,32 @@ use Rattle.clause_saturate.specs.Logs.{IsLogOf, TellLog}
 use Rattle.clause_saturate.specs.Beating.{clauses_of}
 use Rattle.clause_saturate.specs.Common.{Shared, begun_log, begun_size, log_of, IsCommonOf, IsFreshCommon}
 use Rattle.clause_saturate.proofs.Giving.{number_given, numbered_goal}
+use Rattle.clause_form.proofs.Copying.{NameClauses-grow}
+use Rattle.clause_form.proofs.Fit.{named_fit}
+use Rattle.clause_form.proofs.Low.{AreLowWithinLimit-grow}
 use Rattle.clause_translate.specs.Whole.{IsCommonTo}
 use Rattle.cert_writer.specs.declared.known.KnownRows.{KnownRows}
 use Rattle.cert_writer.specs.Known.{IsKnown}
 use Rattle.query_verify.specs.Settled.{AreCommonTo, AreGoalBehind, shared_of}
-use Rattle.query_verify.proofs.Fitting.{named_fit, known_later, same_later}
+use Rattle.query_verify.proofs.Fitting.{same_later}
 
 -- the clauses keep their trees as the bank grows
-pub common_later : (P : Protocol) (old new : List Term) (given : List (Clause Id)) → Grows old new → IsCommonTo P old given → IsCommonTo P new given
+pub common_later : (P : Protocol) (old new : List Term) (given : List IdClause) → Grows old new → IsCommonTo P old given → IsCommonTo P new given
 common_later P old new given grows h = record {
   list = h.list;
-  names = record { known = known_later old new given grows h.names.known; are = same_later old new given grows h.names.known ∙ h.names.are };
+  names = NameClauses-grow old new given h.list grows h.names;
+  low = AreLowWithinLimit-grow old new given grows h.names.known h.low;
   translates = h.translates;
 }
 
 -- the clauses that they name are what each translation begins with
-pub named_common : (P : Protocol) (all : List Term) (given : List (Clause Id)) → IsCommonTo P all given → AreCommonTo P (map (clause_at all) given)
+pub named_common : (P : Protocol) (all : List Term) (given : List IdClause) → IsCommonTo P all given → AreCommonTo P (map (clause_at all) given)
 named_common P all given h = subst (AreCommonTo P) (sym h.names.are) h.translates
 
 -- and fit for resolution
-pub common_fit : (P : Protocol) (all : List Term) (given : List (Clause Id)) → IsWithinLimits P → IsCommonTo P all given → ((q : Query) (cs : List (Clause Term)) (c : Clause Term) → IsTranslation P q (Clauses cs) → Has cs c → IsNormal c)
+pub common_fit : (P : Protocol) (all : List Term) (given : List IdClause) → IsWithinLimits P → IsCommonTo P all given → ((q : Query) (cs : List (Clause Term)) (c : Clause Term) → IsTranslation P q (Clauses cs) → Has cs c → IsNormal c)
     → ((q : Query) (cs : List (Clause Term)) (c : Clause Term) → IsWithinLimits P → IsSmallQuery q → IsTranslation P q (Clauses cs) → Has cs c → IsWithinLimit c) → AreFit all given
-common_fit P all given limits h normal small = named_fit all given h.list h.names
+common_fit P all given limits h normal small = named_fit all given h.list h.names h.low
     (λ c has. normal any (h.list ++ goal_clauses P any) c (h.translates any) (Has-append_left h.list (goal_clauses P any) c has))
     (λ c has. small any (h.list ++ goal_clauses P any) c limits tt (h.translates any) (Has-append_left h.list (goal_clauses P any) c has))
   where
@@ -56,11 +59,11 @@ common_fit P all given limits h normal small = named_fit all given h.list h.name
     any = SecretNew 1 0
 
 -- there is a goal behind the clauses
-pub goal_some : (all : List Term) (shared : Shared) (given : List (Clause Id)) → AreGoalBehind all shared given → length given ≡ suc (length shared.clauses)
+pub goal_some : (all : List Term) (shared : Shared) (given : List IdClause) → AreGoalBehind all shared given → length given ≡ suc (length shared.clauses)
 goal_some all shared given (goal, are) = sym (length-map given (clause_at all)) ∙ (ap length are ∙ with_goal_length shared.clauses goal)
 
 -- and it is the last
-pub goal_last : (all : List Term) (shared : Shared) (given : List (Clause Id)) (c : Clause Id) → AreGoalBehind all shared given → c ≡ get_or given (length given - 1) c → map (clause_at all) given ≡ with_goal shared.clauses (clause_at all c)
+pub goal_last : (all : List Term) (shared : Shared) (given : List IdClause) (c : IdClause) → AreGoalBehind all shared given → c ≡ get_or given (length given - 1) c → map (clause_at all) given ≡ with_goal shared.clauses (clause_at all c)
 goal_last all shared given c (goal, are) is =
     let count = goal_some all shared given (goal, are) in
     let at : numbered (map (clause_at all) given) (length given) ≡ Some (clause_at all c) = number_given all given (length given) c is (omega (arith, count)) (omega arith) in
@@ -70,14 +73,14 @@ goal_last all shared given c (goal, are) is =
     are ∙ ap (with_goal shared.clauses) same
 
 -- the log that goes on with the goal is that of all these clauses
-pub finished_log : (all now : List Term) (shared : Shared) (given : List (Clause Id)) (c : Clause Id) (budget : ℕ) (s : Saturated) → AreGoalBehind all shared given → c ≡ get_or given (length given - 1) c → shared.budget ≡ budget → AreClausesIn all given → Grows all now
+pub finished_log : (all now : List Term) (shared : Shared) (given : List IdClause) (c : IdClause) (budget : ℕ) (s : Saturated) → AreGoalBehind all shared given → c ≡ get_or given (length given - 1) c → shared.budget ≡ budget → AreClausesIn all given → Grows all now
     → IsLogOf now (with_goal shared.clauses (clause_at all c)) shared.budget s → IsLogOf now (map (clause_at now) given) budget s
 finished_log all now shared given c budget s behind is budget_is known grows h =
     subst (λ b. IsLogOf now (map (clause_at now) given) b s) budget_is
     (subst (λ (cs : List (Clause Term)). IsLogOf now cs shared.budget s) (sym (same_later all now given grows known ∙ goal_last all shared given c behind is)) h)
 
 -- the clauses with a query's goal behind them
-pub goal_behind : (P : Protocol) (old new : List Term) (given all : List (Clause Id)) (budget : ℕ) (q : Query) → ((q : Query) → (goal : Clause Term) × (goal_clauses P q ≡ goal ∷ [])) → NameClauses new all (map (clause_at old) given ++ goal_clauses P q) → AreGoalBehind new (shared_of old given budget) all
+pub goal_behind : (P : Protocol) (old new : List Term) (given all : List IdClause) (budget : ℕ) (q : Query) → ((q : Query) → (goal : Clause Term) × (goal_clauses P q ≡ goal ∷ [])) → NameClauses new all (map (clause_at old) given ++ goal_clauses P q) → AreGoalBehind new (shared_of old given budget) all
 goal_behind P old new given all budget q one names =
     let goal = one q in (goal.0, names.are ∙ ap (λ cs. map (clause_at old) given ++ cs) goal.1)
 
@@ -97,4 +100,4 @@ fresh_known all shared common known begun =
 pub kept_back : {X E : Type 0} (old new : List Term) (was is : KnownRows) (result : Result X E) → ((known : KnownRows) → Grows old new → AreClausesIn old known.live → AreClausesIn old known.given → IsKnown new known → IsKnown old known) → Grows old new → IsKnown old was → is.live ≡ was.live → is.given ≡ was.given
     → OnOk result (IsKnown new is) → OnOk result (IsKnown old is)
 kept_back old new was is result back grows kept same also there =
-    IfOk-weaker result (λ _. IsKnown new is) (λ _. IsKnown old is) (λ _ h. back is grows (subst (λ (cs : List (Clause Id)). AreClausesIn old cs) (sym same) kept.names) (subst (λ (cs : List (Clause Id)). AreClausesIn old cs) (sym also) kept.given) h) there
+    IfOk-weaker result (λ _. IsKnown new is) (λ _. IsKnown old is) (λ _ h. back is grows (subst (λ (cs : List IdClause). AreClausesIn old cs) (sym same) kept.names) (subst (λ (cs : List IdClause). AreClausesIn old cs) (sym also) kept.given) h) there

@@ -2,17 +2,16 @@
 use Rattle.std.specs.Prelude.{◌<◌, ◌^◌, List}
 use Rattle.spec_calculus.specs.Syntax.{Protocol}
 use Rattle.spec_terms.specs.Term.{Term}
-use Rattle.spec_clauses.specs.Fact.{Clause}
 use Rattle.spec_well_formed.specs.Limits.{IsWithinLimits}
 use Rattle.pi_tree.specs.Protocols.{protocol_of}
 use Rattle.pi_tree.specs.Accessors.{IsThere}
 use Rattle.pi_tree.specs.declared.accessors.Kind.TheVariants as kinds
-use Rattle.term_tree.specs.declared.bank.Id.{Id}
 use Rattle.query_derive.specs.GoalRows.{OfQuery}
 use Rattle.clause_translate.specs.Whole.{TranslatesTo}
 use Rattle.query_verify.specs.declared.question.Question.{Question}
 use Rattle.query_verify.specs.declared.answers.Verdict.{Verdict}
 use Rattle.query_verify.specs.Told.{IsAnswer}
+use Rattle.clause_form.specs.Seen.{IdClause}
 
 -- the protocol that is asked about
 abbrev pub protocol_at : Question → Protocol
@@ -25,7 +24,7 @@ pub record CanBeAsked (question : Question) : Type 0 where
   pub budget : question.budget < 2 ^ 32
 
 -- the clauses are those that the protocol and the query are translated into
-abbrev pub AreAskedOf : Question → List Term → List (Clause Id) → Type 0
+abbrev pub AreAskedOf : Question → List Term → List IdClause → Type 0
 AreAskedOf question all given = TranslatesTo (protocol_at question) question.query all given
 
 -- the verdict answers the question

@@ -5,8 +5,7 @@ use Rattle.spec_terms.specs.Term.{Term}
 use Rattle.spec_clauses.specs.Fact.{Clause}
 use Rattle.spec_saturation.specs.Common.{with_goal}
 use Rattle.spec_translation.specs.Translation.{Clauses, LargeAt, IsTranslation, goal_clauses}
-use Rattle.term_tree.specs.declared.bank.Id.{Id}
-use Rattle.clause_form.specs.Seen.{clause_at}
+use Rattle.clause_form.specs.Seen.{clause_at, IdClause}
 use Rattle.clause_saturate.specs.Common.{Shared, IsSpentCommon, IsLargeCommon}
 use Rattle.query_verify.specs.declared.settled.Settled.{Settled}
 use Rattle.query_verify.specs.declared.settled.Settled.TheVariants.{TooLarge, Spent, Large}
@@ -26,9 +25,9 @@ IsSettled all P budget (Spent log due) = (clauses : List (Clause Term)) × AreCo
 IsSettled all P budget (Large log solved unsolved) = (clauses : List (Clause Term)) × AreCommonTo P clauses × IsLargeCommon all (shared_by clauses budget) log solved unsolved
 
 -- the ids name these clauses and a goal behind them
-abbrev pub AreGoalBehind : List Term → Shared → List (Clause Id) → Type 0
+abbrev pub AreGoalBehind : List Term → Shared → List IdClause → Type 0
 AreGoalBehind all shared given = (goal : Clause Term) × (map (clause_at all) given ≡ with_goal shared.clauses goal)
 
 -- what the clauses that the ids name share
-abbrev pub shared_of : List Term → List (Clause Id) → ℕ → Shared
+abbrev pub shared_of : List Term → List IdClause → ℕ → Shared
 shared_of all given budget = shared_by (map (clause_at all) given) budget

@@ -4,8 +4,8 @@ ghost use Rattle.std.specs.Prelude.{◌≡◌, [], ◌∷◌, ◌++◌, IfOk, On
 ghost use Rattle.clause_form.specs.Fit.{clauses_at};
 ghost use Rattle.clause_form.specs.Seen.{AreClausesIn};
 
-use cert_form::PlainClauses;
-use clause_form::{Clause, Clauses, PlainClause, copy_into, read_out};
+use cert_form::{PlainClauses, read_clauses};
+use clause_form::{Clauses, PlainClause, copy_into};
 use std::alloc::{AllocError, Global};
 use std::marker::Model;
 use term_store::SharedBank;
@@ -33,18 +33,6 @@ impl Model for SharedClauses {
     ghost view = { λ s. clauses_at s.bank s.clauses };
 
     ghost invariant = { λ s. AreClausesIn s.bank s.clauses };
-}
-
-/// The clauses over trees that clauses over the ids of the bank stand for.
-fn spelled(alloc: Global, bank: &SharedBank, clauses: &[Clause]) -> Result<PlainClauses, AllocError>
-    requires { AreClausesIn bank.now clauses.now }
-    ensures { IfOk result (λ plain. plain ≡ clauses_at bank.now clauses.now) }
-{
-    let mut items = Vec::with_capacity(alloc, clauses.len())?;
-    for clause in clauses {
-        items.push(read_out(alloc, bank, clause)?)?;
-    }
-    Ok(PlainClauses { items })
 }
 
 impl SharedClauses {
@@ -90,6 +78,6 @@ impl SharedClauses {
     pub fn spelled_out(&self, alloc: Global) -> Result<PlainClauses, AllocError>
         ensures { IfOk result (λ plain. plain ≡ self.now) }
     {
-        spelled(alloc, &self.bank, &self.clauses.items)
+        read_clauses(alloc, &self.bank, &self.clauses.items)
     }
 }

@@ -17,7 +17,7 @@ use Rattle.spec_certificate_text.proofs.Long.{onto_long, things_long}
 use Rattle.spec_certificate_text.proofs.FactsThere.{hypothesis_there, conclusion_there}
 use Rattle.spec_certificate_text.proofs.FactsFound.{hypothesis_found, conclusion_found}
 
-abbrev hypothesis_text : Protocol → Fact Term × Bool → List ℕ → List ℕ
+abbrev pub hypothesis_text : Protocol → Fact Term × Bool → List ℕ → List ℕ
 hypothesis_text P (h, true) rest = fact_text P h (44 ∷ 32 ∷ rest)
 hypothesis_text P (h, false) rest = fact_text P h (32 ∷ 61 ∷ 62 ∷ 32 ∷ rest)
 
@@ -26,7 +26,7 @@ behind_fact h place rest =
     if front rest == 44 then next (read_fixed (codes ", ") rest place) (λ _ p r. Found (h, true) p r)
     else next (read_fixed (codes " => ") rest place) (λ _ p r. Found (h, false) p r)
 
-one_hypothesis_there : (P : Protocol) → Sound (hypothesis_text P) (IsOne (IsHypothesisOf P)) (one_hypothesis P)
+pub one_hypothesis_there : (P : Protocol) → Sound (hypothesis_text P) (IsOne (IsHypothesisOf P)) (one_hypothesis P)
 one_hypothesis_there P bytes at x p r e =
     let cut = parts (read_hypothesis P bytes at) behind_fact x p r e in
     by cut.value cut.place cut.rest (hypothesis_there P bytes at cut.value cut.place cut.rest cut.first) cut.later
@@ -55,7 +55,7 @@ one_hypothesis_found P names (h, false) rest at may =
     joined (read_hypothesis P (fact_text P h (32 ∷ 61 ∷ 62 ∷ 32 ∷ rest)) at) behind_fact h (32 ∷ 61 ∷ 62 ∷ 32 ∷ rest) (h, false) rest (hypothesis_found P names h (32 ∷ 61 ∷ 62 ∷ 32 ∷ rest) at may)
     (λ p. joined (read_fixed (codes " => ") (32 ∷ 61 ∷ 62 ∷ 32 ∷ rest) p) (λ _ q r. Found (h, false) q r) tt rest (h, false) rest (fixed_found (codes " => ") rest p) (λ q. record { place = q; is = refl }))
 
-hypothesis_long : (P : Protocol) (x : Fact Term × Bool) (k : List ℕ) → length k + 1 ≤ length (hypothesis_text P x k)
+pub hypothesis_long : (P : Protocol) (x : Fact Term × Bool) (k : List ℕ) → length k + 1 ≤ length (hypothesis_text P x k)
 hypothesis_long P (h, true) k = omega (arith, onto_long (written_fact P h) (44 ∷ 32 ∷ k))
 hypothesis_long P (h, false) k = omega (arith, onto_long (written_fact P h) (32 ∷ 61 ∷ 62 ∷ 32 ∷ k))
 

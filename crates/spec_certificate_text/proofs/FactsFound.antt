@@ -41,7 +41,7 @@ argument_found P names (t, true) rest at may =
 argument_found P names (t, false) rest at may =
     joined (one_term P (term_text P t (41 ∷ rest)) at) behind_term t (41 ∷ rest) (t, false) rest (term_found P names t may at 41 rest refl) (λ p. record { place = p + 1; is = refl })
 
-argument_long : (P : Protocol) (x : Term × Bool) (k : List ℕ) → length k + 1 ≤ length (argument_text P x k)
+pub argument_long : (P : Protocol) (x : Term × Bool) (k : List ℕ) → length k + 1 ≤ length (argument_text P x k)
 argument_long P (t, true) k = omega (arith, onto_long (written P t) (44 ∷ k))
 argument_long P (t, false) k = omega (arith, onto_long (written P t) (41 ∷ k))
 

@@ -57,7 +57,7 @@ abbrev pub argument_text : Protocol → Term × Bool → List ℕ → List ℕ
 argument_text P (t, true) rest = term_text P t (44 ∷ rest)
 argument_text P (t, false) rest = term_text P t (41 ∷ rest)
 
-argument_there : (P : Protocol) → Sound (argument_text P) (IsOne (MayStand P)) (argument P)
+pub argument_there : (P : Protocol) → Sound (argument_text P) (IsOne (MayStand P)) (argument P)
 argument_there P bytes at x p r e = by x cut.value cut.place cut.rest cut.first cut.later
   where
     cut : Parts (one_term P bytes at) (λ t place rest. if front rest == 44 then Found (t, true) (place + 1) (drop 1 rest) else (if front rest == 41 then Found (t, false) (place + 1) (drop 1 rest) else Faulty place Syntax)) x p r

@@ -14,6 +14,8 @@ pub mod Called
 pub mod Read
 pub mod Kept
 pub mod Parts
+pub mod Rounds
+pub mod Alike
 pub mod Things
 pub mod FactsThere
 pub mod Long
@@ -21,3 +23,4 @@ pub mod FactsFound
 pub mod ClausesRead
 pub mod CertificatesRead
 pub mod ReportsRead
+pub mod KeptStates

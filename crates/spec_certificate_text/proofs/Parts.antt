@@ -85,6 +85,11 @@ fixed_more : (w : ℕ) (ws : List ℕ) (b : ℕ) (bytes : List ℕ) (at : ℕ) �
 unfolding read_fixed
 fixed_more w ws b bytes at = refl
 
+-- a fixed byte that is no 0
+pub fixed_byte : (w : ℕ) (bytes : List ℕ) (at : ℕ) → (0 == w) ≡ false → read_fixed (w ∷ []) bytes at ≡ (if front bytes == w then Found tt (at + 1) (drop 1 bytes) else Faulty at Syntax)
+fixed_byte w [] at some = fixed_cut w [] at ∙ ap (λ (is : Bool). if is then Found tt (at + 1) [] else Faulty at Syntax) (sym some)
+fixed_byte w (b ∷ bytes) at some = fixed_more w [] b bytes at ∙ ap (λ (o : Outcome (Unit {0})). if b == w then o else Faulty at Syntax) (fixed_end bytes (at + 1))
+
 pub fixed_there : (w bytes : List ℕ) (at : ℕ) (u : Unit {0}) (place : ℕ) (rest : List ℕ) → read_fixed w bytes at ≡ Found u place rest → bytes ≡ w ++ rest
 fixed_there [] bytes at u place rest e = let found : Found tt at bytes ≡ Found u place rest = sym (fixed_end bytes at) ∙ e in cc
 fixed_there (w ∷ ws) [] at u place rest e = let never : Faulty at Syntax ≡ Found u place rest = sym (fixed_cut w ws at) ∙ e in absurd (cc)

@@ -23,14 +23,14 @@ pub record Behind {A : Type 0} (one : A × Bool → List ℕ → List ℕ) (Is :
   pub text : bytes ≡ things_text one first others rest
   pub each : AllByRecursion Is (first ∷ others)
 
-none_left : {A : Type 0} (r : Reader (A × Bool)) (xs : List A) (bytes : List ℕ) (at : ℕ) → things_from r 0 xs bytes at ≡ Faulty at Syntax
+pub none_left : {A : Type 0} (r : Reader (A × Bool)) (xs : List A) (bytes : List ℕ) (at : ℕ) → things_from r 0 xs bytes at ≡ Faulty at Syntax
 unfolding things_from
 none_left r xs bytes at = refl
 
 abbrev pub behind_one : {A : Type 0} → Reader (A × Bool) → ℕ → List A → A × Bool → ℕ → List ℕ → Outcome (List A)
 behind_one r most xs x place rest = if x.1 then things_from r most (xs ++ x.0 ∷ []) rest place else Found (xs ++ x.0 ∷ []) place rest
 
-one_more : {A : Type 0} (r : Reader (A × Bool)) (most : ℕ) (xs : List A) (bytes : List ℕ) (at : ℕ) → things_from r (suc most) xs bytes at ≡ next (r bytes at) (behind_one r most xs)
+pub one_more : {A : Type 0} (r : Reader (A × Bool)) (most : ℕ) (xs : List A) (bytes : List ℕ) (at : ℕ) → things_from r (suc most) xs bytes at ≡ next (r bytes at) (behind_one r most xs)
 unfolding things_from
 one_more r most xs bytes at = refl
 
@@ -77,6 +77,20 @@ things_found {A} one Is r complete (suc most) xs x (y ∷ ys) rest at room each 
     let found = joined (r text at) (behind_one r most xs) (x, true) later (xs ++ x ∷ y ∷ ys) rest (complete (x, true) later at each.0)
     (λ p. subst (λ zs. Finds (things_from r most (xs ++ x ∷ []) later p) zs rest) same (things_found one Is r complete most (xs ++ x ∷ []) y ys rest p (omega (arith, room)) each.1)) in
     record { place = found.place; is = one_more r most xs text at ∙ found.is }
+
+-- where nothing is read of no bytes, and each thing takes a byte at least, as many rounds as bytes are enough
+pub things_enough : {A : Type 0} (r : Reader (A × Bool)) → ((at : ℕ) → r [] at ≡ Faulty at Syntax) → ((bytes : List ℕ) (at : ℕ) (x : A × Bool) (place : ℕ) (rest : List ℕ) → r bytes at ≡ Found x place rest → length rest + 1 ≤ length bytes)
+    → (most : ℕ) (xs : List A) (bytes : List ℕ) (at : ℕ) → length bytes ≤ most → things_from r most xs bytes at ≡ things_from r (suc most) xs bytes at
+things_enough {A} r none takes zero xs [] at within = none_left r xs [] at ∙ sym (one_more r 0 xs [] at ∙ ap (λ (o : Outcome (A × Bool)). next o (behind_one r 0 xs)) (none at))
+things_enough r none takes zero xs (b ∷ bytes) at within = absurd (omega (arith, within))
+things_enough {A} r none takes (suc m) xs bytes at within = one_more r m xs bytes at ∙ (by (r bytes at) refl (λ ys behind place less. things_enough r none takes m ys behind place less) ∙ sym (one_more r (suc m) xs bytes at))
+  where
+    by : (o : Outcome (A × Bool)) → r bytes at ≡ o → ((ys : List A) (behind : List ℕ) (place : ℕ) → length behind ≤ m → things_from r m ys behind place ≡ things_from r (suc m) ys behind place)
+        → next o (behind_one r m xs) ≡ next o (behind_one r (suc m) xs)
+    by (Faulty place code) e later = refl
+    by (Found x place rest) e later =
+        let less : length rest ≤ m = omega (arith, within, takes bytes at x place rest e) in
+        ap (λ (o : Outcome (List A)). if x.1 then o else Found (xs ++ x.0 ∷ []) place rest) (later (xs ++ x.0 ∷ []) rest place less)
 
 -- Lines that begin with a letter.
 

@@ -14,6 +14,9 @@ pub mod Sound
 pub mod Outcomes
 pub mod Facts
 pub mod Clauses
+pub mod ReadWords
+pub mod Rounds
+pub mod Walks
 pub mod Certificates
 pub mod Reports
 pub mod Readable

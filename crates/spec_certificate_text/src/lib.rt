@@ -36,6 +36,8 @@ ghost use Rattle.spec_certificate_text.specs.Runs.{Done, Refused, read_term};
 ghost use Rattle.spec_certificate_text.specs.Outcomes.{Found, Faulty};
 ghost use Rattle.spec_certificate_text.specs.Facts.{read_hypothesis, read_conclusion};
 ghost use Rattle.spec_certificate_text.specs.Clauses.{read_clause};
+ghost use Rattle.spec_certificate_text.specs.Walks as walks;
+ghost use Rattle.spec_certificate_text.specs.Walks.{spelled_term, no_counts, with_state};
 ghost use Rattle.spec_certificate_text.specs.Certificates.{read_certificate};
 ghost use Rattle.spec_certificate_text.specs.Readable.{IsHypothesisOf, IsConclusionOf, IsReadable};
 ghost use Rattle.spec_certificate_text.specs.Readable.{IsReadableCertificate};
@@ -201,6 +203,13 @@ pub fn certificates_are_read()
         IsReadableCertificate P c →
         IsReadableCertificate P d → certificate_text P c k ≡ certificate_text P d l → (c ≡ d) ×
         (k ≡ l) }
+{}
+
+/// A clause is read as it is on a walk that keeps its state, be that a number.
+pub fn clauses_are_read_on_walks()
+    ensures { (P : Protocol) (state : ℕ) (bytes : List ℕ) (at : ℕ) →
+        walks.read_clause (spelled_term P) no_counts P state bytes at ≡
+        with_state state (read_clause P bytes at) }
 {}
 
 /// Claims that were read are what all bytes spell, and the text of a report is read as its claims. So bytes that are refused

@@ -19,13 +19,13 @@ use Rattle.spec_clauses.proofs.Norm.{norm-norm, norm-variables}
 use Rattle.spec_clauses.proofs.NormKeeps.{own_norm}
 
 -- no more items pass a filter than there are, and none are added by leaving out repeats
-length-filter_le : {X : Type 0} (test : X → Bool) (xs : List X) → length (filter test xs) ≤ length xs
+pub length-filter_le : {X : Type 0} (test : X → Bool) (xs : List X) → length (filter test xs) ≤ length xs
 length-filter_le test [] = omega arith
 length-filter_le test (x ∷ xs) =
     let others = length-filter_le test xs in
     elim (test x) as (λ b. length (cond b (x ∷ filter test xs) (filter test xs)) ≤ suc (length xs)) [ true ↦ omega arith | false ↦ omega arith ]
 
-length-distinct : {X : Type 0} (same : X → X → Bool) (xs : List X) → length (distinct same xs) ≤ length xs
+pub length-distinct : {X : Type 0} (same : X → X → Bool) (xs : List X) → length (distinct same xs) ≤ length xs
 length-distinct same [] = omega arith
 length-distinct same (x ∷ xs) = omega (arith, length-filter_le (λ y. not (same x y)) (distinct same xs), length-distinct same xs)
 
@@ -39,7 +39,7 @@ mutual
   length-row_leaves none = omega arith
   length-row_leaves (more t ts) = omega (arith, length-leaves t, length-row_leaves ts, length-append (leaves t) (row_leaves ts))
 
-length-terms : (ts : List Term) → length (flat_map leaves ts) ≤ total size ts
+pub length-terms : (ts : List Term) → length (flat_map leaves ts) ≤ total size ts
 length-terms [] = omega arith
 length-terms (t ∷ ts) = omega (arith, length-leaves t, length-terms ts, length-append (leaves t) (flat_map leaves ts))
 
@@ -51,7 +51,7 @@ length-fact (Ev e ts) = omega (arith, length-terms ts)
 length-fact (Mev e ts) = omega (arith, length-terms ts)
 length-fact (Bad ts) = omega (arith, length-terms ts)
 
-length-facts : (hs : List (Fact Term)) → length (flat_map fact_variables hs) ≤ total fact_size hs
+pub length-facts : (hs : List (Fact Term)) → length (flat_map fact_variables hs) ≤ total fact_size hs
 length-facts [] = omega arith
 length-facts (h ∷ hs) = omega (arith, length-fact h, length-facts hs, length-append (fact_variables h) (flat_map fact_variables hs))
 

@@ -21,14 +21,17 @@ pub data Fact (X : Type 0) : Type 0 where
   -- what the query asks about has come about: stands in conclusions alone
   Bad : (arguments : List X) → Fact X
 
--- where the hypotheses hold and the constraints are met, the conclusion holds
-pub record Clause (X : Type 0) : Type 0 where
+-- where the hypotheses hold and the constraints, of any kind, are met, the conclusion holds
+pub record ClauseOf (X D : Type 0) : Type 0 where
   pub hypotheses : List (Fact X)
-  pub diffs : List Diff
+  pub diffs : List D
   pub conclusion : Fact X
 
+abbrev pub Clause : Type 0 → Type 0
+Clause X = ClauseOf X Diff
+
 -- the facts of a clause, the conclusion first: the order in which variables are numbered
-abbrev pub facts_of : {X : Type 0} → Clause X → List (Fact X)
+abbrev pub facts_of : {X D : Type 0} → ClauseOf X D → List (Fact X)
 facts_of c = c.conclusion ∷ c.hypotheses
 
 -- the terms of a fact, and of a clause
@@ -40,7 +43,7 @@ terms_of (Ev e ts) = ts
 terms_of (Mev e ts) = ts
 terms_of (Bad ts) = ts
 
-abbrev pub clause_terms : {X : Type 0} → Clause X → List X
+abbrev pub clause_terms : {X D : Type 0} → ClauseOf X D → List X
 clause_terms c = flat_map terms_of (facts_of c)
 
 -- a fact and a clause, with f of each term of a fact in its place: constraints stay

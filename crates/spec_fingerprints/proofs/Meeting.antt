@@ -1,20 +1,21 @@
 -- Facts of which two instances are the same have fingerprints that may meet.
 use Rattle.std.proofs.Common.{◌≡◌, ◌⊎◌, inl, inr, Option, Some, ℕ, zero, suc, ◌≤◌, ◌-◌, ◌^◌, Bool, true, false, ◌&&◌, List, [], ◌∷◌, map, slice_get, option_map, refl, ap, sym, ◌∙◌, subst, arith}
+use Rattle.std.specs.Prelude.{nat_eq}
 use Rattle.std.specs.Option.{unwrap_or}
-use Rattle.std.proofs.lemmas.Bool.{false≢true, le-leb}
+use Rattle.std.proofs.lemmas.Bool.{false≢true, le-leb, eq-eqb}
 use Rattle.spec_trees.specs.Tree.{Trees, Leaf, Node, none, more, items_of, bind, binds, after}
 use Rattle.spec_terms.specs.Term.{Sym, Ctor, Data, Tuple, Free, Point, Attacker, Term, Subst}
 use Rattle.spec_terms.specs.Unifier.{moved}
 use Rattle.spec_clauses.specs.Fact.{Fact, Clause, terms_of, fact_under}
-use Rattle.spec_clauses.specs.Head.{head_of, same_head}
+use Rattle.spec_clauses.specs.Head.{head_of}
 use Rattle.spec_clauses.specs.Selection.{Selection, select, is_solved}
 use Rattle.spec_clauses.proofs.Selection.{select-none}
 use Rattle.spec_clauses.specs.Resolvents.{Resolves, NoUnifier}
-use Rattle.spec_clauses.proofs.Parts.{head_of-map, terms_of-map, same_head-decides}
+use Rattle.spec_clauses.proofs.Parts.{head_of-map, terms_of-map}
 use Rattle.spec_clauses.proofs.Facts.{fact_under-fact_under}
 use Rattle.spec_clauses.proofs.Answers.{an_offset, no_unifier}
 use Rattle.spec_features.specs.Features.{are_at_most}
-use Rattle.spec_fingerprints.specs.Fingerprints.{Root, Anything, Nothing, Symbol, found, root_below, root_among, roots_among, number_of, least_of, most_of, positions, fingerprint_of, may_meet, Fingerprint, hypothesis_print, clause_print, may_resolve}
+use Rattle.spec_fingerprints.specs.Fingerprints.{Root, Anything, Nothing, Symbol, found, root_below, root_among, roots_among, number_of, number_of_head, least_of, most_of, positions, fingerprint_of, may_meet, Fingerprint, hypothesis_print, clause_print, may_resolve}
 
 -- what stands at a position of an instance: the same, where the term doesn't have a variable there or above
 abbrev IsKept : Root → Root → Type 0
@@ -94,8 +95,8 @@ all_true false b c x y z = x
 
 pub meeting : (f g : Fact Term) (s t : Subst) → fact_under s f ≡ fact_under t g → may_meet (fingerprint_of f) (fingerprint_of g) ≡ true
 meeting f g s t e =
-    all_true (same_head (head_of f) (head_of g)) _ _
-    ((same_head-decides (head_of f) (head_of g)).1 (heads_one f g s t e))
+    all_true (nat_eq (number_of_head (head_of f)) (number_of_head (head_of g))) _ _
+    (eq-eqb (number_of_head (head_of f)) (number_of_head (head_of g)) (ap number_of_head (heads_one f g s t e)))
     (all_overlap (terms_of f) (terms_of g) (roots_overlap f g s t e) positions)
     (all_overlap (terms_of g) (terms_of f) (roots_overlap g f t s (sym e)) positions)
 

@@ -1,11 +1,11 @@
 -- Fingerprints of facts: what stands at some positions of their terms. Facts of which two instances are the same have fingerprints that
 -- may meet, so most others are told apart by their fingerprints alone (fingerprint indexing: Schulz 2012).
-use Rattle.std.specs.Prelude.{ℕ, ◌+◌, ◌-◌, ◌*◌, ◌%◌, ◌^◌, Bool, false, ◌&&◌, Option, Some, None, option_map, List, [], ◌∷◌, map, slice_get}
+use Rattle.std.specs.Prelude.{ℕ, ◌+◌, ◌-◌, ◌*◌, ◌%◌, ◌^◌, nat_eq, Bool, false, ◌&&◌, Option, Some, None, option_map, List, [], ◌∷◌, map, slice_get}
 use Rattle.std.specs.Option.{unwrap_or}
 use Rattle.spec_trees.specs.Tree.{Leaf, Node, items_of}
 use Rattle.spec_terms.specs.Term.{Sym, Ctor, Data, Tuple, Free, Point, Attacker, Term}
 use Rattle.spec_clauses.specs.Fact.{Fact, Clause, terms_of}
-use Rattle.spec_clauses.specs.Head.{Head, head_of, same_head}
+use Rattle.spec_clauses.specs.Head.{Head, Att, Mess, Tab, Ev, Mev, Bad, head_of}
 use Rattle.spec_clauses.specs.Selection.{select}
 use Rattle.spec_features.specs.Features.{are_at_most}
 
@@ -97,18 +97,27 @@ positions =
     ∷ (1 ∷ 3 ∷ 1 ∷ [])
     ∷ []
 
--- the head of a fact, with its phase, and at each position the least and the greatest number of what may stand there
+-- the number of a head, of its kind and of its phase, its table or its event
+abbrev pub number_of_head : Head → ℕ
+number_of_head (Att k) = 8 * k
+number_of_head (Mess k) = 8 * k + 1
+number_of_head (Tab n) = 8 * n + 2
+number_of_head (Ev e) = 8 * e + 3
+number_of_head (Mev e) = 8 * e + 4
+number_of_head Bad = 5
+
+-- the number of a fact's head, and at each position the least and the greatest number of what may stand there
 pub record Fingerprint : Type 0 where
-  pub head : Head
+  pub head : ℕ
   pub least : List ℕ
   pub most : List ℕ
 
 abbrev pub fingerprint_of : Fact Term → Fingerprint
-fingerprint_of f = let roots = roots_among positions (terms_of f) in record { head = head_of f; least = map least_of roots; most = map most_of roots }
+fingerprint_of f = let roots = roots_among positions (terms_of f) in record { head = number_of_head (head_of f); least = map least_of roots; most = map most_of roots }
 
 -- whether the heads are the same, and at each position some number may stand in both
 abbrev pub may_meet : Fingerprint → Fingerprint → Bool
-may_meet a b = same_head a.head b.head && (are_at_most a.least b.most && are_at_most b.least a.most)
+may_meet a b = nat_eq a.head b.head && (are_at_most a.least b.most && are_at_most b.least a.most)
 
 -- the fingerprint of a clause's selected hypothesis, where it has one
 abbrev pub hypothesis_print : Clause Term → Option Fingerprint

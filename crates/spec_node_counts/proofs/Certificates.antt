@@ -24,13 +24,14 @@ use Rattle.spec_node_reading.specs.Walked as walks
 use Rattle.spec_node_reading.specs.ReadClauses as kept
 use Rattle.spec_node_reading.specs.Loops.{Behind, with}
 use Rattle.spec_node_reading.specs.Reading.{ends_clauses, behind_clauses, behind_nodes, read_numbered}
-use Rattle.spec_node_counts.specs.Rounds.{puts}
+use Rattle.spec_certificate_text.specs.Rounds.{puts}
 use Rattle.spec_node_counts.specs.Nodes.{Table, no_nodes, with_node, judged, node_line, table_read}
 use Rattle.spec_node_counts.specs.Counts as counts
 use Rattle.spec_node_counts.specs.Counts.{Counted}
 use Rattle.spec_node_counts.specs.ReadClauses as clauses
 use Rattle.spec_node_counts.specs.ReadClauses.{is_unreached, all_reached, reached_clauses, clauses_read}
-use Rattle.spec_node_counts.proofs.Alike.{Alike, found, faulty, next_alike, same_alike, if_alike, within_alike, lines_alike}
+use Rattle.spec_certificate_text.proofs.Alike.{Alike, found, faulty, next_alike, same_alike, if_alike, within_alike}
+use Rattle.spec_node_counts.proofs.Alike.{lines_alike}
 use Rattle.spec_node_counts.proofs.Counting.{IsAlong, Along, along}
 use Rattle.spec_node_counts.proofs.Lower.{body_is, node_numbers_are}
 use Rattle.spec_node_counts.proofs.Simulated.{clause_alike}

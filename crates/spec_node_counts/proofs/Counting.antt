@@ -18,7 +18,7 @@ use Rattle.spec_node_reading.specs.Loops.{Behind, with}
 use Rattle.spec_node_reading.specs.ReadClauses.{judged_number}
 use Rattle.spec_node_counts.specs.Nodes.{Table}
 use Rattle.spec_node_counts.specs.Counts.{Counted, counted, with_symbols, at_clause, is_next, counted_through, is_large, term_of_number}
-use Rattle.spec_node_counts.proofs.Alike.{Alike, found, faulty, both}
+use Rattle.spec_certificate_text.proofs.Alike.{Alike, found, faulty, both}
 
 -- the counts of the walk: so many nodes of the table are complete, and there are so many symbols, as far as they are counted
 pub record IsAlong (T : Table) (w : walks.Walked) (v : Counted) : Type 0 where

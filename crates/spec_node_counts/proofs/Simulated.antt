@@ -9,19 +9,19 @@ use Rattle.spec_certificate_text.specs.Names.{CalledEvent, event_called}
 use Rattle.spec_certificate_text.specs.Terms.{Syntax, Symbol}
 use Rattle.spec_certificate_text.specs.Outcomes.{Outcome, Found, Faulty, next, front, ended, read_fixed, read_number, Reader}
 use Rattle.spec_certificate_text.specs.Facts.{Performed, performed}
+use Rattle.spec_certificate_text.specs.ReadWords.{word_of}
+use Rattle.spec_certificate_text.specs.Rounds.{rounds, collects, puts}
+use Rattle.spec_certificate_text.proofs.Rounds.{behind_round, one_more, none_left}
+use Rattle.spec_certificate_text.proofs.Alike.{Alike, found, faulty, next_alike, same_alike, if_alike, within_alike, both}
 use Rattle.spec_node_starts.specs.Tables.{HaveStarts}
 use Rattle.spec_node_reading.specs.Walked as walks
 use Rattle.spec_node_reading.specs.ReadClauses as kept
 use Rattle.spec_node_reading.specs.Loops.{Behind, with, row_from}
-use Rattle.spec_node_counts.specs.Words.{word_of}
-use Rattle.spec_node_counts.specs.Rounds.{rounds, collects, puts}
 use Rattle.spec_node_counts.specs.Nodes.{Table}
 use Rattle.spec_node_counts.specs.Counts as counts
 use Rattle.spec_node_counts.specs.Counts.{Counted}
 use Rattle.spec_node_counts.specs.ReadFacts as facts
 use Rattle.spec_node_counts.specs.ReadClauses as clauses
-use Rattle.spec_node_counts.proofs.Steps.{behind_round, one_more, none_left}
-use Rattle.spec_node_counts.proofs.Alike.{Alike, found, faulty, next_alike, same_alike, if_alike, within_alike, both}
 use Rattle.spec_node_counts.proofs.Counting.{IsAlong, Along, along, symbols_along, clause_along, number_alike}
 
 module _ (P : Protocol) (T : Table) (starts : HaveStarts T.terms T.starts) where

@@ -1,38 +1,33 @@
 -- Reading clauses that have numbers of nodes for terms, and all that stands before the rows of a certificate.
-use Rattle.std.specs.Prelude.{ℕ, suc, ◌==◌, nat_le, not, ◌||◌, ◌&&◌, if◌then◌else◌, Bool, true, false, List, [], length, codes}
+use Rattle.std.specs.Prelude.{ℕ, ◌==◌, nat_le, not, ◌||◌, ◌&&◌, if◌then◌else◌, Bool, List, [], length, codes}
 use Rattle.spec_calculus.specs.Bounds.{most_clauses}
 use Rattle.spec_calculus.specs.Syntax.{Protocol}
 use Rattle.spec_terms.specs.Term.{Term}
 use Rattle.spec_clauses.specs.Fact.{Fact, Clause}
 use Rattle.spec_certificate_text.specs.Terms.{NodeOrder}
 use Rattle.spec_certificate_text.specs.Outcomes.{Outcome, Found, Faulty, next, front, read_fixed, Reader}
+use Rattle.spec_certificate_text.specs.Rounds.{puts}
+use Rattle.spec_certificate_text.specs.Walks as walks
 use Rattle.spec_node_reading.specs.Loops.{lines_through}
-use Rattle.spec_node_counts.specs.Rounds.{rounds, collects, puts}
 use Rattle.spec_node_counts.specs.Nodes.{Table, table_read}
-use Rattle.spec_node_counts.specs.Counts.{Counted, nothing_counted, at_clause}
-use Rattle.spec_node_counts.specs.ReadFacts.{Walk, read_hypothesis, read_conclusion}
+use Rattle.spec_node_counts.specs.Counts.{Counted, nothing_counted, at_clause, with_symbols, read_term}
+use Rattle.spec_node_counts.specs.ReadFacts.{Walk}
 
 -- a hypothesis and what stands behind it: `, ` where another follows, or ` => `
 abbrev pub one_hypothesis : Protocol → Table → Walk (Fact Term × Bool)
-one_hypothesis P T w bytes at = next (read_hypothesis P T w bytes at) (λ h place rest.
-    if front rest == 44 then next (read_fixed (codes ", ") rest place) (λ _ p r. Found ((h.0, true), h.1) p r)
-    else next (read_fixed (codes " => ") rest place) (λ _ p r. Found ((h.0, false), h.1) p r))
+one_hypothesis P T w bytes at = walks.one_hypothesis (read_term T) with_symbols P w bytes at
 
 -- hypotheses, a comma and a space between each two, and ` => ` behind the last
 abbrev pub some_hypotheses : Protocol → Table → Walk (List (Fact Term))
-some_hypotheses P T w bytes at = rounds (collects (one_hypothesis P T)) (suc (length bytes)) ([], w) bytes at
+some_hypotheses P T w bytes at = walks.some_hypotheses (read_term T) with_symbols P w bytes at
 
 -- the hypotheses of a clause, which may be none, and `=> `
 abbrev pub read_hypotheses : Protocol → Table → Walk (List (Fact Term))
-read_hypotheses P T w bytes at =
-    if front bytes == 61 then next (read_fixed (codes "=> ") bytes at) (λ _ p r. Found ([], w) p r)
-    else some_hypotheses P T w bytes at
+read_hypotheses P T w bytes at = walks.read_hypotheses (read_term T) with_symbols P w bytes at
 
 -- a clause
 abbrev pub read_clause : Protocol → Table → Walk (Clause Term)
-read_clause P T w bytes at =
-    next (read_hypotheses P T w bytes at) (λ hs p r.
-    next (read_conclusion P T hs.1 r p) (λ c p r. Found (record { hypotheses = hs.0; diffs = []; conclusion = c.0 }, c.1) p r))
+read_clause P T w bytes at = walks.read_clause (read_term T) with_symbols P w bytes at
 
 -- `c `, a clause and the end of its line
 abbrev pub clause_line : Protocol → Table → Walk (Clause Term)

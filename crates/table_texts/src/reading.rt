@@ -1,17 +1,19 @@
-//! Reads clauses, as `att(v0), mess(c,(v0,d)) => ev(e(f(v0)))`. A phase other than 0 stands behind its predicate, as in
-//! `att@1(v0)`.
+//! Reads clauses, as `att(v0), mess(c,(v0,d)), diff(v0,?0;c,f(?0)) => ev(e(f(v0)))`. A phase other than 0 stands behind its
+//! predicate, as in `att@1(v0)`. The variables that a constraint binds are numbered from the least number on that is above all
+//! variables of the clause.
 //!
 //! A clause is read byte by byte, without recursion: what is open stands on a stack.
 
-use crate::signature::{event_of, number_in, symbol_of, table_of, variable_of};
-use clause_form::{PlainClause, PlainFact, PlainFacts, Tree, Trees};
+use crate::signature::{above_variables_in, event_of, number_in, symbol_of, table_of, variable_of};
+use clause_form::{PlainClause, PlainDiff, PlainDiffs, PlainFact, PlainFacts, Tree, Trees};
 use std::alloc::{AllocError, Global};
 use std::mem;
 
-/// A name whose bracket is open, and the terms within it that are read.
+/// A name whose bracket is open, and the terms within it that are read: those before a `;`, and the others.
 #[derive(Drop)]
 struct Open {
     name: Vec<u8>,
+    left: Vec<Tree>,
     items: Vec<Tree>,
 }
 
@@ -21,6 +23,9 @@ struct Reader {
     name: Vec<u8>,
     open: Vec<Open>,
     facts: Vec<PlainFact>,
+    diffs: Vec<PlainDiff>,
+    /// The number from which on constraints bind variables.
+    first: u32,
     /// How many facts are hypotheses, once that is known.
     hyps: Option<usize>,
     /// Whether all could be read.
@@ -41,6 +46,7 @@ impl Reader {
         match byte {
             b' ' | b'>' => Ok(()),
             b',' => self.end_name(alloc),
+            b';' => self.divide(alloc),
             b'(' | b'[' => self.begin(alloc),
             b')' | b']' => self.end(alloc),
             b'=' => self.conclude(alloc),
@@ -58,6 +64,20 @@ impl Reader {
         Ok(())
     }
 
+    /// What stands within the bracket until here are the left sides of a constraint.
+    fn divide(&mut self, alloc: Global) -> Result<(), AllocError> {
+        self.end_name(alloc)?;
+        match self.open.last_mut() {
+            Some(open) => {
+                let left = mem::replace(&mut open.items, Vec::new(alloc));
+                let none = mem::replace(&mut open.left, left);
+                drop(none);
+            }
+            None => self.is_right = false,
+        }
+        Ok(())
+    }
+
     /// Ends a name, and closes the bracket that was opened last.
     fn end(&mut self, alloc: Global) -> Result<(), AllocError> {
         self.end_name(alloc)?;
@@ -69,6 +89,7 @@ impl Reader {
         let name = mem::replace(&mut self.name, Vec::new(alloc));
         self.open.push(Open {
             name,
+            left: Vec::new(alloc),
             items: Vec::new(alloc),
         })?;
         Ok(())
@@ -86,14 +107,50 @@ impl Reader {
     /// Closes the bracket that was opened last.
     fn close(&mut self) -> Result<(), AllocError> {
         match self.open.pop() {
-            Some(open) => {
-                let Open { name, items } = open;
-                self.put(&name, items)
-            }
+            Some(open) => self.put_closed(open),
             None => {
                 self.is_right = false;
                 Ok(())
             }
+        }
+    }
+
+    /// Adds what stood in a bracket: a constraint, a fact or a term.
+    fn put_closed(&mut self, closed: Open) -> Result<(), AllocError> {
+        let Open { name, left, items } = closed;
+        if self.open.is_empty() && is_constraint(&name) {
+            return self.put_diff(left, items);
+        }
+        if !left.is_empty() {
+            self.is_right = false;
+        }
+        self.put(&name, items)
+    }
+
+    /// Adds a constraint, which has as many left sides as right ones.
+    fn put_diff(&mut self, left: Vec<Tree>, right: Vec<Tree>) -> Result<(), AllocError> {
+        if left.len() != right.len() {
+            self.is_right = false;
+        }
+        self.diffs.push(PlainDiff {
+            first: self.first,
+            left: Trees { items: left },
+            right: Trees { items: right },
+        })?;
+        Ok(())
+    }
+
+    /// The number from which on variables are bound where a name stands: none outside of constraints.
+    fn bound_from(&self) -> Option<u32> {
+        match self.open.first() {
+            Some(open) => {
+                if is_constraint(&open.name) {
+                    Some(self.first)
+                } else {
+                    None
+                }
+            }
+            None => None,
         }
     }
 
@@ -102,7 +159,8 @@ impl Reader {
         if self.open.is_empty() {
             self.put_fact(fact_of(name, items))
         } else {
-            self.put_term(term_of(name, items))
+            let bound = self.bound_from();
+            self.put_term(term_of(name, bound, items))
         }
     }
 
@@ -139,6 +197,7 @@ impl Reader {
     fn finish(self) -> Option<PlainClause> {
         let Reader {
             mut facts,
+            diffs,
             open,
             hyps,
             is_right,
@@ -151,14 +210,23 @@ impl Reader {
         }
         Some(PlainClause {
             hyps: PlainFacts { items: facts },
+            diffs: PlainDiffs { items: diffs },
             concl,
         })
     }
 }
 
-/// The term with this name over these terms.
-fn term_of(name: &[u8], items: Vec<Tree>) -> Option<Tree> {
-    match variable_of(name) {
+/// Whether the name is that of a constraint.
+fn is_constraint(name: &[u8]) -> bool {
+    match name {
+        b"diff" => true,
+        _ => false,
+    }
+}
+
+/// The term with this name over these terms, where variables are bound from this number on.
+fn term_of(name: &[u8], bound: Option<u32>, items: Vec<Tree>) -> Option<Tree> {
+    match variable_of(name, bound) {
         Some(number) => Some(Tree::Var(number)),
         None => match symbol_of(name, items.len()) {
             Some(symbol) => Some(Tree::App(symbol, Trees { items })),
@@ -245,6 +313,8 @@ pub fn clause_of(alloc: Global, text: &str) -> Result<Option<Box<PlainClause>>, 
         name: Vec::new(alloc),
         open: Vec::new(alloc),
         facts: Vec::new(alloc),
+        diffs: Vec::new(alloc),
+        first: above_variables_in(text.as_bytes()),
         hyps: None,
         is_right: true,
     };

@@ -1,9 +1,9 @@
 //! The names that tables may use.
 //!
 //! `f`, `g`, `h`, `enc` and `k1` .. are constructors, `box` and `pair` data constructors; `c`, `d` and `k` are free
-//! names; `e`, `begin` and `end` are events, `keys` and `hosts` tables of entries. `v12` is the variable 12, `n@3` a
-//! restricted name of the point 3, `@` an attacker's name, and no name at all a tuple. How many arguments a name has is up
-//! to the table of rows.
+//! names; `e`, `begin` and `end` are events, `keys` and `hosts` tables of entries. `v12` is the variable 12, `?3` the variable 3 of
+//! those that a constraint binds, `n@3` a restricted name of the point 3, `@` an attacker's name, and no name at all a tuple. How
+//! many arguments a name has is up to the table of rows.
 
 use term_tree::Sym;
 
@@ -25,12 +25,40 @@ pub fn number_in(bytes: &[u8]) -> u32 {
     number
 }
 
-/// The number of the variable with this name, if it is a variable's.
-pub fn variable_of(name: &[u8]) -> Option<u32> {
+/// The number of the variable with this name, if it is a variable's. Within a constraint bound variables are numbered from `bound` on;
+/// elsewhere there are none.
+pub fn variable_of(name: &[u8], bound: Option<u32>) -> Option<u32> {
     match name.first() {
         Some(b'v') => Some(number_in(name)),
+        Some(b'?') => match bound {
+            Some(first) => Some(first.saturating_add(number_in(name))),
+            None => None,
+        },
         _ => None,
     }
+}
+
+/// The least number above those of all variables in a text, bound ones left out.
+pub fn above_variables_in(text: &[u8]) -> u32 {
+    let mut least = 0u32;
+    for (place, byte) in text.iter().enumerate() {
+        if *byte == b'v' {
+            least = least.max(above_number(&text[place + 1..]));
+        }
+    }
+    least
+}
+
+/// One more than the number that these bytes begin with; 0 where they begin with none.
+fn above_number(bytes: &[u8]) -> u32 {
+    let digits = match bytes.iter().position(|byte| !byte.is_ascii_digit()) {
+        Some(end) => &bytes[..end],
+        None => bytes,
+    };
+    if digits.is_empty() {
+        return 0;
+    }
+    number_in(digits).saturating_add(1)
 }
 
 /// The symbols with names of their own, constructors that stand for events and for tables among them.

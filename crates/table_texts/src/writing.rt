@@ -1,13 +1,13 @@
 //! Writes clauses as tables spell them.
 
 use crate::signature::{event_name, symbol_name, table_name};
-use clause_form::{PlainClause, PlainFact, Tree};
+use clause_form::{PlainClause, PlainDiff, PlainFact, Tree};
 use std::alloc::{AllocError, Global};
 use term_tree::Sym;
 
-/// A comma, unless a bracket was just opened.
+/// A comma, unless a bracket was just opened, or the right sides of a constraint begin.
 fn separate(text: &mut String) -> Result<(), AllocError> {
-    if text.ends_with('(') || text.ends_with('[') {
+    if text.ends_with('(') || text.ends_with('[') || text.ends_with(';') {
         return Ok(());
     }
     text.push(',')?;
@@ -32,9 +32,20 @@ fn brackets_of(symbol: Sym, arguments: usize) -> (&'static str, &'static str) {
     }
 }
 
-/// Writes a variable.
-fn write_variable(alloc: Global, number: u32, text: &mut String) -> Result<(), AllocError> {
-    text.push_str(format!(in alloc; "v{number}")?.as_str())?;
+/// Writes a variable, where those from the number `bound` on are bound by a constraint.
+fn write_variable(
+    alloc: Global,
+    bound: Option<u32>,
+    number: u32,
+    text: &mut String,
+) -> Result<(), AllocError> {
+    match bound {
+        Some(first) if number >= first => {
+            let place = number.saturating_sub(first);
+            text.push_str(format!(in alloc; "?{place}")?.as_str())?;
+        }
+        _ => text.push_str(format!(in alloc; "v{number}")?.as_str())?,
+    }
     Ok(())
 }
 
@@ -58,19 +69,29 @@ fn end_term(symbol: Sym, arguments: usize, text: &mut String) -> Result<(), Allo
     Ok(())
 }
 
-/// Writes a term.
-fn write_term(alloc: Global, term: &Tree, text: &mut String) -> Result<(), AllocError> {
+/// Writes a term, where the variables from the number `bound` on are bound by a constraint.
+fn write_side(
+    alloc: Global,
+    bound: Option<u32>,
+    term: &Tree,
+    text: &mut String,
+) -> Result<(), AllocError> {
     match term {
-        Tree::Var(number) => write_variable(alloc, *number, text),
+        Tree::Var(number) => write_variable(alloc, bound, *number, text),
         Tree::App(symbol, arguments) => {
             begin_term(alloc, *symbol, arguments.items.len(), text)?;
             for argument in &arguments.items {
                 separate(text)?;
-                write_term(alloc, argument, text)?;
+                write_side(alloc, bound, argument, text)?;
             }
             end_term(*symbol, arguments.items.len(), text)
         }
     }
+}
+
+/// Writes a term.
+fn write_term(alloc: Global, term: &Tree, text: &mut String) -> Result<(), AllocError> {
+    write_side(alloc, None, term, text)
 }
 
 /// Writes terms, with commas between.
@@ -198,9 +219,43 @@ fn write_facts(alloc: Global, facts: &[PlainFact], text: &mut String) -> Result<
     Ok(())
 }
 
+/// Writes sides of a constraint that binds the variables from this number on, with commas between.
+fn write_sides(
+    alloc: Global,
+    first: u32,
+    sides: &[Tree],
+    text: &mut String,
+) -> Result<(), AllocError> {
+    for side in sides {
+        separate(text)?;
+        write_side(alloc, Some(first), side, text)?;
+    }
+    Ok(())
+}
+
+/// Writes a constraint.
+fn write_diff(alloc: Global, diff: &PlainDiff, text: &mut String) -> Result<(), AllocError> {
+    text.push_str("diff(")?;
+    write_sides(alloc, diff.first, &diff.left.items, text)?;
+    text.push(';')?;
+    write_sides(alloc, diff.first, &diff.right.items, text)?;
+    text.push(')')?;
+    Ok(())
+}
+
+/// Writes constraints, with commas between and behind what is written.
+fn write_diffs(alloc: Global, diffs: &[PlainDiff], text: &mut String) -> Result<(), AllocError> {
+    for diff in diffs {
+        write_behind(", ", text)?;
+        write_diff(alloc, diff, text)?;
+    }
+    Ok(())
+}
+
 /// Writes a clause where nothing is written yet.
 fn write_clause(alloc: Global, clause: &PlainClause, text: &mut String) -> Result<(), AllocError> {
     write_facts(alloc, &clause.hyps.items, text)?;
+    write_diffs(alloc, &clause.diffs.items, text)?;
     write_behind(" ", text)?;
     text.push_str("=> ")?;
     write_fact(alloc, &clause.concl, text)

@@ -14,8 +14,8 @@ ghost use Rattle.verifier_cli.specs.World.{ComesTo};
 
 use crate::loading::load_protocol;
 use crate::outcome::{Decision, Outcome};
-use cert_form::PlainClauses;
-use clause_form::{Clauses, read_out};
+use cert_form::{PlainClauses, read_clauses};
+use clause_form::Clauses;
 use clause_translate::{Translated, translate};
 use hv_io::Files;
 use pi_tree::{Kind, Protocol};
@@ -29,11 +29,7 @@ fn read_all<B: Bank>(alloc: Global, bank: &B, clauses: &Clauses) -> Result<Plain
     requires { AreClausesIn (B.trees bank.now) clauses.now }
     ensures { IfOk result (λ plain. plain ≡ map (clause_at (B.trees bank.now)) clauses.now) }
 {
-    let mut items = Vec::new(alloc);
-    'each: for clause in &clauses.items {
-        items.push(read_out(alloc, bank, clause)?)?;
-    }
-    Ok(PlainClauses { items })
+    read_clauses(alloc, bank, &clauses.items)
 }
 
 /// The translation of the protocol and its query of that number.

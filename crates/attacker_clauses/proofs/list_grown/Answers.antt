@@ -8,13 +8,13 @@ use Rattle.spec_translation.specs.Plain.{plain_attacker}
 use Rattle.spec_translation.proofs.Plain.{attacker_of_one_phase}
 use Rattle.pi_tree.proofs.Plain.{process_plain}
 use Rattle.pi_tree.specs.Protocols.{protocol_of}
-use Rattle.clause_form.specs.Seen.{NameClauses}
+use Rattle.attacker_clauses.specs.Listed.{Lists}
 use Rattle.attacker_clauses.proofs.Adding.{both_added, all_listed}
 use Rattle.term_tree.proofs.BankLaws.{Grows_trans}
 use Rattle.attacker_clauses.proofs.list_grown.Goals as goal
 
-pub returns-clause-names : goal.returns-clause-names
-returns-clause-names g c =
+pub returns-clause-listed : goal.returns-clause-listed
+returns-clause-listed g c =
     let P = protocol_of c.args.protocol.now in
     let start = g.B.Bank.trees c.args.bank.now in
     let named = g.B.Bank.trees c.add_names.new.bank in
@@ -30,7 +30,7 @@ returns-clause-names g c =
     let others = both_added named own end c.add_names.new.list c.add_own_names.new.list c.add_channels.new.list (fresh_known ∷ []) (constructors ++ (rules ++ channels)) c.in_ok-add_own_names.ensures.adds made in
     let whole = both_added start named end c.new.result.items c.add_names.new.list c.add_channels.new.list (filter_map name_known (enumerate_from 1 P.frees)) (fresh_known ∷ (constructors ++ (rules ++ channels))) c.in_ok-add_names.ensures.adds others in
     let one_phase = attacker_of_one_phase P (process_plain c.args.protocol.now.main) in
-    subst (λ (raws : List (Clause Term)). NameClauses end c.add_channels.new.list (flat_map norms raws)) (sym one_phase)
+    subst (λ (raws : List (Clause Term)). Lists end c.add_channels.new.list (flat_map norms raws)) (sym one_phase)
     (all_listed start end c.new.result.items c.add_channels.new.list (plain_attacker P) c.new.ensures.items whole)
 
 pub returns-in_err-add_own_names-clause-grows : goal.returns-in_err-add_own_names-clause-grows

@@ -12,7 +12,7 @@ loop-part-preserved g c =
     let first = c.in-Some.ensures.steps.0 in
     record {
       normed = normed_on (g.B.Bank.trees c.args.bank.now) (g.B.Bank.trees c.loop-part.bank) (g.B.Bank.trees c.add_norm.new.bank) c.loop-part.made c.add_norm.new.made c.loop-part.part-iterator.rest.items c.next.new.self.rest.items c.args.parts c.in-Some.part
-          c.loop-part.invariant.normed first c.add_norm.ensures.grows c.in_ok-add_norm.ensures.names;
+          c.loop-part.invariant.normed first c.add_norm.ensures.grows c.in_ok-add_norm.ensures.names c.in_ok-add_norm.ensures.low;
       counted = omega (arith, c.in-Some.ensures.steps.1, c.loop-part.invariant.counted, ap length first);
     }
 

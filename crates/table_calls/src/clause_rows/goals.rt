@@ -32,7 +32,7 @@ pub enum GoalTable {
 impl GoalTable {
     /// What a row with these texts shows: a query, and what stands behind it.
     pub fn shown(self, alloc: Global, texts: &str) -> Result<String, AllocError> {
-        let (query, others) = texts.split_once(';').unwrap_or((texts, ""));
+        let (query, others) = texts.split_once(" ;").unwrap_or((texts, ""));
         match asked_by(alloc, query)? {
             Some(protocol) => self.shown_of(alloc, &protocol, others),
             None => String::from_str(alloc, "no query"),
@@ -138,7 +138,7 @@ fn row_text(alloc: Global, row: &QueryRow) -> Result<String, AllocError> {
 fn held_text(alloc: Global, protocol: &Protocol, texts: &str) -> Result<String, AllocError>
     requires { IsAsked (protocol_of protocol.now) }
 {
-    let (text, numbers) = texts.split_once(';').unwrap_or((texts, ""));
+    let (text, numbers) = texts.split_once(" ;").unwrap_or((texts, ""));
     let Some(plain) = clause_of(alloc, text)? else {
         return String::from_str(alloc, "no clause");
     };

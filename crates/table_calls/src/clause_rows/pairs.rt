@@ -1,14 +1,15 @@
 //! What rows of two clauses show: the resolvents of a pair, and the row of positions by which one subsumes the other.
 
-ghost use Rattle.std.specs.Prelude.{◌≡◌, true};
+ghost use Rattle.std.specs.Prelude.{◌≡◌, true, IfOk, IfSome};
 ghost use Rattle.spec_clauses.specs.Limits.{IsWithinLimit};
+ghost use Rattle.term_tree.specs.Bank.{Grows};
 ghost use Rattle.clause_form.specs.Seen.{clause_at, IsClauseIn, AreClausesIn};
-ghost use Rattle.clause_form.specs.Fit.{IsFit};
+ghost use Rattle.clause_form.specs.Fit.{IsLowWithinLimit, IsFit};
 
 use crate::clause_rows::features::candidates_text;
 use crate::clause_rows::tables::texts_of;
-use clause_form::{Clause, is_normal, size_of};
-use clause_resolve::{Resolved, normal_clauses_have_low_variables, resolvents};
+use clause_form::{Clause, Normal, is_normal, norm, size_of};
+use clause_resolve::{Resolved, resolvents};
 use literal_selection::{is_solved, selected};
 use multiset_subsume::{Row, cover_row, row_holds};
 use pi_tree::MOST_SYMBOLS;
@@ -38,9 +39,23 @@ impl PairTable {
         requires first { IsClauseIn bank.old first.now }
         requires second { IsClauseIn bank.old second.now }
     {
-        if !is_fit(bank, first) {
-            return String::from_str(alloc, "not normal");
+        match fit_clause(alloc, bank, first)? {
+            None => String::from_str(alloc, "not normal"),
+            Some(first) => self.shown_of(alloc, bank, &first, second),
         }
+    }
+
+    /// The same where the first clause is its own norm.
+    fn shown_of(
+        self,
+        alloc: Global,
+        bank: &mut TreeBank,
+        first: &Clause,
+        second: &Clause,
+    ) -> Result<String, AllocError>
+        requires first { IsFit bank.old first.now }
+        requires second { IsClauseIn bank.old second.now }
+    {
         match self {
             PairTable::Resolvents => resolvents_text(alloc, bank, first, second),
             PairTable::Subsumed => cover_text(alloc, bank, first, second),
@@ -57,12 +72,39 @@ pub fn is_small<B: Bank>(bank: &B, clause: &Clause) -> bool
     size_of(bank, clause) <= MOST_SYMBOLS
 }
 
-/// Whether a clause is its own norm within the limit of size.
-pub fn is_fit(bank: &TreeBank, clause: &Clause) -> bool
-    requires { IsClauseIn bank.now clause.now }
-    ensures { result ≡ true → IsFit bank.now clause.now }
+/// A norm, if it is within the limit of size.
+fn fit_of(alloc: Global, bank: &TreeBank, clause: Clause) -> Result<Option<Clause>, AllocError>
+    requires known { IsClauseIn bank.now clause }
+    requires low { IsLowWithinLimit bank.now clause }
+    ensures { IfOk result (λ found. IfSome found (IsFit bank.now)) }
 {
-    is_small(bank, clause) && is_normal(bank, clause)
+    if !is_small(bank, &clause) {
+        return Ok(None);
+    }
+    if !is_normal(alloc, bank, &clause)? {
+        return Ok(None);
+    }
+    Ok(Some(clause))
+}
+
+/// The clause with variables of low numbers, if it is its own norm within the limit of size.
+pub fn fit_clause(
+    alloc: Global,
+    bank: &mut TreeBank,
+    clause: &Clause,
+) -> Result<Option<Clause>, AllocError>
+    requires { IsClauseIn bank.old clause.now }
+    ensures grows { Grows bank.old bank.new }
+    ensures fit { IfOk result (λ found. IfSome found (IsFit bank.new)) }
+{
+    if !is_normal(alloc, bank, clause)? {
+        return Ok(None);
+    }
+    let copied = clause.copy(alloc)?;
+    match norm(alloc, bank, copied)? {
+        Normal::Tautology => Ok(None),
+        Normal::Clause(made) => fit_of(alloc, bank, made),
+    }
 }
 
 /// The resolvents of a pair whose second clause is not known to be its own norm.
@@ -75,9 +117,22 @@ fn resolvents_text(
     requires solved { IsFit bank.old solved.now }
     requires unsolved { IsClauseIn bank.old unsolved.now }
 {
-    if !is_fit(bank, unsolved) {
-        return String::from_str(alloc, "not normal");
+    match fit_clause(alloc, bank, unsolved)? {
+        None => String::from_str(alloc, "not normal"),
+        Some(unsolved) => fit_text(alloc, bank, solved, &unsolved),
     }
+}
+
+/// The resolvents of a pair of clauses that are their own norms.
+fn fit_text(
+    alloc: Global,
+    bank: &mut TreeBank,
+    solved: &Clause,
+    unsolved: &Clause,
+) -> Result<String, AllocError>
+    requires solved { IsFit bank.old solved.now }
+    requires unsolved { IsFit bank.old unsolved.now }
+{
     if !is_solved(bank, solved) {
         return String::from_str(alloc, "not solved");
     }
@@ -94,7 +149,6 @@ fn answer_text(
     requires solved { IsFit bank.old solved.now }
     requires unsolved { IsFit bank.old unsolved.now }
 {
-    normal_clauses_have_low_variables();
     match selected(bank, unsolved) {
         None => String::from_str(alloc, "nothing selected"),
         Some(at) => match resolvents(alloc, bank, solved, unsolved, at)? {

@@ -1,4 +1,4 @@
-//! The rows of a table: clauses, and what is expected of them, with `;` between.
+//! The rows of a table: clauses, and what is expected of them, with ` ;` between; in constraints no space stands before a `;`.
 
 use crate::clause_rows::table::Table;
 use std::alloc::{AllocError, Global};
@@ -20,7 +20,7 @@ impl ClauseRows {
 
     /// Compares what a row shows with what it expects.
     pub fn follow(&mut self, alloc: Global, line: &str) -> Result<Line, AllocError> {
-        let (texts, expected) = line.rsplit_once(';').unwrap_or((line, line));
+        let (texts, expected) = line.rsplit_once(" ;").unwrap_or((line, line));
         match self.table {
             Some(table) => Ok(compared(table.shown(alloc, texts)?, expected.trim())),
             None => Ok(Line::Wrong(String::from_str(alloc, "no table")?)),

@@ -116,9 +116,9 @@ fn single_shown(alloc: Global, table: ClauseTable, text: &str) -> Result<String,
 }
 
 impl PairKind {
-    /// What a row with these texts shows: two clauses, with `;` between.
+    /// What a row with these texts shows: two clauses, with ` ;` between, a `;` that no constraint has.
     fn shown(self, alloc: Global, texts: &str) -> Result<String, AllocError> {
-        let (first, second) = texts.split_once(';').unwrap_or((texts, ""));
+        let (first, second) = texts.split_once(" ;").unwrap_or((texts, ""));
         let Some(first) = clause_of(alloc, first)? else {
             return String::from_str(alloc, "no pair");
         };

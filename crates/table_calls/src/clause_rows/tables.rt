@@ -230,7 +230,8 @@ fn solved_name(solved: bool) -> &'static str {
 fn normal_text<B: Bank>(alloc: Global, bank: &B, clause: &Clause) -> Result<String, AllocError>
     requires { IsClauseIn (B.trees bank.now) clause.now }
 {
-    String::from_str(alloc, yes_or_no(is_normal(bank, clause)))
+    let is_so = is_normal(alloc, bank, clause)?;
+    String::from_str(alloc, yes_or_no(is_so))
 }
 
 /// `yes`, or `no`.

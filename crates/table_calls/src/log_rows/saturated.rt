@@ -1,16 +1,30 @@
 //! Logs of given clauses and a budget.
 
-ghost use Rattle.std.specs.Prelude.{◌<◌, length, OnOk, IfOk};
+ghost use Rattle.std.specs.Prelude.{◌<◌, length, OnOk, IfOk, IfSome};
+ghost use Rattle.term_tree.specs.Bank.{Grows};
 ghost use Rattle.clause_form.specs.Seen.{IsClauseIn, AreClausesIn};
-ghost use Rattle.clause_form.specs.Fit.{AreFit};
+ghost use Rattle.clause_form.specs.Fit.{IsFit, AreFit};
 ghost use Rattle.clause_saturate.specs.Beating.{clauses_of};
 
-use crate::clause_rows::pairs::is_fit;
+use crate::clause_rows::pairs::fit_clause;
 use crate::log_rows::texts::{add_due, add_entries, add_large};
 use clause_form::{Clause, Clauses, PlainClause, copy_into, read_out};
 use clause_saturate::{Entry, Log, PlainEntry, Saturated, entries_tell_logs, read_log, saturate};
 use std::alloc::{AllocError, Global};
 use term_tree::TreeBank;
+
+/// A clause over ids, with variables of low numbers, if it is its own norm within the limit of size.
+fn fit_copy(
+    alloc: Global,
+    bank: &mut TreeBank,
+    plain: &PlainClause,
+) -> Result<Option<Clause>, AllocError>
+    ensures grows { Grows bank.old bank.new }
+    ensures fit { IfOk result (λ found. IfSome found (IsFit bank.new)) }
+{
+    let clause = copy_into(alloc, bank, plain)?;
+    fit_clause(alloc, bank, &clause)
+}
 
 /// Adds a clause to those that are given, if it is its own norm within the limit of size.
 fn add_fit(
@@ -22,11 +36,13 @@ fn add_fit(
     requires { AreFit bank.old given.old }
     ensures { OnOk result (AreFit bank.new given.new) }
 {
-    let clause = copy_into(alloc, bank, plain)?;
-    if is_fit(bank, &clause) {
-        given.items.push(clause)?;
+    match fit_copy(alloc, bank, plain)? {
+        None => Ok(()),
+        Some(made) => {
+            given.items.push(made)?;
+            Ok(())
+        }
     }
-    Ok(())
 }
 
 /// The clauses that are their own norms within the limit of size.

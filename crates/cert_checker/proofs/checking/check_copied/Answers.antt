@@ -1,10 +1,8 @@
 use Rattle.std.proofs.Common.{◌≡◌, ◌∙◌, List, sym, ap, subst, rules}
-use Rattle.spec_clauses.specs.Fact.{Clause}
-use Rattle.term_tree.specs.declared.bank.Id.{Id}
 use Rattle.term_tree.proofs.BankLaws.{Grows_same, Grows_trans}
 use Rattle.pi_tree.specs.Protocols.{protocol_of}
 use Rattle.clause_form.specs.Fit.{clauses_at}
-use Rattle.clause_form.specs.Seen.{AreClausesIn}
+use Rattle.clause_form.specs.Seen.{AreClausesIn, IdClause}
 use Rattle.cert_checker.proofs.Standing.{ruled_whole}
 use Rattle.cert_checker.proofs.checking.check_copied.Goals as goal
 
@@ -12,7 +10,7 @@ pub check_standing-requires-clause-known : goal.check_standing-requires-clause-k
 check_standing-requires-clause-known g c =
     let all = g.B.Bank.trees c.copied.new.bank in
     let same : c.deref.result.now ≡ c.in_ok-clauses.clauses = search rules in
-    subst (λ (cs : List (Clause Id)). AreClausesIn all cs) (sym same) c.in_ok-clauses.ensures.names.known
+    subst (λ (cs : List IdClause). AreClausesIn all cs) (sym same) c.in_ok-clauses.ensures.names.known
 
 pub returns-clause-ruled : goal.returns-clause-ruled
 returns-clause-ruled g c =

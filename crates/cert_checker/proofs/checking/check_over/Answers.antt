@@ -1,16 +1,14 @@
 use Rattle.std.proofs.Common.{◌≡◌, ◌∙◌, List, sym, ap, subst, rules}
-use Rattle.spec_clauses.specs.Fact.{Clause}
-use Rattle.term_tree.specs.declared.bank.Id.{Id}
 use Rattle.pi_tree.specs.Protocols.{protocol_of}
 use Rattle.clause_form.specs.Fit.{clauses_at}
-use Rattle.clause_form.specs.Seen.{AreClausesIn}
+use Rattle.clause_form.specs.Seen.{AreClausesIn, IdClause}
 use Rattle.cert_checker.proofs.Standing.{ruled_whole}
 use Rattle.cert_checker.proofs.checking.check_over.Goals as goal
 
 pub check_standing-requires-clause-known : goal.check_standing-requires-clause-known
 check_standing-requires-clause-known c =
     let same : c.deref.result.now ≡ c.apart-bank.result.1 = search rules in
-    subst (λ (cs : List (Clause Id)). AreClausesIn c.apart-bank.result.0 cs) (sym same) c.apart-bank.ensures.known
+    subst (λ (cs : List IdClause). AreClausesIn c.apart-bank.result.0 cs) (sym same) c.apart-bank.ensures.known
 
 pub returns : goal.returns
 returns c =

@@ -3,7 +3,6 @@ use Rattle.spec_terms.specs.Term.{Term}
 use Rattle.spec_clauses.specs.Fact.{Clause}
 use Rattle.spec_certificates.specs.Certificate.{CoverRowHolds, numbered_from}
 use Rattle.spec_certificates.specs.Ruling.{IsRuled}
-use Rattle.term_tree.specs.declared.bank.Id.{Id}
 use Rattle.pi_tree.specs.Protocols.{protocol_of}
 use Rattle.query_derive.specs.GoalRows.{OfQuery}
 use Rattle.clause_translate.specs.Whole.{IsKept}
@@ -13,6 +12,7 @@ use Rattle.cert_checker.specs.Checked.{cert_in}
 use Rattle.cert_checker.specs.Reached.{HasShapes, IsTranslatedTo}
 use Rattle.cert_checker.specs.Rulings.{ruling_of}
 use Rattle.clause_form.specs.Fit.{AreFit, clauses_at}
+use Rattle.clause_form.specs.Seen.{IdClause}
 use Rattle.clause_form.proofs.Fit.{AreFit-grow, clauses_grow}
 use Rattle.term_tree.proofs.BankLaws.{Grows-length}
 use Rattle.clause_resolve.proofs.Answering.{as_before}
@@ -27,7 +27,7 @@ pub are_covered-covered-requires-clause-clauses : goal.are_covered-covered-requi
 are_covered-covered-requires-clause-clauses g c =
     let all = g.B.Bank.trees c.translate.new.bank in
     let same : c.as_slice-translated.result.now ≡ c.in-Clauses.given = search rules in
-    subst (λ (cs : List (Clause Id)). AreFit all cs) (sym same) (given_fit (protocol_of c.args.checker.now.protocol.now) c.args.checker.now.query all _ c.in_ok-point.ensures.translates c.in-Clauses.given c.in-Clauses.is c.requires.limits)
+    subst (λ (cs : List IdClause). AreFit all cs) (sym same) (given_fit (protocol_of c.args.checker.now.protocol.now) c.args.checker.now.query all _ c.in_ok-point.ensures.translates c.in-Clauses.given c.in-Clauses.is c.requires.limits)
 
 pub back-requires : goal.back-requires
 back-requires g c = omega (arith, c.mark-mark.ensures, Grows-length (g.B.Bank.trees c.args.bank.now) (g.B.Bank.trees c.translate.new.bank) c.translate.ensures.grows)
@@ -56,7 +56,7 @@ returns-in_ok-shown-in-Clauses-clause-ruled g c =
     let listed : c.as_slice-translated.result.now ≡ c.in-Clauses.given = search rules in
     let seen = clauses_grow old all cs c.translate.ensures.grows c.requires.fit in
     let back = as_before old all (g.B.Bank.trees c.back.new.self) _ c.translate.ensures.grows c.mark-mark.ensures c.back.ensures in
-    let of_given = subst (λ (made : List (Clause Id)). IsShownSo (CoverRowHolds (clauses_at all cs)) (numbered_from 1 (clauses_at all made)) cert.rows 0 c.in_ok-shown-in-Clauses.shown) listed c.in_ok-shown-in-Clauses.ensures in
+    let of_given = subst (λ (made : List IdClause). IsShownSo (CoverRowHolds (clauses_at all cs)) (numbered_from 1 (clauses_at all made)) cert.rows 0 c.in_ok-shown-in-Clauses.shown) listed c.in_ok-shown-in-Clauses.ensures in
     let shown = subst (λ (clauses : List (Clause Term)). IsShownSo (CoverRowHolds clauses) (numbered_from 1 given) cert.rows 0 c.in_ok-shown-in-Clauses.shown) seen of_given in
     if_ok_map c.judge.result (λ ruling. OfQuery P number (λ q. IsTranslatedTo P q cert given → IsRuled P q cert (ruling_of ruling)))
     (λ ruling. OfQuery P number (λ q. HasShapes q cert → IsRuled P q cert (ruling_of ruling)))

@@ -1,15 +1,12 @@
 use Rattle.std.proofs.Common.{◌≡◌, List, get_or, sym, subst, rules, arith}
-use Rattle.spec_clauses.specs.Fact.{Clause}
 use Rattle.spec_certificates.specs.Certificate.{CoverRowHolds, numbered_from}
-use Rattle.term_tree.specs.declared.bank.Id.{Id}
-use Rattle.clause_form.specs.Seen.{clause_at}
+use Rattle.clause_form.specs.Seen.{clause_at, IdClause}
 use Rattle.clause_resolve.specs.Answers.{IsAnswerOf, LeavesBank}
 use Rattle.clause_resolve.specs.declared.resolving.Resolved.{Resolved}
 use Rattle.clause_form.specs.Fit.{AreFit, clauses_at}
 use Rattle.cert_checker.specs.Answers.{numbered_at, pair_at, IsShownSo, IsClosedSo}
 use Rattle.cert_checker.specs.declared.ruling.Closed as closed
 use Rattle.clause_form.proofs.Fit.{AreFit-grow, clauses_grow, fit_in}
-use Rattle.clause_resolve.proofs.Answering.{fit_low}
 use Rattle.cert_checker.proofs.Passing.{selected_at, made_fit, pair_apart, pair_large, pair_shown}
 use Rattle.term_tree.proofs.BankLaws.{Grows-length}
 use Rattle.clause_resolve.proofs.Answering.{as_before}
@@ -21,7 +18,7 @@ resolvents-requires-clause-solved g c = (fit_in (g.B.Bank.trees c.args.bank.now)
 pub resolvents-requires-clause-solved_low : goal.resolvents-requires-clause-solved_low
 resolvents-requires-clause-solved_low g c =
     let all = g.B.Bank.trees c.args.bank.now in
-    fit_low all _ (fit_in all c.args.checker.now.clauses.now c.args.pair.solved c.index-checker-pair.result c.requires.fit c.requires.solved)
+    (fit_in all c.args.checker.now.clauses.now c.args.pair.solved c.index-checker-pair.result c.requires.fit c.requires.solved).low
 
 pub resolvents-requires-clause-unsolved : goal.resolvents-requires-clause-unsolved
 resolvents-requires-clause-unsolved g c = (fit_in (g.B.Bank.trees c.args.bank.now) c.args.checker.now.clauses.now c.args.pair.unsolved c.index-checker-pair-2.result c.requires.fit c.requires.unsolved).known
@@ -29,7 +26,7 @@ resolvents-requires-clause-unsolved g c = (fit_in (g.B.Bank.trees c.args.bank.no
 pub resolvents-requires-clause-unsolved_low : goal.resolvents-requires-clause-unsolved_low
 resolvents-requires-clause-unsolved_low g c =
     let all = g.B.Bank.trees c.args.bank.now in
-    fit_low all _ (fit_in all c.args.checker.now.clauses.now c.args.pair.unsolved c.index-checker-pair-2.result c.requires.fit c.requires.unsolved)
+    (fit_in all c.args.checker.now.clauses.now c.args.pair.unsolved c.index-checker-pair-2.result c.requires.fit c.requires.unsolved).low
 
 pub resolvents-requires-clause-selected : goal.resolvents-requires-clause-selected
 resolvents-requires-clause-selected g c = selected_at (g.B.Bank.trees c.args.bank.now) c.args.checker.now.clauses.now c.args.pair.unsolved c.args.at c.index-checker-pair-2.result c.requires.unsolved c.requires.selected
@@ -41,7 +38,7 @@ pub are_covered-covered-requires-clause-clauses : goal.are_covered-covered-requi
 are_covered-covered-requires-clause-clauses g c =
     let new = g.B.Bank.trees c.resolvents.new.bank in
     let same : c.deref.result.now ≡ c.in-Clauses.made = search rules in
-    subst (λ (cs : List (Clause Id)). AreFit new cs) (sym same) (made_fit new _ _ c.in_ok-resolvents.field-0 c.in-Clauses.made c.in-Clauses.is c.in_ok-resolvents.ensures.answer)
+    subst (λ (cs : List IdClause). AreFit new cs) (sym same) (made_fit new _ _ c.in_ok-resolvents.field-0 c.in-Clauses.made c.in-Clauses.is c.in_ok-resolvents.ensures.answer c.in_ok-resolvents.ensures.low)
 
 pub returns-in-NoUnifier-clause-closed : goal.returns-in-NoUnifier-clause-closed
 returns-in-NoUnifier-clause-closed g c =
@@ -67,7 +64,7 @@ returns-in_ok-shown-in-Clauses-clause-closed g c =
     let first = get_or cs c.args.pair.solved c.index-checker-pair.result in
     let second = get_or cs c.args.pair.unsolved c.index-checker-pair-2.result in
     let answer = subst (λ (r : Resolved). IsAnswerOf new (clause_at all first) (clause_at all second) r) c.in-Clauses.is c.in_ok-resolvents.ensures.answer in
-    let shown = subst (λ (made : List (Clause Id)). IsShownSo (CoverRowHolds (clauses_at new cs)) (numbered_from 1 (clauses_at new made)) rows c.args.from c.in_ok-shown-in-Clauses.shown) same c.in_ok-shown-in-Clauses.ensures in
+    let shown = subst (λ (made : List IdClause). IsShownSo (CoverRowHolds (clauses_at new cs)) (numbered_from 1 (clauses_at new made)) rows c.args.from c.in_ok-shown-in-Clauses.shown) same c.in_ok-shown-in-Clauses.ensures in
     subst (λ (o : closed.Closed). IsClosedSo (clauses_at all cs) (pair_at (numbered_at all cs) c.args.pair.solved c.args.pair.unsolved) rows c.args.from o) (sym c.closed_where.ensures)
     (pair_shown all cs rows c.args.from c.args.pair.solved c.args.pair.unsolved c.index-checker-pair.result c.index-checker-pair-2.result c.requires.solved c.requires.unsolved
     new c.in-Clauses.made c.in_ok-shown-in-Clauses.shown (clauses_grow all new cs c.resolvents.ensures.grows c.requires.fit) answer shown)

@@ -7,9 +7,7 @@ use Rattle.cert_checker.proofs.Passing.{with_begins, with_goes_on, with_fails, w
 use Rattle.std.proofs.lemmas.Option.{slice_get-get_or}
 use Rattle.spec_terms.proofs.Replace.{some_same}
 use Rattle.spec_fingerprints.specs.Fingerprints.{fingerprint_of, hypothesis_print}
-use Rattle.term_tree.specs.declared.bank.Id.{Id}
-use Rattle.spec_clauses.specs.Fact as horn
-use Rattle.clause_form.specs.Seen.{clause_at}
+use Rattle.clause_form.specs.Seen.{clause_at, IdClause}
 use Rattle.clause_form.proofs.Fit.{fit_in}
 use Rattle.cert_checker.proofs.closing.close_solved.Goals as goal
 
@@ -20,7 +18,7 @@ pub close_met-requires-clause-print : goal.close_met-requires-clause-print
 close_met-requires-clause-print g c = λ d there.
     (let cs = c.args.checker.now.clauses.now in
     let same : get_or cs c.args.solved c.index-checker-solved.result ≡ d = some_same (sym (slice_get-get_or cs c.args.solved c.index-checker-solved.result c.requires.solved) ∙ there) in
-    c.conclusion_fingerprint.ensures ∙ (ap (λ (x : horn.Clause Id). fingerprint_of (clause_at (g.B.Bank.trees c.args.bank.now) x).conclusion) same ∙ ap (λ (all : List Term). fingerprint_of (clause_at all d).conclusion) (sym c.each.invariant.same)))
+    c.conclusion_fingerprint.ensures ∙ (ap (λ (x : IdClause). fingerprint_of (clause_at (g.B.Bank.trees c.args.bank.now) x).conclusion) same ∙ ap (λ (all : List Term). fingerprint_of (clause_at all d).conclusion) (sym c.each.invariant.same)))
 
 pub close_met-requires-clause-prints : goal.close_met-requires-clause-prints
 close_met-requires-clause-prints g c = c.requires.prints ∙ ap (λ (all : List Term). map hypothesis_print (clauses_at all c.args.checker.now.clauses.now)) (sym c.each.invariant.same)

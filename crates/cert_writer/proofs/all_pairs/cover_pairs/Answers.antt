@@ -1,23 +1,22 @@
-use Rattle.std.proofs.Common.{◌∙◌, ℕ, List, take, length, sym, subst, arith}
+use Rattle.std.proofs.Common.{◌≡◌, ◌∙◌, ℕ, List, take, get_or, length, ap, sym, subst, arith}
 use Rattle.spec_terms.specs.Term.{Term}
 use Rattle.spec_clauses.specs.Inclusion.{Has}
 use Rattle.spec_certificates.specs.Certificate.{Numbered, numbered_from, pairs_of}
 use Rattle.spec_verdicts.proofs.Building.{take_past}
-use Rattle.clause_form.specs.Seen.{clause_at}
+use Rattle.clause_form.specs.Seen.{clause_at, IdClause}
 use Rattle.clause_form.specs.Fit.{IsFit, clauses_at}
 use Rattle.clause_form.proofs.Fit.{clause_fit_at}
 use Rattle.cert_writer.specs.Unsolved.{AreUnsolved}
-use Rattle.cert_writer.specs.Ready.{IsReady}
+use Rattle.cert_writer.specs.Ready.{conclusion_print, IsReady}
 use Rattle.cert_writer.specs.Adding.{AddsPairs, pairs_if_solved, MustClose}
+use Rattle.cert_writer.proofs.Prints.{prints_count, print_there}
 use Rattle.cert_writer.proofs.Items.{item_at, item_has, numbers_past}
 use Rattle.cert_writer.proofs.Adding.{all_next}
 use Rattle.cert_writer.proofs.KeptRows.{put_adds, put_short}
 use Rattle.cert_writer.proofs.all_pairs.cover_pairs.Goals as goal
 
-pub conclusion_fingerprint-requires : goal.conclusion_fingerprint-requires
-conclusion_fingerprint-requires g c =
-    subst (λ (all : List Term). IsFit all c.clause-item.result) (sym c.each.invariant.bank)
-    (clause_fit_at (g.B.Bank.trees c.args.bank.now) c.args.writer.now.live.now c.each.place c.clause-item.result c.clause-item.is c.requires.ready.fit c.each-test.true)
+pub bounds-writer-place : goal.bounds-writer-place
+bounds-writer-place g c = omega (arith, prints_count (g.B.Bank.trees c.args.bank.now) c.args.writer.now.live.now c.args.writer.now.prints.now c.requires.ready.prints, c.each-test.true)
 
 pub cover_one-requires-clause-ready : goal.cover_one-requires-clause-ready
 cover_one-requires-clause-ready g c = subst (λ (all : List Term). IsReady all c.args.writer.now) (sym c.each.invariant.bank) c.requires.ready
@@ -34,9 +33,14 @@ cover_one-requires-clause-live g c =
 
 pub cover_one-requires-clause-told : goal.cover_one-requires-clause-told
 cover_one-requires-clause-told g c =
+    let all = g.B.Bank.trees c.args.bank.now in
+    let live = c.args.writer.now.live.now in
+    let clause = c.clause-item.result in
+    let here : conclusion_print (clause_at all (get_or live c.each.place clause)) ≡ conclusion_print (clause_at (g.B.Bank.trees c.each.bank) clause) =
+    ap (λ (k : IdClause). conclusion_print (clause_at all k)) (sym c.clause-item.is) ∙ ap (λ (ts : List Term). conclusion_print (clause_at ts clause)) (sym c.each.invariant.bank) in
     record {
-      conclusion = c.conclusion_fingerprint.ensures;
-      unsolved = subst (λ (all : List Term). AreUnsolved all c.args.writer.now.live.now c.args.unsolved.now) (sym c.each.invariant.bank) c.requires.unsolved;
+      conclusion = print_there all live c.args.writer.now.prints.now c.each.place clause _ c.requires.ready.prints c.each-test.true ∙ here;
+      unsolved = subst (λ (all : List Term). AreUnsolved all live c.args.unsolved.now) (sym c.each.invariant.bank) c.requires.unsolved;
     }
 
 pub cover_one-requires-clause-places : goal.cover_one-requires-clause-places

@@ -6,15 +6,17 @@ use Rattle.clause_form.specs.Seen.{clause_at}
 use Rattle.clause_form.specs.Fit.{clauses_at}
 use Rattle.clause_form.proofs.Fit.{fit_in}
 use Rattle.cert_writer.specs.Adding.{AddsPairs, pairs_if_solved}
+use Rattle.cert_writer.proofs.Prints.{prints_count, print_there}
 use Rattle.cert_writer.proofs.Items.{item_has}
 use Rattle.cert_writer.proofs.KeptRows.{front_short, none_with, rows_kept, kept_more}
 use Rattle.cert_writer.proofs.all_pairs.keep_one.Goals as goal
 
-pub conclusion_fingerprint-requires : goal.conclusion_fingerprint-requires
-conclusion_fingerprint-requires g c =
+pub bounds-writer-place-2 : goal.bounds-writer-place-2
+bounds-writer-place-2 g c =
     let all = g.B.Bank.trees c.args.bank.now in
     let short = front_short all c.args.known.now c.args.writer.now.live.now c.requires.begin in
-    fit_in all c.args.writer.now.live.now c.len-place.result c.index-writer-place.result c.requires.ready.fit (omega (arith, short, c.if-place-count.false, c.len-count.ensures, ap length (λ i. (c.known.view_is i).live)))
+    let many = prints_count all c.args.writer.now.live.now c.args.writer.now.prints.now c.requires.ready.prints in
+    omega (arith, short, many, c.if-place-count.false, c.len-count.ensures, ap length (λ i. (c.known.view_is i).live))
 
 pub cover_one-requires-clause-fit : goal.cover_one-requires-clause-fit
 cover_one-requires-clause-fit g c =
@@ -31,6 +33,18 @@ cover_one-requires-clause-live g c =
     let short = front_short all c.args.known.now live c.requires.begin in
     let within : place < length live = omega (arith, short, c.if-place-count.false, c.len-count.ensures, ap length (λ i. (c.known.view_is i).live)) in
     item_has all live place (get_or live place d) (get_or_default live place d (get_or live place d) within) within
+
+pub cover_one-requires-clause-told : goal.cover_one-requires-clause-told
+cover_one-requires-clause-told g c =
+    let all = g.B.Bank.trees c.args.bank.now in
+    let live = c.args.writer.now.live.now in
+    let place = c.len-place.result in
+    let short = front_short all c.args.known.now live c.requires.begin in
+    let within : place < length live = omega (arith, short, c.if-place-count.false, c.len-count.ensures, ap length (λ i. (c.known.view_is i).live)) in
+    record {
+      conclusion = print_there all live c.args.writer.now.prints.now place c.index-writer-place.result _ c.requires.ready.prints within;
+      unsolved = c.requires.unsolved;
+    }
 
 pub returns-clause-known : goal.returns-clause-known
 returns-clause-known g c =
@@ -51,4 +65,4 @@ returns-clause-known g c =
     let adds = λ (i : ℕ). c.in_ok-cover_one.ensures.rows i [] (subst (λ (rs : List (List ℕ)). AddsPairs (clauses_at all live) (pairs_if_solved i clause (take 0 nums)) [] rs) (sym empty) (none_with (clauses_at all live) i clause [])) in
     let are = rows_kept all known live c.requires.begin clause rows c.len-count.result counted adds (c.all_begin_within.ensures c.if-not-all_begin_within.false) in
     kept_more all known live c.requires.begin c.requires.known clause rows _ (subst (λ (n : ℕ). slice_get (clauses_at all live) n ≡ Some clause) placed at) (omega (arith, placed, counted, c.if-place-count.false)) are
-    (λ i. (c.known.view_is i).live) (c.in_ok-push.ensures.items ∙ ap (λ (rs : List (List (List ℕ))). rs ++ rows ∷ []) (λ i. (c.known.view_is i).rows.items)) (λ i. (c.known.view_is i).given) (λ i. (c.known.view_is i).covers)
+    (λ i. (c.known.view_is i).live) (c.in_ok-push.ensures.items ∙ ap (λ (rs : List (List (List ℕ))). rs ++ rows ∷ []) (λ i. (c.known.view_is i).rows.items)) (λ i. (c.known.view_is i).given) (λ i. (c.known.view_is i).covers) (λ i. (c.known.view_is i).plain)

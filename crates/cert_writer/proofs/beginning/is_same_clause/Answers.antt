@@ -1,24 +1,25 @@
-use Rattle.std.proofs.Common.{◌≡◌, ◌∙◌, [], ap, map, sym}
-use Rattle.spec_clauses.specs.Fact.{Clause}
-use Rattle.term_tree.specs.declared.bank.Id.{Id}
+use Rattle.std.proofs.Common.{◌≡◌, ◌∙◌, ap, map, sym, rules}
+use Rattle.clause_diffs.specs.Diffs.{diffs_at}
 use Rattle.clause_form.specs.Facts.{fact_of}
-use Rattle.clause_form.specs.Seen.{fact_at, clause_at}
-use Rattle.clause_form.proofs.Flattening.{with_hypotheses}
+use Rattle.clause_form.specs.Seen.{fact_at}
 use Rattle.cert_writer.proofs.SameLists.{same_told}
 use Rattle.cert_writer.proofs.beginning.is_same_clause.Goals as goal
 
 pub returns : goal.returns
 returns g c = λ e.
     let all = g.B.Bank.trees c.args.bank.now in
-    let left : Clause Id = with_hypotheses (map fact_of c.deref.result.now) (fact_of c.left-inside.inside.0.1.0) in
-    let right : Clause Id = with_hypotheses (map fact_of c.deref-2.result.now) (fact_of c.right-inside.inside.0.1.0) in
-    let left_hyps : map fact_of c.deref.result.now ≡ c.args.left.now.hypotheses = ap (map fact_of) c.deref.ensures.value ∙ ((λ i. (c.left-inside.view_is i).hyps) ∙ (λ i. (c.left.view_is i).hypotheses)) in
-    let left_concl : fact_of c.left-inside.inside.0.1.0 ≡ c.args.left.now.conclusion = (λ i. fact_of (c.left-inside.view_is i).concl) ∙ (λ i. (c.left.view_is i).conclusion) in
-    let left_is : left ≡ c.args.left.now = λ i. record { hypotheses = left_hyps i; diffs = (c.left.view_is i).diffs; conclusion = left_concl i } in
-    let right_hyps : map fact_of c.deref-2.result.now ≡ c.args.right.now.hypotheses = ap (map fact_of) c.deref-2.ensures.value ∙ ((λ i. (c.right-inside.view_is i).hyps) ∙ (λ i. (c.right.view_is i).hypotheses)) in
-    let right_concl : fact_of c.right-inside.inside.0.1.0 ≡ c.args.right.now.conclusion = (λ i. fact_of (c.right-inside.view_is i).concl) ∙ (λ i. (c.right.view_is i).conclusion) in
-    let right_is : right ≡ c.args.right.now = λ i. record { hypotheses = right_hyps i; diffs = (c.right.view_is i).diffs; conclusion = right_concl i } in
-    let hyps = c.are_same_facts.ensures e in
-    let concl = same_told (fact_at all (fact_of c.left-inside.inside.0.1.0)) (fact_at all (fact_of c.right-inside.inside.0.1.0)) (sym c.same_fact.ensures ∙ c.if-not-same_fact.false) in
-    let same : clause_at all left ≡ clause_at all right = λ i. record { hypotheses = hyps i; diffs = []; conclusion = concl i } in
-    sym (ap (clause_at all) left_is) ∙ (same ∙ ap (clause_at all) right_is)
+    let left = c.args.left.now in
+    let right = c.args.right.now in
+    let left_concl : fact_of c.left-inside.inside.0.1.1.0 ≡ left.conclusion = search rules in
+    let right_concl : fact_of c.right-inside.inside.0.1.1.0 ≡ right.conclusion = search rules in
+    let left_diffs : c.deref.result.now ≡ left.diffs = search rules in
+    let right_diffs : c.deref-2.result.now ≡ right.diffs = search rules in
+    let left_hyps : map fact_of c.deref-3.result.now ≡ left.hypotheses = search rules in
+    let right_hyps : map fact_of c.deref-4.result.now ≡ right.hypotheses = search rules in
+    let hyps : map (fact_at all) left.hypotheses ≡ map (fact_at all) right.hypotheses =
+    sym (ap (map (fact_at all)) left_hyps) ∙ (c.are_same_facts.ensures e ∙ ap (map (fact_at all)) right_hyps) in
+    let diffs : diffs_at all left.diffs ≡ diffs_at all right.diffs =
+    sym (ap (diffs_at all) left_diffs) ∙ (c.are_same_diffs.ensures c.if-not-are_same_diffs.false ∙ ap (diffs_at all) right_diffs) in
+    let told = same_told (fact_at all (fact_of c.left-inside.inside.0.1.1.0)) (fact_at all (fact_of c.right-inside.inside.0.1.1.0)) (sym c.same_fact.ensures ∙ c.if-not-same_fact.false) in
+    let concl : fact_at all left.conclusion ≡ fact_at all right.conclusion = sym (ap (fact_at all) left_concl) ∙ (told ∙ ap (fact_at all) right_concl) in
+    λ i. record { hypotheses = hyps i; diffs = diffs i; conclusion = concl i }

@@ -3,10 +3,9 @@ use Rattle.std.proofs.lemmas.List.{get_or_default}
 use Rattle.std.proofs.lemmas.Option.{slice_get-get_or}
 use Rattle.std.proofs.lemmas.Result.{IfOk-weaker}
 use Rattle.spec_terms.proofs.Replace.{some_same}
-use Rattle.spec_clauses.specs.Fact.{Clause, Bad}
+use Rattle.spec_clauses.specs.Fact.{Bad}
 use Rattle.fact_fingerprint.specs.Seen.{fingerprint_seen}
-use Rattle.term_tree.specs.declared.bank.Id.{Id}
-use Rattle.clause_form.specs.Seen.{clause_at}
+use Rattle.clause_form.specs.Seen.{clause_at, IdClause}
 use Rattle.clause_form.specs.Fit.{clauses_at}
 use Rattle.clause_form.proofs.Fit.{fit_in}
 use Rattle.fact_fingerprint.proofs.Telling.{print_there, prints_count}
@@ -15,7 +14,7 @@ use Rattle.cert_writer.proofs.Items.{item_has}
 use Rattle.cert_writer.proofs.Adding.{pair_told_apart}
 use Rattle.cert_writer.proofs.closing.cover_met.Goals as goal
 
-abbrev no_clause : Clause Id
+abbrev no_clause : IdClause
 no_clause = record { hypotheses = []; diffs = []; conclusion = Bad [] }
 
 pub bounds-solving-place : goal.bounds-solving-place
@@ -28,7 +27,7 @@ returns-then-not-may_resolve-clause-rows g c = λ d there i j.
     let solving = c.args.solving.now in
     let solved = clause_at all solving.clause.now in
     let same : get_or live c.args.place no_clause ≡ d = some_same (sym (slice_get-get_or live c.args.place no_clause c.requires.place) ∙ there) in
-    subst (λ (x : Clause Id). AddsPairs (clauses_at all live) (pairs_of_two i solved j (clause_at all x)) c.args.rows.now c.args.rows.now) same
+    subst (λ (x : IdClause). AddsPairs (clauses_at all live) (pairs_of_two i solved j (clause_at all x)) c.args.rows.now c.args.rows.now) same
     (pair_told_apart (clauses_at all live) i j solved (clause_at all (get_or live c.args.place no_clause)) c.args.rows.now (fingerprint_seen solving.print) _
     c.requires.told.conclusion (print_there all live solving.unsolved.prints.now c.args.place no_clause _ c.requires.told.unsolved.prints c.requires.place) (sym c.may_resolve.ensures ∙ c.if-not-may_resolve.true)))
 
@@ -50,6 +49,6 @@ returns-clause-rows g c =
     let new = c.cover_pair.new.rows in
     let d = c.index-writer-place.result in
     IfOk-weaker c.cover_pair.result (λ _. (i j : ℕ) → AddsPairs (clauses_at all live) (pairs_of_two i solved j (clause_at all (get_or live c.args.place d))) old new)
-    (λ _. (x : Clause Id) → slice_get live c.args.place ≡ Some x → (i j : ℕ) → AddsPairs (clauses_at all live) (pairs_of_two i solved j (clause_at all x)) old new)
-    (λ _ adds x there i j. subst (λ (y : Clause Id). AddsPairs (clauses_at all live) (pairs_of_two i solved j (clause_at all y)) old new) (some_same (sym (slice_get-get_or live c.args.place d c.requires.place) ∙ there)) (adds i j))
+    (λ _. (x : IdClause) → slice_get live c.args.place ≡ Some x → (i j : ℕ) → AddsPairs (clauses_at all live) (pairs_of_two i solved j (clause_at all x)) old new)
+    (λ _ adds x there i j. subst (λ (y : IdClause). AddsPairs (clauses_at all live) (pairs_of_two i solved j (clause_at all y)) old new) (some_same (sym (slice_get-get_or live c.args.place d c.requires.place) ∙ there)) (adds i j))
     c.cover_pair.ensures.rows

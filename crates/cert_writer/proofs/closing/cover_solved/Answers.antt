@@ -1,12 +1,11 @@
 use Rattle.std.proofs.Common.{◌≡◌, ◌∙◌, ◌<◌, ◌≤◌, ℕ, List, [], Some, get_or, slice_get, option_map, length, refl, ap, sym, subst, true, arith}
 use Rattle.spec_terms.specs.Term.{Term}
-use Rattle.spec_clauses.specs.Fact.{Clause, Bad}
+use Rattle.spec_clauses.specs.Fact.{Bad}
 use Rattle.spec_clauses.specs.Inclusion.{Has}
 use Rattle.spec_clauses.specs.Selection.{is_solved}
 use Rattle.std.proofs.lemmas.List.{length-map}
 use Rattle.std.proofs.lemmas.Option.{slice_get-map, slice_get-get_or}
-use Rattle.term_tree.specs.declared.bank.Id.{Id}
-use Rattle.clause_form.specs.Seen.{clause_at}
+use Rattle.clause_form.specs.Seen.{clause_at, IdClause}
 use Rattle.clause_form.specs.Fit.{IsFit, clauses_at}
 use Rattle.cert_writer.specs.Ready.{IsReady, AreTold}
 use Rattle.cert_writer.specs.Adding.{AddsPairs, pairs_of_two, MustClose}
@@ -14,7 +13,7 @@ use Rattle.clause_saturate.proofs.Scanning.{place_among}
 use Rattle.cert_writer.proofs.Unsolved.{none_reached, more_reached, all_reached, places_are, places_ascend, place_within}
 use Rattle.cert_writer.proofs.closing.cover_solved.Goals as goal
 
-abbrev no_clause : Clause Id
+abbrev no_clause : IdClause
 no_clause = record { hypotheses = []; diffs = []; conclusion = Bad [] }
 
 pub cover_place-requires-clause-solved_fit : goal.cover_place-requires-clause-solved_fit
@@ -51,7 +50,7 @@ each-preserved g c =
     let new = c.cover_place.new.rows in
     let within : place < length live = place_within all live solving.unsolved c.requires.told.unsolved place (place_among places c.each.place-index 0 c.each-test.true) in
     let there = slice_get-get_or live place no_clause within in
-    let pairs = subst (λ (all : List Term). solving.from ≤ place → place < solving.to → (x : Clause Id) → slice_get live place ≡ Some x → (i j : ℕ) → AddsPairs (clauses_at all live) (pairs_of_two i (clause_at all solved) j (clause_at all x)) old new) c.each.invariant.bank c.in_ok-cover_place.ensures.met in
+    let pairs = subst (λ (all : List Term). solving.from ≤ place → place < solving.to → (x : IdClause) → slice_get live place ≡ Some x → (i j : ℕ) → AddsPairs (clauses_at all live) (pairs_of_two i (clause_at all solved) j (clause_at all x)) old new) c.each.invariant.bank c.in_ok-cover_place.ensures.met in
     record {
       bank = c.cover_place.ensures.bank ∙ c.each.invariant.bank;
       rows = λ i first start. more_reached (clauses_at all live) i (clause_at all solved) first places solving.from solving.to (omega (arith, c.requires.within, length-map live (clause_at all))) c.each.place-index (places_ascend all live solving.unsolved c.requires.told.unsolved) c.each-test.true

@@ -1,18 +1,18 @@
 use Rattle.std.proofs.Common.{◌≡◌, ◌∙◌, ℕ, List, [], ◌∷◌, ◌++◌, map, Vec, Global, ap, sym, subst}
 use Rattle.std.proofs.lemmas.List.{map-append}
 use Rattle.clause_form.specs.Seen.{clause_at}
-use Rattle.clause_form.proofs.Fit.{clause_fit_at}
 use Rattle.clause_form.specs.Fit.{clauses_at}
 use Rattle.cert_writer.specs.Adding.{AddsRows}
+use Rattle.cert_writer.proofs.Small.{small_at}
 use Rattle.cert_writer.proofs.Items.{item_at, item_has, items_past}
 use Rattle.cert_writer.proofs.Adding.{adds_none, adds_next, adds_all}
 use Rattle.cert_writer.proofs.covering.cover_all.Goals as goal
 
 pub first_cover-requires-clause-known : goal.first_cover-requires-clause-known
-first_cover-requires-clause-known g c = (clause_fit_at (g.B.Bank.trees c.args.bank.now) c.args.clauses.now c.each.clause-index c.clause-item.result c.clause-item.is c.requires.clauses c.each-test.true).known
+first_cover-requires-clause-known g c = (small_at (g.B.Bank.trees c.args.bank.now) c.args.clauses.now c.each.clause-index c.clause-item.result c.clause-item.is c.requires.clauses c.each-test.true).known
 
 pub first_cover-requires-clause-small : goal.first_cover-requires-clause-small
-first_cover-requires-clause-small g c = (clause_fit_at (g.B.Bank.trees c.args.bank.now) c.args.clauses.now c.each.clause-index c.clause-item.result c.clause-item.is c.requires.clauses c.each-test.true).small
+first_cover-requires-clause-small g c = (small_at (g.B.Bank.trees c.args.bank.now) c.args.clauses.now c.each.clause-index c.clause-item.result c.clause-item.is c.requires.clauses c.each-test.true).small
 
 pub first_cover-requires-clause-covered : goal.first_cover-requires-clause-covered
 first_cover-requires-clause-covered g c =

@@ -2,17 +2,16 @@ use Rattle.std.proofs.Common.{◌≡◌, ◌+◌, ℕ, List, [], ◌∷◌, Vec,
 use Rattle.std.proofs.lemmas.List.{get_or_default}
 use Rattle.std.proofs.lemmas.Option.{slice_get-get_or}
 use Rattle.std.proofs.lemmas.Result.{IfOk-weaker}
-use Rattle.spec_clauses.specs.Fact.{Clause, Bad}
+use Rattle.spec_clauses.specs.Fact.{Bad}
 use Rattle.spec_clauses.specs.Subsumption.{RowHolds, IsFirstRow}
-use Rattle.term_tree.specs.declared.bank.Id.{Id}
-use Rattle.clause_form.specs.Seen.{clause_at}
+use Rattle.clause_form.specs.Seen.{clause_at, IdClause}
 use Rattle.spec_verdicts.specs.FirstRows.{IsFirstCover}
 use Rattle.spec_verdicts.proofs.Finding.{none_next, first_found, none_covers}
 use Rattle.clause_form.specs.Fit.{clauses_at}
 use Rattle.cert_writer.proofs.Items.{item_at, items_past, fit_normal, when_some, when_none}
 use Rattle.cert_writer.proofs.covering.first_of_all.Goals as goal
 
-abbrev no_clause : Clause Id
+abbrev no_clause : IdClause
 no_clause = record { hypotheses = []; diffs = []; conclusion = Bad [] }
 
 pub returns-in-Some : goal.returns-in-Some

@@ -2,11 +2,12 @@ use Rattle.std.proofs.Common.{◌≡◌, ◌∙◌, ◌-◌, ℕ, List, length, 
 use Rattle.std.proofs.lemmas.List.{length-map, take_rest}
 use Rattle.std.proofs.lemmas.Result.{IfOk-weaker}
 use Rattle.spec_clauses.specs.Inclusion.{Has}
-use Rattle.spec_clauses.specs.Fact.{Clause}
-use Rattle.term_tree.specs.declared.bank.Id.{Id}
-use Rattle.clause_form.specs.Fit.{AreFit, clauses_at}
+use Rattle.clause_form.specs.Fit.{clauses_at}
+use Rattle.clause_form.specs.Seen.{IdClause}
 use Rattle.cert_writer.specs.Adding.{AddsRows}
-use Rattle.cert_writer.proofs.KeptCovers.{fit_rest, has_rest, front_fits, given_rows}
+use Rattle.cert_writer.specs.Given.{AreSmall}
+use Rattle.cert_writer.proofs.Small.{small_rest}
+use Rattle.cert_writer.proofs.KeptCovers.{has_rest, front_fits, given_rows}
 use Rattle.cert_writer.proofs.given.cover_given.Goals as goal
 
 pub slice_bounds-cover_all-count : goal.slice_bounds-cover_all-count
@@ -21,13 +22,13 @@ pub cover_all-requires-clause-clauses : goal.cover_all-requires-clause-clauses
 cover_all-requires-clause-clauses g c =
     let all = g.B.Bank.trees c.args.bank.now in
     let given = c.args.given.now in
-    subst (λ (cs : List (Clause Id)). AreFit all cs) (sym (take_rest given c.len-count.result)) (fit_rest all given c.len-count.result c.requires.given)
+    subst (λ (cs : List IdClause). AreSmall all cs) (sym (take_rest given c.len-count.result)) (small_rest all given c.len-count.result c.requires.given)
 
 pub cover_all-requires-clause-covered : goal.cover_all-requires-clause-covered
 cover_all-requires-clause-covered g c =
     let all = g.B.Bank.trees c.args.bank.now in
     let given = c.args.given.now in
-    λ d h. c.requires.covered d (has_rest all given c.len-count.result d (subst (λ (cs : List (Clause Id)). Has (clauses_at all cs) d) (take_rest given c.len-count.result) h))
+    λ d h. c.requires.covered d (has_rest all given c.len-count.result d (subst (λ (cs : List IdClause). Has (clauses_at all cs) d) (take_rest given c.len-count.result) h))
 
 pub returns : goal.returns
 returns g c =
@@ -43,4 +44,4 @@ returns g c =
     let counted : count ≡ length known.covers = omega (arith, c.len-count.ensures, viewed) in
     IfOk-weaker c.cover_all.result (λ _. AddsRows (clauses_at all live) (clauses_at all (take (length given - count) (drop count given))) put new) (λ _. AddsRows (clauses_at all live) (clauses_at all given) old new)
     (λ _ adds. given_rows all known live given c.requires.begin c.requires.begin_given c.requires.known count counted old put new c.in_ok-put_rows.ensures
-    (subst (λ (cs : List (Clause Id)). AddsRows (clauses_at all live) (clauses_at all cs) put new) (take_rest given count) adds)) c.cover_all.ensures
+    (subst (λ (cs : List IdClause). AddsRows (clauses_at all live) (clauses_at all cs) put new) (take_rest given count) adds)) c.cover_all.ensures

@@ -1,11 +1,12 @@
 use Rattle.std.proofs.Common.{◌≡◌, ℕ, List, [], map, take, length, ap, subst, arith, Vec, Global}
 use Rattle.clause_form.specs.Fit.{clauses_at}
 use Rattle.cert_writer.specs.Adding.{AddsRows}
-use Rattle.cert_writer.proofs.KeptCovers.{fit_first, has_first, covers_kept}
+use Rattle.cert_writer.proofs.Small.{small_first}
+use Rattle.cert_writer.proofs.KeptCovers.{has_first, covers_kept}
 use Rattle.cert_writer.proofs.given.keep_covers.Goals as goal
 
 pub cover_all-requires-clause-clauses : goal.cover_all-requires-clause-clauses
-cover_all-requires-clause-clauses g c = fit_first (g.B.Bank.trees c.args.bank.now) c.args.given.now c.len-count.result c.requires.given
+cover_all-requires-clause-clauses g c = small_first (g.B.Bank.trees c.args.bank.now) c.args.given.now c.len-count.result c.requires.given
 
 pub cover_all-requires-clause-covered : goal.cover_all-requires-clause-covered
 cover_all-requires-clause-covered g c = λ d h. c.requires.covered d (has_first (g.B.Bank.trees c.args.bank.now) c.args.given.now c.len-count.result d h)
@@ -23,4 +24,4 @@ returns-clause-known g c =
     let empty : map (λ (row : Vec ℕ Global). row.items) c.new.result.items ≡ [] = ap (map (λ (row : Vec ℕ Global). row.items)) c.new.ensures.items in
     let adds = subst (λ (rows : List (List ℕ)). AddsRows (clauses_at all live) (clauses_at all (take count given)) rows covers) empty c.in_ok-cover_all.ensures in
     covers_kept all known live given c.requires.begin c.requires.begin_given c.requires.known count c.len-2.result covers _ all_given all_live adds (c.all_begin_within.ensures c.if-not-all_begin_within.false)
-    (λ i. (c.known.view_is i).live) (λ i. (c.known.view_is i).given) (λ i. (c.known.view_is i).rows.items) c.covers.view_is
+    (λ i. (c.known.view_is i).live) (λ i. (c.known.view_is i).given) (λ i. (c.known.view_is i).rows.items) c.covers.view_is (λ i. (c.known.view_is i).plain)

@@ -2,7 +2,7 @@ use Rattle.std.proofs.Common.{◌∙◌, max, ap, sym, arith}
 use Rattle.term_tree.specs.Bank.{symbol_of}
 use Rattle.clause_form.specs.Bounds.{above}
 use Rattle.clause_form.proofs.Walks.{argument_at}
-use Rattle.clause_form.proofs.Counting.{leaves_at, node_leaves}
+use Rattle.clause_diffs.proofs.Counting.{leaves_at, node_leaves}
 use Rattle.clause_form.proofs.Bounding.{above_more, above_all}
 use Rattle.clause_form.proofs.bounds.+above_term.Goals as goal
 

@@ -2,7 +2,7 @@ use Rattle.std.proofs.Common.{◌≡◌, max, take, flat_map}
 use Rattle.spec_trees.specs.Tree.{depth}
 use Rattle.term_tree.specs.Bank.{tree_at}
 use Rattle.clause_form.specs.Bounds.{above}
-use Rattle.clause_form.proofs.Counting.{leaves_at}
+use Rattle.clause_diffs.proofs.Counting.{leaves_at}
 use Rattle.clause_form.proofs.bounds.+above_term.Given as goal
 
 abbrev pub decreases-above_term : goal.decreases-above_term

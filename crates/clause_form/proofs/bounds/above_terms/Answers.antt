@@ -4,7 +4,7 @@ use Rattle.spec_clauses.specs.Variables.{leaves}
 use Rattle.term_tree.specs.Bank.{tree_at}
 use Rattle.clause_form.specs.Bounds.{above}
 use Rattle.clause_form.proofs.Walks.{known_at}
-use Rattle.clause_form.proofs.Counting.{leaves_at}
+use Rattle.clause_diffs.proofs.Counting.{leaves_at}
 use Rattle.clause_form.proofs.Bounding.{above_more, above_all}
 use Rattle.clause_form.proofs.bounds.above_terms.Goals as goal
 

@@ -1,6 +1,6 @@
 use Rattle.std.proofs.Common.{◌≡◌, max, take, flat_map}
 use Rattle.clause_form.specs.Bounds.{above}
-use Rattle.clause_form.proofs.Counting.{leaves_at}
+use Rattle.clause_diffs.proofs.Counting.{leaves_at}
 use Rattle.clause_form.proofs.bounds.above_terms.Given as goal
 
 abbrev pub invariant-loop-term : goal.invariant-loop-term

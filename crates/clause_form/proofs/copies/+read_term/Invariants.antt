@@ -1,7 +1,7 @@
 use Rattle.std.proofs.Common.{◌≡◌, map, take}
 use Rattle.spec_trees.specs.Tree.{depth}
 use Rattle.term_tree.specs.Bank.{tree_at}
-use Rattle.clause_form.specs.Plain.{term_of}
+use Rattle.clause_diffs.specs.Plain.{term_of}
 use Rattle.clause_form.proofs.copies.+read_term.Given as goal
 
 abbrev pub decreases-read_term : goal.decreases-read_term

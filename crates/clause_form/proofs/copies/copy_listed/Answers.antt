@@ -1,6 +1,6 @@
 use Rattle.std.proofs.Common.{◌∙◌, map, ap}
 use Rattle.clause_form.specs.Heads.{head_seen}
-use Rattle.clause_form.specs.Plain.{term_of}
+use Rattle.clause_diffs.specs.Plain.{term_of}
 use Rattle.clause_form.proofs.Made.{made_of-names}
 use Rattle.clause_form.proofs.copies.copy_listed.Goals as goal
 

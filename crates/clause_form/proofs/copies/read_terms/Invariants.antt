@@ -1,6 +1,6 @@
 use Rattle.std.proofs.Common.{◌≡◌, map, take}
 use Rattle.term_tree.specs.Bank.{tree_at}
-use Rattle.clause_form.specs.Plain.{term_of}
+use Rattle.clause_diffs.specs.Plain.{term_of}
 use Rattle.clause_form.proofs.copies.read_terms.Given as goal
 
 abbrev pub invariant-loop-id : goal.invariant-loop-id

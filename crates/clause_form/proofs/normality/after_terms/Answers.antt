@@ -4,7 +4,7 @@ use Rattle.spec_clauses.specs.Variables.{leaves}
 use Rattle.term_tree.specs.Bank.{tree_at}
 use Rattle.clause_form.specs.Normality.{numbers_after}
 use Rattle.clause_form.proofs.Walks.{known_at}
-use Rattle.clause_form.proofs.Counting.{leaves_at}
+use Rattle.clause_diffs.proofs.Counting.{leaves_at}
 use Rattle.clause_form.proofs.Testing.{after_more, after_all}
 use Rattle.clause_form.proofs.normality.after_terms.Goals as goal
 

@@ -1,6 +1,6 @@
 use Rattle.std.proofs.Common.{◌≡◌, take, flat_map}
 use Rattle.clause_form.specs.Normality.{numbers_after}
-use Rattle.clause_form.proofs.Counting.{leaves_at}
+use Rattle.clause_diffs.proofs.Counting.{leaves_at}
 use Rattle.clause_form.proofs.normality.after_terms.Given as goal
 
 abbrev pub invariant-loop-term : goal.invariant-loop-term

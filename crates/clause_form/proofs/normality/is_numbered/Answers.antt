@@ -1,6 +1,4 @@
-use Rattle.std.proofs.Common.{ap, sym, rules}
-use Rattle.spec_clauses.specs.Fact.{Clause}
-use Rattle.term_tree.specs.declared.bank.Id.{Id}
+use Rattle.std.proofs.Common.{rules}
 use Rattle.clause_form.specs.Seen.{clause_at}
 use Rattle.clause_form.proofs.Testing.{after_clause}
 use Rattle.clause_form.proofs.Told.{numbers_are}
@@ -10,4 +8,4 @@ pub returns : goal.returns
 returns g c =
     let clause = clause_at (g.B.Bank.trees c.args.bank.now) c.args.clause.now in
     let all = after_clause clause c.after_fact-first.result c.after_facts.result (search rules) (search rules) in
-    numbers_are clause c.is_some.result (ap (λ (k : Clause Id). k.diffs) (sym c.clause.view_is)) (search rules)
+    numbers_are clause c.is_some.result (search rules)

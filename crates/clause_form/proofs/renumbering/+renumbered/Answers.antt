@@ -7,7 +7,7 @@ use Rattle.spec_terms.proofs.Ground.{ground-bind}
 use Rattle.term_tree.specs.Bank.{symbol_of, tree_at, AreKnown, Names}
 use Rattle.term_tree.specs.declared.bank.Id.{Id}
 use Rattle.unify_match.proofs.Substituting.{Names-same}
-use Rattle.clause_form.specs.Numbers.{placed}
+use Rattle.clause_diffs.specs.Numbers.{placed}
 use Rattle.clause_form.proofs.Walks.{argument_later}
 use Rattle.clause_form.proofs.Renumber.{stacked_begins, stacked_on, stacked_same, stacked_known, stacked_ends, part_at, parts_count}
 use Rattle.term_tree.proofs.BankLaws.{Grows_trans, Grows-length, tree_at-grows}

@@ -1,6 +1,6 @@
 use Rattle.spec_trees.specs.Tree.{depth}
 use Rattle.term_tree.specs.Bank.{tree_at, symbol_of}
-use Rattle.clause_form.specs.Numbers.{placed}
+use Rattle.clause_diffs.specs.Numbers.{placed}
 use Rattle.clause_form.specs.Remembered.{AreRemembered}
 use Rattle.clause_form.proofs.Renumber.{IsStacked}
 use Rattle.clause_form.proofs.renumbering.+renumbered.Given as goal

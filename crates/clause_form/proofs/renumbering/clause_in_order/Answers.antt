@@ -1,8 +1,8 @@
-use Rattle.std.proofs.Common.{map}
+use Rattle.std.proofs.Common.{map, refl}
+use Rattle.clause_diffs.specs.Numbers.{placed}
 use Rattle.clause_form.specs.Facts.{fact_of}
 use Rattle.clause_form.proofs.Copying.{IsFactIn-grows}
-use Rattle.clause_form.specs.Numbers.{placed}
-use Rattle.clause_form.proofs.Norming.{numbered_named}
+use Rattle.clause_form.proofs.Numbered.{in_order_named}
 use Rattle.clause_form.proofs.Remembering.{none_remembered}
 use Rattle.term_tree.proofs.BankLaws.{Grows_refl, Grows_trans}
 use Rattle.clause_form.proofs.renumbering.clause_in_order.Goals as goal
@@ -15,8 +15,8 @@ renumbered_fact-requires-clause-known g c = IsFactIn-grows (g.B.Bank.trees c.arg
 
 pub returns-clause-names : goal.returns-clause-names
 returns-clause-names g c =
-    numbered_named (g.B.Bank.trees c.args.bank.now) (g.B.Bank.trees c.renumbered_facts.new.bank) (g.B.Bank.trees c.renumbered_fact.new.bank) (map fact_of c.args.hyps.now) (fact_of c.args.concl.now) c.args.order.now c.args.order.now c.in_ok-hyps.hyps (fact_of c.in_ok-concl.concl)
-    c.requires.concl c.renumbered_facts.ensures.grows c.renumbered_fact.ensures.grows c.requires.order c.requires.order c.in_ok-hyps.ensures.names c.in_ok-concl.ensures.names
+    in_order_named (g.B.Bank.trees c.args.bank.now) (g.B.Bank.trees c.renumbered_facts.new.bank) (g.B.Bank.trees c.renumbered_fact.new.bank) (map fact_of c.args.hyps.now) c.args.diffs (fact_of c.args.concl.now) c.args.order.now c.in_ok-hyps.hyps (fact_of c.in_ok-concl.concl)
+    c.requires.concl record { known = c.requires.diffs; are = refl } c.renumbered_facts.ensures.grows c.renumbered_fact.ensures.grows c.in_ok-hyps.ensures.names c.in_ok-concl.ensures.names
 
 pub returns-in_err-concl-clause-grows : goal.returns-in_err-concl-clause-grows
 returns-in_err-concl-clause-grows g c = Grows_trans (g.B.Bank.trees c.args.bank.now) (g.B.Bank.trees c.renumbered_facts.new.bank) (g.B.Bank.trees c.renumbered_fact.new.bank) c.renumbered_facts.ensures.grows c.renumbered_fact.ensures.grows

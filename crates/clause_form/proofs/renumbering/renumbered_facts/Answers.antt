@@ -1,5 +1,5 @@
 use Rattle.clause_form.specs.Facts.{fact_of}
-use Rattle.clause_form.specs.Numbers.{placed}
+use Rattle.clause_diffs.specs.Numbers.{placed}
 use Rattle.clause_form.proofs.Walks.{fact_known_at}
 use Rattle.clause_form.proofs.Copying.{IsFactIn-grows}
 use Rattle.clause_form.proofs.Renumber.{facts_renumbered_on, facts_renumbered}

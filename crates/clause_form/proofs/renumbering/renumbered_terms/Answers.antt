@@ -1,4 +1,4 @@
-use Rattle.clause_form.specs.Numbers.{placed}
+use Rattle.clause_diffs.specs.Numbers.{placed}
 use Rattle.clause_form.proofs.Walks.{known_later}
 use Rattle.clause_form.proofs.Renumber.{renumbered_on, renumbered_all}
 use Rattle.term_tree.proofs.BankLaws.{Grows_refl, Grows_trans}

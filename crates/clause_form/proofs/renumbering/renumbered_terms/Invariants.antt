@@ -1,4 +1,4 @@
-use Rattle.clause_form.specs.Numbers.{placed}
+use Rattle.clause_diffs.specs.Numbers.{placed}
 use Rattle.clause_form.specs.Remembered.{AreRemembered}
 use Rattle.clause_form.proofs.Renumber.{IsRenumbered}
 use Rattle.clause_form.proofs.renumbering.renumbered_terms.Given as goal

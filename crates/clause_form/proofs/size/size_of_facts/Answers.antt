@@ -3,7 +3,7 @@ use Rattle.spec_clauses.specs.Fact.{total, fact_size}
 use Rattle.term_tree.specs.Bank.{capped}
 use Rattle.clause_form.specs.Seen.{fact_at}
 use Rattle.clause_form.specs.Facts.{fact_of}
-use Rattle.clause_form.proofs.Lists.{total_more, total_all, total-map}
+use Rattle.clause_diffs.proofs.Lists.{total_more, total_all, total-map}
 use Rattle.clause_form.proofs.Walks.{fact_known_at}
 use Rattle.clause_form.proofs.size.size_of_facts.Goals as goal
 

@@ -2,7 +2,7 @@ use Rattle.std.proofs.Common.{◌∙◌, ap, sym, arith}
 use Rattle.term_tree.specs.Bank.{symbol_of}
 use Rattle.clause_form.specs.Standing.{noted}
 use Rattle.clause_form.proofs.Walks.{argument_at}
-use Rattle.clause_form.proofs.Counting.{leaves_at, node_leaves}
+use Rattle.clause_diffs.proofs.Counting.{leaves_at, node_leaves}
 use Rattle.clause_form.proofs.Noted.{noted_more, noted_all}
 use Rattle.clause_form.proofs.standing.+note_in_term.Goals as goal
 

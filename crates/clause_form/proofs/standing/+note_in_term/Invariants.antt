@@ -2,7 +2,7 @@ use Rattle.std.proofs.Common.{◌≡◌, take, flat_map}
 use Rattle.spec_trees.specs.Tree.{depth}
 use Rattle.term_tree.specs.Bank.{tree_at}
 use Rattle.clause_form.specs.Standing.{noted}
-use Rattle.clause_form.proofs.Counting.{leaves_at}
+use Rattle.clause_diffs.proofs.Counting.{leaves_at}
 use Rattle.clause_form.proofs.standing.+note_in_term.Given as goal
 
 abbrev pub decreases-note_in_term : goal.decreases-note_in_term

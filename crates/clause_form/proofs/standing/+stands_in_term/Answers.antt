@@ -2,7 +2,7 @@ use Rattle.std.proofs.Common.{◌∙◌, ◌+◌, nat_eq, flat_map, drop, ap, sy
 use Rattle.std.specs.List.{list_any}
 use Rattle.term_tree.specs.Bank.{symbol_of}
 use Rattle.clause_form.proofs.Walks.{argument_at}
-use Rattle.clause_form.proofs.Counting.{leaves_at, node_leaves}
+use Rattle.clause_diffs.proofs.Counting.{leaves_at, node_leaves}
 use Rattle.clause_form.proofs.Noted.{any_on, any_past, any_here, any_later}
 use Rattle.clause_form.proofs.standing.+stands_in_term.Goals as goal
 

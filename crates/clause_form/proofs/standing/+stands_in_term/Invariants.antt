@@ -3,7 +3,7 @@ use Rattle.std.specs.List.{list_any}
 use Rattle.spec_trees.specs.Tree.{depth}
 use Rattle.spec_clauses.specs.Variables.{leaves}
 use Rattle.term_tree.specs.Bank.{tree_at}
-use Rattle.clause_form.proofs.Counting.{leaves_at}
+use Rattle.clause_diffs.proofs.Counting.{leaves_at}
 use Rattle.clause_form.proofs.standing.+stands_in_term.Given as goal
 
 abbrev pub decreases-stands_in_term : goal.decreases-stands_in_term

@@ -4,7 +4,7 @@ use Rattle.spec_clauses.specs.Variables.{leaves}
 use Rattle.term_tree.specs.Bank.{tree_at}
 use Rattle.clause_form.specs.Standing.{noted}
 use Rattle.clause_form.proofs.Walks.{known_at}
-use Rattle.clause_form.proofs.Counting.{leaves_at}
+use Rattle.clause_diffs.proofs.Counting.{leaves_at}
 use Rattle.clause_form.proofs.Noted.{noted_more, noted_all}
 use Rattle.clause_form.proofs.standing.note_in_terms.Goals as goal
 

@@ -1,6 +1,6 @@
 use Rattle.std.proofs.Common.{◌≡◌, take, flat_map}
 use Rattle.clause_form.specs.Standing.{noted}
-use Rattle.clause_form.proofs.Counting.{leaves_at}
+use Rattle.clause_diffs.proofs.Counting.{leaves_at}
 use Rattle.clause_form.proofs.standing.note_in_terms.Given as goal
 
 abbrev pub invariant-loop-term : goal.invariant-loop-term

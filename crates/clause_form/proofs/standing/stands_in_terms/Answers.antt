@@ -4,7 +4,7 @@ use Rattle.std.proofs.lemmas.List.Folds.{flat_map-map}
 use Rattle.spec_clauses.specs.Variables.{leaves}
 use Rattle.term_tree.specs.Bank.{tree_at}
 use Rattle.clause_form.proofs.Walks.{known_at}
-use Rattle.clause_form.proofs.Counting.{leaves_at}
+use Rattle.clause_diffs.proofs.Counting.{leaves_at}
 use Rattle.clause_form.proofs.Noted.{any_on, any_past, any_here, any_later}
 use Rattle.clause_form.proofs.standing.stands_in_terms.Goals as goal
 

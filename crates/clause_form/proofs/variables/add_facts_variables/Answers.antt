@@ -5,7 +5,7 @@ use Rattle.spec_clauses.specs.Variables.{fact_variables}
 use Rattle.clause_form.specs.Facts.{fact_of}
 use Rattle.clause_form.specs.Seen.{fact_at}
 use Rattle.clause_form.proofs.Walks.{fact_known_at}
-use Rattle.clause_form.proofs.Lists.{flat_map_all}
+use Rattle.clause_diffs.proofs.Lists.{flat_map_all}
 use Rattle.clause_form.proofs.variables.add_facts_variables.Goals as goal
 
 pub add_fact_variables-requires : goal.add_fact_variables-requires

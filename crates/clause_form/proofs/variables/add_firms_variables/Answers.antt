@@ -5,7 +5,7 @@ use Rattle.clause_form.specs.Facts.{fact_of}
 use Rattle.clause_form.specs.Seen.{fact_at}
 use Rattle.clause_form.specs.Standing.{firm_numbers}
 use Rattle.clause_form.proofs.Walks.{fact_known_at}
-use Rattle.clause_form.proofs.Lists.{flat_map_all}
+use Rattle.clause_diffs.proofs.Lists.{flat_map_all}
 use Rattle.clause_form.proofs.Noted.{firms_each}
 use Rattle.clause_form.proofs.variables.add_firms_variables.Goals as goal
 

@@ -9,7 +9,7 @@ use Rattle.term_tree.proofs.BankLaws.{Grows_refl}
 use Rattle.unify_match.specs.Seen.{seen}
 use Rattle.clause_form.specs.Facts.{fact_of}
 use Rattle.clause_form.specs.Seen.{fact_at, NameTerms, NamesFact}
-use Rattle.clause_resolve.proofs.Spending.{fact_applied}
+use Rattle.clause_resolve.proofs.SpendingLaws.{fact_applied}
 use Rattle.clause_resolve.proofs.applying.applied_fact.Goals as goal
 
 pub returns-in_err-spend-clause-grows : goal.returns-in_err-spend-clause-grows

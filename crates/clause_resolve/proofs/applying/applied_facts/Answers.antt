@@ -5,7 +5,7 @@ use Rattle.unify_match.proofs.SeenLemmas.{IsReady-grows}
 use Rattle.clause_form.specs.Facts.{fact_of}
 use Rattle.clause_form.proofs.Walks.{fact_known_at}
 use Rattle.clause_form.proofs.Copying.{IsFactIn-grows}
-use Rattle.clause_resolve.proofs.Spending.{standing, facts_applied_on, facts_short, facts_applied}
+use Rattle.clause_resolve.proofs.SpendingLaws.{standing, facts_applied_on, facts_short, facts_applied}
 use Rattle.term_tree.proofs.BankLaws.{Grows_trans, Grows_refl}
 use Rattle.clause_resolve.proofs.applying.applied_facts.Goals as goal
 

@@ -1,4 +1,4 @@
-use Rattle.clause_resolve.proofs.Spending.{FactsAreApplied, standing}
+use Rattle.clause_resolve.proofs.SpendingLaws.{FactsAreApplied, standing}
 use Rattle.clause_resolve.proofs.applying.applied_facts.Given as goal
 
 abbrev pub invariant-each : goal.invariant-each

@@ -1,4 +1,4 @@
-use Rattle.clause_resolve.proofs.Spending.{AreApplied, standing}
+use Rattle.clause_resolve.proofs.SpendingLaws.{AreApplied, standing}
 use Rattle.clause_resolve.proofs.applying.applied_terms.Given as goal
 
 abbrev pub invariant-each : goal.invariant-each

@@ -1,9 +1,10 @@
 use Rattle.std.proofs.Common.{◌≡◌, ap, sym, subst, List, map, arith, rules}
-use Rattle.spec_clauses.specs.Fact.{Fact, Clause}
+use Rattle.spec_clauses.specs.Fact.{Fact}
 use Rattle.term_tree.specs.declared.bank.Id.{Id}
 use Rattle.clause_form.specs.Facts.{fact_of}
-use Rattle.clause_form.specs.Seen.{fact_at, clause_at, AreFactsIn}
+use Rattle.clause_form.specs.Seen.{fact_at, clause_at, AreFactsIn, IdClause}
 use Rattle.clause_form.proofs.Walks.{fact_known_at}
+use Rattle.clause_resolve.proofs.Low.{low_terms}
 use Rattle.clause_resolve.proofs.Shifting.{selected_within, selected_fact}
 use Rattle.clause_resolve.proofs.Answering.{clashing, taken_back, as_before}
 use Rattle.term_tree.proofs.BankLaws.{Grows-length, Grows_refl}
@@ -33,7 +34,7 @@ returns-then-clash-clause-answer g c =
     let hyps_are : map fact_of c.as_slice-facts.result.now ≡ c.args.unsolved.now.hypotheses = search rules in
     let within = selected_within all c.args.unsolved.now c.as_slice-facts.result.now c.args.at hyps_are c.requires.selected in
     let f = fact_at all (fact_of c.index-facts-at.result) in
-    clashing (clause_at all c.args.solved.now) (clause_at all c.args.unsolved.now) c.args.at _ f (ap (λ (k : Clause Id). fact_at all k.conclusion) c.solved.view_is) c.requires.selected c.requires.solved_low
+    clashing (clause_at all c.args.solved.now) (clause_at all c.args.unsolved.now) c.args.at _ f (ap (λ (k : IdClause). fact_at all k.conclusion) c.solved.view_is) c.requires.selected (low_terms all c.args.solved.now c.requires.solved_low)
     (selected_fact all c.args.unsolved.now c.as_slice-facts.result.now c.args.at c.index-facts-at.result f hyps_are within c.index-facts-at.is) (c.clash.ensures c.if-clash.true)
 
 pub returns-in-Ok-NoUnifier-clause-grows : goal.returns-in-Ok-NoUnifier-clause-grows

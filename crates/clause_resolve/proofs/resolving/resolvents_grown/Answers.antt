@@ -3,8 +3,10 @@ use Rattle.spec_terms.specs.Term.{Term}
 use Rattle.spec_clauses.specs.Fact.{Clause}
 use Rattle.clause_form.specs.Seen.{clause_at}
 use Rattle.clause_resolve.specs.Apart.{IsSelectedAt}
-use Rattle.clause_resolve.specs.Low.{HasLowVariables}
 use Rattle.clause_resolve.specs.Answers.{IsAnswerOf}
+use Rattle.clause_form.proofs.Fit.{HasLowVariables-grows}
+use Rattle.clause_resolve.proofs.Low.{low_terms}
+use Rattle.clause_resolve.proofs.Shifting.{apart_known}
 use Rattle.clause_resolve.proofs.Answering.{IsClauseIn-later, clause_at-later}
 use Rattle.term_tree.proofs.BankLaws.{Grows_trans}
 use Rattle.clause_resolve.proofs.resolving.resolvents_grown.Goals as goal
@@ -15,9 +17,11 @@ resolve_moved-requires-clause-moved g c = c.in_ok-moved.ensures.names.known
 pub resolve_moved-requires-clause-unsolved : goal.resolve_moved-requires-clause-unsolved
 resolve_moved-requires-clause-unsolved g c = IsClauseIn-later (g.B.Bank.trees c.args.bank.now) (g.B.Bank.trees c.moved_clause.new.bank) c.args.unsolved.now c.moved_clause.ensures.grows c.requires.unsolved
 
+pub resolve_moved-requires-clause-moved_low : goal.resolve_moved-requires-clause-moved_low
+resolve_moved-requires-clause-moved_low g c = c.in_ok-moved.ensures.low
+
 pub resolve_moved-requires-clause-unsolved_low : goal.resolve_moved-requires-clause-unsolved_low
-resolve_moved-requires-clause-unsolved_low g c =
-    subst (λ (k : Clause Term). HasLowVariables k) (sym (clause_at-later (g.B.Bank.trees c.args.bank.now) (g.B.Bank.trees c.moved_clause.new.bank) c.args.unsolved.now c.moved_clause.ensures.grows c.requires.unsolved)) c.requires.unsolved_low
+resolve_moved-requires-clause-unsolved_low g c = HasLowVariables-grows (g.B.Bank.trees c.args.bank.now) (g.B.Bank.trees c.moved_clause.new.bank) c.args.unsolved.now c.moved_clause.ensures.grows c.requires.unsolved c.requires.unsolved_low
 
 pub resolve_moved-requires-clause-selected : goal.resolve_moved-requires-clause-selected
 resolve_moved-requires-clause-selected g c =
@@ -29,7 +33,7 @@ returns-then-is_smaller-clause-answer g c =
     let now = g.B.Bank.trees c.moved_clause.new.bank in
     let new = g.B.Bank.trees c.resolve_moved.new.bank in
     let solved = clause_at old c.args.solved.now in
-    subst (λ (k : Clause Term). IfOk c.resolve_moved.result (λ found. IsAnswerOf new solved k found)) (clause_at-later old now c.args.unsolved.now c.moved_clause.ensures.grows c.requires.unsolved) (c.resolve_moved.ensures.answer solved record { low = c.requires.solved_low; names = c.in_ok-moved.ensures.names })
+    subst (λ (k : Clause Term). IfOk c.resolve_moved.result (λ found. IsAnswerOf new solved k found)) (clause_at-later old now c.args.unsolved.now c.moved_clause.ensures.grows c.requires.unsolved) (c.resolve_moved.ensures.answer solved record { low = low_terms old c.args.solved.now c.requires.solved_low; names = c.in_ok-moved.ensures.names })
 
 pub returns-then-is_smaller-clause-grows : goal.returns-then-is_smaller-clause-grows
 returns-then-is_smaller-clause-grows g c = Grows_trans (g.B.Bank.trees c.args.bank.now) (g.B.Bank.trees c.moved_clause.new.bank) (g.B.Bank.trees c.resolve_moved.new.bank) c.moved_clause.ensures.grows c.resolve_moved.ensures.grows
@@ -37,9 +41,11 @@ returns-then-is_smaller-clause-grows g c = Grows_trans (g.B.Bank.trees c.args.ba
 pub resolve_apart-requires-clause-solved : goal.resolve_apart-requires-clause-solved
 resolve_apart-requires-clause-solved g c = IsClauseIn-later (g.B.Bank.trees c.args.bank.now) (g.B.Bank.trees c.set_apart.new.bank) c.args.solved.now c.set_apart.ensures.grows c.requires.solved
 
+pub resolve_apart-requires-clause-apart : goal.resolve_apart-requires-clause-apart
+resolve_apart-requires-clause-apart g c = apart_known (g.B.Bank.trees c.set_apart.new.bank) (clause_at (g.B.Bank.trees c.args.bank.now) c.args.unsolved.now) c.in_ok-apart.apart c.in_ok-apart.ensures.apart
+
 pub resolve_apart-requires-clause-solved_low : goal.resolve_apart-requires-clause-solved_low
-resolve_apart-requires-clause-solved_low g c =
-    subst (λ (k : Clause Term). HasLowVariables k) (sym (clause_at-later (g.B.Bank.trees c.args.bank.now) (g.B.Bank.trees c.set_apart.new.bank) c.args.solved.now c.set_apart.ensures.grows c.requires.solved)) c.requires.solved_low
+resolve_apart-requires-clause-solved_low g c = HasLowVariables-grows (g.B.Bank.trees c.args.bank.now) (g.B.Bank.trees c.set_apart.new.bank) c.args.solved.now c.set_apart.ensures.grows c.requires.solved c.requires.solved_low
 
 pub returns-clause-answer : goal.returns-clause-answer
 returns-clause-answer g c =

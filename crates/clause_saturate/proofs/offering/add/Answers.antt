@@ -1,7 +1,5 @@
 use Rattle.std.proofs.Common.{◌≡◌, ◌+◌, None, List, [], ◌∷◌, ◌++◌, ap, length, refl, subst, ◌∙◌, arith}
-use Rattle.spec_clauses.specs.Fact.{Clause}
-use Rattle.term_tree.specs.declared.bank.Id.{Id}
-use Rattle.clause_form.specs.Seen.{clause_at}
+use Rattle.clause_form.specs.Seen.{clause_at, IdClause}
 use Rattle.clause_saturate.specs.declared.log.Entry.{Entry}
 use Rattle.clause_saturate.specs.Beating.{AreMarked}
 use Rattle.clause_saturate.proofs.Listing.{marked_count, pushed_listed}
@@ -16,7 +14,7 @@ returns-clause-pushed g c =
     record {
       marked = marks;
       are_marked = subst (λ n. AreMarked all clause n olds marks) c.requires.number c.in_ok-beat.ensures.marked;
-      is = c.in_ok-push.ensures.items ∙ ap (λ (d : Clause Id). marks ++ record { clause = d; origin = c.args.origin; by = None } ∷ []) c.in_ok-clause.ensures;
+      is = c.in_ok-push.ensures.items ∙ ap (λ (d : IdClause). marks ++ record { clause = d; origin = c.args.origin; by = None } ∷ []) c.in_ok-clause.ensures;
     }
 
 pub returns-clause-listed : goal.returns-clause-listed
@@ -28,5 +26,5 @@ returns-clause-listed g c =
     let marks : List Entry = c.beat.new.walk.items.items in
     let count = marked_count all (clause_at all offer.clause.now) offer.number olds marks c.in_ok-beat.ensures.marked in
     let number : offer.number ≡ length marks + 1 = omega (arith, count, c.requires.number) in
-    let news : c.push.new.self.items ≡ marks ++ entry ∷ [] = c.in_ok-push.ensures.items ∙ ap (λ (d : Clause Id). marks ++ record { clause = d; origin = c.args.origin; by = None } ∷ []) c.in_ok-clause.ensures in
+    let news : c.push.new.self.items ≡ marks ++ entry ∷ [] = c.in_ok-push.ensures.items ∙ ap (λ (d : IdClause). marks ++ record { clause = d; origin = c.args.origin; by = None } ∷ []) c.in_ok-clause.ensures in
     pushed_listed all offer.number marks c.push.new.self.items entry offer.looks c.beat.new.walk.live c.list.new.live c.list_end.new.live c.in_ok-beat.ensures.listed number refl news c.in_ok-list.ensures c.in_ok-list_end.ensures c.requires.looks

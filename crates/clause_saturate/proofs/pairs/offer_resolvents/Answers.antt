@@ -10,7 +10,7 @@ each-init g c =
     let made = c.requires.1.1 in
     record {
       within = omega arith;
-      fit = resolvents_fit all c.args.clauses.now made.gives.give.0 made.resolvents made.gives.give.2 made.name;
+      fit = resolvents_fit all c.args.clauses.now made.gives.give.0 made.resolvents made.gives.give.2 made.name made.low;
       offering = offering_begins all g.task c.args.walk.now c.args.pair c.args.clauses.now made c.requires.1.0;
       kept = inl refl;
     }

@@ -1,6 +1,5 @@
 use Rattle.clause_saturate.specs.Pairs.{major, minor}
 use Rattle.clause_saturate.proofs.Found.{solved_fit, unsolved_fit, answer_found, never_none}
-use Rattle.clause_resolve.proofs.Answering.{fit_low}
 use Rattle.clause_saturate.proofs.Fitting.{fit_size}
 use Rattle.std.proofs.Common.{arith}
 use Rattle.spec_saturation.proofs.Places.{numbered_within}
@@ -27,7 +26,7 @@ pub resolvents-requires-clause-solved_low : goal.resolvents-requires-clause-solv
 resolvents-requires-clause-solved_low g c =
     let pair = c.args.pair in
     let all = g.B.Bank.trees c.args.bank.now in
-    fit_low all c.index-entries-pair.result.clause (solved_fit all c.args.entries.now (major pair) (minor pair) pair c.requires.due c.index-entries-pair.result c.index-entries-pair.is c.requires.entries)
+    (solved_fit all c.args.entries.now (major pair) (minor pair) pair c.requires.due c.index-entries-pair.result c.index-entries-pair.is c.requires.entries).low
 
 pub resolvents-requires-clause-unsolved : goal.resolvents-requires-clause-unsolved
 resolvents-requires-clause-unsolved g c =
@@ -38,7 +37,7 @@ pub resolvents-requires-clause-unsolved_low : goal.resolvents-requires-clause-un
 resolvents-requires-clause-unsolved_low g c =
     let pair = c.args.pair in
     let all = g.B.Bank.trees c.args.bank.now in
-    fit_low all c.index-entries-pair-2.result.clause (unsolved_fit all c.args.entries.now (major pair) (minor pair) pair c.requires.due c.index-entries-pair-2.result c.index-entries-pair-2.is c.requires.entries)
+    (unsolved_fit all c.args.entries.now (major pair) (minor pair) pair c.requires.due c.index-entries-pair-2.result c.index-entries-pair-2.is c.requires.entries).low
 
 pub returns-in-None-clause-found : goal.returns-in-None-clause-found
 returns-in-None-clause-found g c =
@@ -46,7 +45,7 @@ returns-in-None-clause-found g c =
 
 pub returns-in_ok-found-in-Some-clause-found : goal.returns-in_ok-found-in-Some-clause-found
 returns-in_ok-found-in-Some-clause-found g c =
-    answer_found (g.B.Bank.trees c.args.bank.now) (g.B.Bank.trees c.resolvents.new.bank) c.args.entries.now c.args.pair c.requires.due c.index-entries-pair.result c.index-entries-pair-2.result c.in_ok-found-in-Some.found c.index-entries-pair.is c.index-entries-pair-2.is c.in_ok-found-in-Some.ensures.answer
+    answer_found (g.B.Bank.trees c.args.bank.now) (g.B.Bank.trees c.resolvents.new.bank) c.args.entries.now c.args.pair c.requires.due c.index-entries-pair.result c.index-entries-pair-2.result c.in_ok-found-in-Some.found c.index-entries-pair.is c.index-entries-pair-2.is c.in_ok-found-in-Some.ensures.answer c.in_ok-found-in-Some.ensures.low
 
 pub bounds-entries-pair : goal.bounds-entries-pair
 bounds-entries-pair g c =

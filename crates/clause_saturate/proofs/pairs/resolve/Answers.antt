@@ -2,13 +2,12 @@ use Rattle.std.proofs.Common.{List, ◌≡◌, subst, sym, rules, ◌∙◌, tak
 use Rattle.spec_saturation.specs.Key.{key}
 use Rattle.clause_saturate.specs.declared.log.Entry.{Entry}
 use Rattle.clause_form.specs.Fit.{AreFit}
+use Rattle.clause_form.specs.Seen.{IdClause}
 use Rattle.clause_saturate.specs.Beating.{clauses_of}
 use Rattle.clause_saturate.specs.Pairs.{major, minor, IsMadeBy, IsTidy, IsDuePair}
 use Rattle.clause_saturate.proofs.Fitting.{walked_fit}
 use Rattle.clause_saturate.proofs.Pairing.{no_unifier_step, too_large_step, made_step}
 use Rattle.spec_terms.specs.Term.{Term}
-use Rattle.spec_clauses.specs.Fact.{Clause}
-use Rattle.term_tree.specs.declared.bank.Id.{Id}
 use Rattle.term_tree.specs.Bank.{Grows}
 use Rattle.term_tree.proofs.BankLaws.{Grows-length}
 use Rattle.clause_resolve.proofs.Answering.{as_before}
@@ -66,7 +65,7 @@ keep-requires g c = λ κs h. (
         omega (arith, c.mark-mark.ensures, Grows-length old now c.pair_resolvents.ensures.grows),
         (
           subst (λ (before : List Term). IsWalked before g.task walk (key (major c.args.pair) (minor c.args.pair) 1)) (sym back) c.requires.1.0,
-          subst (λ (before : List Term). IsMadeBy before now walk.items.items c.args.pair c.deref-in-Clauses.result.now) (sym back) (subst (λ (cs : List (Clause Id)). IsMadeBy old now walk.items.items c.args.pair cs) (sym clauses) made),
+          subst (λ (before : List Term). IsMadeBy before now walk.items.items c.args.pair c.deref-in-Clauses.result.now) (sym back) (subst (λ (cs : List IdClause). IsMadeBy old now walk.items.items c.args.pair cs) (sym clauses) made),
         ),
       ),
     ))

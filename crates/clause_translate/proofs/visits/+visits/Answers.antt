@@ -8,9 +8,7 @@ use Rattle.pi_tree.specs.Expressions.{expression_of}
 use Rattle.pi_tree.specs.Events.{event_of}
 use Rattle.pi_tree.specs.Processes.{process_of}
 use Rattle.spec_terms.specs.Term.{Term}
-use Rattle.spec_clauses.specs.Fact.{Clause}
 use Rattle.term_tree.specs.Bank.{Grows}
-use Rattle.term_tree.specs.declared.bank.Id.{Id}
 use Rattle.term_tree.proofs.BankLaws.{Grows_refl, Grows_trans, take-grows, Grows-length}
 use Rattle.spec_calculus.specs.Syntax.{Ruled}
 use Rattle.spec_translation.specs.Visit.{Visit, is_large_visit, after_new}
@@ -36,6 +34,7 @@ use Rattle.clause_translate.proofs.Visiting.{none_left, nil_ends, spelled, count
 use Rattle.clause_translate.proofs.LetVisits.{few_left, completed_by, choosing_known, small_let, small_later, choosing_later, passes_as, passed_within}
 use Rattle.clause_translate.proofs.Repeating.{none_visited, passed_small, more_visited, large_visited, all_visited, nowhere_of, nowhere_ends, visit_ends}
 use Rattle.clause_translate.proofs.visits.+visits.Goals as goal
+use Rattle.clause_form.specs.Seen.{IdClause}
 
 pub visit_copies-visit_process-requires : goal.visit_copies-visit_process-requires
 visit_copies-visit_process-requires g t c κs within =
@@ -192,7 +191,7 @@ visit_counted-visit_form-requires g t c κs within =
     (omega (arith, c.decreases), (within, (c.requires.visit, (c.requires.fit, (c.requires.points, c.requires.copies)))))
 
 pub visit_counted-returns-then-count-clause-back : goal.visit_counted-returns-then-count-clause-back
-visit_counted-returns-then-count-clause-back g t c = λ same. absurd (omega (arith, ap (λ (cs : List (Clause Id)). length cs) same))
+visit_counted-returns-then-count-clause-back g t c = λ same. absurd (omega (arith, ap (λ (cs : List IdClause). length cs) same))
 
 pub visit_counted-returns-clause-grows : goal.visit_counted-returns-clause-grows
 visit_counted-returns-clause-grows g t c =

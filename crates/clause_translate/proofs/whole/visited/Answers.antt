@@ -16,7 +16,7 @@ returns-in-None-2-clause-visits g c =
     let new = g.B.Bank.trees c.visit_main.new.bank in
     let before : Listing = record { clauses = c.args.clauses; left = most_visits; keeps = true } in
     let after = c.visit_main.new.listing in
-    visits_added P old new before after refl refl (Grows_trans old mid new c.first_large.ensures.grows c.visit_main.ensures.grows) c.requires.clauses
+    visits_added P old new before after refl refl (Grows_trans old mid new c.first_large.ensures.grows c.visit_main.ensures.grows) c.requires.clauses c.requires.low
     (subst (λ (large : Option ℕ). Ends P (Once P.main 1 first_visit) new before after large) c.in-None-2.is c.in_ok-point-2.ensures.ends)
 
 pub returns-in_err-point-2-clause-grows : goal.returns-in_err-point-2-clause-grows

@@ -6,5 +6,5 @@ use Rattle.multiset_subsume.proofs.covering.least_row.Given as goal
 abbrev pub invariant-each : goal.invariant-each
 invariant-each g l = record {
   same : IsAsBefore l.fn.placing.binds.pairs l.placing.binds.pairs l.fn.placing.taken.items l.placing.taken.items;
-  before : (q : ℕ) → q < l.p → CanStandOn (g.B.Bank.trees l.board.bank.now) (map fact_of l.board.hyps.now) l.board.loose.now l.fn.placing.binds.pairs l.fn.placing.taken.items (fact_of l.fact) (map (λ f. fact_of f.now) l.rest) q → ⊥;
+  before : (q : ℕ) → q < l.p → CanStandOn (g.B.Bank.trees l.board.bank.now) (map fact_of l.board.hyps.now) l.board.ending l.fn.placing.binds.pairs l.fn.placing.taken.items (fact_of l.fact) (map (λ f. fact_of f.now) l.rest) q → ⊥;
 }

@@ -20,7 +20,7 @@ returns-clause-crowded g c e =
     let confined = as_back (λ pairs flags. AreConfined (seen all pairs) flags (facts_at all hyps) area (facts_at all (map unref c.args.unplaced.now)) c.in_ok-count.count) c.args.placing.now.binds.pairs c.area_of.new.placing.binds.pairs c.args.placing.now.taken.items c.area_of.new.placing.taken.items c.area_of.ensures.same c.in_ok-count.ensures.confined in
     let less : c.room_of.result < c.in_ok-count.count = ltb-true c.room_of.result c.in_ok-count.count e in
     let room_is : c.room_of.result ≡ room area = c.room_of.ensures ∙ ap room (c.deref-2.ensures.value ∙ sym c.deref.ensures.value) in
-    crowded (seen all c.args.placing.now.binds.pairs) c.args.placing.now.taken.items (facts_at all hyps) (facts_at all (map unref c.args.unplaced.now)) (ending_at c.args.board.now.loose.now) area c.in_ok-count.count c.requires.placing.flags confined (omega (arith, less, room_is))
+    crowded (seen all c.args.placing.now.binds.pairs) c.args.placing.now.taken.items (facts_at all hyps) (facts_at all (map unref c.args.unplaced.now)) (ending_at all c.args.board.now.ending) area c.in_ok-count.count c.requires.placing.flags confined (omega (arith, less, room_is))
 
 pub count_confined-requires-clause-placing : goal.count_confined-requires-clause-placing
 count_confined-requires-clause-placing g c = placing_as (g.B.Bank.trees c.args.board.now.bank.now) (map fact_of c.args.board.now.hyps.now) c.args.placing.now.binds.pairs c.area_of.new.placing.binds.pairs c.args.placing.now.taken.items c.area_of.new.placing.taken.items c.area_of.ensures.same c.requires.placing

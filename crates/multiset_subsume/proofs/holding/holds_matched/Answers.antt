@@ -17,4 +17,4 @@ holds_from-requires-clause-linked g c =
     c.requires.linked (seen (g.B.Bank.trees c.args.board.now.bank.now) c.in-Some.placing.binds.pairs) begun.matched
 
 pub returns-in-Some : goal.returns-in-Some
-returns-in-Some g c = held_with (g.B.Bank.trees c.args.board.now.bank.now) (map fact_of c.args.board.now.hyps.now) c.args.board.now.loose.now (map unref c.args.facts.now) (fact_of c.args.general.now) (fact_of c.args.special.now) c.in-Some.placing.binds.pairs c.in-Some.placing.taken.items c.args.row.now c.holds_from.result (at_some _ c.in_ok-begun.field-0 c.in-Some.placing (λ placing. IsBegun (g.B.Bank.trees c.args.board.now.bank.now) (map fact_of c.args.board.now.hyps.now) (fact_of c.args.general.now) (fact_of c.args.special.now) placing.binds.pairs placing.taken.items) c.in-Some.is c.in_ok-begun.ensures) c.holds_from.ensures
+returns-in-Some g c = held_with (g.B.Bank.trees c.args.board.now.bank.now) (map fact_of c.args.board.now.hyps.now) c.args.board.now.ending (map unref c.args.facts.now) (fact_of c.args.general.now) (fact_of c.args.special.now) c.in-Some.placing.binds.pairs c.in-Some.placing.taken.items c.args.row.now c.holds_from.result (at_some _ c.in_ok-begun.field-0 c.in-Some.placing (λ placing. IsBegun (g.B.Bank.trees c.args.board.now.bank.now) (map fact_of c.args.board.now.hyps.now) (fact_of c.args.general.now) (fact_of c.args.special.now) placing.binds.pairs placing.taken.items) c.in-Some.is c.in_ok-begun.ensures) c.holds_from.ensures

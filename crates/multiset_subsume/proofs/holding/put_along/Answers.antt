@@ -10,7 +10,7 @@ use Rattle.multiset_subsume.proofs.holding.put_along.Goals as goal
 
 pub returns-then-facts-row-clause-outcome : goal.returns-then-facts-row-clause-outcome
 returns-then-facts-row-clause-outcome g c =
-    too_long (g.B.Bank.trees c.args.board.now.bank.now) (map fact_of c.args.board.now.hyps.now) c.args.board.now.loose.now c.args.placing.now.binds.pairs c.args.placing.now.taken.items (map unref c.args.facts.now) c.args.row.now
+    too_long (g.B.Bank.trees c.args.board.now.bank.now) (map fact_of c.args.board.now.hyps.now) c.args.board.now.ending c.args.placing.now.binds.pairs c.args.placing.now.taken.items (map unref c.args.facts.now) c.args.row.now
     (λ e. absurd (omega (arith, e, length-map c.args.facts.now unref, c.if-facts-row.true)))
 
 pub put_at-requires-clause-fact : goal.put_at-requires-clause-fact
@@ -27,14 +27,14 @@ returns-then-not-branch-clause-outcome g c =
     let rest = map unref (drop (k + 1) facts) in
     let facts_are = map_drop unref facts k f c.each-test.true ∙ ap (λ h. unref h ∷ rest) (sym c.index-facts-k.is) in
     let row_is : drop k row ≡ get_or row k 0 ∷ drop (k + 1) row = drop-cons row k 0 within ∙ ap (λ (n : ℕ). get_or row k 0 ∷ drop n row) (sym (add-one k)) in
-    put_fails all (map fact_of c.args.board.now.hyps.now) c.args.board.now.loose.now c.args.placing.now.binds.pairs c.each.placing.binds.pairs c.args.placing.now.taken.items c.each.placing.taken.items
+    put_fails all (map fact_of c.args.board.now.hyps.now) c.args.board.now.ending c.args.placing.now.binds.pairs c.each.placing.binds.pairs c.args.placing.now.taken.items c.each.placing.taken.items
     (map unref facts) (map unref (drop k facts)) rest (unref f) row (drop (k + 1) row) k (get_or row k 0) c.each.invariant.holds facts_are row_is (MatchBool-at_false _ _ c.if-not-branch.true c.in_ok-put_at.ensures.outcome)
 
 pub each-preserved : goal.each-preserved
 each-preserved g c =
     let all = g.B.Bank.trees c.args.board.now.bank.now in
     let hyps = map fact_of c.args.board.now.hyps.now in
-    let loose = c.args.board.now.loose.now in
+    let ending = c.args.board.now.ending in
     let facts = c.args.facts.now in
     let row = c.args.row.now in
     let k = c.each.k in
@@ -44,12 +44,12 @@ each-preserved g c =
     let facts_are = map_drop unref facts k f c.each-test.true ∙ ap (λ h. unref h ∷ rest) (sym c.index-facts-k.is) in
     let row_is : drop k row ≡ get_or row k 0 ∷ drop (k + 1) row = drop-cons row k 0 within ∙ ap (λ (n : ℕ). get_or row k 0 ∷ drop n row) (sym (add-one k)) in
     let put = MatchBool-at_true _ _ c.if-not-branch.false c.in_ok-put_at.ensures.outcome in
-    let on = put_on all hyps loose c.each.placing.binds.pairs c.put_at.new.placing.binds.pairs c.each.placing.taken.items c.put_at.new.placing.taken.items (map unref (drop k facts)) rest (unref f) (drop k row) (drop (k + 1) row) (get_or row k 0) put.0 facts_are row_is put.1 put.2 in
+    let on = put_on all hyps ending c.each.placing.binds.pairs c.put_at.new.placing.binds.pairs c.each.placing.taken.items c.put_at.new.placing.taken.items (map unref (drop k facts)) rest (unref f) (drop k row) (drop (k + 1) row) (get_or row k 0) put.0 facts_are row_is put.1 put.2 in
     record {
       placing = c.put_at.ensures.placing;
       positions = positions_more row k (get_or row k 0) put.0 within refl put.1 c.each.invariant.positions;
       holds = (λ h. on.0 (c.each.invariant.holds.0 h), λ h. c.each.invariant.holds.1 (on.1 h));
-      linked = λ l. linked_on all hyps loose c.each.placing.binds.pairs c.put_at.new.placing.binds.pairs c.each.placing.taken.items c.put_at.new.placing.taken.items (map unref (drop k facts)) rest (unref f) put.0 facts_are put.2 (c.each.invariant.linked l);
+      linked = λ l. linked_on all hyps ending c.each.placing.binds.pairs c.put_at.new.placing.binds.pairs c.each.placing.taken.items c.put_at.new.placing.taken.items (map unref (drop k facts)) rest (unref f) put.0 facts_are put.2 (c.each.invariant.linked l);
     }
 
 pub returns-clause-outcome : goal.returns-clause-outcome

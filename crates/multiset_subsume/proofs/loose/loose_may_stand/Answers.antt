@@ -9,4 +9,4 @@ pub returns : goal.returns
 returns g c =
     let all = g.B.Bank.trees c.args.board.now.bank.now in
     let same : c.deref_mut.result.now ≡ c.args.placing.now.taken.items = search rules in
-    may_stand (facts_at all (map fact_of c.args.board.now.hyps.now)) (loose_parts (seen all c.args.placing.now.binds.pairs) c.args.board.now.loose.now) c.args.placing.now.taken.items c.deref_mut.result.now c.take_loose.new.taken c.take_loose.result same c.take_loose.ensures
+    may_stand (facts_at all (map fact_of c.args.board.now.hyps.now)) (loose_parts (seen all c.args.placing.now.binds.pairs) c.args.board.now.ending.loose.now) c.args.placing.now.taken.items c.deref_mut.result.now c.take_loose.new.taken c.take_loose.result same c.take_loose.ensures

@@ -5,9 +5,9 @@ use Rattle.node_table.proofs.Rooms.{facts_leave_less, next_leaves}
 use Rattle.node_table.proofs.sizes.room_behind_next.Goals as goal
 
 pub overflow_sub-result : goal.overflow_sub-result
-overflow_sub-result c = facts_leave_less (facts_in_order c.args.clause.now) c.min-least.result c.in-Some.less (sym c.in-Some.ensures.room)
+overflow_sub-result c = facts_leave_less (facts_in_order c.args.clause.now) c.min-least.result c.in-Some.less (sym c.in-Some.ensures)
 
-pub returns-in-Some-clause-room : goal.returns-in-Some-clause-room
-returns-in-Some-clause-room c =
+pub returns-in-Some : goal.returns-in-Some
+returns-in-Some c =
     let some : 0 < c.in-Some.less = grind (arith, nat_tests, c.in-Some.less-test) in
-    next_leaves (facts_in_order c.args.clause.now) c.args.room c.min-least.result c.in-Some.less c.min-least.ensures c.in-Some.ensures.room some
+    next_leaves (facts_in_order c.args.clause.now) c.args.room c.min-least.result c.in-Some.less c.min-least.ensures c.in-Some.ensures some

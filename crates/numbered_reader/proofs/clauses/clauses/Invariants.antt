@@ -6,7 +6,7 @@ use Rattle.clause_form.specs.Seen.{AreClausesIn}
 use Rattle.pi_tree.specs.Protocols.{protocol_of}
 use Rattle.spec_node_reading.specs.Loops.{lines_through}
 use Rattle.fact_reader.specs.Reads.{left_of}
-use Rattle.spec_node_counts.specs.Rounds.{puts}
+use Rattle.spec_certificate_text.specs.Rounds.{puts}
 use Rattle.spec_node_counts.specs.ReadClauses.{clause_line}
 use Rattle.node_reader.specs.Tables.{table_of}
 use Rattle.numbered_reader.specs.Walks.{walked_of}

@@ -1,7 +1,7 @@
 use Rattle.std.proofs.Common.{◌∙◌, [], ◌∷◌, ◌++◌, map, ap, sym}
 use Rattle.std.proofs.lemmas.List.{map-append}
 use Rattle.spec_trees.specs.Tree.{Leaf}
-use Rattle.clause_form.specs.declared.plain.Tree.TheVariants.{Var}
+use Rattle.clause_diffs.specs.declared.plain.Tree.TheVariants.{Var}
 use Rattle.clause_form.specs.Plain.{term_of}
 use Rattle.query_derive.proofs.Asking.{variables_more}
 use Rattle.query_derive.proofs.goal.variables.Goals as goal

@@ -8,7 +8,7 @@ use Rattle.spec_terms.specs.Unifier.{Matches, MatchesAll}
 use Rattle.term_tree.specs.Bank.{tree_at, symbol_of}
 use Rattle.term_tree.proofs.BankLaws.{symbol_of-injective}
 use Rattle.unify_match.proofs.Trails.{Extends-trans}
-use Rattle.clause_form.specs.declared.plain.Tree as declared
+use Rattle.clause_diffs.specs.declared.plain.Tree as declared
 use Rattle.clause_form.specs.Plain.{term_of}
 use Rattle.clause_form.proofs.Walks.{known_at}
 use Rattle.query_derive.specs.Narrowing.{Narrows, Excludes}

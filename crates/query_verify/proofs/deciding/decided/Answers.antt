@@ -1,9 +1,10 @@
 use Rattle.std.proofs.Common.{List, sym, subst}
 use Rattle.spec_terms.specs.Term.{Term}
 use Rattle.spec_clauses.specs.Fact.{Clause}
+use Rattle.clause_form.proofs.Fit.{named_fit}
 use Rattle.clause_saturate.specs.Logs.{IsLogOf}
 use Rattle.query_verify.specs.Asked.{protocol_at}
-use Rattle.query_verify.proofs.Fitting.{small_query, named_fit, named_some, same_later, translates_later}
+use Rattle.query_verify.proofs.Fitting.{small_query, named_some, same_later, translates_later}
 use Rattle.query_verify.proofs.deciding.decided.Goals as goal
 
 pub saturate-requires-clause-some : goal.saturate-requires-clause-some
@@ -17,7 +18,7 @@ saturate-requires-clause-fit g c =
     let P = protocol_at c.args.question.now in
     let t = c.requires.given in
     let limits = c.requires.question.limits in
-    named_fit (g.B.Bank.trees c.args.bank.now) c.args.given.now t.list t.names (λ d has. c.translations_are_normal.ensures.normal P t.query t.list d t.translates has)
+    named_fit (g.B.Bank.trees c.args.bank.now) c.args.given.now t.list t.names t.low (λ d has. c.translations_are_normal.ensures.normal P t.query t.list d t.translates has)
     (λ d has. c.translations_are_within_the_limit.ensures.all P t.query t.list d limits (small_query P c.args.question.now.query t.query limits t.is) t.translates has)
 
 pub ended-answer-requires-clause-given : goal.ended-answer-requires-clause-given

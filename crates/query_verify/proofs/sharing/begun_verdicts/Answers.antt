@@ -1,8 +1,6 @@
 use Rattle.std.proofs.Common.{List, map, sym, subst}
-use Rattle.spec_clauses.specs.Fact.{Clause}
 use Rattle.pi_tree.specs.Protocols.{protocol_of}
-use Rattle.term_tree.specs.declared.bank.Id.{Id}
-use Rattle.clause_form.specs.Seen.{clause_at, AreClausesIn}
+use Rattle.clause_form.specs.Seen.{clause_at, AreClausesIn, IdClause}
 use Rattle.clause_saturate.specs.declared.common.Begun.{Begun}
 use Rattle.clause_saturate.specs.declared.log.Entry.{Entry}
 use Rattle.clause_saturate.specs.Beating.{clauses_of}
@@ -38,7 +36,7 @@ shared_verdicts-answers-requires-clause-kept g c =
     let new = g.B.Bank.trees c.begin.new.bank in
     let shared = shared_of (g.B.Bank.trees c.args.bank.now) c.args.given.now c.args.asking.now.budget in
     let begun : IsFreshCommon new shared c.in-Ready.common = subst (λ (b : Begun). IsBegun new shared b) c.in-Ready.is c.in_ok-common.ensures.begun in
-    c.in_ok-known-in-Ready.ensures new (subst (λ (cs : List (Clause Id)). AreClausesIn new cs) (sym c.in_ok-copied-in-Ready.ensures) (known_later (g.B.Bank.trees c.args.bank.now) new c.args.given.now c.begin.ensures.grows c.requires.given.names.known)) (subst (λ (log : List Entry). AreClausesIn new (clauses_of log)) (sym c.log.ensures) (fresh_known new shared c.in-Ready.common c.entries_tell_logs.ensures.known begun))
+    c.in_ok-known-in-Ready.ensures new (subst (λ (cs : List IdClause). AreClausesIn new cs) (sym c.in_ok-copied-in-Ready.ensures) (known_later (g.B.Bank.trees c.args.bank.now) new c.args.given.now c.begin.ensures.grows c.requires.given.names.known)) (subst (λ (log : List Entry). AreClausesIn new (clauses_of log)) (sym c.log.ensures) (fresh_known new shared c.in-Ready.common c.entries_tell_logs.ensures.known begun))
 
 pub settled_verdicts-requires-clause-settled : goal.settled_verdicts-requires-clause-settled
 settled_verdicts-requires-clause-settled g c =

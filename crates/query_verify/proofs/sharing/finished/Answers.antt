@@ -1,12 +1,11 @@
 use Rattle.std.proofs.Common.{◌≡◌, ◌∙◌, List, ap, sym, subst}
-use Rattle.spec_clauses.specs.Fact.{Clause}
-use Rattle.term_tree.specs.declared.bank.Id.{Id}
 use Rattle.clause_saturate.specs.Common.{Shared}
 use Rattle.clause_translate.specs.Whole.{TranslatesTo}
 use Rattle.query_verify.specs.Asked.{protocol_at}
 use Rattle.query_verify.specs.Settled.{AreGoalBehind, shared_of}
 use Rattle.query_verify.proofs.Commons.{goal_behind, kept_back}
 use Rattle.query_verify.proofs.sharing.finished.Goals as goal
+use Rattle.clause_form.specs.Seen.{IdClause}
 
 pub gone_on-answer-requires : goal.gone_on-answer-requires
 gone_on-answer-requires g c = λ κs h. (
@@ -19,15 +18,15 @@ gone_on-answer-requires g c = λ κs h. (
     let t = c.in_ok-all.ensures.translates in
     let same : c.deref.result.now ≡ all = c.deref.ensures.value ∙ c.all.view_is in
     let copied = goal_behind P old mid c.in_ok-copied.copied all budget t.query (c.translations_have_one_goal.ensures.one P) (c.in_ok-all.ensures.names t.query t.is) in
-    let behind : AreGoalBehind mid (shared_of old c.args.given.now budget) all = subst (λ (cs : List (Clause Id)). AreGoalBehind mid (shared_of old cs budget) all) c.in_ok-copied.ensures copied in
+    let behind : AreGoalBehind mid (shared_of old c.args.given.now budget) all = subst (λ (cs : List IdClause). AreGoalBehind mid (shared_of old cs budget) all) c.in_ok-copied.ensures copied in
     let shared : AreGoalBehind mid g.shared all = subst (λ (s : Shared). AreGoalBehind mid s all) (sym c.requires.1.1.1.1.0) behind in (
       h,
       (
         c.requires.1.0,
         (
-          subst (λ (cs : List (Clause Id)). TranslatesTo P number mid cs) (sym same) t,
+          subst (λ (cs : List IdClause). TranslatesTo P number mid cs) (sym same) t,
           (
-            subst (λ (cs : List (Clause Id)). AreGoalBehind mid g.shared cs) (sym same) shared,
+            subst (λ (cs : List IdClause). AreGoalBehind mid g.shared cs) (sym same) shared,
             (
               ap (λ s. s.budget) c.requires.1.1.1.1.0,
               (

@@ -1,15 +1,13 @@
 use Rattle.std.proofs.Common.{◌-◌, length, sym, subst, arith}
-use Rattle.spec_clauses.specs.Fact.{Clause}
 use Rattle.spec_saturation.specs.Common.{with_goal}
-use Rattle.term_tree.specs.declared.bank.Id.{Id}
-use Rattle.clause_form.specs.Seen.{clause_at}
+use Rattle.clause_form.specs.Seen.{clause_at, IdClause}
 use Rattle.clause_form.specs.Fit.{IsFit}
-use Rattle.clause_form.proofs.Fit.{clause_fit_at}
+use Rattle.clause_form.proofs.Fit.{clause_fit_at, named_fit}
 use Rattle.clause_saturate.specs.Logs.{IsLogOf}
 use Rattle.clause_saturate.specs.Common.{saturated, log_of}
 use Rattle.query_verify.specs.Asked.{protocol_at}
 use Rattle.query_verify.proofs.Commons.{goal_some, finished_log, kept_back}
-use Rattle.query_verify.proofs.Fitting.{small_query, named_fit, translates_later}
+use Rattle.query_verify.proofs.Fitting.{small_query, translates_later}
 use Rattle.query_verify.proofs.sharing.gone_on.Goals as goal
 
 pub finish-requires : goal.finish-requires
@@ -19,10 +17,10 @@ finish-requires g c = λ κs h. (
     let given = c.args.given.now in
     let t = c.requires.1.1.0 in
     let limits = c.requires.1.0.limits in
-    let fit = named_fit all given t.list t.names (λ d has. c.translations_are_normal.ensures.normal P t.query t.list d t.translates has)
+    let fit = named_fit all given t.list t.names t.low (λ d has. c.translations_are_normal.ensures.normal P t.query t.list d t.translates has)
     (λ d has. c.translations_are_within_the_limit.ensures.all P t.query t.list d limits (small_query P c.args.question.now.query t.query limits t.is) t.translates has) in
     let some = goal_some all g.shared given c.requires.1.1.1.0 in
-    (h, (c.requires.1.1.1.1.1.0, subst (λ (d : Clause Id). IsFit all d) (sym c.in_ok-goal.ensures) (clause_fit_at all given (length given - 1) c.index-given-given.result c.index-given-given.is fit (omega (arith, some))))))
+    (h, (c.requires.1.1.1.1.1.0, subst (λ (d : IdClause). IsFit all d) (sym c.in_ok-goal.ensures) (clause_fit_at all given (length given - 1) c.index-given-given.result c.index-given-given.is fit (omega (arith, some))))))
 
 pub told-answer-requires-clause-given : goal.told-answer-requires-clause-given
 told-answer-requires-clause-given g c =
@@ -35,7 +33,7 @@ told-answer-requires-clause-log g c =
     let given = c.args.given.now in
     let end = saturated (log_of c.finish.new.common) c.in_ok-end.end in
     finished_log old new g.shared given c.index-given-given.result c.args.question.now.budget end c.requires.1.1.1.0 c.index-given-given.is c.requires.1.1.1.1.0 c.requires.1.1.0.names.known c.finish.ensures.grows
-    (subst (λ (d : Clause Id). IsLogOf new (with_goal g.shared.clauses (clause_at old d)) g.shared.budget end) c.in_ok-goal.ensures c.in_ok-end.ensures.log)
+    (subst (λ (d : IdClause). IsLogOf new (with_goal g.shared.clauses (clause_at old d)) g.shared.budget end) c.in_ok-goal.ensures c.in_ok-end.ensures.log)
 
 pub told-answer-requires-clause-kept : goal.told-answer-requires-clause-kept
 told-answer-requires-clause-kept g c =

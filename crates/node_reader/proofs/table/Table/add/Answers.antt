@@ -18,6 +18,6 @@ returns-then-size-gt-MOST_SYMBOLS c = λ place rest.
 pub returns : goal.returns
 returns c = λ place rest.
     let T = table_of c.args.self.now in
-    let starts = starts_on T.starts c.push.new.self.items _ _ _ (length T.terms) (node_numbers (node_of c.args.node.now)) c.in_ok-push.ensures.items c.start_of_node-start.ensures c.deref.ensures.value c.len-nodes.ensures in
+    let starts = starts_on T.starts c.push.new.self.items _ _ _ (length T.terms) (node_numbers (node_of c.args.node.now)) c.in_ok-push.ensures.items (c.in_ok-small.ensures ∙ c.start_of_node-start.ensures) c.deref.ensures.value c.len-nodes.ensures in
     added_new T c.put.new.bank c.in_ok-id.id c.args.from (node_of c.args.node.now) place rest c.size.result c.push.new.self.items c.in_ok-id.ensures.found c.in_ok-id.ensures.added
     (λ e. c.if-len-nodes.false (c.len.ensures ∙ (e ∙ sym c.len-nodes.ensures))) c.in_ok-id.ensures.names c.size.ensures (omega arith) starts

@@ -13,7 +13,7 @@ pub returns-clause-adds : goal.returns-clause-adds
 returns-clause-adds g c =
     let old = g.B.Bank.trees c.args.bank.now in
     let now = g.B.Bank.trees c.norms_of.new.bank in
-    appended now c.args.self.now c.append.new.self c.in_ok-norms.norms (norms (clause_at old c.args.raw.now)) c.if-not-self.false c.in_ok-norms.ensures.names c.in_ok-append.ensures.clauses c.append.ensures.left c.append.ensures.keeps
+    appended now c.args.self.now c.append.new.self c.in_ok-norms.norms (norms (clause_at old c.args.raw.now)) c.if-not-self.false c.in_ok-norms.ensures.names c.in_ok-norms.ensures.low c.in_ok-append.ensures.clauses c.append.ensures.left c.append.ensures.keeps
 
 pub returns-in_err-is_large_raw-clause-grows : goal.returns-in_err-is_large_raw-clause-grows
 returns-in_err-is_large_raw-clause-grows g c = Grows_refl (g.B.Bank.trees c.args.bank.now)

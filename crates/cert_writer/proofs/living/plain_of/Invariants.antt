@@ -1,6 +1,0 @@
-use Rattle.std.proofs.Common.{◌≡◌, map, take}
-use Rattle.clause_form.specs.Seen.{clause_at}
-use Rattle.cert_writer.proofs.living.plain_of.Given as goal
-
-abbrev pub invariant-each : goal.invariant-each
-invariant-each g l = l.items.items ≡ map (clause_at (g.B.Bank.trees l.bank)) (take l.clause-index l.clauses)

@@ -1,0 +1,17 @@
+pub mod Lists
+pub mod Walks
+pub mod Alike
+pub mod Comparing
+pub mod Sizes
+pub mod Counting
+pub mod Tables
+pub mod Ordering
+pub mod Shown
+pub mod Telling
+pub mod Deciding
+pub mod Naming
+pub mod Kept
+pub mod Numbered
+pub mod Adding
+pub mod Low
+pub mod Below

@@ -1,0 +1,10 @@
+pub mod Diffs
+pub mod Codes
+pub mod Plain
+pub mod PlainDepths
+pub mod Meeting
+pub mod Tables
+pub mod Numbers
+pub mod Telling
+pub mod Needed
+pub mod Places

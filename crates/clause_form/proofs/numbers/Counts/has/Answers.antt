@@ -1,6 +1,0 @@
-use Rattle.std.proofs.Common.{◌∙◌, nat_lt, ap}
-use Rattle.clause_form.proofs.Tables.{counted_any}
-use Rattle.clause_form.proofs.numbers.Counts.has.Goals as goal
-
-pub returns : goal.returns
-returns c = ap (nat_lt 0) c.count.ensures ∙ counted_any c.args.number c.args.self.now

@@ -1,0 +1,39 @@
+-- What contracts see of facts, events and clauses over terms that are seen as others.
+use Rattle.std.specs.Prelude.{Bool, List, [], ◌∷◌, map}
+use Rattle.std.specs.List.{AllByRecursion}
+use Rattle.spec_terms.specs.Term.{Term}
+use Rattle.spec_clauses.specs.Fact as horn
+use Rattle.spec_certificate_text.specs.Facts as facts
+use Rattle.fact_reader.specs.declared.terms.ReadFact.{ReadFact}
+use Rattle.fact_reader.specs.declared.terms.ReadFact.TheVariants.{Att, Mess, Ev, Mev, Bad}
+use Rattle.fact_reader.specs.declared.rows.ReadEvent.{ReadEvent}
+use Rattle.fact_reader.specs.declared.clauses.ReadClause.{ReadClause}
+
+-- the fact that is read, and its terms
+abbrev pub fact_over : {T : Type 0} → (T → Term) → ReadFact T → horn.Fact Term
+fact_over view (Att t) = horn.Att 0 (view t)
+fact_over view (Mess t u) = horn.Mess 0 (view t) (view u)
+fact_over view (Ev e ts) = horn.Ev e (map view ts.items)
+fact_over view (Mev e ts) = horn.Mev e (map view ts.items)
+fact_over view (Bad ts) = horn.Bad (map view ts.items)
+
+abbrev pub terms_in : {T : Type 0} → ReadFact T → List T
+terms_in (Att t) = t ∷ []
+terms_in (Mess t u) = t ∷ u ∷ []
+terms_in (Ev e ts) = ts.items
+terms_in (Mev e ts) = ts.items
+terms_in (Bad ts) = ts.items
+
+-- a term or a fact, and whether another follows
+abbrev pub seen_too : {T X : Type 0} → (T → X) → T × Bool → X × Bool
+seen_too view x = (view x.0, x.1)
+
+abbrev pub event_over : {T : Type 0} → (T → Term) → ReadEvent T → facts.Performed
+event_over view e = record { event = e.event; arguments = map view e.arguments.items }
+
+abbrev pub clause_over : {F : Type 0} → (F → horn.Fact Term) → ReadClause F → horn.Clause Term
+clause_over view c = record { hypotheses = map view c.hyps.items; diffs = []; conclusion = view c.concl }
+
+-- each fact of the clause is known
+abbrev pub IsKnownClause : {F : Type 0} → (F → Type 0) → ReadClause F → Type 0
+IsKnownClause Is c = AllByRecursion Is c.hyps.items × Is c.concl
